@@ -1,0 +1,5 @@
+pub mod Numbers
+pub mod Fields
+pub mod Rest
+pub mod Faults
+pub mod LawFacts

@@ -1,0 +1,110 @@
+//! The answers on known texts, and that calls with memory succeed.
+use crate::{Act, Gate, Open, Plan, PlanFault, PlanKind, Row, read_plan};
+use std::alloc::Global;
+use std::test::Fail;
+
+// What is wrong with rows under a header, for four workers.
+fn fault_under_header(alloc: Global, rows: &str) -> Result<Option<PlanFault>, Fail> {
+    let mut text = String::from_str(alloc, "worker,act,ticks\n")?;
+    text.push_str(rows)?;
+    Ok(read_plan(alloc, text.as_bytes(), 4).err())
+}
+
+fn bad(row: u64, kind: PlanKind) -> Option<PlanFault> {
+    Some(PlanFault { row, kind })
+}
+
+#[test]
+fn refused_rows(rt: HostRuntime) -> Result<(), Fail> {
+    let alloc = rt.alloc();
+    let cases = [
+        ("4,go,1\n", bad(2, PlanKind::BadWorker)),
+        (",go,1\n", bad(2, PlanKind::BadWorker)),
+        ("+1,go,1\n", bad(2, PlanKind::BadWorker)),
+        ("0,back,1\n", bad(2, PlanKind::BadNumber)),
+        ("0,go,4294967296\n", bad(2, PlanKind::BadNumber)),
+        (
+            "0,go,99999999999999999999999\n",
+            bad(2, PlanKind::BadNumber),
+        ),
+        ("0,run,1\n", bad(2, PlanKind::BadAct)),
+        ("0,Go,1\n", bad(2, PlanKind::BadAct)),
+        ("9,run,x\n", bad(2, PlanKind::BadWorker)),
+        ("0,go\n", bad(2, PlanKind::BadRow)),
+        ("0,go,1,\n", bad(2, PlanKind::BadRow)),
+        ("0,stop,0\n0,go,1\n", bad(3, PlanKind::AfterStop)),
+        ("0,stop,0\n1,go,1\n0,go,x\n", bad(4, PlanKind::BadNumber)),
+        ("0,stop,0\n1,stop,0\n3,sleep,0\n2,go,1\n", None),
+    ];
+    for (rows, want) in cases {
+        assert_eq!(rt; fault_under_header(alloc, rows)?, want, "{rows}");
+    }
+    Ok(())
+}
+
+#[test]
+fn headers(rt: HostRuntime) {
+    let alloc = rt.alloc();
+    let header = bad(1, PlanKind::BadRow);
+    assert_eq!(rt; read_plan(alloc, b"0,go,1\n", 4).err(), header);
+    assert_eq!(rt; read_plan(alloc, b"worker,act,tick\n", 4).err(), header);
+    assert_eq!(rt; read_plan(alloc, b"worker,act,ticks,\n", 4).err(), header);
+    assert_eq!(rt;
+        read_plan(alloc, b"\xEF\xBB\xBFworker,act,ticks", 4).err(),
+        None
+    );
+    assert_eq!(rt;
+        read_plan(alloc, b"worker,act,ticks\n0,go,1\n", 0).err(),
+        bad(2, PlanKind::BadWorker)
+    );
+}
+
+#[test]
+fn a_record_of_ten_thousand_fields(rt: HostRuntime) -> Result<(), Fail> {
+    let alloc = rt.alloc();
+    let mut text = Vec::from_slice(alloc, b"worker,act,ticks\n0")?;
+    for _ in 1..10_000 {
+        text.extend_from_slice(b",0")?;
+    }
+    assert_eq!(rt; read_plan(alloc, &text, 4).err(), bad(2, PlanKind::BadRow));
+    Ok(())
+}
+
+#[test]
+fn rows_of_a_plan(rt: HostRuntime) -> Result<(), Fail> {
+    let text =
+        b"\xEF\xBB\xBFworker,act,ticks\r\n\"0\",\"go\",\"0004\"\r\n2,sleep,4294967295\n\n2,back,00\n2,stop,0";
+    let Ok(plan) = read_plan(rt.alloc(), text, 3) else {
+        assert!(rt; false);
+        return Ok(());
+    };
+    let row = |worker, act, ticks| Row { worker, act, ticks };
+    let want = [
+        row(0, Act::Go, 4),
+        row(2, Act::Sleep, u32::MAX),
+        row(2, Act::Back, 0),
+        row(2, Act::Stop, 0),
+    ];
+    assert_eq!(rt; plan.workers(), 3);
+    assert_eq!(rt; plan.rows(), want.as_slice());
+    Ok(())
+}
+
+#[test]
+fn plans_without_rows(rt: HostRuntime) {
+    let alloc = rt.alloc();
+    assert_eq!(rt; read_plan(alloc, b"", 4).err(), None);
+    assert_eq!(rt; read_plan(alloc, b"\r\n\n", 4).err(), None);
+    let plan = Plan::empty(alloc, 7);
+    assert_eq!(rt; plan.workers(), 7);
+    assert!(rt; plan.rows().is_empty());
+}
+
+fn pass_once<G: Gate>(gate: &G) {
+    gate.pass(0, 0);
+}
+
+#[test]
+fn the_open_gate_returns() {
+    pass_once(&Open);
+}
