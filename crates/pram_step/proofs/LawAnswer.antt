@@ -1,0 +1,79 @@
+-- A job has one answer at most.
+use Rattle.std.proofs.Common.{◌≡◌, ℕ, ◌<◌, ◌≤◌, List, sym, ap, subst, ◌∙◌, ⊎_elim, arith}
+use Rattle.std.proofs.lemmas.Bool.{cases_lt, cases_order}
+use Rattle.pram_text.specs.Job.{JobData}
+use Rattle.pram_step.specs.declared.answer.Dispute.{Dispute}
+use Rattle.pram_step.specs.declared.answer.Fault.{Fault}
+use Rattle.pram_step.specs.declared.answer.RunAnswer.{RunAnswer}
+use Rattle.pram_step.specs.declared.answer.RunAnswer.TheVariants.{Final, Conflict, Unfinished}
+use Rattle.pram_step.specs.declared.requests.Request.{Request}
+use Rattle.pram_step.specs.Machine.{requests_of}
+use Rattle.pram_step.specs.Steps.{Writes, Clashes, IsDispute}
+use Rattle.pram_step.specs.Runs.{state_after, IsReached, IsFirstConflict, IsAnswer}
+
+-- ---- the details of a conflict
+
+same_cell : (job : JobData) (requests : List Request) (d e : Dispute) → IsDispute job requests d → IsDispute job requests e → d.cell ≡ e.cell
+same_cell job requests d e a b = omega (arith, a.least_cell e.cell e.first e.second b.clash, b.least_cell d.cell d.first d.second a.clash)
+
+same_first : (job : JobData) (requests : List Request) (d e : Dispute) → IsDispute job requests d → IsDispute job requests e → d.cell ≡ e.cell → d.first ≡ e.first
+same_first job requests d e a b cell =
+    let there : Writes job requests d.cell e.first b.clash.value = subst (λ (c : ℕ). Writes job requests c e.first b.clash.value) (sym cell) b.clash.writes in
+    let back : Writes job requests e.cell d.first a.clash.value = subst (λ (c : ℕ). Writes job requests c d.first a.clash.value) cell a.clash.writes in
+    omega (arith, a.least_first e.first b.clash.value there, b.least_first d.first a.clash.value back)
+
+same_second : (job : JobData) (requests : List Request) (d e : Dispute) → IsDispute job requests d → IsDispute job requests e → d.cell ≡ e.cell → d.first ≡ e.first → d.second ≡ e.second
+same_second job requests d e a b cell first =
+    let there : Clashes job requests d.cell d.first e.second = subst (λ (c : ℕ). Clashes job requests c d.first e.second) (sym cell) (subst (λ (i : ℕ). Clashes job requests e.cell i e.second) (sym first) b.clash) in
+    let back : Clashes job requests e.cell e.first d.second = subst (λ (c : ℕ). Clashes job requests c e.first d.second) cell (subst (λ (i : ℕ). Clashes job requests d.cell i d.second) first a.clash) in
+    omega (arith, a.least_second e.second there, b.least_second d.second back)
+
+pub one_dispute : (job : JobData) (requests : List Request) (d e : Dispute) → IsDispute job requests d → IsDispute job requests e → d ≡ e
+one_dispute job requests d e a b =
+    let cell : d.cell ≡ e.cell = same_cell job requests d e a b in
+    let first : d.first ≡ e.first = same_first job requests d e a b cell in
+    let second : d.second ≡ e.second = same_second job requests d e a b cell first in
+    λ i. record { cell = cell i; first = first i; second = second i }
+
+-- ---- the first conflict
+
+pub conflict_ends : (job : JobData) (fault : Fault) (n : ℕ) → IsFirstConflict job fault → fault.step ≤ n → IsReached job n → ⊥
+conflict_ends job fault n is within reached =
+    let lt : is.before < n = omega (arith, is.step) in
+    reached is.before lt fault.cell fault.first fault.second is.dispute.clash
+
+pub conflict_after : (job : JobData) (fault : Fault) → IsReached job job.steps → IsFirstConflict job fault → job.steps < fault.step
+conflict_after job fault reached is =
+    ⊎_elim
+    (λ later. later)
+    (λ within. absurd (conflict_ends job fault job.steps is within reached))
+    (cases_lt job.steps fault.step)
+
+no_earlier : (job : JobData) (f g : Fault) (a : IsFirstConflict job f) (b : IsFirstConflict job g) → a.before < b.before → ⊥
+no_earlier job f g a b lt = b.reached a.before lt f.cell f.first f.second a.dispute.clash
+
+same_before : (job : JobData) (f g : Fault) (a : IsFirstConflict job f) (b : IsFirstConflict job g) → a.before ≡ b.before
+same_before job f g a b =
+    ⊎_elim
+    (λ same. same)
+    (λ apart. absurd (⊎_elim (λ lt. no_earlier job f g a b lt) (λ gt. no_earlier job g f b a gt) apart))
+    (cases_order a.before b.before)
+
+pub one_conflict : (job : JobData) (f g : Fault) → IsFirstConflict job f → IsFirstConflict job g → f ≡ g
+one_conflict job f g a b =
+    let before : a.before ≡ b.before = same_before job f g a b in
+    let there : IsDispute job (requests_of job (state_after job a.before)) (record { cell = g.cell; first = g.first; second = g.second }) = subst (λ (t : ℕ). IsDispute job (requests_of job (state_after job t)) (record { cell = g.cell; first = g.first; second = g.second })) (sym before) b.dispute in
+    let same : ◌≡◌ {A = Dispute} (record { cell = f.cell; first = f.first; second = f.second }) (record { cell = g.cell; first = g.first; second = g.second }) = one_dispute job (requests_of job (state_after job a.before)) _ _ a.dispute there in
+    let step : f.step ≡ g.step = omega (arith, a.step, b.step) in
+    λ i. record { step = step i; cell = (same i).cell; first = (same i).first; second = (same i).second }
+
+-- ---- the answer
+
+pub one_answer : (job : JobData) (a b : RunAnswer) → IsAnswer job a → IsAnswer job b → a ≡ b
+one_answer job (Final cells) (Final others) x y = ap Final (x.1 ∙ sym y.1)
+one_answer job (Final cells) (Conflict fault) x y = absurd (conflict_ends job fault job.steps y.0 y.1 x.0)
+one_answer job (Final cells) (Unfinished step) x y = absurd y
+one_answer job (Conflict fault) (Final cells) x y = absurd (conflict_ends job fault job.steps x.0 x.1 y.0)
+one_answer job (Conflict fault) (Conflict other) x y = ap Conflict (one_conflict job fault other x.0 y.0)
+one_answer job (Conflict fault) (Unfinished step) x y = absurd y
+one_answer job (Unfinished step) b x y = absurd x

@@ -1,0 +1,162 @@
+//! The places of the machine, and a step.
+ghost use Rattle.std.specs.Prelude.{◌≡◌, ◌<◌, length, take, slice_index, vec_len, IfOk, OnOk, OnErr, IfErr};
+ghost use Rattle.pram_step.specs.Machine.{place_count, start, request_of, requests_of};
+ghost use Rattle.pram_step.specs.Faults.{IsStepFault, IsRun};
+ghost use Rattle.pram_step.specs.declared.state.StepFault.TheVariants.{Conflict, Memory};
+ghost use Rattle.pram_step.specs.Steps.{Agrees, next_state, IsNext};
+
+use crate::answer::{Cells, Dispute, Fault};
+use crate::pass::{advance, make_steps};
+use crate::requests::{Request, request_in};
+use pram_text::Job;
+use std::alloc::{AllocError, Global};
+use std::marker::Model;
+
+/// What each place of the machine holds: the cells, then four registers of each processor, then the counter of each.
+///
+/// Contracts see it as this list. It keeps room for the requests of a step, which its first step takes.
+#[derive(Debug, Drop)]
+pub struct State {
+    places: Vec<u32>,
+    requests: Vec<Request>,
+    marks: Vec<u32>,
+}
+
+impl Model for State {
+    ghost use Rattle.std.specs.Prelude.{List, ℕ};
+
+    ghost Value = { List ℕ };
+
+    ghost view = { λ s. s.places.items };
+}
+
+impl State {
+    /// The state before the first step.
+    pub fn start(alloc: Global, job: &Job) -> Result<Self, AllocError>
+        ensures { IfOk result (λ state. state ≡ start job.now) }
+    {
+        let mut places = Vec::with_capacity(alloc, (job.cells() + 5 * job.procs()) as usize)?;
+        places.extend_from_slice(job.init())?;
+        places.resize((job.cells() + 5 * job.procs()) as usize, 0)?;
+        Ok(State {
+            places,
+            requests: Vec::new(alloc),
+            marks: Vec::new(alloc),
+        })
+    }
+
+    /// What a place holds.
+    pub fn get(&self, place: u32) -> u32
+        requires { place < length self.now }
+        ensures { result ≡ slice_index self.now place }
+    {
+        self.places[place as usize]
+    }
+
+    /// What the places hold, in order.
+    pub fn places(&self) -> &[u32]
+        ensures { result.now ≡ self.now }
+    {
+        self.places.as_slice()
+    }
+
+    /// What the cells hold. Takes no memory.
+    pub fn into_cells(self, job: &Job) -> Cells
+        ensures { result ≡ take job.now.cells self }
+    {
+        let State { mut places, .. } = self;
+        places.truncate(job.cells() as usize);
+        Cells::new(places)
+    }
+
+    /// Makes all steps of the job from its start, or those up to the first that is against the rule, which it answers.
+    pub(crate) fn run(&mut self, alloc: Global, job: &Job) -> Result<Option<Fault>, AllocError>
+        requires { self.old ≡ start job.now }
+        ensures { IfOk result (IsRun job.now self.new) }
+    {
+        make_room(alloc, job, &mut self.requests, &mut self.marks)?;
+        Ok(make_steps(job, &mut self.places, &mut self.requests, &mut self.marks))
+    }
+}
+
+/// What a processor asks for in this state. It reads the state alone, and takes no memory.
+pub fn request(job: &Job, state: &State, processor: u32) -> Request
+    requires processor { processor < job.now.procs }
+    requires places { length state.now ≡ place_count job.now }
+    ensures { result ≡ request_of job.now state.now processor }
+{
+    request_in(job, &state.places, processor)
+}
+
+/// Why a step was not made.
+#[derive(Clone, Copy, Debug, PartialEq, Eq)]
+pub enum StepFault {
+    /// The step is against the rule.
+    Conflict { cell: u32, first: u32, second: u32 },
+    /// There was no memory for the requests of the step.
+    Memory,
+}
+
+/// Makes a step of the machine. After a fault the state is as before.
+///
+/// It costs time in the number of processors, whatever the number of cells is. The first step of a state takes memory for
+/// the requests and for a mark of each cell, later ones of the same job take none.
+pub fn step(alloc: Global, job: &Job, state: &mut State) -> Result<(), StepFault>
+    requires { length state.old ≡ place_count job.now }
+    ensures agrees { OnOk result (Agrees job.now (requests_of job.now state.old)) }
+    ensures next { OnOk result (state.new ≡ next_state job.now state.old) }
+    ensures written { OnOk result (IsNext job.now (requests_of job.now state.old) state.old state.new) }
+    ensures len { length state.new ≡ length state.old }
+    ensures conflict { IfErr result (IsStepFault job.now (requests_of job.now state.old)) }
+    ensures unchanged { OnErr result (state.new ≡ state.old) }
+{
+    make_room(alloc, job, &mut state.requests, &mut state.marks)?;
+    advance(
+        job,
+        &mut state.places,
+        &mut state.requests,
+        &mut state.marks,
+    )?;
+    Ok(())
+}
+
+/// Makes room for the requests of a step and for a mark of each cell, where there is none.
+fn make_room(
+    alloc: Global,
+    job: &Job,
+    requests: &mut Vec<Request>,
+    marks: &mut Vec<u32>,
+) -> Result<(), AllocError>
+    ensures requests { OnOk result (vec_len requests.new ≡ job.now.procs) }
+    ensures marks { OnOk result (vec_len marks.new ≡ job.now.cells) }
+{
+    let procs = job.procs() as usize;
+    if requests.len() != procs {
+        *requests = vec![in alloc; Request { put: None, next: 0 }; procs]?;
+    }
+    let cells = job.cells() as usize;
+    if marks.len() != cells {
+        *marks = vec![in alloc; 0; cells]?;
+    }
+    Ok(())
+}
+
+impl From<AllocError> for StepFault {
+    ghost from_gives = { λ _ fault. fault ≡ Memory };
+
+    fn from(_error: AllocError) -> Self {
+        StepFault::Memory
+    }
+}
+
+impl From<Dispute> for StepFault {
+    ghost from_gives = { λ d fault. fault ≡ Conflict d.cell d.first d.second };
+
+    fn from(dispute: Dispute) -> Self {
+        StepFault::Conflict {
+            cell: dispute.cell,
+            first: dispute.first,
+            second: dispute.second,
+        }
+    }
+}

@@ -1,0 +1,161 @@
+-- What a line says by itself, or its fault by the order of judgement.
+use Rattle.std.specs.Prelude.{ℕ, ◌-◌, Bool, false, not, ◌&&◌, ◌||◌, ◌==◌, nat_le, if◌then◌else◌, [], ◌∷◌, take, length, slice_index, codes, Option, Some, None, Result, Ok, Err}
+use Rattle.std.specs.Char.{is_ascii_digit, is_ascii_alphabetic, is_ascii_alphanumeric}
+use Rattle.std.specs.List.{list_all}
+use Rattle.std.specs.Option.{ok_or}
+use Rattle.std.specs.Str.{bytes_eq}
+use Rattle.std.specs.Str.Parse.{digits_value}
+use Rattle.pram_text.specs.declared.fault.TextKind.{TextKind}
+use Rattle.pram_text.specs.declared.fault.TextKind.TheVariants.{BadHeader, BadNumber, OutOfLimits, UnknownInstruction, WrongOperands, BadRegister, UnknownLabel}
+use Rattle.pram_text.specs.declared.instr.Instr.{Instr}
+use Rattle.pram_text.specs.declared.instr.Instr.TheVariants.{Set, Pid, Add, Sub, Mul, And, Or, Xor, Lt, Eq, Ld, St, Jz, Jmp, Halt}
+use Rattle.pram_text.specs.declared.instr.Rule.{Rule}
+use Rattle.pram_text.specs.declared.instr.Rule.TheVariants.{Common, Priority, Crew}
+use Rattle.pram_text.specs.Lines.{Word, Line, is_filled}
+
+-- what the next part says of the value of the part before it, unless that part has a fault
+infixl 10 ◌>>=◌
+abbrev pub ◌>>=◌ : {A B : Type 0} → Result A TextKind → (A → Result B TextKind) → Result B TextKind
+(Ok x) >>= f = f x
+(Err k) >>= f = Err k
+
+-- ---- numbers and names
+
+-- one digit or more, and nothing else
+abbrev pub is_number : Word → Bool
+is_number word = is_filled word && list_all is_ascii_digit word
+
+abbrev pub number_of : Word → ℕ
+number_of word = digits_value 10 word
+
+unfoldable pub number_in : ℕ → ℕ → Word → Result ℕ TextKind
+number_in low high word =
+    if is_number word then (if nat_le low (number_of word) && nat_le (number_of word) high then Ok (number_of word) else Err OutOfLimits)
+    else Err BadNumber
+
+-- the greatest number of 32 bits
+abbrev pub most : ℕ
+most = 4294967295
+
+-- a letter or `_`, then letters, digits or `_`
+unfoldable pub is_name : Word → Bool
+is_name [] = false
+is_name (b ∷ bs) = (is_ascii_alphabetic b || (b == 95)) && list_all (λ c. is_ascii_alphanumeric c || (c == 95)) bs
+
+-- ---- header lines
+
+-- `NAME number`
+unfoldable pub named_number : Word → ℕ → ℕ → Line → Result ℕ TextKind
+named_number name low high (first ∷ number ∷ []) = if bytes_eq first name then number_in low high number else Err BadHeader
+named_number name low high _ = Err BadHeader
+
+-- `pram 1` or `pram 2`
+unfoldable pub version_of : Line → Result ℕ TextKind
+version_of (first ∷ number ∷ []) =
+    if not (bytes_eq first (codes "pram")) then Err BadHeader
+    else (if not (is_number number) then Err BadNumber
+    else (if (number_of number == 1) || (number_of number == 2) then Ok (number_of number) else Err BadHeader))
+version_of _ = Err BadHeader
+
+abbrev pub cells_of : Line → Result ℕ TextKind
+cells_of line = named_number (codes "cells") 1 65536 line
+
+abbrev pub procs_of : Line → Result ℕ TextKind
+procs_of line = named_number (codes "procs") 1 1024 line
+
+abbrev pub steps_of : Line → Result ℕ TextKind
+steps_of line = named_number (codes "steps") 0 most line
+
+-- `rule common`, `rule priority` or `rule crew`
+unfoldable pub rule_of : Line → Result Rule TextKind
+rule_of (first ∷ name ∷ []) =
+    if not (bytes_eq first (codes "rule")) then Err BadHeader
+    else (if bytes_eq name (codes "common") then Ok Common
+    else (if bytes_eq name (codes "priority") then Ok Priority
+    else (if bytes_eq name (codes "crew") then Ok Crew else Err BadHeader)))
+rule_of _ = Err BadHeader
+
+-- `init c v`, where there are so many cells: the cell and its value
+unfoldable pub init_of : ℕ → Line → Result (ℕ × ℕ) TextKind
+init_of cells (first ∷ cell ∷ value ∷ []) =
+    if bytes_eq first (codes "init") then (number_in 0 (cells - 1) cell >>= λ c. number_in 0 most value >>= λ v. Ok (c, v)) else Err BadHeader
+init_of cells _ = Err BadHeader
+
+unfoldable pub is_code : Line → Bool
+is_code (first ∷ []) = bytes_eq first (codes "code")
+is_code _ = false
+
+-- ---- instruction lines
+
+unfoldable pub is_label : Word → Bool
+is_label word = slice_index word (length word - 1) == 58
+
+-- what stands before the `:` of a line's label
+unfoldable pub label_of : Line → Option Word
+label_of [] = None
+label_of (word ∷ words) = if is_label word then Some (take (length word - 1) word) else None
+
+-- the line behind its label
+unfoldable pub unlabelled : Line → Line
+unlabelled [] = []
+unlabelled (word ∷ words) = if is_label word then words else word ∷ words
+
+unfoldable pub register_of : Word → Result ℕ TextKind
+register_of word =
+    if bytes_eq word (codes "r0") then Ok 0
+    else (if bytes_eq word (codes "r1") then Ok 1
+    else (if bytes_eq word (codes "r2") then Ok 2
+    else (if bytes_eq word (codes "r3") then Ok 3 else Err BadRegister)))
+
+abbrev pub no_operand : Instr → Line → Result Instr TextKind
+no_operand instr [] = Ok instr
+no_operand instr (word ∷ words) = Err WrongOperands
+
+abbrev pub one_register : (ℕ → Instr) → Line → Result Instr TextKind
+one_register make (r ∷ []) = register_of r >>= λ r'. Ok (make r')
+one_register make _ = Err WrongOperands
+
+abbrev pub two_registers : (ℕ → ℕ → Instr) → Line → Result Instr TextKind
+two_registers make (a ∷ b ∷ []) = register_of a >>= λ a'. register_of b >>= λ b'. Ok (make a' b')
+two_registers make _ = Err WrongOperands
+
+abbrev pub three_registers : (ℕ → ℕ → ℕ → Instr) → Line → Result Instr TextKind
+three_registers make (r ∷ a ∷ b ∷ []) = register_of r >>= λ r'. register_of a >>= λ a'. register_of b >>= λ b'. Ok (make r' a' b')
+three_registers make _ = Err WrongOperands
+
+abbrev pub register_number : (ℕ → ℕ → Instr) → Line → Result Instr TextKind
+register_number make (r ∷ k ∷ []) = register_of r >>= λ r'. number_in 0 most k >>= λ k'. Ok (make r' k')
+register_number make _ = Err WrongOperands
+
+-- a label stands for its place, where `find` finds it
+abbrev pub place_in : (Word → Option ℕ) → Word → Result ℕ TextKind
+place_in find label = ok_or (find label) UnknownLabel
+
+abbrev pub one_label : (Word → Option ℕ) → (ℕ → Instr) → Line → Result Instr TextKind
+one_label find make (label ∷ []) = place_in find label >>= λ place. Ok (make place)
+one_label find make _ = Err WrongOperands
+
+abbrev pub register_label : (Word → Option ℕ) → (ℕ → ℕ → Instr) → Line → Result Instr TextKind
+register_label find make (r ∷ label ∷ []) = register_of r >>= λ r'. place_in find label >>= λ place. Ok (make r' place)
+register_label find make _ = Err WrongOperands
+
+-- the instruction of a line behind its label
+unfoldable pub instr_of : (Word → Option ℕ) → Line → Result Instr TextKind
+instr_of find [] = Err UnknownInstruction
+instr_of find (name ∷ operands) =
+    if bytes_eq name (codes "set") then register_number (λ r k. Set r k) operands
+    else (if bytes_eq name (codes "pid") then one_register (λ r. Pid r) operands
+    else (if bytes_eq name (codes "add") then three_registers (λ r a b. Add r a b) operands
+    else (if bytes_eq name (codes "sub") then three_registers (λ r a b. Sub r a b) operands
+    else (if bytes_eq name (codes "mul") then three_registers (λ r a b. Mul r a b) operands
+    else (if bytes_eq name (codes "and") then three_registers (λ r a b. And r a b) operands
+    else (if bytes_eq name (codes "or") then three_registers (λ r a b. Or r a b) operands
+    else (if bytes_eq name (codes "xor") then three_registers (λ r a b. Xor r a b) operands
+    else (if bytes_eq name (codes "lt") then three_registers (λ r a b. Lt r a b) operands
+    else (if bytes_eq name (codes "eq") then three_registers (λ r a b. Eq r a b) operands
+    else (if bytes_eq name (codes "ld") then two_registers (λ r a. Ld r a) operands
+    else (if bytes_eq name (codes "st") then two_registers (λ a b. St a b) operands
+    else (if bytes_eq name (codes "jz") then register_label find (λ r place. Jz r place) operands
+    else (if bytes_eq name (codes "jmp") then one_label find (λ place. Jmp place) operands
+    else (if bytes_eq name (codes "halt") then no_operand Halt operands
+    else Err UnknownInstruction))))))))))))))

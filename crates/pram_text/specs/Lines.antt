@@ -1,0 +1,33 @@
+-- The lines of a text, and the words of a line.
+use Rattle.std.specs.Prelude.{ℕ, Bool, true, false, ◌&&◌, ◌||◌, ◌==◌, nat_le, List, [], ◌∷◌, filter, map}
+use Rattle.std.specs.List.{slice_split, before_first}
+
+abbrev pub Word : Type 0
+Word = List ℕ
+
+-- a line as its words
+abbrev pub Line : Type 0
+Line = List Word
+
+-- The lines lie between the line feeds.
+abbrev pub lines_of : List ℕ → List (List ℕ)
+lines_of text = slice_split (λ b. b == 10) text
+
+-- tab, carriage return, and what can be printed
+unfoldable pub is_allowed : ℕ → Bool
+is_allowed b = (b == 9) || (b == 13) || (nat_le 32 b && nat_le b 126)
+
+abbrev pub is_blank : ℕ → Bool
+is_blank b = (b == 32) || (b == 9) || (b == 13)
+
+abbrev pub is_filled : {X : Type 0} → List X → Bool
+is_filled [] = false
+is_filled (x ∷ xs) = true
+
+-- The words lie between the blanks before the first semicolon.
+unfoldable pub words_of : List ℕ → Line
+words_of line = filter is_filled (slice_split is_blank (before_first (λ b. b == 59) line))
+
+-- the lines that have words
+abbrev pub worded : List (List ℕ) → List Line
+worded lines = filter is_filled (map words_of lines)

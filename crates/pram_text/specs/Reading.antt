@@ -1,0 +1,196 @@
+-- What a reader holds of the lines with words that it has read.
+use Rattle.std.specs.BTreeMap.{BTreeMap, get_by}
+use Rattle.std.specs.Cmp.Lexicographic.{slice_cmp}
+use Rattle.std.specs.Prelude.{◌≡◌, ◌≢◌, ℕ, zero, suc, ◌≤◌, ◌==◌, Bool, true, false, ◌&&◌, if◌then◌else◌, List, [], ◌∷◌, ◌++◌, length, map, codes, All, AllPairs, Option, Some, None, Result, Ok, Err, IfSome, IsTrue, ◌⊎◌, slice_index, slice_index_or, not, is_some, Vec}
+use Rattle.std.specs.Global.{Global}
+use Rattle.std.specs.Borrow.{Bor}
+use Rattle.std.specs.Ordering.{nat_cmp}
+use Rattle.std.specs.Str.{bytes_eq}
+use Rattle.std.specs.Map.{lookup}
+use Rattle.std.specs.Result.{result_err}
+use Rattle.pram_text.specs.declared.fault.TextFault.{TextFault}
+use Rattle.pram_text.specs.declared.fault.TextKind.{TextKind}
+use Rattle.pram_text.specs.declared.fault.TextKind.TheVariants.{UnknownInstruction, DuplicateLabel, Memory}
+use Rattle.pram_text.specs.declared.head.Head.{Head}
+use Rattle.pram_text.specs.declared.head.Next.{Next}
+use Rattle.pram_text.specs.declared.head.Next.TheVariants.{Version, Cells, Procs, Steps, Rules, Start, Code}
+use Rattle.pram_text.specs.declared.instr.Rule.{Rule}
+use Rattle.pram_text.specs.declared.instr.Rule.TheVariants.{Common}
+use Rattle.pram_text.specs.declared.instr.Instr.{Instr}
+use Rattle.pram_text.specs.declared.instr.Instr.TheVariants.{Halt}
+use Rattle.pram_text.specs.declared.program.Program.{Program}
+use Rattle.pram_text.specs.declared.program.Written.{Written}
+use Rattle.pram_text.specs.declared.reader.Reader.{Reader}
+use Rattle.pram_text.specs.Job.{JobData}
+use Rattle.pram_text.specs.Lines.{Word, Line, words_of, worded, is_filled}
+use Rattle.pram_text.specs.Judgement.{version_of, cells_of, procs_of, steps_of, rule_of, init_of, label_of, unlabelled, is_name, instr_of}
+use Rattle.pram_text.specs.Statement.{resolved, IsStatement}
+use Rattle.pram_text.specs.Text.{place_of, SpellsLines, words_fault, line_fault, init_fault, instr_fault, end_fault, has_code, body_of, IsFirst}
+
+-- ---- the header
+
+-- the lines that name this version's rule
+abbrev pub IsRuled : ℕ → Rule → List Line → Type 0
+IsRuled (suc zero) rule lines = (lines ≡ []) × (rule ≡ Common)
+IsRuled version rule lines = (line : Line) × (lines ≡ line ∷ []) × (rule_of line ≡ Ok rule)
+
+-- the first four lines
+pub record IsSized (v c p s : Line) (head : Head) : Type 0 where
+  pub version : version_of v ≡ Ok head.version
+  pub cells : cells_of c ≡ Ok head.cells
+  pub procs : procs_of p ≡ Ok head.procs
+  pub steps : steps_of s ≡ Ok head.steps
+
+-- a header to its end
+pub record IsHeader (lines : List Line) (head : Head) : Type 0 where
+  pub version : Line
+  pub cells : Line
+  pub procs : Line
+  pub steps : Line
+  pub ruled : List Line
+  pub parts : lines ≡ version ∷ cells ∷ procs ∷ steps ∷ ruled
+  pub sized : IsSized version cells procs steps head
+  pub rule : IsRuled head.version head.rule ruled
+
+-- what comes next stands in the header
+abbrev pub IsFront : Next → Type 0
+IsFront Start = ⊥
+IsFront Code = ⊥
+IsFront _ = Unit {0}
+
+-- the header so far, by what comes next
+abbrev pub HoldsHead : Next → List Line → Head → Type 0
+HoldsHead Version lines head = (lines ≡ []) × (head.rule ≡ Common)
+HoldsHead Cells lines head = (v : Line) × (lines ≡ v ∷ []) × (version_of v ≡ Ok head.version) × (head.rule ≡ Common)
+HoldsHead Procs lines head =
+    (v : Line) × (c : Line) × (lines ≡ v ∷ c ∷ []) × (version_of v ≡ Ok head.version) × (cells_of c ≡ Ok head.cells) × (head.rule ≡ Common)
+HoldsHead Steps lines head =
+    (v : Line) × (c : Line) × (p : Line) × (lines ≡ v ∷ c ∷ p ∷ []) × (version_of v ≡ Ok head.version) × (cells_of c ≡ Ok head.cells) × (procs_of p ≡ Ok head.procs) × (head.rule ≡ Common)
+HoldsHead Rules lines head =
+    (v : Line) × (c : Line) × (p : Line) × (s : Line) × (lines ≡ v ∷ c ∷ p ∷ s ∷ []) × IsSized v c p s head × (head.version ≡ 2)
+HoldsHead _ lines head = IsHeader lines head
+
+-- one line more
+abbrev pub TakesHead : List Line → Line → Result Head TextKind → Type 0
+TakesHead before line (Ok head) = (words_fault before line ≡ None) × HoldsHead head.next (before ++ line ∷ []) head × (head.next ≢ Code)
+TakesHead before line (Err kind) = words_fault before line ≡ Some kind
+
+-- ---- start values
+
+-- the value given to a cell so far
+abbrev pub given : List (Option ℕ) → ℕ → Option ℕ
+given start c = slice_index_or start c None
+
+pub record HoldsStart (cells : ℕ) (inits : List Line) (start : List (Option ℕ)) : Type 0 where
+  pub pairs : List (ℕ × ℕ)
+  pub said : map (init_of cells) inits ≡ map (λ p. Ok p) pairs
+  pub once : AllPairs (λ (p q : ℕ × ℕ). p.0 ≢ q.0) pairs
+  pub found : (c : ℕ) → given start c ≡ lookup (λ d. d == c) pairs
+
+abbrev pub TakesStart : ℕ → List Line → Line → Result (Unit {0}) TextKind → List (Option ℕ) → Type 0
+TakesStart cells inits line (Ok _) start = (init_fault cells inits line ≡ None) × HoldsStart cells (inits ++ line ∷ []) start
+TakesStart cells inits line (Err kind) start = kind ≢ Memory → init_fault cells inits line ≡ Some kind
+
+-- ---- instructions
+
+-- the place of a label, if it has one
+abbrev pub place_at : BTreeMap (Bor (List ℕ)) ℕ → Word → Option ℕ
+place_at places name = get_by (λ k. slice_cmp nat_cmp name k.now) places
+
+-- whether this label, if there is one, has the name
+abbrev pub is_named : Option Word → Word → Bool
+is_named None name = false
+is_named (Some label) name = bytes_eq label name
+
+-- what is wrong with one label more
+abbrev pub define_fault : BTreeMap (Bor (List ℕ)) ℕ → Option Word → Option TextKind
+define_fault places None = None
+define_fault places (Some label) =
+    if not (is_name label) then Some UnknownInstruction else (if is_some (place_at places label) then Some DuplicateLabel else None)
+
+-- one label more
+abbrev pub Defines : BTreeMap (Bor (List ℕ)) ℕ → Option Word → ℕ → Result (Unit {0}) TextKind → BTreeMap (Bor (List ℕ)) ℕ → Type 0
+Defines old label place (Ok _) new =
+    (define_fault old label ≡ None) × ((name : Word) → place_at new name ≡ (if is_named label name then Some place else place_at old name))
+Defines old label place (Err kind) new = kind ≢ Memory → define_fault old label ≡ Some kind
+
+-- each label's place
+abbrev pub HoldsPlaces : List Line → BTreeMap (Bor (List ℕ)) ℕ → Type 0
+HoldsPlaces body places = (name : Word) → place_at places name ≡ place_of body name
+
+pub record HoldsCode (body : List Line) (program : Program) : Type 0 where
+  pub few : length body ≤ 4096
+  pub names : All (λ line. IfSome (label_of line) (λ label. IsTrue (is_name label))) body
+  pub once : AllPairs (λ a b. (label : Word) → label_of a ≡ Some label → label_of b ≢ Some label) body
+  pub places : HoldsPlaces body program.places
+  pub said : (find : Word → Option ℕ) → map (λ line. instr_of find (unlabelled line)) body ≡ map (λ w. resolved find w.statement) program.written.items
+  pub sound : All (λ w. IsStatement w.statement) program.written.items
+
+-- the numbers of the lines with instructions
+abbrev pub numbers_of : Program → List ℕ
+numbers_of program = map (λ w. w.line) program.written.items
+
+abbrev pub TakesCode : List Line → Line → Result (Unit {0}) TextKind → Program → Type 0
+TakesCode body line (Ok _) program = (instr_fault body line ≡ None) × HoldsCode (body ++ line ∷ []) program
+TakesCode body line (Err kind) program = kind ≢ Memory → instr_fault body line ≡ Some kind
+
+-- the fault of what a place of a list is to say
+abbrev pub fault_of_place : List (Result Instr TextKind) → ℕ → Option TextKind
+fault_of_place outcomes k = result_err (slice_index_or outcomes k (Ok Halt))
+
+-- the statements' instructions, where `find` finds the places of labels, or the number of the first line where it does not
+abbrev pub IsCoded : (Word → Option ℕ) → List Written → Result (Vec Instr Global) TextFault → Type 0
+IsCoded find written (Ok code) = map (λ w. resolved find w.statement) written ≡ map (λ i. Ok i) code.items
+IsCoded find written (Err fault) =
+    fault.kind ≢ Memory → (k : ℕ) × (fault.line ≡ slice_index (map (λ w. w.line) written) k)
+    × IsFirst (fault_of_place (map (λ w. resolved find w.statement) written)) (length written) k fault.kind
+
+-- ---- the whole
+
+-- the lines so far, by what comes next
+abbrev pub HoldsAt : Next → List Line → Reader → Type 0
+HoldsAt Start before reader =
+    (front : List Line) × (inits : List Line) × (before ≡ front ++ inits)
+    × IsHeader front reader.head × HoldsStart reader.head.cells inits reader.start.items × HoldsCode [] reader.program
+HoldsAt Code before reader =
+    (front : List Line) × (inits : List Line) × (body : List Line) × (before ≡ front ++ (inits ++ (codes "code" ∷ []) ∷ body))
+    × IsHeader front reader.head × HoldsStart reader.head.cells inits reader.start.items × HoldsCode body reader.program
+HoldsAt next before reader = HoldsHead next before reader.head × (reader.start.items ≡ []) × HoldsCode [] reader.program
+
+abbrev pub Holds : List Line → Reader → Type 0
+Holds before reader = HoldsAt reader.head.next before reader
+
+-- the number of one line more, if it has an instruction
+abbrev pub number_if : Bool → ℕ → List ℕ
+number_if true number = number ∷ []
+number_if false number = []
+
+-- one line with words more
+abbrev pub TakesWords : List Line → Line → Reader → ℕ → Result (Unit {0}) TextKind → Reader → Type 0
+TakesWords before line old number (Ok _) reader =
+    (words_fault before line ≡ None) × Holds (before ++ line ∷ []) reader × (numbers_of reader.program ≡ numbers_of old.program ++ number_if (has_code before) number)
+TakesWords before line old number (Err kind) reader = kind ≢ Memory → words_fault before line ≡ Some kind
+
+-- one line more
+abbrev pub TakesLine : List Line → List ℕ → Reader → ℕ → Result (Unit {0}) TextKind → Reader → Type 0
+TakesLine before line old number (Ok _) reader =
+    (line_fault before line ≡ None) × Holds (before ++ worded (line ∷ [])) reader
+    × (numbers_of reader.program ≡ numbers_of old.program ++ number_if (has_code before && is_filled (words_of line)) number)
+TakesLine before line old number (Err kind) reader = kind ≢ Memory → line_fault before line ≡ Some kind
+
+-- ---- the end
+
+-- the kind of the jump in this line, if it leads to an unknown label
+abbrev pub unknown_at : List Line → ℕ → Option TextKind
+unknown_at body k = result_err (instr_of (place_of body) (unlabelled (slice_index_or body k [])))
+
+-- the fault of lines that were all read: what they lack, at their last line, or the first jump to an unknown label
+abbrev pub IsEndFault : List Line → List ℕ → ℕ → ℕ → TextKind → Type 0
+IsEndFault before numbers last line kind =
+    ((end_fault before ≡ Some kind) × (line ≡ last))
+    ⊎ ((end_fault before ≡ None) × (k : ℕ) × (line ≡ slice_index numbers k) × IsFirst (unknown_at (body_of before)) (length (body_of before)) k kind)
+
+-- what the lines make, once all of them were read
+abbrev pub Finishes : List Line → List ℕ → ℕ → Result JobData TextFault → Type 0
+Finishes before numbers last (Ok job) = SpellsLines job before
+Finishes before numbers last (Err fault) = fault.kind ≢ Memory → IsEndFault before numbers last fault.line fault.kind

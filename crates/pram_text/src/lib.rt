@@ -1,0 +1,23 @@
+//! Jobs of the machine, and the text that spells them.
+#![tactic(auto)]
+
+mod fault;
+mod head;
+mod header;
+mod instr;
+mod job;
+pub mod laws;
+mod numbers;
+mod program;
+mod reader;
+mod start;
+mod statement;
+mod words;
+
+pub use fault::{TextFault, TextKind};
+pub use instr::{Instr, Rule};
+pub use job::Job;
+pub use reader::read_job;
+
+#[cfg(test)]
+mod tests;

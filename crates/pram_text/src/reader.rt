@@ -1,0 +1,133 @@
+//! Reads a text line by line.
+ghost use Rattle.std.specs.Prelude.{◌≡◌, ◌≢◌, [], List, IfOk, IfErr};
+ghost use Rattle.pram_text.specs.Lines.{Line, words_of};
+ghost use Rattle.pram_text.specs.Reading.{Finishes, Holds, TakesLine, TakesWords, numbers_of};
+ghost use Rattle.pram_text.specs.Text.{IsRefusal, Spells};
+
+use crate::fault::{TextFault, TextKind};
+use crate::head::{Head, Next};
+use crate::header::is_code_line;
+use crate::job::Job;
+use crate::program::Program;
+use crate::start::{start_values, take_start};
+use crate::words::{has_words, is_lawful};
+use std::alloc::Global;
+
+/// The job that a text spells, or the first line that is wrong, and what is wrong with it.
+///
+/// The time is linear in the text, but for a factor that is the logarithm of the number of start values and of labels.
+pub fn read_job(alloc: Global, text: &[u8]) -> Result<Job, TextFault>
+    ensures spells { IfOk result (λ job. Spells text.now job) }
+    ensures bears { IfErr result (λ fault. IsRefusal text.now fault.line fault.kind) }
+{
+    let mut reader = Reader::new(alloc);
+    let mut number = 0;
+    for line in text.split(|byte| *byte == b'\n') {
+        number += 1;
+        if let Err(kind) = reader.take(number, line) {
+            return Err(refusal(number, kind));
+        }
+    }
+    reader.finish(alloc, number)
+}
+
+// The fault of a line. Where memory ran out it is no line's.
+fn refusal(line: u64, kind: TextKind) -> TextFault
+    ensures kind { result.kind ≡ kind }
+    ensures line { kind ≢ TextKind.Memory → result.line ≡ line }
+    ensures memory { kind ≡ TextKind.Memory → result.line ≡ 0 }
+{
+    let line = match kind {
+        TextKind::Memory => 0,
+        _ => line,
+    };
+    TextFault { line, kind }
+}
+
+// What the lines so far say.
+#[derive(Drop)]
+struct Reader<'t> {
+    head: Head,
+    start: Vec<Option<u32>>,
+    program: Program<'t>,
+}
+
+impl<'t> Reader<'t> {
+    // A reader that has read nothing.
+    fn new(alloc: Global) -> Self
+        ensures held { Holds [] result }
+        ensures numbers { numbers_of result.program ≡ [] }
+    {
+        Reader {
+            head: Head::new(),
+            start: Vec::new(alloc),
+            program: Program::new(alloc),
+        }
+    }
+
+    // Reads one line more.
+    fn take(&mut self, number: u64, line: &'t [u8]) -> Result<(), TextKind>
+        requires { (before : List Line) × Holds before self.old }
+        ensures { (before : List Line) → Holds before self.old
+            → TakesLine before line.now self.old number result self.new }
+    {
+        if !is_lawful(line) {
+            Err(TextKind::NotAscii)
+        } else if has_words(line) {
+            self.take_words(number, line)
+        } else {
+            Ok(())
+        }
+    }
+
+    // Reads one line more, with words.
+    fn take_words(&mut self, number: u64, line: &'t [u8]) -> Result<(), TextKind>
+        requires { (before : List Line) × Holds before self.old }
+        ensures { (before : List Line) → Holds before self.old
+            → TakesWords before (words_of line.now) self.old number result self.new }
+    {
+        match self.head.next {
+            Next::Code => self.program.take(number, line),
+            Next::Start if is_code_line(line) => {
+                self.head.next = Next::Code;
+                Ok(())
+            }
+            Next::Start => take_start(&mut self.start, self.head.cells, line),
+            _ => {
+                self.head = self.head.with(line)?;
+                Ok(())
+            }
+        }
+    }
+
+    // The job that the lines spell, where all of them were read and the last one has this number.
+    fn finish(self, alloc: Global, last: u64) -> Result<Job, TextFault>
+        requires { (before : List Line) × Holds before self }
+        ensures told { (before : List Line) → Holds before self.entry
+            → Finishes before (numbers_of self.entry.program) last result }
+        ensures memory { IfErr result (λ fault. fault.kind ≡ TextKind.Memory → fault.line ≡ 0) }
+    {
+        let Next::Code = self.head.next else {
+            return Err(TextFault {
+                line: last,
+                kind: TextKind::BadHeader,
+            });
+        };
+        if self.program.written.is_empty() {
+            return Err(TextFault {
+                line: last,
+                kind: TextKind::NoCode,
+            });
+        }
+        let code = self.program.code(alloc)?;
+        let init = start_values(alloc, &self.start, self.head.cells)?;
+        Ok(Job::new(
+            self.head.rule,
+            self.head.cells,
+            self.head.procs,
+            self.head.steps,
+            init,
+            code,
+        ))
+    }
+}

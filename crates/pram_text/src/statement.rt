@@ -1,0 +1,272 @@
+//! Instruction lines.
+ghost use Rattle.std.specs.Prelude.{◌≡◌, ℕ, ◌^◌, ◌<◌, ◌||◌, ◌==◌, List, ◌∷◌, find, Option, None, Ok, IfOk};
+ghost use Rattle.std.specs.Char.{is_ascii_alphabetic, is_ascii_alphanumeric};
+ghost use Rattle.std.specs.List.{list_all};
+ghost use Rattle.std.specs.Option.{option_copied};
+ghost use Rattle.std.specs.Str.{bytes_eq};
+ghost use Rattle.pram_text.specs.Lines.{words_of};
+ghost use Rattle.pram_text.specs.declared.instr.Instr.{Instr};
+ghost use Rattle.pram_text.specs.Statement.{result_and_then, name_of, resolved, IsStatement};
+ghost use Rattle.pram_text.specs.Judgement.{label_of, unlabelled, is_name, register_of, place_in, no_operand, one_register, two_registers, three_registers, register_number, register_label, one_label, instr_of};
+
+use crate::fault::TextKind;
+use crate::instr::Instr;
+use crate::numbers::number_within;
+use crate::words::{has_words, is_word, next_word, one_word, three_words, two_words};
+
+/// What the first word of an instruction says.
+#[derive(Clone, Copy)]
+enum Mnemonic {
+    Set,
+    Pid,
+    Add,
+    Sub,
+    Mul,
+    And,
+    Or,
+    Xor,
+    Lt,
+    Eq,
+    Ld,
+    St,
+    Jz,
+    Jmp,
+    Halt,
+}
+
+/// An instruction, with the label that a jump goes to, whose place is 0 until it is known.
+#[derive(Clone, Copy)]
+pub(crate) struct Statement<'a> {
+    pub(crate) instr: Instr,
+    pub(crate) target: Option<&'a [u8]>,
+}
+
+impl Mnemonic {
+    const ALL: [Mnemonic; 15] = [
+        Mnemonic::Set,
+        Mnemonic::Pid,
+        Mnemonic::Add,
+        Mnemonic::Sub,
+        Mnemonic::Mul,
+        Mnemonic::And,
+        Mnemonic::Or,
+        Mnemonic::Xor,
+        Mnemonic::Lt,
+        Mnemonic::Eq,
+        Mnemonic::Ld,
+        Mnemonic::St,
+        Mnemonic::Jz,
+        Mnemonic::Jmp,
+        Mnemonic::Halt,
+    ];
+
+    fn name(self) -> &'static str
+        ensures { result.now ≡ name_of self }
+    {
+        match self {
+            Mnemonic::Set => "set",
+            Mnemonic::Pid => "pid",
+            Mnemonic::Add => "add",
+            Mnemonic::Sub => "sub",
+            Mnemonic::Mul => "mul",
+            Mnemonic::And => "and",
+            Mnemonic::Or => "or",
+            Mnemonic::Xor => "xor",
+            Mnemonic::Lt => "lt",
+            Mnemonic::Eq => "eq",
+            Mnemonic::Ld => "ld",
+            Mnemonic::St => "st",
+            Mnemonic::Jz => "jz",
+            Mnemonic::Jmp => "jmp",
+            Mnemonic::Halt => "halt",
+        }
+    }
+
+    fn of(name: &[u8]) -> Option<Mnemonic>
+        ensures { result ≡ find (λ m. bytes_eq name.now (name_of m)) Mnemonic.ALL }
+    {
+        Self::ALL
+            .iter()
+            .copied()
+            .find(|mnemonic| is_word(name, mnemonic.name()))
+    }
+}
+
+/// The label of a line without its colon, and the line behind it.
+#[tactic(auto, unfolding(crate::specs::Judgement::label_of, crate::specs::Judgement::unlabelled, crate::specs::Judgement::is_label))]
+pub(crate) fn split_label(line: &[u8]) -> (Option<&[u8]>, &[u8])
+    ensures label { option_copied result.0 ≡ label_of (words_of line.now) }
+    ensures rest { words_of result.1.now ≡ unlabelled (words_of line.now) }
+{
+    let Some((word, rest)) = next_word(line) else {
+        return (None, line);
+    };
+    match word.split_last() {
+        Some((b':', label)) => (Some(label), rest),
+        _ => (None, line),
+    }
+}
+
+fn is_name_byte(byte: u8) -> bool
+    ensures { result ≡ (is_ascii_alphanumeric byte || (byte == 95)) }
+{
+    byte.is_ascii_alphanumeric() || byte == b'_'
+}
+
+fn all_name_bytes(word: &[u8]) -> bool
+    ensures { result ≡ list_all (λ b. is_ascii_alphanumeric b || (b == 95)) word.now }
+{
+    word.iter().all(|&byte| is_name_byte(byte))
+}
+
+/// Whether the word may name a label.
+#[tactic(auto, unfolding(crate::specs::Judgement::is_name))]
+pub(crate) fn is_name_word(word: &[u8]) -> bool
+    ensures { result ≡ is_name word.now }
+{
+    match word.split_first() {
+        Some((&first, rest)) => (first.is_ascii_alphabetic() || first == b'_')
+            && all_name_bytes(rest),
+        None => false,
+    }
+}
+
+#[tactic(auto, unfolding(crate::specs::Judgement::register_of))]
+fn register_in(word: &[u8]) -> Result<u8, TextKind>
+    ensures value { result ≡ register_of word.now }
+    ensures below_four { IfOk result (λ register. register < 4) }
+{
+    if is_word(word, "r0") {
+        Ok(0)
+    } else if is_word(word, "r1") {
+        Ok(1)
+    } else if is_word(word, "r2") {
+        Ok(2)
+    } else if is_word(word, "r3") {
+        Ok(3)
+    } else {
+        Err(TextKind::BadRegister)
+    }
+}
+
+fn no_operand_in(operands: &[u8]) -> Result<(), TextKind>
+    ensures { (instr : Instr) → no_operand instr (words_of operands.now) ≡ result_and_then result (λ _. Ok instr) }
+{
+    if has_words(operands) {
+        Err(TextKind::WrongOperands)
+    } else {
+        Ok(())
+    }
+}
+
+fn one_register_in(operands: &[u8]) -> Result<u8, TextKind>
+    ensures value { (make : ℕ → Instr) → one_register make (words_of operands.now) ≡ result_and_then result (λ r. Ok (make r)) }
+    ensures below_four { IfOk result (λ r. r < 4) }
+{
+    let Some(r) = one_word(operands) else {
+        return Err(TextKind::WrongOperands);
+    };
+    register_in(r)
+}
+
+fn two_registers_in(operands: &[u8]) -> Result<(u8, u8), TextKind>
+    ensures value { (make : ℕ → ℕ → Instr) → two_registers make (words_of operands.now) ≡ result_and_then result (λ p. Ok (make p.0 p.1)) }
+    ensures below_four { IfOk result (λ p. (p.0 < 4) × (p.1 < 4)) }
+{
+    let Some((a, b)) = two_words(operands) else {
+        return Err(TextKind::WrongOperands);
+    };
+    Ok((register_in(a)?, register_in(b)?))
+}
+
+fn three_registers_in(operands: &[u8]) -> Result<(u8, u8, u8), TextKind>
+    ensures value { (make : ℕ → ℕ → ℕ → Instr) → three_registers make (words_of operands.now) ≡ result_and_then result (λ p. Ok (make p.0 p.1 p.2)) }
+    ensures below_four { IfOk result (λ p. (p.0 < 4) × (p.1 < 4) × (p.2 < 4)) }
+{
+    let Some((r, a, b)) = three_words(operands) else {
+        return Err(TextKind::WrongOperands);
+    };
+    Ok((register_in(r)?, register_in(a)?, register_in(b)?))
+}
+
+fn register_number_in(operands: &[u8]) -> Result<(u8, u32), TextKind>
+    ensures value { (make : ℕ → ℕ → Instr) → register_number make (words_of operands.now) ≡ result_and_then result (λ p. Ok (make p.0 p.1)) }
+    ensures fits { IfOk result (λ p. (p.0 < 4) × (p.1 < 2 ^ 32)) }
+{
+    let Some((r, k)) = two_words(operands) else {
+        return Err(TextKind::WrongOperands);
+    };
+    Ok((register_in(r)?, number_within(0, u32::MAX, k)?))
+}
+
+fn register_label_in(operands: &[u8]) -> Result<(u8, &[u8]), TextKind>
+    ensures value { (find : List ℕ → Option ℕ) → (make : ℕ → ℕ → Instr) → register_label find make (words_of operands.now) ≡ result_and_then result (λ p. result_and_then (place_in find p.1.now) (λ place. Ok (make p.0 place))) }
+    ensures below_four { IfOk result (λ p. p.0 < 4) }
+{
+    let Some((r, label)) = two_words(operands) else {
+        return Err(TextKind::WrongOperands);
+    };
+    Ok((register_in(r)?, label))
+}
+
+fn label_in(operands: &[u8]) -> Result<&[u8], TextKind>
+    ensures { (find : List ℕ → Option ℕ) → (make : ℕ → Instr) → one_label find make (words_of operands.now) ≡ result_and_then result (λ label. result_and_then (place_in find label.now) (λ place. Ok (make place))) }
+{
+    one_word(operands).ok_or(TextKind::WrongOperands)
+}
+
+// The statement that does not jump.
+fn plain<'a>(instr: Instr) -> Statement<'a>
+    ensures { (result.instr ≡ instr) × (result.target ≡ None) }
+{
+    Statement {
+        instr,
+        target: None,
+    }
+}
+
+// The statement of an instruction of this name.
+#[tactic(auto, unfolding(crate::specs::Judgement::instr_of))]
+fn operation(mnemonic: Mnemonic, operands: &[u8]) -> Result<Statement<'_>, TextKind>
+    ensures said { (find : List ℕ → Option ℕ) → instr_of find (name_of mnemonic ∷ words_of operands.now) ≡ result_and_then result (resolved find) }
+    ensures statement { IfOk result IsStatement }
+{
+    match mnemonic {
+        Mnemonic::Set => register_number_in(operands).map(|(r, k)| plain(Instr::Set(r, k))),
+        Mnemonic::Pid => one_register_in(operands).map(|r| plain(Instr::Pid(r))),
+        Mnemonic::Add => three_registers_in(operands).map(|(r, a, b)| plain(Instr::Add(r, a, b))),
+        Mnemonic::Sub => three_registers_in(operands).map(|(r, a, b)| plain(Instr::Sub(r, a, b))),
+        Mnemonic::Mul => three_registers_in(operands).map(|(r, a, b)| plain(Instr::Mul(r, a, b))),
+        Mnemonic::And => three_registers_in(operands).map(|(r, a, b)| plain(Instr::And(r, a, b))),
+        Mnemonic::Or => three_registers_in(operands).map(|(r, a, b)| plain(Instr::Or(r, a, b))),
+        Mnemonic::Xor => three_registers_in(operands).map(|(r, a, b)| plain(Instr::Xor(r, a, b))),
+        Mnemonic::Lt => three_registers_in(operands).map(|(r, a, b)| plain(Instr::Lt(r, a, b))),
+        Mnemonic::Eq => three_registers_in(operands).map(|(r, a, b)| plain(Instr::Eq(r, a, b))),
+        Mnemonic::Ld => two_registers_in(operands).map(|(r, a)| plain(Instr::Ld(r, a))),
+        Mnemonic::St => two_registers_in(operands).map(|(a, b)| plain(Instr::St(a, b))),
+        Mnemonic::Jz => register_label_in(operands).map(|(r, label)| Statement {
+            instr: Instr::Jz(r, 0),
+            target: Some(label),
+        }),
+        Mnemonic::Jmp => label_in(operands).map(|label| Statement {
+            instr: Instr::Jmp(0),
+            target: Some(label),
+        }),
+        Mnemonic::Halt => no_operand_in(operands).map(|()| plain(Instr::Halt)),
+    }
+}
+
+/// The statement of a line behind its label.
+#[tactic(auto, unfolding(crate::specs::Judgement::instr_of))]
+pub(crate) fn statement_in(line: &[u8]) -> Result<Statement<'_>, TextKind>
+    ensures said { (find : List ℕ → Option ℕ) → instr_of find (words_of line.now) ≡ result_and_then result (resolved find) }
+    ensures statement { IfOk result IsStatement }
+{
+    let Some((name, operands)) = next_word(line) else {
+        return Err(TextKind::UnknownInstruction);
+    };
+    let Some(mnemonic) = Mnemonic::of(name) else {
+        return Err(TextKind::UnknownInstruction);
+    };
+    operation(mnemonic, operands)
+}

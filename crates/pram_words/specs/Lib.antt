@@ -1,0 +1,5 @@
+pub mod Stamps
+pub mod Phases
+pub mod Tree
+pub mod Words
+pub mod Start

@@ -1,0 +1,36 @@
+//! What the words of a board are.
+ghost use Rattle.pram_words.specs.Words.{WordsKeepApart, WordsHaveRanges};
+ghost use Rattle.pram_words.specs.Start.{WordsStartAdmitted};
+
+/// What a word of a board is.
+#[derive(Clone, Copy, Debug, PartialEq, Eq)]
+pub enum Word {
+    /// The step of the conflict, or 0.
+    Conflict,
+    /// The last phase that is finished below a node.
+    Node(u32),
+    /// A part of the request of a processor, stamped: 0 is the data place plus 1, or 0 for none; 1 the data value; 2 the next
+    /// counter.
+    Asked(u32, u32),
+    /// The node where a worker stands.
+    Position(u32),
+    /// The first (0) or the second (1) of the two stamped words of a place.
+    Stored(u32, u32),
+    /// The claims to a cell, stamped.
+    Claim(u32),
+}
+
+/// The law that no two things share a word, and that the words have the numbers from 0 up to the length. It does nothing.
+pub fn words_keep_apart()
+    ensures { WordsKeepApart }
+{}
+
+/// The law that the values that a word may have are those that the layout admits at its number. It does nothing.
+pub fn words_have_ranges()
+    ensures { WordsHaveRanges }
+{}
+
+/// The law that the words of a board start in their ranges, each as its kind says. It does nothing.
+pub fn words_start_admitted()
+    ensures { WordsStartAdmitted }
+{}
