@@ -1,0 +1,8 @@
+-- The bytes still to come from a file that may be closed.
+use Rattle.std.specs.Prelude.{ℕ, List, Option, None}
+use Rattle.pramx.specs.declared.input.Input.{Input}
+use Rattle.pramx.specs.declared.input.Input.TheVariants.{File, Closed}
+
+abbrev pub remaining_of : {F : Type 0} → (F → Option (List ℕ)) → Input F → Option (List ℕ)
+remaining_of remaining (File file) = remaining file
+remaining_of remaining Closed = None

@@ -1,0 +1,55 @@
+//! A source over a reader of std.
+ghost use Rattle.std.specs.Prelude.{◌≡◌, ◌≤◌, false, length, IfOk};
+ghost use Rattle.std.specs.Io.KnownBytes.{ReadConsumes};
+
+use crate::device::{Failed, Source};
+use std::io::{ErrorKind, Read};
+
+/// A source over a reader. A read that a signal interrupted is made again.
+#[derive(Drop)]
+pub struct FromRead<R: Read> {
+    reader: R,
+    has_failed: bool,
+}
+
+impl<R: Read> FromRead<R> {
+    pub fn new(reader: R) -> Self
+        ensures unfailed { ⟦<FromRead<R> as Source>⟧.has_failed result ≡ false }
+        ensures bytes { ⟦<FromRead<R> as Source>⟧.remaining result ≡ R.remaining reader }
+    {
+        FromRead {
+            reader,
+            has_failed: false,
+        }
+    }
+}
+
+impl<R: Read> Source for FromRead<R> {
+    ghost has_failed = { λ s. s.has_failed };
+
+    ghost remaining = { λ s. R.remaining s.reader };
+
+    fn pull(&mut self, into: &mut [u8]) -> Result<usize, Failed> {
+        let answer = read_once(&mut self.reader, into);
+        self.has_failed |= answer.is_err();
+        answer
+    }
+}
+
+/// One read, made again where a signal interrupts it.
+fn read_once<R: Read>(reader: &mut R, into: &mut [u8]) -> Result<usize, Failed>
+    ensures bound { IfOk result (λ count. count ≤ length into.new) }
+    ensures bytes { ReadConsumes (R.remaining reader.old) (R.remaining reader.new) result into.new }
+{
+    'tries: for _ in 0..u64::MAX {
+        match reader.read(into) {
+            Ok(count) => return Ok(count),
+            Err(error) => {
+                if error.kind() != ErrorKind::Interrupted {
+                    return Err(Failed);
+                }
+            }
+        }
+    }
+    Err(Failed)
+}

@@ -1,0 +1,105 @@
+//! Runs programs of a synchronous parallel machine: `pramx check FILE`, `pramx plain FILE`.
+#![tactic(auto)]
+
+ghost use Rattle.std.specs.Prelude.{◌≡◌, false};
+
+mod device;
+mod from_read;
+mod input;
+mod into_write;
+mod line;
+mod plain;
+mod print;
+mod server;
+#[cfg(test)]
+mod tests;
+mod transfer;
+
+use crate::device::Sink;
+use crate::input::open_input;
+use crate::into_write::IntoWrite;
+use crate::line::read_line;
+use crate::server::{MEMORY, USAGE, serve};
+use crate::transfer::put;
+use clap::error::ErrorKind;
+use std::alloc::{AllocError, Global};
+use std::env::{self, Env};
+use std::io;
+use std::process::ExitCode;
+use std::rt::Files;
+
+fn main(rt: HostRuntime) -> ExitCode {
+    let mut err = IntoWrite::new(rt.stderr());
+    ExitCode::from(status(&rt, &mut err))
+}
+
+/// Does what the program's words ask, and answers the exit status.
+fn status<R: AllocGlobal + Env + Files + Print + Eprint, E: Sink>(rt: &R, err: &mut E) -> u8
+    requires { E.has_failed err.old ≡ false }
+{
+    let alloc = rt.alloc();
+    let words = match words_of(rt) {
+        Ok(words) => words,
+        Err(error) if error.kind() == io::ErrorKind::OutOfMemory => return tell_memory(err),
+        Err(_) => {
+            let _ = put(err, b"error: a word of the line is not UTF-8\n");
+            return USAGE;
+        }
+    };
+    match texts_of(alloc, words.as_slice()) {
+        Ok(texts) => line_status(rt, alloc, texts.as_slice(), err),
+        Err(AllocError) => tell_memory(err),
+    }
+}
+
+fn words_of<R: AllocGlobal + Env>(rt: &R) -> io::Result<Vec<String>> {
+    Ok(env::args(rt)?.collect(rt.alloc())?)
+}
+
+fn texts_of<'a>(alloc: Global, words: &'a [String]) -> Result<Vec<&'a str>, AllocError> {
+    words.iter().map(|word| word.as_str()).collect(alloc)
+}
+
+fn line_status<'a, R: Files + Print + Eprint, E: Sink>(
+    rt: &R,
+    alloc: Global,
+    words: &'a [&'a str],
+    err: &mut E,
+) -> u8
+    requires { E.has_failed err.old ≡ false }
+{
+    let line = match read_line(alloc, words) {
+        Ok(line) => line,
+        Err(error) => return refusal_status(rt, &error, err),
+    };
+    let mut job = open_input(rt, line.file());
+    let mut plan = line.plan().map(|name| open_input(rt, name));
+    let mut out = IntoWrite::new(io::writer(rt));
+    serve(alloc, &line, &mut job, plan.as_mut(), &mut out, err)
+}
+
+/// Prints what `read_line` answers in place of a line, and answers its status.
+fn refusal_status<R: Print + Eprint, E: Sink>(rt: &R, error: &clap::Error, err: &mut E) -> u8
+    requires { E.has_failed err.old ≡ false }
+{
+    if error.kind() == ErrorKind::OutOfMemory {
+        return tell_memory(err);
+    }
+    let printed = error.print(rt);
+    if error.use_stderr() {
+        return USAGE;
+    }
+    if printed.is_err() {
+        let _ = put(err, b"file -\n");
+        return USAGE;
+    }
+    0
+}
+
+/// Tells want of memory, and answers its status.
+fn tell_memory<E: Sink>(err: &mut E) -> u8
+    requires { E.has_failed err.old ≡ false }
+{
+    let _ = put(err, b"memory\n");
+    MEMORY
+}

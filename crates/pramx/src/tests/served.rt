@@ -1,0 +1,44 @@
+//! A line served over a text.
+ghost use Rattle.std.specs.Prelude.{◌≡◌, false};
+
+use crate::device::Source;
+use crate::from_read::FromRead;
+use crate::into_write::IntoWrite;
+use crate::line::Line;
+use crate::server::serve;
+use std::alloc::Global;
+
+/// The job's file, as the lines of the tests name it.
+pub const FILE: &str = "job.txt";
+
+pub const CHECK: Line<'static> = Line::Check { file: FILE };
+
+pub const PLAIN: Line<'static> = Line::Plain { file: FILE };
+
+/// What a line that was served wrote and answered.
+#[derive(Drop)]
+pub struct Served {
+    pub out: Vec<u8>,
+    pub err: Vec<u8>,
+    pub status: u8,
+}
+
+/// Serves a line over the source of its job.
+pub fn serve_source<J: Source>(alloc: Global, line: &Line<'_>, job: &mut J) -> Served
+    requires { J.has_failed job.old ≡ false }
+{
+    let mut out = IntoWrite::new(Vec::new(alloc));
+    let mut err = IntoWrite::new(Vec::new(alloc));
+    let plan: Option<&mut FromRead<&[u8]>> = None;
+    let status = serve(alloc, line, job, plan, &mut out, &mut err);
+    Served {
+        out: out.into_inner(),
+        err: err.into_inner(),
+        status,
+    }
+}
+
+/// Serves a line over the text of its job.
+pub fn serve_text(alloc: Global, line: &Line<'_>, text: &[u8]) -> Served {
+    serve_source(alloc, line, &mut FromRead::new(text))
+}
