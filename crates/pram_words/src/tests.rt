@@ -1,5 +1,6 @@
 use super::*;
-use pram_text::Rule;
+use pram_text::{Rule, read_job};
+use std::test::Fail;
 
 #[test]
 fn stamps_and_payloads(rt: HostRuntime) {
@@ -65,4 +66,28 @@ fn layout_with_claims(rt: HostRuntime) {
     let largest = Layout::of(Rule::Priority, 65536, 1024, 64);
     assert_eq!(rt; largest.length(), 212032);
     assert_eq!(rt; Layout::of(Rule::Common, 65536, 1024, 64).length(), 146496);
+}
+
+#[test]
+fn layout_of_a_job(rt: HostRuntime) -> Result<(), Fail> {
+    let text = b"pram 1\ncells 3\nprocs 3\nsteps 4\ninit 1 7\ncode\nhalt\n";
+    let job = read_job(rt.alloc(), text)?;
+    let layout = Layout::new(&job, 2);
+    assert_eq!(rt; layout.length(), 55);
+    for (word, value) in [(0, 0), (17, 4), (18, 5), (21, 7), (22, 7), (54, 0)] {
+        assert!(rt; word < layout.length());
+        assert_eq!(rt; layout.start_word(&job, word), value, "word {word}");
+    }
+    for (word, value, admitted) in [
+        (1, 12, true),
+        (1, 13, false),
+        (8, stamped(4, 15), true),
+        (8, stamped(4, 16), false),
+        (49, stamped(4, 2), true),
+        (49, stamped(4, 3), false),
+        (55, 0, false),
+    ] {
+        assert_eq!(rt; layout.admits(&job, word, value), admitted, "word {word}");
+    }
+    Ok(())
 }

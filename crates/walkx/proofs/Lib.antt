@@ -1,0 +1,14 @@
+pub mod Begun
+pub mod Boards
+pub mod Hearing
+pub mod Looks
+pub mod Meets
+pub mod Tells
+pub mod BoundWay
+pub mod BoundTurns
+pub mod BoundTasks
+pub mod BoundScripts
+pub mod BoundTurn
+pub mod BoundWalk
+pub mod BoundSteps
+pub mod BoundHeard

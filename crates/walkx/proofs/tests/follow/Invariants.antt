@@ -1,0 +1,5 @@
+use Rattle.walkx.specs.Stages.{Serves}
+use Rattle.walkx.proofs.tests.follow.Given as goal
+
+abbrev pub invariant-loop-step : goal.invariant-loop-step
+invariant-loop-step g l = Serves l.job l.layout l.worker

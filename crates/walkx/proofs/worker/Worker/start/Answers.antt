@@ -1,0 +1,5 @@
+use Rattle.walkx.proofs.Tells.{starts}
+use Rattle.walkx.proofs.worker.Worker.start.Goals as goal
+
+pub returns-clause-serves : goal.returns-clause-serves
+returns-clause-serves c = λ job y worker. starts job y c.args.w worker

@@ -1,0 +1,11 @@
+pub mod Operations
+pub mod Scripts
+pub mod Tasks
+pub mod Walk
+pub mod Reads
+pub mod Records
+pub mod Codes
+pub mod Stages
+pub mod Glances
+pub mod Requests
+pub mod Bound

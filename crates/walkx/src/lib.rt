@@ -1,0 +1,24 @@
+//! A worker and a reader, asked and told one atomic step at a time.
+#![tactic(auto)]
+
+mod ask;
+mod carry;
+mod compute;
+mod laws;
+mod operation;
+mod reader;
+mod record;
+mod stage;
+mod turn;
+mod words;
+mod worker;
+
+pub use laws::own_steps_are_bounded;
+pub use operation::{Ended, Op, ReadOp, Reading};
+pub use reader::Reader;
+pub use record::Recorded;
+pub use words::{request_of, requests_meet, seen_step};
+pub use worker::{Doing, Worker};
+
+#[cfg(test)]
+mod tests;

@@ -1,0 +1,207 @@
+//! The reader of a cell.
+ghost use Rattle.std.specs.Prelude.{◌≡◌, ℕ, ◌<◌};
+ghost use Rattle.pram_words.specs.Words.{Admits, number_of};
+ghost use Rattle.pram_words.specs.declared.words.Word.TheVariants as Word;
+ghost use Rattle.walkx.specs.Glances.{IsGlance, IsLater, most_heard, reads_again, reads_both, script_at};
+ghost use Rattle.walkx.specs.Reads.{HeardAdmitted, LooksOnBoard, lesser, looks_for, reader_script, told_at};
+ghost use Rattle.walkx.specs.Scripts.{behind, ends};
+ghost use Rattle.walkx.specs.Stages.{IsBoard};
+
+use crate::compute::newer;
+use crate::operation::{ReadOp, Reading};
+use crate::stage::Glance;
+use crate::words::seen_step;
+use pram_text::Job;
+use pram_words::{Layout, payload, stamp};
+use std::marker::Model;
+
+/// A reader of a cell. It asks for one atomic step at a time, five at most, and is told the answer.
+#[derive(Drop)]
+pub struct Reader {
+    cell: u32,
+    stage: Glance,
+    heard: [u64; 5],
+    count: usize,
+}
+
+impl Model for Reader {
+    ghost use Rattle.std.specs.Prelude.{◌≤◌};
+    ghost use Rattle.walkx.specs.Glances.{Kept, most_heard};
+    ghost use Rattle.walkx.specs.Stages.{newest};
+
+    ghost Value = { Kept };
+
+    ghost view = { λ r. record { looking = record { cell = r.cell; heard = newest r.count r.heard }; stage = r.stage } };
+
+    ghost invariant = { λ r. r.count ≤ most_heard r.stage };
+}
+
+impl Reader {
+    ghost use Rattle.std.specs.Prelude.{◌≡◌, ℕ, ◌<◌, [], length};
+    ghost use Rattle.pram_text.specs.Job.{JobData};
+    ghost use Rattle.pram_words.specs.Words.{LayoutData};
+    ghost use Rattle.walkx.specs.Glances.{Follows};
+    ghost use Rattle.walkx.specs.Reads.{LooksFit, LooksOnBoard, HeardAdmitted, look_of, looked, looks_for};
+    ghost use Rattle.walkx.specs.Walk.{IsLayoutOf};
+
+    /// A reader of this cell.
+    pub fn new(cell: u32) -> Reader
+        ensures value { result.looking ≡ record { cell = cell; heard = [] } }
+        ensures fits { (job : JobData) (y : LayoutData) → LooksFit job y result.looking }
+        ensures follows { (y : LayoutData) → cell < y.cells → Follows y result }
+    {
+        Reader {
+            cell,
+            stage: Glance::Begin,
+            heard: [0; 5],
+            count: 0,
+        }
+    }
+
+    /// The reader's next atomic step, or its answer.
+    pub fn ask(&self, layout: &Layout) -> ReadOp
+        requires { Follows layout.now self.now }
+        ensures asks { result ≡ looks_for (look_of layout.now self.now.looking) }
+        ensures on_board { LooksOnBoard layout.now result }
+        ensures few { (k : ℕ) → result ≡ ReadOp.Load k → length self.now.looking.heard < 5 }
+    {
+        asked(layout, self.cell, self.stage)
+    }
+
+    /// Hears the answer of the step that it asked for.
+    pub fn tell(&mut self, job: &Job, layout: &Layout, answer: u64)
+        requires layout { IsLayoutOf job.now layout.now }
+        requires follows { Follows layout.now self.old }
+        requires fits { LooksFit job.now layout.now self.old.looking }
+        requires admitted { HeardAdmitted job.now layout.now (looks_for (look_of layout.now self.old.looking)) answer }
+        ensures told { self.new.looking ≡ looked self.old.looking answer (look_of layout.now self.old.looking) }
+        ensures follows { Follows layout.now self.new }
+        ensures fits { LooksFit job.now layout.now self.new.looking }
+    {
+        if let Glance::Over(_) = self.stage {
+            return;
+        }
+        let _ = job.steps();
+        let _ = layout.leaves();
+        self.stage = told(job, layout, self.cell, self.stage, answer);
+        self.heard[self.count] = answer;
+        self.count += 1;
+    }
+}
+
+// The operation that a stage asks for.
+#[tactic(auto, using(crate::proofs::Boards::root_below), unfolding(pram_words::specs::Words::number_of, crate::specs::Reads::reader_script, crate::specs::Reads::read_script))]
+fn asked(layout: &Layout, cell: u32, stage: Glance) -> ReadOp
+    requires cell { cell < layout.now.cells }
+    ensures asks { result ≡ looks_for (script_at layout.now cell stage) }
+    ensures on_board { LooksOnBoard layout.now result }
+    ensures few { (k : ℕ) → result ≡ ReadOp.Load k → most_heard stage < 5 }
+{
+    let _ = layout.leaves();
+    match stage {
+        Glance::Begin => ReadOp::Load(1),
+        Glance::Look(_) => ReadOp::Load(0),
+        Glance::First(_) | Glance::Again(_, _, _) => ReadOp::Load(layout.place_word(cell)),
+        Glance::Second(_, _) => ReadOp::Load(layout.place_word(cell) + 1),
+        Glance::Over(reading) => ReadOp::Over(reading),
+    }
+}
+
+// What the answer to a stage leads to.
+#[tactic(auto, unfolding(crate::specs::Reads::reader_script, crate::specs::Reads::read_script))]
+fn told(job: &Job, layout: &Layout, cell: u32, stage: Glance, answer: u64) -> Glance
+    requires board { IsBoard job.now layout.now }
+    requires stage { IsGlance stage }
+    requires answer { HeardAdmitted job.now layout.now (looks_for (script_at layout.now cell stage)) answer }
+    ensures rest { script_at layout.now cell result ≡ behind (script_at layout.now cell stage) answer }
+    ensures stage { IsGlance result }
+    ensures later { IsLater stage result }
+{
+    match stage {
+        Glance::Begin => begun(job, layout, cell, answer),
+        Glance::Look(root) => Glance::First(seen_step(root, answer)),
+        Glance::First(step) => Glance::Second(step, answer),
+        Glance::Second(step, first) => heard_both(layout, cell, step, first, answer),
+        Glance::Again(step, first, second) => Glance::Over(heard_again(
+            step, first, second, answer,
+        )),
+        Glance::Over(reading) => Glance::Over(reading),
+    }
+}
+
+// The root was heard.
+#[tactic(auto, using(crate::proofs::Begun::root_most), unfolding(crate::specs::Reads::reader_script))]
+fn begun(job: &Job, layout: &Layout, cell: u32, root: u64) -> Glance
+    requires board { IsBoard job.now layout.now }
+    requires root { Admits layout.now job.now (number_of layout.now (Word.Node 1)) root }
+    ensures rest { script_at layout.now cell result ≡ behind (reader_script layout.now cell) root }
+    ensures stage { IsGlance result }
+    ensures later { IsLater Glance.Begin result }
+{
+    let _ = job.steps();
+    if root % 3 == 0 {
+        Glance::Look(root)
+    } else {
+        Glance::First(seen_step(root, 0))
+    }
+}
+
+// Both words were heard.
+fn heard_both(layout: &Layout, cell: u32, step: u32, first: u64, second: u64) -> Glance
+    ensures rest { script_at layout.now cell result ≡ reads_both layout.now cell step first second }
+    ensures stage { IsGlance result }
+    ensures later { IsLater (Glance.Second step first) result }
+{
+    if stamp(first) <= step {
+        if stamp(second) <= step {
+            Glance::Over(Reading::At {
+                step,
+                value: newer(first, second),
+            })
+        } else {
+            Glance::Again(step, first, second)
+        }
+    } else if stamp(second) <= step {
+        Glance::Over(Reading::At {
+            step,
+            value: payload(second),
+        })
+    } else {
+        Glance::Over(reading(lesser(first, second)))
+    }
+}
+
+// The first word was heard once more.
+fn heard_again(step: u32, first: u64, second: u64, again: u64) -> Reading
+    ensures { ends result ≡ reads_again step first second again }
+{
+    if again == first {
+        Reading::At {
+            step,
+            value: payload(first),
+        }
+    } else {
+        reading(lesser(again, second))
+    }
+}
+
+// The word with the lesser stamp, the first one if the stamps are equal.
+fn lesser(first: u64, second: u64) -> u64
+    ensures { result ≡ lesser first second }
+{
+    if stamp(first) <= stamp(second) {
+        first
+    } else {
+        second
+    }
+}
+
+// What a word says.
+fn reading(word: u64) -> Reading
+    ensures { ends result ≡ told_at word }
+{
+    Reading::At {
+        step: stamp(word),
+        value: payload(word),
+    }
+}

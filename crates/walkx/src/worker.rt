@@ -1,0 +1,164 @@
+//! The worker.
+use crate::ask::asked;
+use crate::operation::{Ended, Op};
+use crate::stage::{At, Stage, Step};
+use crate::turn::step;
+use pram_text::Job;
+use pram_words::{Layout, first_leaf};
+use std::marker::Model;
+
+/// What a worker is doing: which script is in progress, a turn being part of a phase.
+#[derive(Clone, Copy, Debug, PartialEq, Eq)]
+pub enum Doing {
+    /// It comes back, and loads its position.
+    Back,
+    /// It begins, and looks for the phase.
+    Begin,
+    /// It makes a turn in this phase.
+    Turn(u64),
+    /// It is over.
+    Over(Ended),
+}
+
+/// A worker. It asks for one atomic step at a time, and is told the answer.
+#[derive(Drop)]
+pub struct Worker {
+    number: u32,
+    node: Option<u32>,
+    phase: u64,
+    stage: Stage,
+    heard: [u64; 15],
+    count: usize,
+}
+
+impl Model for Worker {
+    ghost use Rattle.std.specs.Prelude.{◌≤◌};
+    ghost use Rattle.walkx.specs.Stages.{Kept, doing_of, most_heard, newest};
+
+    ghost Value = { Kept };
+
+    ghost view = { λ w. record { walking = record { number = w.number; node = w.node; now = doing_of w.stage w.phase; heard = newest w.count w.heard }; phase = w.phase; stage = w.stage } };
+
+    ghost invariant = { λ w. w.count ≤ most_heard w.stage };
+}
+
+impl Worker {
+    ghost use Rattle.std.specs.Prelude.{◌≡◌, ◌<◌};
+    ghost use Rattle.pram_text.specs.Job.{JobData};
+    ghost use Rattle.pram_words.specs.Words.{LayoutData, IsLayout};
+    ghost use Rattle.walkx.specs.Stages.{Serves, at_of};
+    ghost use Rattle.walkx.specs.Walk.{AsksAdmitted, IsAdmitted, IsLayoutOf, ask_of, come_back, end_of, started, told};
+
+    /// Worker w, at its first leaf.
+    pub fn start(w: u32) -> Worker
+        ensures value { result.walking ≡ started w }
+        ensures serves { (job : JobData) (y : LayoutData) → w < y.workers → Serves job y result }
+    {
+        Worker {
+            number: w,
+            node: None,
+            phase: 0,
+            stage: Stage::Begin,
+            heard: [0; 15],
+            count: 0,
+        }
+    }
+
+    /// Worker w, come back: it will stand where its position word says.
+    pub fn back(w: u32) -> Worker
+        ensures value { result.walking ≡ come_back w }
+        ensures serves { (job : JobData) (y : LayoutData) → w < y.workers → Serves job y result }
+    {
+        Worker {
+            number: w,
+            node: None,
+            phase: 0,
+            stage: Stage::Back,
+            heard: [0; 15],
+            count: 0,
+        }
+    }
+
+    /// The worker's number.
+    pub fn number(&self) -> u32
+        ensures { result ≡ self.now.walking.number }
+    {
+        self.number
+    }
+
+    /// How the worker ended, if it did.
+    pub fn ended(&self) -> Option<Ended>
+        ensures { result ≡ end_of self.now.walking.now }
+    {
+        match self.stage {
+            Stage::Over(ended) => Some(ended),
+            _ => None,
+        }
+    }
+
+    /// The worker's next atomic step, or how it ended.
+    #[inline(always)]
+    pub fn ask(&self, job: &Job, layout: &Layout) -> Op
+        requires layout { IsLayoutOf job.now layout.now }
+        requires serves { Serves job.now layout.now self.now }
+        ensures asks { result ≡ ask_of job.now layout.now self.now.walking }
+        ensures admitted { AsksAdmitted job.now layout.now result }
+    {
+        let at = self.at(layout);
+        let _ = job.steps();
+        asked(job, layout, at, self.stage)
+    }
+
+    /// Hears the answer of the step that it asked for.
+    pub fn tell(&mut self, job: &Job, layout: &Layout, answer: u64)
+        requires layout { IsLayoutOf job.now layout.now }
+        requires serves { Serves job.now layout.now self.old }
+        requires admitted { IsAdmitted job.now layout.now (ask_of job.now layout.now self.old.walking) answer }
+        ensures told { self.new.walking ≡ told job.now layout.now self.old.walking answer }
+        ensures serves { Serves job.now layout.now self.new }
+    {
+        let at = self.at(layout);
+        let _ = job.steps();
+        match step(job, layout, at, self.stage, answer) {
+            Step::On(stage) => {
+                self.stage = stage;
+                self.heard[self.count] = answer;
+                self.count += 1;
+            }
+            Step::Begins(node) => {
+                self.node = Some(node);
+                self.stage = Stage::Begin;
+                self.count = 0;
+            }
+            Step::Turns(node, phase) => {
+                self.node = Some(node);
+                self.phase = phase;
+                self.stage = Stage::Node;
+                self.count = 0;
+            }
+            Step::Stops(ended) => {
+                self.stage = Stage::Over(ended);
+                self.heard[self.count] = answer;
+                self.count += 1;
+            }
+            Step::Stays(_) => {}
+        }
+    }
+
+    // Who is at work, where, and in which phase.
+    fn at(&self, layout: &Layout) -> At
+        ensures value { result ≡ at_of layout.now self.now }
+        ensures limits { IsLayout layout.now }
+    {
+        let leaves = layout.leaves();
+        let node = match self.node {
+            Some(node) => node,
+            None => first_leaf(leaves, self.number),
+        };
+        At {
+            worker: self.number,
+            node,
+            phase: self.phase,
+        }
+    }
+}
