@@ -1,0 +1,43 @@
+-- Lemmas F and G as statements: a worker that a record knows, and reads.
+use Rattle.std.specs.Prelude.{◌≡◌, ◌≢◌, ℕ, suc, ◌≤◌, List, slice_index}
+use Rattle.pram_text.specs.Job.{JobData}
+use Rattle.pram_step.specs.Runs.{IsReached, state_after}
+use Rattle.pram_words.specs.declared.words.Word.TheVariants.{Conflict}
+use Rattle.pram_words.specs.Words.{LayoutData}
+use Rattle.walkx.specs.declared.worker.Doing.{Doing}
+use Rattle.walkx.specs.declared.worker.Doing.TheVariants as doing
+use Rattle.walkx.specs.Operations.{words_after, answer}
+use Rattle.walkx.specs.Walk.{Walking, Fits, ask_of, told}
+use Rattle.walkx.specs.Records.{Record, after, Knows}
+use Rattle.lawful_words.specs.Board.{Stands}
+use Rattle.lawful_words.specs.Moments.{Backed, Goes}
+use Rattle.lawful_words.specs.Seen.{Heard, Shows, KnowsStep}
+
+-- ---- F: a worker that a backed record knows
+
+-- the phase that it is in, or 0, which is behind all words
+abbrev pub phase_now : Doing → ℕ
+phase_now (doing.Turn q) = q
+phase_now _ = 0
+
+pub record Moves (job : JobData) (y : LayoutData) (r : Record) (w : Walking) (words : List ℕ) : Type 0 where
+  pub goes : Goes job y w.number (phase_now w.now) (ask_of job y w) words
+  pub backed : Backed job y (after r (ask_of job y w) (answer words (ask_of job y w))) (words_after words (ask_of job y w))
+
+abbrev pub AllF : Type 0
+AllF = (job : JobData) (y : LayoutData) (r : Record) (w : Walking) (words : List ℕ) → Stands job y words → Fits job y w → Knows job y r w → Backed job y r words → Moves job y r w words
+
+-- what is known and fits is known and fits with one answer more
+abbrev pub KnowsNext : Type 0
+KnowsNext = (job : JobData) (y : LayoutData) (r : Record) (w : Walking) (found : ℕ) → Fits job y w → Knows job y r w → Knows job y (after r (ask_of job y w) found) (told job y w found)
+
+-- ---- G: a reply, the record before the read and the one behind it being these
+
+pub record IsLawfulRead (job : JobData) (y : LayoutData) (before behind : Record) (c step value : ℕ) : Type 0 where
+  pub reached : IsReached job step
+  pub holds : value ≡ slice_index (state_after job step) c
+  pub lasts : (t : ℕ) → KnowsStep y before t → t ≤ step
+  -- so is what the loads of this read show of the root and of word 0
+  pub seen : (t : ℕ) → Shows y behind t → t ≤ step
+  pub known : (t : ℕ) × KnowsStep y behind t × (step ≤ t)
+  pub named : (u : ℕ) → u ≢ 0 → Heard y before Conflict u → suc step ≡ u
