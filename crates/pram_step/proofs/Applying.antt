@@ -43,7 +43,7 @@ module _ (job : JobData) where
 
   written_elsewhere : (p i : ℕ) (r : Request) → p ≢ counter_place job i → ((v : ℕ) → r.put ≡ Some (p, v) → ⊥) → written job p i r ≡ None
   written_elsewhere p i r away none =
-      none_unless (written job p i r) (λ v h. elim (written_cases job p i v r h) [ inl counter ↦ away counter | inr puts ↦ none v puts ])
+      none_unless (written job p i r) (λ v h. elim (written_cases job p i v r h) [ inl counter ↦ away counter.0 | inr puts ↦ none v puts ])
 
   -- ---- what the first of several writes
 

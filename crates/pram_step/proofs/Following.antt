@@ -8,12 +8,13 @@ use Rattle.pram_text.specs.Job.{JobData, IsJob}
 use Rattle.pram_text.specs.declared.instr.Rule.{Rule}
 use Rattle.pram_text.specs.declared.instr.Rule.TheVariants.{Common, Priority, Crew}
 use Rattle.pram_step.specs.declared.requests.Request.{Request}
-use Rattle.pram_step.specs.Machine.{State, counter_place, register_place, requests_of}
+use Rattle.pram_step.specs.Machine.{State, counter_place, register_place}
+use Rattle.pram_step.specs.Instructions.{requests_in}
 use Rattle.pram_step.specs.Steps.{written, Writes, Forbids, Agrees, Counts, IsNext, first_written, after_requests, next_state}
 use Rattle.pram_step.specs.Marks.{AreOwn}
 use Rattle.pram_step.proofs.RequestList.{written_cases}
 use Rattle.pram_step.proofs.Applying.{none_unless, first_written_none, length-after_requests, get_or-after_requests}
-use Rattle.pram_step.proofs.Requesting.{length-requests_of, AreOwn-requests_of}
+use Rattle.pram_step.proofs.Shapes.{length-requests_in, AreOwn-requests_in}
 
 -- where all writers up to one write its value, so does the first
 first_written_same :
@@ -50,7 +51,7 @@ module _ (job : JobData) (requests : List Request) (all : length requests ≡ jo
   owner : (p i v : ℕ) → job.cells ≤ p → Writes job requests p i v → (p ≡ counter_place job i) ⊎ ((register_place job i 0 ≤ p) × (p < register_place job i 4))
   owner p i v high w =
       elim (written_cases job p i v w.request w.writes) [
-        | inl counter ↦ inl counter
+        | inl counter ↦ inl counter.0
         | inr puts ↦ elim (own i p v (record { request = w.request; asked = w.asked; puts = puts })) [ inl cell ↦ absurd (omega arith) | inr register ↦ inr register ]
       ]
 
@@ -99,5 +100,5 @@ module _ (job : JobData) (requests : List Request) (all : length requests ≡ jo
   }
 
 -- where a step agrees, the next state is what its writes make of the old one
-pub IsNext-next_state : (job : JobData) (s : State) → IsJob job → Agrees job (requests_of job s) → IsNext job (requests_of job s) s (next_state job s)
-IsNext-next_state job s is_job agrees = IsNext-after_requests job (requests_of job s) (length-requests_of job s) (AreOwn-requests_of job s is_job) s agrees
+pub IsNext-next_state : (job : JobData) (s : State) → IsJob job → Agrees job (requests_in job s) → IsNext job (requests_in job s) s (next_state job s)
+IsNext-next_state job s is_job agrees = IsNext-after_requests job (requests_in job s) (length-requests_in job s) (AreOwn-requests_in job s is_job) s agrees

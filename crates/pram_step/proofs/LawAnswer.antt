@@ -7,7 +7,7 @@ use Rattle.pram_step.specs.declared.answer.Fault.{Fault}
 use Rattle.pram_step.specs.declared.answer.RunAnswer.{RunAnswer}
 use Rattle.pram_step.specs.declared.answer.RunAnswer.TheVariants.{Final, Conflict, Unfinished}
 use Rattle.pram_step.specs.declared.requests.Request.{Request}
-use Rattle.pram_step.specs.Machine.{requests_of}
+use Rattle.pram_step.specs.Instructions.{requests_in}
 use Rattle.pram_step.specs.Steps.{Writes, Clashes, IsDispute}
 use Rattle.pram_step.specs.Runs.{state_after, IsReached, IsFirstConflict, IsAnswer}
 
@@ -62,8 +62,8 @@ same_before job f g a b =
 pub one_conflict : (job : JobData) (f g : Fault) → IsFirstConflict job f → IsFirstConflict job g → f ≡ g
 one_conflict job f g a b =
     let before : a.before ≡ b.before = same_before job f g a b in
-    let there : IsDispute job (requests_of job (state_after job a.before)) (record { cell = g.cell; first = g.first; second = g.second }) = subst (λ (t : ℕ). IsDispute job (requests_of job (state_after job t)) (record { cell = g.cell; first = g.first; second = g.second })) (sym before) b.dispute in
-    let same : ◌≡◌ {A = Dispute} (record { cell = f.cell; first = f.first; second = f.second }) (record { cell = g.cell; first = g.first; second = g.second }) = one_dispute job (requests_of job (state_after job a.before)) _ _ a.dispute there in
+    let there : IsDispute job (requests_in job (state_after job a.before)) (record { cell = g.cell; first = g.first; second = g.second }) = subst (λ (t : ℕ). IsDispute job (requests_in job (state_after job t)) (record { cell = g.cell; first = g.first; second = g.second })) (sym before) b.dispute in
+    let same : ◌≡◌ {A = Dispute} (record { cell = f.cell; first = f.first; second = f.second }) (record { cell = g.cell; first = g.first; second = g.second }) = one_dispute job (requests_in job (state_after job a.before)) _ _ a.dispute there in
     let step : f.step ≡ g.step = omega (arith, a.step, b.step) in
     λ i. record { step = step i; cell = (same i).cell; first = (same i).first; second = (same i).second }
 

@@ -7,7 +7,7 @@ use Rattle.pram_step.specs.declared.answer.Dispute.{Dispute}
 use Rattle.pram_step.specs.declared.answer.Fault.{Fault}
 use Rattle.pram_step.specs.declared.answer.RunAnswer.TheVariants.{Final, Conflict}
 use Rattle.pram_step.specs.declared.requests.Request.{Request}
-use Rattle.pram_step.specs.Machine.{requests_of}
+use Rattle.pram_step.specs.Instructions.{requests_in}
 use Rattle.pram_step.specs.Steps.{Agrees, Forbids, IsDispute}
 use Rattle.pram_step.specs.Runs.{state_after, IsReached, IsFirstConflict, IsAnswer}
 use Rattle.pram_step.proofs.LawRules.{state_same, asked_same, writes_same, clash_same, crew_agrees, priority_agrees, steps_agree}
@@ -61,7 +61,7 @@ steps_conflict job n m fault is = record {
   before = is.before;
   step = is.step;
   reached = steps_reached job n m is.before is.reached;
-  dispute = subst (λ (requests : List Request). IsDispute (record job { steps = m }) requests (record { cell = fault.cell; first = fault.first; second = fault.second })) (asked_same job job.rule n is.before ∙ sym (asked_same job job.rule m is.before)) (dispute_same job n m (requests_of (record job { steps = n }) (state_after (record job { steps = n }) is.before)) (record { cell = fault.cell; first = fault.first; second = fault.second }) is.dispute);
+  dispute = subst (λ (requests : List Request). IsDispute (record job { steps = m }) requests (record { cell = fault.cell; first = fault.first; second = fault.second })) (asked_same job job.rule n is.before ∙ sym (asked_same job job.rule m is.before)) (dispute_same job n m (requests_in (record job { steps = n }) (state_after (record job { steps = n }) is.before)) (record { cell = fault.cell; first = fault.first; second = fault.second }) is.dispute);
 }
 
 pub longer_conflict : (job : JobData) (n : ℕ) (fault : Fault) → job.steps ≤ n → IsAnswer job (Conflict fault) → IsAnswer (record job { steps = n }) (Conflict fault)

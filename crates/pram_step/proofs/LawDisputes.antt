@@ -10,7 +10,7 @@ use Rattle.pram_step.specs.declared.answer.Fault.{Fault}
 use Rattle.pram_step.specs.declared.answer.RunAnswer.{RunAnswer}
 use Rattle.pram_step.specs.declared.answer.RunAnswer.TheVariants.{Final, Conflict}
 use Rattle.pram_step.specs.declared.requests.Request.{Request}
-use Rattle.pram_step.specs.Machine.{requests_of}
+use Rattle.pram_step.specs.Instructions.{requests_in}
 use Rattle.pram_step.specs.Steps.{Writes, Forbids, Clashes, Agrees, IsDispute}
 use Rattle.pram_step.specs.Orders.{written_by}
 use Rattle.pram_step.specs.Runs.{state_after, AgreesAfter, IsReached, IsFirstConflict, IsAnswer}
@@ -159,7 +159,7 @@ reached_next job t reached agrees s lt =
     (λ past. let here : t ≡ s = omega arith in subst (AgreesAfter job) here agrees)
     (cases_lt s t)
 
-first_conflict : (job : JobData) (t : ℕ) (d : Dispute) → IsReached job t → IsDispute job (requests_of job (state_after job t)) d → (fault : Fault) × IsFirstConflict job fault × (fault.step ≤ suc t)
+first_conflict : (job : JobData) (t : ℕ) (d : Dispute) → IsReached job t → IsDispute job (requests_in job (state_after job t)) d → (fault : Fault) × IsFirstConflict job fault × (fault.step ≤ suc t)
 first_conflict job t d reached is =
     let conflict : IsFirstConflict job (record { step = t + 1; cell = d.cell; first = d.first; second = d.second }) = record { before = t; step = refl; reached = reached; dispute = is } in
     let le : t + 1 ≤ suc t = omega arith in
@@ -172,7 +172,7 @@ reached_or_conflict job (suc t) =
     (λ reached. ⊎_elim
     (λ agrees. inl (reached_next job t reached agrees))
     (λ d. inr (first_conflict job t d.0 reached d.1))
-    (agrees_or_dispute job (requests_of job (state_after job t))))
+    (agrees_or_dispute job (requests_in job (state_after job t))))
     (λ c. let le : c.0.step ≤ suc t = omega (arith, c.2) in inr (c.0, c.1, le))
     (reached_or_conflict job t)
 

@@ -5,13 +5,14 @@ use Rattle.std.proofs.lemmas.Bool.{cases_lt}
 use Rattle.std.proofs.lemmas.List.FromFn.{length-map-range_with_len}
 use Rattle.std.proofs.Math.Nat.{add-zero, add-suc}
 use Rattle.pram_text.specs.Job.{JobData, IsJob}
-use Rattle.pram_step.specs.Machine.{State, place_count, requests_of, start}
+use Rattle.pram_step.specs.Machine.{State, place_count, start}
+use Rattle.pram_step.specs.Instructions.{requests_in}
 use Rattle.pram_step.specs.Steps.{Agrees, next_state, after_requests}
 use Rattle.pram_step.specs.Runs.{state_after, AgreesAfter, IsReached}
 
 -- ---- lengths
 
-pub length-after_requests : (job : JobData) (s : State) → length (after_requests job (requests_of job s) s) ≡ length s
+pub length-after_requests : (job : JobData) (s : State) → length (after_requests job (requests_in job s) s) ≡ length s
 unfolding after_requests
 length-after_requests job s = length-map-range_with_len _ 0 (length s)
 
@@ -40,7 +41,7 @@ fixed_later job t n le e =
     subst (λ (m : ℕ). state_after job m ≡ state_after job t) k (fixed_stays job t (n - t) e)
 
 pub fixed_agrees : (job : JobData) (t n : ℕ) → t ≤ n → next_state job (state_after job t) ≡ state_after job t → AgreesAfter job t → AgreesAfter job n
-fixed_agrees job t n le e agrees = subst (λ (s : State). Agrees job (requests_of job s)) (sym (fixed_later job t n le e)) agrees
+fixed_agrees job t n le e agrees = subst (λ (s : State). Agrees job (requests_in job s)) (sym (fixed_later job t n le e)) agrees
 
 pub fixed_reached : (job : JobData) (t n : ℕ) → next_state job (state_after job t) ≡ state_after job t → AgreesAfter job t → IsReached job t → IsReached job n
 fixed_reached job t n e agrees reached s lt =

@@ -3,7 +3,7 @@ pub mod Judging
 pub mod Marking
 pub mod Passing
 pub mod Applying
-pub mod Requesting
+pub mod Shapes
 pub mod Running
 pub mod Following
 pub mod LawFixed

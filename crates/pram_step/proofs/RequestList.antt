@@ -1,5 +1,5 @@
 -- Lists of requests, and their writers.
-use Rattle.std.proofs.Common.{◌≡◌, ℕ, zero, suc, ◌<◌, ◌⊎◌, true, false, eqb, cond, List, [], ◌∷◌, ◌++◌, length, take, Option, Some, None, refl, ap, ap₂, inl, inr, arith}
+use Rattle.std.proofs.Common.{◌≡◌, ℕ, zero, suc, ◌<◌, ◌⊎◌, true, false, eqb, cond, List, [], ◌∷◌, ◌++◌, length, take, Option, Some, None, refl, sym, ap, ap₂, inl, inr, arith}
 use Rattle.std.specs.Prelude.{slice_get}
 use Rattle.std.proofs.lemmas.Bool.{eq-eqb, ne_eqb, eqb-true, cases_Bool}
 use Rattle.std.proofs.lemmas.Option.{none-some, same_Some}
@@ -53,15 +53,15 @@ put_of_data p v (Some w) h =
       | inr other ↦ let h' = rw other at h in absurd (none-some v h')
     ]
 
-pub written_cases : (job : JobData) (p i v : ℕ) (r : Request) → written job p i r ≡ Some v → (p ≡ counter_place job i) ⊎ (r.put ≡ Some (p, v))
+pub written_cases : (job : JobData) (p i v : ℕ) (r : Request) → written job p i r ≡ Some v → ((p ≡ counter_place job i) × (v ≡ r.next)) ⊎ (r.put ≡ Some (p, v))
 written_cases job p i v r writes =
     elim (cases_Bool (eqb p (counter_place job i))) [
-      | inl same ↦ inl (eqb-true p (counter_place job i) same)
+      | inl same ↦ (let h = rw same at writes in inl (eqb-true p (counter_place job i) same, sym (same_Some r.next v h)))
       | inr away ↦ let h = rw away at writes in inr (put_of_data p v r.put h)
     ]
 
 pub put_of_written : (job : JobData) (cell i v : ℕ) (r : Request) → cell < job.cells → written job cell i r ≡ Some v → r.put ≡ Some (cell, v)
-put_of_written job cell i v r low writes = elim (written_cases job cell i v r writes) [ inl counter ↦ absurd (omega arith) | inr puts ↦ puts ]
+put_of_written job cell i v r low writes = elim (written_cases job cell i v r writes) [ inl counter ↦ absurd (let c = counter.0 in omega arith) | inr puts ↦ puts ]
 
 -- each processor's write to a cell is its data
 pub Puts-from_Writes : (job : JobData) (requests : List Request) (cell i v : ℕ) → cell < job.cells → Writes job requests cell i v → Puts requests cell i v

@@ -2,7 +2,8 @@
 use Rattle.std.proofs.Common.{◌≡◌, ℕ, zero, suc, ◌+◌, ◌≤◌, refl, sym, ap, ◌∙◌, inl, inr, subst, arith, add-one, add-zero, ◌-◌}
 use Rattle.std.proofs.lemmas.Bool.{cases_eq, cases_lt}
 use Rattle.pram_text.specs.Job.{JobData}
-use Rattle.pram_step.specs.Machine.{start, requests_of}
+use Rattle.pram_step.specs.Machine.{start}
+use Rattle.pram_step.specs.Instructions.{requests_in}
 use Rattle.pram_step.specs.Steps.{Agrees, next_state}
 use Rattle.pram_step.specs.Runs.{state_after, AgreesAfter, IsReached}
 
@@ -40,5 +41,5 @@ module _ (job : JobData) where
     IsReached_still u reached = λ s below.
         elim (cases_lt s t) [
           | inl early ↦ reached s early
-          | inr late ↦ subst (λ x. Agrees job (requests_of job x)) (sym (state_after_still s late)) agrees
+          | inr late ↦ subst (λ x. Agrees job (requests_in job x)) (sym (state_after_still s late)) agrees
         ]

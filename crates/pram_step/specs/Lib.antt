@@ -1,4 +1,5 @@
 pub mod Machine
+pub mod Instructions
 pub mod Steps
 pub mod Runs
 pub mod Marks

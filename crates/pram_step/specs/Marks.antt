@@ -1,9 +1,9 @@
 -- What a pass over the requests knows of those that it has looked at.
-use Rattle.std.specs.Prelude.{◌≡◌, ℕ, ◌<◌, ◌≤◌, List, slice_get, slice_index, Option, Some, MatchOption, ◌⊎◌}
+use Rattle.std.specs.Prelude.{◌≡◌, ℕ, ◌<◌, ◌≤◌, List, slice_get, slice_index, Option, Some, MatchOption}
 use Rattle.pram_text.specs.Job.{JobData}
 use Rattle.pram_step.specs.declared.answer.Dispute.{Dispute}
 use Rattle.pram_step.specs.declared.requests.Request.{Request}
-use Rattle.pram_step.specs.Machine.{register_place}
+use Rattle.pram_step.specs.Machine.{IsDataPlace}
 use Rattle.pram_step.specs.Steps.{Agrees, IsDispute}
 
 -- processor i's data goes to the place, and is v
@@ -30,10 +30,6 @@ pub record AreMarked (cells : ℕ) (requests : List Request) (marks : List ℕ) 
 abbrev pub IsVerdict : JobData → List Request → Option Dispute → Type 0
 IsVerdict job requests found = MatchOption found (Agrees job requests) (IsDispute job requests)
 
--- the place is a cell, or a register of the processor's own
-abbrev pub IsOwn : JobData → ℕ → ℕ → Type 0
-IsOwn job i place = (place < job.cells) ⊎ ((register_place job i 0 ≤ place) × (place < register_place job i 4))
-
--- all data goes to such places
+-- all data goes to cells and registers of the processor's own
 abbrev pub AreOwn : JobData → List Request → Type 0
-AreOwn job requests = (i place v : ℕ) → Puts requests place i v → IsOwn job i place
+AreOwn job requests = (i place v : ℕ) → Puts requests place i v → IsDataPlace job i place

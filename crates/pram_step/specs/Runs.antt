@@ -4,7 +4,8 @@ use Rattle.pram_text.specs.Job.{JobData}
 use Rattle.pram_step.specs.declared.answer.Fault.{Fault}
 use Rattle.pram_step.specs.declared.answer.RunAnswer.{RunAnswer}
 use Rattle.pram_step.specs.declared.answer.RunAnswer.TheVariants.{Final, Conflict, Unfinished}
-use Rattle.pram_step.specs.Machine.{State, start, requests_of}
+use Rattle.pram_step.specs.Machine.{State, start}
+use Rattle.pram_step.specs.Instructions.{requests_in}
 use Rattle.pram_step.specs.Steps.{Agrees, IsDispute, next_state}
 
 -- the state after t steps, as far as they agree
@@ -14,7 +15,7 @@ state_after job (suc t) = next_state job (state_after job t)
 
 -- step t + 1, from the state after t steps, agrees
 abbrev pub AgreesAfter : JobData → ℕ → Type 0
-AgreesAfter job t = Agrees job (requests_of job (state_after job t))
+AgreesAfter job t = Agrees job (requests_in job (state_after job t))
 
 -- there is a state after t steps: the steps up to t agree
 abbrev pub IsReached : JobData → ℕ → Type 0
@@ -25,7 +26,7 @@ pub record IsFirstConflict (job : JobData) (fault : Fault) : Type 0 where
   pub before : ℕ
   pub step : fault.step ≡ before + 1
   pub reached : IsReached job before
-  pub dispute : IsDispute job (requests_of job (state_after job before)) (record { cell = fault.cell; first = fault.first; second = fault.second })
+  pub dispute : IsDispute job (requests_in job (state_after job before)) (record { cell = fault.cell; first = fault.first; second = fault.second })
 
 -- The cells after the last step, or the first conflict up to it.
 abbrev pub IsAnswer : JobData → RunAnswer → Type 0

@@ -7,7 +7,8 @@ use Rattle.pram_text.specs.declared.instr.Rule.TheVariants.{Common, Priority, Cr
 use Rattle.pram_text.specs.Job.{JobData}
 use Rattle.pram_step.specs.declared.answer.Dispute.{Dispute}
 use Rattle.pram_step.specs.declared.requests.Request.{Request}
-use Rattle.pram_step.specs.Machine.{State, counter_place, requests_of}
+use Rattle.pram_step.specs.Machine.{State, counter_place}
+use Rattle.pram_step.specs.Instructions.{requests_in}
 
 -- what processor i writes to a place; its next counter is a write to its counter's place
 abbrev pub written : JobData → ℕ → ℕ → Request → Option ℕ
@@ -71,4 +72,4 @@ unfoldable pub after_requests : JobData → List Request → State → State
 after_requests job requests s = map (λ p. unwrap_or (first_written job p 0 requests) (slice_index s p)) (range_with_len 0 (length s))
 
 abbrev pub next_state : JobData → State → State
-next_state job s = after_requests job (requests_of job s) s
+next_state job s = after_requests job (requests_in job s) s

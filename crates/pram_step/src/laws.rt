@@ -9,17 +9,27 @@ ghost use Rattle.pram_step.specs.declared.answer.Fault.{Fault};
 ghost use Rattle.pram_step.specs.declared.answer.RunAnswer.{RunAnswer};
 ghost use Rattle.pram_step.specs.declared.answer.RunAnswer.TheVariants.{Final, Conflict};
 ghost use Rattle.pram_step.specs.declared.requests.Request.{Request};
-ghost use Rattle.pram_step.specs.Machine.{State, place_count, counter, request_of, requests_of};
+ghost use Rattle.pram_step.specs.Machine.{State, place_count, counter};
+ghost use Rattle.pram_step.specs.Instructions.{request_in, requests_in};
 ghost use Rattle.pram_step.specs.Steps.{Writes, Agrees, IsDispute, IsNext, next_state};
 ghost use Rattle.pram_step.specs.Runs.{state_after, AgreesAfter, IsReached, IsFirstConflict, IsAnswer};
 ghost use Rattle.pram_step.specs.Orders.{HasAll, after_first_found, after_least_found, after_in_turn};
-ghost use Rattle.pram_step.specs.Laws.{AllStopped, SameOwn};
+ghost use Rattle.pram_step.specs.Laws.{AllStopped, SameOwn, RequestsHaveShape};
+
+// ---- requests
+
+/// A request asks for data in a cell or an own register at most, its numbers fit, and its next counter is within the code or
+/// at most one past its end.
+#[tactic(auto, using(crate::proofs::Shapes::request_shape))]
+pub fn requests_have_shape()
+    ensures { RequestsHaveShape }
+{}
 
 // ---- the next state
 
 /// A step that agrees has a next state.
 pub fn next_is_next()
-    ensures { (job : JobData) (s : State) → IsJob job → Agrees job (requests_of job s) → IsNext job (requests_of job s) s (next_state job s) }
+    ensures { (job : JobData) (s : State) → IsJob job → Agrees job (requests_in job s) → IsNext job (requests_in job s) s (next_state job s) }
 {}
 
 /// A state has one next state at most.
@@ -44,30 +54,30 @@ pub fn priority_always_agrees()
 
 /// A place that is no cell has one writer at most, and so one value at most is written to it.
 pub fn only_cells_clash()
-    ensures { (job : JobData) (s : State) (p i j v w : ℕ) → IsJob job → job.cells ≤ p → Writes job (requests_of job s) p i v → Writes job (requests_of job s) p j w → (i ≡ j) × (v ≡ w) }
+    ensures { (job : JobData) (s : State) (p i j v w : ℕ) → IsJob job → job.cells ≤ p → Writes job (requests_in job s) p i v → Writes job (requests_in job s) p j w → (i ≡ j) × (v ≡ w) }
 {}
 
 /// Where a step agrees with rule common or crew, each place may take what the first writer gives it that is found, in whatever order
 /// the processors are looked at.
 pub fn order_is_free()
-    ensures { (job : JobData) (s : State) (order : List ℕ) → IsJob job → job.rule ≢ Priority → Agrees job (requests_of job s) → HasAll job order → after_first_found job (requests_of job s) order s ≡ next_state job s }
+    ensures { (job : JobData) (s : State) (order : List ℕ) → IsJob job → job.rule ≢ Priority → Agrees job (requests_in job s) → HasAll job order → after_first_found job (requests_in job s) order s ≡ next_state job s }
 {}
 
 /// Under each rule, each place may take what the least writer gives it, in whatever order the processors are looked at.
 pub fn least_writer_is_found()
-    ensures { (job : JobData) (s : State) (order : List ℕ) → HasAll job order → after_least_found job (requests_of job s) order s ≡ next_state job s }
+    ensures { (job : JobData) (s : State) (order : List ℕ) → HasAll job order → after_least_found job (requests_in job s) order s ≡ next_state job s }
 {}
 
 /// Where a step agrees with rule common or crew, the processors may write one after another, in whatever order.
 pub fn turns_are_free()
-    ensures { (job : JobData) (s : State) (order : List ℕ) → IsJob job → job.rule ≢ Priority → Agrees job (requests_of job s) → HasAll job order → after_in_turn job (requests_of job s) order s ≡ next_state job s }
+    ensures { (job : JobData) (s : State) (order : List ℕ) → IsJob job → job.rule ≢ Priority → Agrees job (requests_in job s) → HasAll job order → after_in_turn job (requests_in job s) order s ≡ next_state job s }
 {}
 
 // ---- what stops
 
 /// A machine whose processors have all stopped makes steps that agree and change nothing.
 pub fn stopped_machine_stays()
-    ensures { (job : JobData) (s : State) → AllStopped job s → Agrees job (requests_of job s) × (next_state job s ≡ s) }
+    ensures { (job : JobData) (s : State) → AllStopped job s → Agrees job (requests_in job s) × (next_state job s ≡ s) }
 {}
 
 /// A machine whose processors have all stopped goes on with equal states.
@@ -82,7 +92,7 @@ pub fn unchanged_stays()
 
 /// A processor that has stopped keeps its counter and writes no data.
 pub fn stopped_processor_stays()
-    ensures { (job : JobData) (t k i : ℕ) → IsJob job → i < job.procs → length job.code ≤ counter job (state_after job t) i → (counter job (state_after job (t + k)) i ≡ counter job (state_after job t) i) × ((request_of job (state_after job (t + k)) i).put ≡ None) }
+    ensures { (job : JobData) (t k i : ℕ) → IsJob job → i < job.procs → length job.code ≤ counter job (state_after job t) i → (counter job (state_after job (t + k)) i ≡ counter job (state_after job t) i) × ((request_in job (state_after job (t + k)) i).put ≡ None) }
 {}
 
 // ---- answers
@@ -158,10 +168,10 @@ pub fn counters_stay_within()
 
 /// A counter takes what its processor asks for.
 pub fn counters_follow_requests()
-    ensures { (job : JobData) (s : State) (i : ℕ) → IsJob job → length s ≡ place_count job → i < job.procs → counter job (next_state job s) i ≡ (request_of job s i).next }
+    ensures { (job : JobData) (s : State) (i : ℕ) → IsJob job → length s ≡ place_count job → i < job.procs → counter job (next_state job s) i ≡ (request_in job s i).next }
 {}
 
 /// A request depends on its processor's registers and counter, and on one cell at most.
 pub fn reads_one_cell()
-    ensures { (job : JobData) (s : State) (i : ℕ) → IsJob job → (cell : ℕ) × (cell < job.cells) × ((t : State) → SameOwn job s t i → slice_index s cell ≡ slice_index t cell → request_of job s i ≡ request_of job t i) }
+    ensures { (job : JobData) (s : State) (i : ℕ) → IsJob job → (cell : ℕ) × (cell < job.cells) × ((t : State) → SameOwn job s t i → slice_index s cell ≡ slice_index t cell → request_in job s i ≡ request_in job t i) }
 {}

@@ -1,7 +1,8 @@
 //! The two passes of a step over the processors: what they ask for, and what of it is done.
 ghost use Rattle.std.specs.Prelude.{◌≡◌, ℕ, ◌+◌, ◌<◌, List, length, take, slice_set, IfOk, IfErr, OnOk, OnErr};
 ghost use Rattle.std.specs.Bool.{OnFalse};
-ghost use Rattle.pram_step.specs.Machine.{place_count, start, requests_of};
+ghost use Rattle.pram_step.specs.Machine.{place_count, start};
+ghost use Rattle.pram_step.specs.Instructions.{requests_in};
 ghost use Rattle.pram_step.specs.Steps.{Agrees, IsDispute, IsNext, after_requests, next_state};
 ghost use Rattle.pram_step.specs.Faults.{IsRun};
 ghost use Rattle.pram_step.specs.Marks.{AreMarked, AreOwn, IsVerdict};
@@ -52,11 +53,11 @@ pub(crate) fn advance(
     requires places { length places.old ≡ place_count job.now }
     requires requests { length requests.old ≡ job.now.procs }
     requires marks { length marks.old ≡ job.now.cells }
-    ensures agrees { OnOk result (Agrees job.now (requests_of job.now places.old)) }
+    ensures agrees { OnOk result (Agrees job.now (requests_in job.now places.old)) }
     ensures next { OnOk result (places.new ≡ next_state job.now places.old) }
-    ensures written { OnOk result (IsNext job.now (requests_of job.now places.old) places.old places.new) }
+    ensures written { OnOk result (IsNext job.now (requests_in job.now places.old) places.old places.new) }
     ensures idle { IfOk result (λ changed. OnFalse changed (places.new ≡ places.old)) }
-    ensures dispute { IfErr result (λ dispute. IsDispute job.now (requests_of job.now places.old) dispute) }
+    ensures dispute { IfErr result (λ dispute. IsDispute job.now (requests_in job.now places.old) dispute) }
     ensures unchanged { OnErr result (places.new ≡ places.old) }
 {
     match ask(job, places, requests, marks) {
@@ -75,7 +76,7 @@ pub(crate) fn ask(
     requires places { length places.now ≡ place_count job.now }
     requires requests { length requests.old ≡ job.now.procs }
     requires marks { length marks.old ≡ job.now.cells }
-    ensures requests { requests.new ≡ requests_of job.now places.now }
+    ensures requests { requests.new ≡ requests_in job.now places.now }
     ensures own { AreOwn job.now requests.new }
     ensures marked { AreMarked job.now.cells requests.new marks.new }
     ensures found { IsVerdict job.now requests.new result }
