@@ -20,9 +20,23 @@ pub struct Job {
 impl Model for Job {
     ghost Value = { JobData };
 
-    ghost view = { λ j. record { rule = j.rule; cells = j.cells; procs = j.procs; steps = j.steps; init = j.init.items; code = j.code.items } };
+    ghost view = { λ j. record {
+      rule = j.rule;
+      cells = j.cells;
+      procs = j.procs;
+      steps = j.steps;
+      init = j.init.items;
+      code = j.code.items;
+    } };
 
-    ghost invariant = { λ j. IsJob (record { rule = j.rule; cells = j.cells; procs = j.procs; steps = j.steps; init = j.init.items; code = j.code.items }) };
+    ghost invariant = { λ j. IsJob (record {
+      rule = j.rule;
+      cells = j.cells;
+      procs = j.procs;
+      steps = j.steps;
+      init = j.init.items;
+      code = j.code.items;
+    }) };
 }
 
 impl Job {
