@@ -5,7 +5,7 @@ use Rattle.std.proofs.lemmas.Grind.{common_steps}
 use Rattle.std.proofs.lemmas.List.Sums.{prefix_len-le-length}
 use Rattle.std.proofs.lemmas.List.Splits.{slice_split-cons_yes, slice_split-cons_no}
 use Rattle.pram_text.specs.Lines.{Line, is_blank, is_filled, words_of}
-use Rattle.pram_text.specs.Words.{ends_word}
+use Rattle.pram_text.specs.Inner.Words.{ends_word}
 
 -- the parts between the blanks before the first semicolon, empty ones too
 abbrev pub parts_of : List ℕ → Line

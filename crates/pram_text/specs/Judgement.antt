@@ -11,6 +11,7 @@ use Rattle.pram_text.specs.declared.instr.Instr.{Instr}
 use Rattle.pram_text.specs.declared.instr.Instr.TheVariants.{Set, Pid, Add, Sub, Mul, And, Or, Xor, Lt, Eq, Ld, St, Jz, Jmp, Halt}
 use Rattle.pram_text.specs.declared.instr.Rule.{Rule}
 use Rattle.pram_text.specs.declared.instr.Rule.TheVariants.{Common, Priority, Crew}
+use Rattle.pram_text.specs.declared.limits.TheConstants.{MAX_CELLS, MAX_PROCS}
 use Rattle.pram_text.specs.Lines.{Word, Line, is_filled}
 
 -- what the next part says of the value of the part before it, unless that part has a fault
@@ -58,10 +59,10 @@ version_of (first ∷ number ∷ []) =
 version_of _ = Err BadHeader
 
 abbrev pub cells_of : Line → Result ℕ TextKind
-cells_of line = named_number (codes "cells") 1 65536 line
+cells_of line = named_number (codes "cells") 1 MAX_CELLS line
 
 abbrev pub procs_of : Line → Result ℕ TextKind
-procs_of line = named_number (codes "procs") 1 1024 line
+procs_of line = named_number (codes "procs") 1 MAX_PROCS line
 
 abbrev pub steps_of : Line → Result ℕ TextKind
 steps_of line = named_number (codes "steps") 0 most line

@@ -162,7 +162,7 @@ fn every_instruction(rt: HostRuntime) -> Result<(), Fail> {
         Instr::Jmp(2),
         Instr::Halt,
     ];
-    let copy = job.try_clone(rt.alloc())?;
+    let copy = job.try_clone()?;
     for job in [&job, &copy] {
         assert_eq!(rt; job.rule(), Rule::Common);
         assert_eq!(rt; job.cells(), 3);
