@@ -7,11 +7,11 @@ use Rattle.std.specs.Int.{IsPowerOfTwo, IsNextPowerOfTwo, leading_zeros, bit_at,
 use Rattle.std.specs.Int.Count.{leading_unique}
 use Rattle.pram_words.specs.Tree.{digits_of, leaves_of, depth_of, turns_right, IsTurn}
 
-double : (k : ℕ) → 2 ^ (k + 1) ≡ 2 * 2 ^ k
+pub double : (k : ℕ) → 2 ^ (k + 1) ≡ 2 * 2 ^ k
 double k = omega (arith, pow-add 2 k 1)
 
 -- a smaller power has a smaller exponent
-exponents : (j k : ℕ) → 2 ^ j < 2 ^ k → j < k
+pub exponents : (j k : ℕ) → 2 ^ j < 2 ^ k → j < k
 exponents j k h = elim (cases_order j k) [
   | inl e ↦ absurd (let f : 2 ^ j ≡ 2 ^ k = ap (λ x. 2 ^ x) e in omega arith)
   | inr c ↦ elim c [ inl l ↦ l | inr g ↦ absurd (let f = pow_below k j g in omega arith) ]

@@ -2,4 +2,5 @@ pub mod Stamps
 pub mod Phases
 pub mod Tree
 pub mod Words
+pub mod Ways
 pub mod Start

@@ -9,7 +9,7 @@ mod stamps;
 mod tree;
 mod words;
 
-pub use layout::Layout;
+pub use layout::{Form, Layout};
 pub use phases::{Kind, kind_of, phase, phases_undo, step_of};
 pub use stamps::{payload, stamp, stamped, stamps_undo};
 pub use tree::{first_leaf, goes_right, height, leaves, left, parent, right};

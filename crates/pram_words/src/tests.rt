@@ -34,7 +34,7 @@ fn tree_of_leaves(rt: HostRuntime) {
 
 #[test]
 fn layout_of_three_cells(rt: HostRuntime) {
-    let layout = Layout::of(Rule::Common, 3, 3, 2);
+    let layout = Layout::of(Form::Compact, Rule::Common, 3, 3, 2);
     assert_eq!(rt; (layout.leaves(), layout.workers()), (4, 2));
     assert_eq!(rt;
         (layout.request_word(0, 0), layout.request_word(2, 2)),
@@ -60,12 +60,12 @@ fn layout_of_three_cells(rt: HostRuntime) {
 
 #[test]
 fn layout_with_claims(rt: HostRuntime) {
-    let layout = Layout::of(Rule::Crew, 3, 3, 2);
+    let layout = Layout::of(Form::Compact, Rule::Crew, 3, 3, 2);
     assert_eq!(rt; (layout.claim_word(0), layout.claim_word(2)), (55, 57));
     assert_eq!(rt; layout.length(), 58);
-    let largest = Layout::of(Rule::Priority, 65536, 1024, 64);
+    let largest = Layout::of(Form::Compact, Rule::Priority, 65536, 1024, 64);
     assert_eq!(rt; largest.length(), 212032);
-    assert_eq!(rt; Layout::of(Rule::Common, 65536, 1024, 64).length(), 146496);
+    assert_eq!(rt; Layout::of(Form::Compact, Rule::Common, 65536, 1024, 64).length(), 146496);
 }
 
 #[test]

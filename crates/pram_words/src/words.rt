@@ -18,6 +18,8 @@ pub enum Word {
     Stored(u32, u32),
     /// The claims to a cell, stamped.
     Claim(u32),
+    /// A word of this number that belongs to nothing, and always holds 0.
+    Spare(u32),
 }
 
 /// The law that no two things share a word, and that the words have the numbers from 0 up to the length. It does nothing.
