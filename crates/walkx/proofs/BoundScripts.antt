@@ -9,7 +9,8 @@ use Rattle.walkx.specs.declared.operation.Op.TheVariants.{Load, Max}
 use Rattle.walkx.specs.declared.worker.Doing.TheVariants as doing
 use Rattle.walkx.specs.Scripts.{Script, asks, ends}
 use Rattle.walkx.specs.Walk.{Then, begins, turns, stops, back_script, begin_script}
-use Rattle.walkx.specs.Bound.{low, MayHear, phases_weight, later_weight}
+use Rattle.walkx.specs.Bound.{low, MayHear}
+use Rattle.walkx.proofs.BoundWeight.{phases_weight, later_weight}
 use Rattle.walkx.proofs.BoundTurns.{Grown, turns_most}
 use Rattle.walkx.proofs.BoundTasks.{IsWithin}
 

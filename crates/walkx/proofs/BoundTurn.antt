@@ -11,7 +11,8 @@ use Rattle.walkx.specs.declared.operation.Op.TheVariants.{Load, Store, Max}
 use Rattle.walkx.specs.declared.worker.Doing.TheVariants as doing
 use Rattle.walkx.specs.Scripts.{asks, ends}
 use Rattle.walkx.specs.Walk.{begins, turns, turn_script, leaf_script, marks, stands_at, way_down}
-use Rattle.walkx.specs.Bound.{low, turns_left, later_weight}
+use Rattle.walkx.specs.Bound.{low}
+use Rattle.walkx.proofs.BoundWeight.{turns_left, later_weight}
 use Rattle.walkx.proofs.BoundTurns.{Grown, marked_less, up_less, down_less}
 use Rattle.walkx.proofs.BoundTasks.{task_within}
 use Rattle.walkx.proofs.BoundScripts.{Leads, LeadsOn, leads_more, leads_on_within, grown_more, grown_self, low_loaded, low_raised, phases_fewer, To}

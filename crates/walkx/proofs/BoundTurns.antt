@@ -5,7 +5,8 @@ use Rattle.std.proofs.lemmas.List.Sums.{sum_by-cons}
 use Rattle.std.specs.List.{range_with_len, sum_by}
 use Rattle.pram_words.specs.Words.{LayoutData}
 use Rattle.walkx.specs.declared.operation.Op.{Op}
-use Rattle.walkx.specs.Bound.{low, lies_on_way, turns_at, turns_left}
+use Rattle.walkx.specs.Bound.{low}
+use Rattle.walkx.proofs.BoundWeight.{lies_on_way, turns_at, turns_left}
 use Rattle.walkx.proofs.BoundWay.{own_way, not_below, way_up}
 
 -- a sum of terms that are no greater is no greater

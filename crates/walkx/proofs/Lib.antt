@@ -3,7 +3,13 @@ pub mod Boards
 pub mod Hearing
 pub mod Looks
 pub mod Meets
+pub mod Going
+pub mod Ends
+pub mod Fitting
+pub mod Knowing
+pub mod Asking
 pub mod Tells
+pub mod BoundWeight
 pub mod BoundWay
 pub mod BoundTurns
 pub mod BoundTasks

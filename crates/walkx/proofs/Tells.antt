@@ -1,12 +1,10 @@
 -- A worker that hears an answer.
-use Rattle.std.proofs.Common.{◌≡◌, ◌≢◌, add-one, get_or-set_other, get_or-set_same, ℕ, zero, suc, ◌+◌, ◌<◌, ◌≤◌, List, [], ◌∷◌, length, Option, Some, None, refl, sym, ap, subst, ◌∙◌, arith}
+use Rattle.std.proofs.Common.{◌≡◌, ◌≢◌, add-one, get_or-set_other, get_or-set_same, ℕ, zero, suc, ◌+◌, ◌<◌, ◌≤◌, List, ◌∷◌, length, Option, Some, None, refl, sym, ap, subst, ◌∙◌, arith}
 use Rattle.std.specs.Prelude.{slice_set}
-use Rattle.std.specs.List.{AllByRecursion}
 use Rattle.pram_text.specs.Job.{JobData}
 use Rattle.pram_words.specs.Phases.{kind_at}
 use Rattle.pram_words.specs.Words.{LayoutData}
 use Rattle.walkx.specs.declared.operation.Ended.{Ended}
-use Rattle.walkx.specs.declared.operation.Op.{Op}
 use Rattle.walkx.specs.declared.worker.Doing.{Doing}
 use Rattle.walkx.specs.declared.worker.Doing.TheVariants as doing
 use Rattle.walkx.specs.declared.stage.At.{At}
@@ -16,49 +14,18 @@ use Rattle.walkx.specs.declared.stage.Stage.{Stage}
 use Rattle.walkx.specs.declared.stage.Stage.TheVariants as stage
 use Rattle.walkx.specs.declared.stage.Step.{Step}
 use Rattle.walkx.specs.declared.stage.Step.TheVariants as step
-use Rattle.walkx.specs.Scripts.{Script, asks, ends, behind, first_op, op_with}
-use Rattle.walkx.specs.Stages.{IsStage, IsStep, IsGoing, Kept, Serves, at_of, doing_of, most_heard, heard_for, newest, processor_of, script_at, script_behind, step_of, stepped, then_marks}
-use Rattle.walkx.specs.Walk.{Then, Walking, Fits, GoesOn, IsAdmitted, ask_of, told, told_by, goes_on, heard_of, rest_of, begin_script, turn_script, begins, turns, stops, next_op, started, come_back}
+use Rattle.walkx.specs.Scripts.{Script, asks, ends, behind}
+use Rattle.walkx.specs.Stages.{IsStage, IsStep, Kept, Serves, at_of, doing_of, most_heard, heard_for, newest, processor_of, script_at, script_behind, step_of, stepped, then_marks}
+use Rattle.walkx.specs.Walk.{Then, Walking, Fits, IsBoard, IsGoing, IsAdmitted, ask_of, told, goes_on, rest_of, begin_script, turn_script, begins, turns, stops, started, come_back}
+use Rattle.walkx.proofs.Fitting.{fits_told, new_workers_fit}
+use Rattle.walkx.proofs.Going.{Asks, told_going}
 use Rattle.walkx.proofs.Hearing.{hears_first}
 
 -- ---- scripts that ask
 
--- a script asks this first
-record Asks (s : Script Then) : Type 0 where
-  op : Op
-  first : first_op s ≡ Some op
-
 goes_on_asks : (w : Walking) (found : ℕ) (s : Script Then) → Asks s → goes_on w found s ≡ record w { heard = found ∷ w.heard }
 goes_on_asks w found (asks op next) a = refl
 goes_on_asks w found (ends r) a = let no : None ≡ Some a.op = a.first in cc
-
-op_with_first : (s : Script Then) (op : Op) (found : ℕ) → first_op s ≡ Some op → op_with s found ≡ (op, found) ∷ []
-op_with_first (asks op' next) op found e = let same : op' ≡ op = cc in ap (λ (o : Op). (o, found) ∷ []) same
-op_with_first (ends r) op found e = cc
-
-goes_on_of : (d : Doing) (s : Script Then) → Asks s → GoesOn d s
-goes_on_of doing.Back s a = (a.op, a.first)
-goes_on_of doing.Begin s a = (a.op, a.first)
-goes_on_of (doing.Turn q) s a = (a.op, a.first)
-goes_on_of (doing.Over e) s a = tt
-
-asks_of : (d : Doing) (s : Script Then) → IsGoing d → GoesOn d s → Asks s
-asks_of doing.Back s going g = record { op = g.0; first = g.1 }
-asks_of doing.Begin s going g = record { op = g.0; first = g.1 }
-asks_of (doing.Turn q) s going g = record { op = g.0; first = g.1 }
-asks_of (doing.Over e) s going g = absurd going
-
-next_of : (d : Doing) (s : Script Then) (op : Op) → IsGoing d → first_op s ≡ Some op → next_op d s ≡ op
-next_of doing.Back s op going e = rw e
-next_of doing.Begin s op going e = rw e
-next_of (doing.Turn q) s op going e = rw e
-next_of (doing.Over e') s op going e = absurd going
-
-told_going : (d : Doing) (w : Walking) (found : ℕ) (s : Script Then) → IsGoing d → told_by d w found s ≡ goes_on w found s
-told_going doing.Back w found s going = refl
-told_going doing.Begin w found s going = refl
-told_going (doing.Turn q) w found s going = refl
-told_going (doing.Over e) w found s going = absurd going
 
 -- each stage of a worker that isn't over asks
 stage_asks : (job : JobData) (y : LayoutData) (at : At) (st : Stage) → IsStage job y at st → IsGoing (doing_of st at.phase) → Asks (script_at job y at st)
@@ -89,25 +56,12 @@ stage_asks job y at (stage.Over e) is going = absurd going
 
 -- ---- a script goes on
 
--- what was heard stays admitted with one answer more
-admitted_on : (job : JobData) (y : LayoutData) (w : Walking) (found : ℕ) → Fits job y w → IsGoing w.now → IsAdmitted job y (ask_of job y w) found
-    → AllByRecursion (λ (e : Op × ℕ). IsAdmitted job y e.0 e.1) (heard_of job y (record w { heard = found ∷ w.heard }))
-admitted_on job y w found fits going admitted =
-    let a = asks_of w.now (rest_of job y w) going fits.goes_on in
-    rw (op_with_first (rest_of job y w) a.op found a.first)
-    (subst (λ (op : Op). IsAdmitted job y op found) (next_of w.now (rest_of job y w) a.op going a.first) admitted, fits.admitted)
-
 rest_on : (job : JobData) (y : LayoutData) (w : Walking) (found : ℕ) (old new : Script Then) → rest_of job y w ≡ old → new ≡ behind old found → behind (rest_of job y w) found ≡ new
 rest_on job y w found old new e f = ap (λ (s : Script Then). behind s found) e ∙ sym f
 
-fits_on : (job : JobData) (y : LayoutData) (w : Walking) (found : ℕ) → Fits job y w → IsGoing w.now → IsAdmitted job y (ask_of job y w) found → Asks (behind (rest_of job y w) found) → Fits job y (record w { heard = found ∷ w.heard })
-fits_on job y w found fits going admitted asks_next = record {
-  number = fits.number;
-  node = fits.node;
-  phase = fits.phase;
-  admitted = admitted_on job y w found fits going admitted;
-  goes_on = goes_on_of w.now (behind (rest_of job y w) found) asks_next;
-}
+-- the worker that was told fits
+fits_now : (job : JobData) (y : LayoutData) (w new : Walking) (found : ℕ) → IsBoard job y → Fits job y w → IsAdmitted job y (ask_of job y w) found → new ≡ told job y w found → Fits job y new
+fits_now job y w new found board fits admitted e = subst (Fits job y) (sym e) (fits_told job y w found board fits admitted)
 
 -- a worker and what it was told
 pub record Hears (job : JobData) (y : LayoutData) (k : Kept) (found : ℕ) (new : Kept) : Type 0 where
@@ -117,18 +71,19 @@ pub record Hears (job : JobData) (y : LayoutData) (k : Kept) (found : ℕ) (new 
 told_as : (job : JobData) (y : LayoutData) (w : Walking) (found : ℕ) (s : Script Then) → IsGoing w.now → behind (rest_of job y w) found ≡ s → told job y w found ≡ goes_on w found s
 told_as job y w found s going e = told_going w.now w found (behind (rest_of job y w) found) going ∙ ap (goes_on w found) e
 
-hears_on : (job : JobData) (y : LayoutData) (k : Kept) (found : ℕ) (new : Stage) → Serves job y k → IsAdmitted job y (ask_of job y k.walking) found
+hears_on : (job : JobData) (y : LayoutData) (k : Kept) (found : ℕ) (new : Stage) → IsBoard job y → Serves job y k → IsAdmitted job y (ask_of job y k.walking) found
     → script_at job y (at_of y k) new ≡ behind (script_at job y (at_of y k) k.stage) found → IsStep job y (at_of y k) k.stage (step.On new) → Hears job y k found (stepped k found (step.On new))
-hears_on job y k found new serves admitted is fits =
+hears_on job y k found new board serves admitted is fits =
     let w = k.walking in
     let going : IsGoing w.now = rw serves.now fits.0 in
     let next : behind (rest_of job y w) found ≡ script_at job y (at_of y k) new = rest_on job y w found _ _ serves.rest is in
     let new_going : IsGoing (doing_of new k.phase) = rw fits.2 fits.0 in
     let asks_next : Asks (script_at job y (at_of y k) new) = stage_asks job y (at_of y k) new fits.1 new_going in
+    let heard : (stepped k found (step.On new)).walking ≡ told job y w found = sym (told_as job y w found _ going next ∙ goes_on_asks w found _ asks_next) in
     record {
-      told = sym (told_as job y w found _ going next ∙ goes_on_asks w found _ asks_next);
+      told = heard;
       serves = record {
-        fits = fits_on job y w found serves.fits going admitted (subst Asks (sym next) asks_next);
+        fits = fits_now job y w _ found board serves.fits admitted heard;
         now = serves.now ∙ sym fits.2;
         rest = next;
         stage = fits.1;
@@ -137,32 +92,34 @@ hears_on job y k found new serves admitted is fits =
 
 -- ---- another script
 
-hears_begins : (job : JobData) (y : LayoutData) (k : Kept) (found n : ℕ) → Serves job y k → ends (begins n) ≡ behind (script_at job y (at_of y k) k.stage) found
+hears_begins : (job : JobData) (y : LayoutData) (k : Kept) (found n : ℕ) → IsBoard job y → Serves job y k → IsAdmitted job y (ask_of job y k.walking) found → ends (begins n) ≡ behind (script_at job y (at_of y k) k.stage) found
     → IsStep job y (at_of y k) k.stage (step.Begins n) → Hears job y k found (stepped k found (step.Begins n))
 unfolding begin_script
-hears_begins job y k found n serves is fits =
+hears_begins job y k found n board serves admitted is fits =
     let w = k.walking in
     let going : IsGoing w.now = rw serves.now fits.0 in
+    let heard : (stepped k found (step.Begins n)).walking ≡ told job y w found = sym (told_as job y w found (ends (begins n)) going (rest_on job y w found _ _ serves.rest is)) in
     record {
-      told = sym (told_as job y w found (ends (begins n)) going (rest_on job y w found _ _ serves.rest is));
+      told = heard;
       serves = record {
-        fits = record { number = serves.fits.number; node = (fits.1, fits.2); phase = tt; admitted = tt; goes_on = (_, refl) };
+        fits = fits_now job y w _ found board serves.fits admitted heard;
         now = refl;
         rest = refl;
         stage = tt;
       };
     }
 
-hears_turns : (job : JobData) (y : LayoutData) (k : Kept) (found n q : ℕ) → Serves job y k → ends (turns n q) ≡ behind (script_at job y (at_of y k) k.stage) found
+hears_turns : (job : JobData) (y : LayoutData) (k : Kept) (found n q : ℕ) → IsBoard job y → Serves job y k → IsAdmitted job y (ask_of job y k.walking) found → ends (turns n q) ≡ behind (script_at job y (at_of y k) k.stage) found
     → IsStep job y (at_of y k) k.stage (step.Turns n q) → Hears job y k found (stepped k found (step.Turns n q))
 unfolding turn_script
-hears_turns job y k found n q serves is fits =
+hears_turns job y k found n q board serves admitted is fits =
     let w = k.walking in
     let going : IsGoing w.now = rw serves.now fits.0 in
+    let heard : (stepped k found (step.Turns n q)).walking ≡ told job y w found = sym (told_as job y w found (ends (turns n q)) going (rest_on job y w found _ _ serves.rest is)) in
     record {
-      told = sym (told_as job y w found (ends (turns n q)) going (rest_on job y w found _ _ serves.rest is));
+      told = heard;
       serves = record {
-        fits = record { number = serves.fits.number; node = (fits.1, fits.2); phase = (fits.3, fits.4); admitted = fits.5; goes_on = (_, refl) };
+        fits = fits_now job y w _ found board serves.fits admitted heard;
         now = refl;
         rest = refl;
         stage = record { some = fits.3; most = fits.4; begun = fits.5 };
@@ -175,30 +132,31 @@ abbrev beginning : ℕ → Option ℕ → List ℕ → ℕ → Stage → Doing �
 beginning number node heard phase st now = record { walking = record { number = number; node = node; now = now; heard = heard }; phase = phase; stage = st }
 
 hears_stops : (job : JobData) (y : LayoutData) (number : ℕ) (node : Option ℕ) (heard : List ℕ) (phase : ℕ) (st : Stage) (found : ℕ) (e : Ended)
-    → Serves job y (beginning number node heard phase st doing.Begin) → IsAdmitted job y (ask_of job y (beginning number node heard phase st doing.Begin).walking) found
+    → IsBoard job y → Serves job y (beginning number node heard phase st doing.Begin) → IsAdmitted job y (ask_of job y (beginning number node heard phase st doing.Begin).walking) found
     → ends (stops e) ≡ behind (script_at job y (at_of y (beginning number node heard phase st doing.Begin)) st) found
     → Hears job y (beginning number node heard phase st doing.Begin) found (stepped (beginning number node heard phase st doing.Begin) found (step.Stops e))
-hears_stops job y number node heard phase st found e serves admitted is =
+hears_stops job y number node heard phase st found e board serves admitted is =
     let w : Walking = (beginning number node heard phase st doing.Begin).walking in
     let over : behind (rest_of job y w) found ≡ ends (stops e) = rest_on job y w found _ _ serves.rest is in
+    let heard_it : record w { now = doing.Over e; heard = found ∷ heard } ≡ told job y w found = sym (told_as job y w found (ends (stops e)) tt over) in
     record {
-      told = sym (told_as job y w found (ends (stops e)) tt over);
+      told = heard_it;
       serves = record {
-        fits = record { number = serves.fits.number; node = serves.fits.node; phase = tt; admitted = admitted_on job y w found serves.fits tt admitted; goes_on = tt };
+        fits = fits_now job y w _ found board serves.fits admitted heard_it;
         now = refl;
         rest = over;
         stage = tt;
       };
     }
 
-hears_end : (job : JobData) (y : LayoutData) (k : Kept) (found : ℕ) (e : Ended) → k.walking.now ≡ doing.Begin → Serves job y k → IsAdmitted job y (ask_of job y k.walking) found
+hears_end : (job : JobData) (y : LayoutData) (k : Kept) (found : ℕ) (e : Ended) → k.walking.now ≡ doing.Begin → IsBoard job y → Serves job y k → IsAdmitted job y (ask_of job y k.walking) found
     → ends (stops e) ≡ behind (script_at job y (at_of y k) k.stage) found → Hears job y k found (stepped k found (step.Stops e))
-hears_end job y k found e begin =
+hears_end job y k found e begin board =
     let w = k.walking in
     let P : Doing → Type 0 = λ now. Serves job y (beginning w.number w.node w.heard k.phase k.stage now) → IsAdmitted job y (ask_of job y (beginning w.number w.node w.heard k.phase k.stage now).walking) found
     → ends (stops e) ≡ behind (script_at job y (at_of y (beginning w.number w.node w.heard k.phase k.stage now)) k.stage) found
     → Hears job y (beginning w.number w.node w.heard k.phase k.stage now) found (stepped (beginning w.number w.node w.heard k.phase k.stage now) found (step.Stops e)) in
-    subst P (sym begin) (hears_stops job y w.number w.node w.heard k.phase k.stage found e)
+    subst P (sym begin) (hears_stops job y w.number w.node w.heard k.phase k.stage found e board)
 
 hears_nothing : (job : JobData) (y : LayoutData) (k : Kept) (found : ℕ) (e : Ended) → k.walking.now ≡ doing.Over e → Serves job y k → Hears job y k found k
 hears_nothing job y k found e over serves = record {
@@ -206,13 +164,13 @@ hears_nothing job y k found e over serves = record {
   serves = serves;
 }
 
-pub hears : (job : JobData) (y : LayoutData) (k : Kept) (found : ℕ) (s : Step) → Serves job y k → IsAdmitted job y (ask_of job y k.walking) found
+pub hears : (job : JobData) (y : LayoutData) (k : Kept) (found : ℕ) (s : Step) → IsBoard job y → Serves job y k → IsAdmitted job y (ask_of job y k.walking) found
     → script_behind job y (at_of y k) s ≡ behind (script_at job y (at_of y k) k.stage) found → IsStep job y (at_of y k) k.stage s → Hears job y k found (stepped k found s)
-hears job y k found (step.On new) serves admitted is fits = hears_on job y k found new serves admitted is fits
-hears job y k found (step.Begins n) serves admitted is fits = hears_begins job y k found n serves is fits
-hears job y k found (step.Turns n q) serves admitted is fits = hears_turns job y k found n q serves is fits
-hears job y k found (step.Stops e) serves admitted is fits = hears_end job y k found e (serves.now ∙ fits) serves admitted is
-hears job y k found (step.Stays e) serves admitted is fits = hears_nothing job y k found e (serves.now ∙ fits) serves
+hears job y k found (step.On new) board serves admitted is fits = hears_on job y k found new board serves admitted is fits
+hears job y k found (step.Begins n) board serves admitted is fits = hears_begins job y k found n board serves admitted is fits
+hears job y k found (step.Turns n q) board serves admitted is fits = hears_turns job y k found n q board serves admitted is fits
+hears job y k found (step.Stops e) board serves admitted is fits = hears_end job y k found e (serves.now ∙ fits) board serves admitted is
+hears job y k found (step.Stays e) board serves admitted is fits = hears_nothing job y k found e (serves.now ∙ fits) serves
 
 -- ---- what was heard, newest first
 
@@ -264,12 +222,12 @@ most_heard_small (stage.Over e) = omega arith
 -- ---- a worker as its code has it
 
 -- the same from what the code knows: v is the worker as its fields show it
-pub hears_by : (job : JobData) (y : LayoutData) (v k : Kept) (at : At) (found : ℕ) (s : Step) → v ≡ k → at ≡ at_of y k → Serves job y k → IsAdmitted job y (ask_of job y k.walking) found
+pub hears_by : (job : JobData) (y : LayoutData) (v k : Kept) (at : At) (found : ℕ) (s : Step) → v ≡ k → at ≡ at_of y k → IsBoard job y → Serves job y k → IsAdmitted job y (ask_of job y k.walking) found
     → script_behind job y at s ≡ behind (script_at job y at v.stage) found → IsStep job y at v.stage s → Hears job y k found (stepped v found s)
-hears_by job y v k at found s e f serves admitted =
+hears_by job y v k at found s e f board serves admitted =
     let P : Kept → At → Type 0 = λ u a. script_behind job y a s ≡ behind (script_at job y a u.stage) found → IsStep job y a u.stage s → Hears job y k found (stepped u found s) in
     let Q : Kept → Type 0 = λ u. P u at in
-    subst Q (sym e) (subst (P k) (sym f) (λ is fits. hears job y k found s serves admitted is fits))
+    subst Q (sym e) (subst (P k) (sym f) (λ is fits. hears job y k found s board serves admitted is fits))
 
 pub doing_stays : (job : JobData) (y : LayoutData) (v k : Kept) (at : At) (new : Stage) → v ≡ k → at ≡ at_of y k → IsStep job y at v.stage (step.On new) → doing_of new v.phase ≡ doing_of v.stage v.phase
 doing_stays job y v k at new e f =
@@ -281,7 +239,7 @@ doing_stays job y v k at new e f =
 pub starts : (job : JobData) (y : LayoutData) (w : ℕ) → w < y.workers → Serves job y (record { walking = started w; phase = 0; stage = stage.Begin })
 unfolding begin_script
 starts job y w worker = record {
-  fits = record { number = worker; node = tt; phase = tt; admitted = tt; goes_on = (_, refl) };
+  fits = (new_workers_fit job y w worker).0;
   now = refl;
   rest = refl;
   stage = tt;
@@ -289,7 +247,7 @@ starts job y w worker = record {
 
 pub comes_back : (job : JobData) (y : LayoutData) (w : ℕ) → w < y.workers → Serves job y (record { walking = come_back w; phase = 0; stage = stage.Back })
 comes_back job y w worker = record {
-  fits = record { number = worker; node = tt; phase = tt; admitted = tt; goes_on = (_, refl) };
+  fits = (new_workers_fit job y w worker).1;
   now = refl;
   rest = refl;
   stage = tt;

@@ -9,3 +9,4 @@ pub mod Stages
 pub mod Glances
 pub mod Requests
 pub mod Bound
+pub mod Laws

@@ -1,17 +1,16 @@
 -- What a stage stands for: the rest of a script.
 use Rattle.std.specs.Prelude.{◌≡◌, ◌≢◌, IsTrue, ℕ, zero, suc, ◌+◌, ◌-◌, ◌*◌, ◌%◌, ◌<◌, ◌≤◌, ◌&&◌, ◌||◌, ◌==◌, nat_lt, nat_le, if◌then◌else◌, List, [], ◌∷◌, length, slice_get, slice_index, Option, Some, None}
-use Rattle.std.specs.List.{AllByRecursion}
 use Rattle.pram_text.specs.declared.instr.Instr.{Instr}
 use Rattle.pram_text.specs.declared.instr.Rule.{Rule}
 use Rattle.pram_text.specs.declared.instr.Rule.TheVariants.{Common, Priority, Crew}
-use Rattle.pram_text.specs.Job.{JobData, IsJob, IsInstr}
+use Rattle.pram_text.specs.Job.{JobData, IsInstr}
 use Rattle.pram_step.specs.declared.requests.Request.{Request}
 use Rattle.pram_step.specs.Machine.{register_place, counter_place}
 use Rattle.pram_words.specs.Phases.{step_at, kind_at}
 use Rattle.pram_words.specs.declared.phases.Kind.{Kind}
 use Rattle.pram_words.specs.declared.phases.Kind.TheVariants.{Compute, Apply, Verify}
 use Rattle.pram_words.specs.Stamps.{stamped_word, stamp_of, payload_of}
-use Rattle.pram_words.specs.Words.{LayoutData, IsLayout, Admits, number_of, places_of, counters_of, most_stored}
+use Rattle.pram_words.specs.Words.{LayoutData, Admits, number_of, places_of, counters_of, most_stored}
 use Rattle.pram_words.specs.declared.words.Word.TheVariants.{Conflict, Node, Asked, Stored, Claim}
 use Rattle.walkx.specs.declared.operation.Ended.TheVariants as ended
 use Rattle.walkx.specs.declared.operation.Op.TheVariants.{Load, Max, Swap}
@@ -29,7 +28,8 @@ use Rattle.walkx.specs.declared.stage.Step.{Step}
 use Rattle.walkx.specs.declared.stage.Step.TheVariants as step
 use Rattle.walkx.specs.Scripts.{Script, asks, ends}
 use Rattle.walkx.specs.Tasks.{is_late, first_is_older, newer_payload, loads_both, reads_place, writes_place, reads_cell, cell_read, decided, place_part, value_part, raises_request, executes, hears_part, if_data, claim_of, carries, claims, differs, reports, task_of}
-use Rattle.walkx.specs.Walk.{Then, begins, turns, stops, way_down, stands_at, marks, back_script, begin_script, turn_script, phase_begun, IsAdmitted, IsLayoutOf, Walking, node_of, rest_of, Fits}
+use Rattle.walkx.specs.Walk.{Then, begins, turns, stops, way_down, stands_at, marks, back_script, begin_script, turn_script, phase_begun, AllAdmitted, Walking, node_of, rest_of, Fits}
+pub use Rattle.walkx.specs.Walk.{IsBoard, IsGoing}
 
 -- the step of the phase, and the processor of the leaf
 abbrev pub step_of : At → ℕ
@@ -157,12 +157,6 @@ script_behind job y at (step.Stays e) = ends (stops e)
 
 -- ---- which stages there are
 
--- a job within its limits, and its board
-pub record IsBoard (job : JobData) (y : LayoutData) : Type 0 where
-  pub limits : IsJob job
-  pub layout : IsLayout y
-  pub is : IsLayoutOf job y
-
 -- the worker and its node are on the board
 pub record IsAt (y : LayoutData) (at : At) : Type 0 where
   pub worker : at.worker < y.workers
@@ -171,7 +165,7 @@ pub record IsAt (y : LayoutData) (at : At) : Type 0 where
 
 -- what was heard when the phase began is admitted
 abbrev pub IsBegun : JobData → LayoutData → ℕ → Type 0
-IsBegun job y q = AllByRecursion (λ e. IsAdmitted job y e.0 e.1) (phase_begun y (doing.Turn q))
+IsBegun job y q = AllAdmitted job y (phase_begun y (doing.Turn q))
 
 -- the phase is one of the job's
 pub record IsTurn (job : JobData) (y : LayoutData) (at : At) : Type 0 where
@@ -295,11 +289,6 @@ doing_of _ q = doing.Turn q
 -- a later stage of a turn
 abbrev pub IsLater : ℕ → At → Stage → Type 0
 IsLater heard at st = (doing_of st at.phase ≡ doing.Turn at.phase) × (heard < most_heard st)
-
--- the worker is not over
-abbrev pub IsGoing : Doing → Type 0
-IsGoing (doing.Over e) = ⊥
-IsGoing _ = Unit {0}
 
 -- what a worker's step may lead to
 abbrev pub IsStep : JobData → LayoutData → At → Stage → Step → Type 0

@@ -25,6 +25,13 @@ is_late t a b = nat_le t (stamp_of a) || nat_le t (stamp_of b)
 abbrev pub first_is_older : ℕ → ℕ → Bool
 first_is_older a b = nat_le (stamp_of a) (stamp_of b)
 
+-- the older one's number and itself
+abbrev pub older : ℕ → ℕ → ℕ
+older a b = if first_is_older a b then 0 else 1
+
+abbrev pub older_word : ℕ → ℕ → ℕ
+older_word a b = if first_is_older a b then a else b
+
 -- the payload of the newer one
 abbrev pub newer_payload : ℕ → ℕ → ℕ
 newer_payload a b = payload_of (if first_is_older a b then b else a)
@@ -41,7 +48,7 @@ reads_place y t p after next = loads_both y p (λ a b. if is_late t a b then aft
 abbrev pub writes_place : {R : Type 0} → LayoutData → ℕ → ℕ → ℕ → Script R → Script R
 writes_place y t p value after = loads_both y p (λ a b.
     if is_late t a b then after
-    else asks (Swap (number_of y (Stored p (if first_is_older a b then 0 else 1))) (if first_is_older a b then a else b) (stamped_word t value)) (λ found. after))
+    else asks (Swap (number_of y (Stored p (older a b))) (older_word a b) (stamped_word t value)) (λ found. after))
 
 -- ---- the request of a processor, from what was heard
 

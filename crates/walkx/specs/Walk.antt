@@ -1,10 +1,10 @@
 -- The walk: the scripts back, begin and turn, and a worker that goes through them.
 use Rattle.std.specs.Prelude.{◌≡◌, ℕ, ◌+◌, ◌-◌, ◌*◌, ◌/◌, ◌%◌, ◌<◌, ◌≤◌, ◌&&◌, ◌==◌, nat_le, if◌then◌else◌, List, [], ◌∷◌, ◌++◌, Option, Some, None, IfSome, unwrap_or}
 use Rattle.std.specs.List.{AllByRecursion}
-use Rattle.pram_text.specs.Job.{JobData}
+use Rattle.pram_text.specs.Job.{JobData, IsJob}
 use Rattle.pram_words.specs.Phases.{step_at, kind_at}
 use Rattle.pram_words.specs.Tree.{first_leaf_of, turns_right}
-use Rattle.pram_words.specs.Words.{LayoutData, Admits, number_of, length_of, layout_of}
+use Rattle.pram_words.specs.Words.{LayoutData, IsLayout, Admits, number_of, length_of, layout_of}
 use Rattle.pram_words.specs.declared.words.Word.TheVariants.{Conflict, Node, Position}
 use Rattle.walkx.specs.declared.operation.Ended.{Ended}
 use Rattle.walkx.specs.declared.operation.Ended.TheVariants as ended
@@ -134,6 +134,9 @@ abbrev pub IsAdmitted : JobData → LayoutData → Op → ℕ → Type 0
 IsAdmitted job y (Load k) found = Admits y job k found
 IsAdmitted job y _ found = Unit {0}
 
+abbrev pub AllAdmitted : JobData → LayoutData → List (Op × ℕ) → Type 0
+AllAdmitted job y heard = AllByRecursion (λ (e : Op × ℕ). IsAdmitted job y e.0 e.1) heard
+
 -- what is asked is on the board, and a value that it is to take is admitted for its word
 abbrev pub AsksAdmitted : JobData → LayoutData → Op → Type 0
 AsksAdmitted job y (Load k) = k < length_of y
@@ -146,20 +149,31 @@ AsksAdmitted job y (Over e) = Unit {0}
 abbrev pub IsLayoutOf : JobData → LayoutData → Type 0
 IsLayoutOf job y = y ≡ layout_of job y.workers
 
+-- a job within its limits, and its board
+pub record IsBoard (job : JobData) (y : LayoutData) : Type 0 where
+  pub limits : IsJob job
+  pub layout : IsLayout y
+  pub is : IsLayoutOf job y
+
+-- the worker is not over
+abbrev pub IsGoing : Doing → Type 0
+IsGoing (doing.Over e) = ⊥
+IsGoing _ = Unit {0}
+
 -- the phase is one of the job's
 abbrev pub IsPhase : JobData → Doing → Type 0
 IsPhase job (doing.Turn q) = (1 ≤ q) × (q ≤ 3 * job.steps)
 IsPhase job _ = Unit {0}
 
--- the script goes on, unless the worker is over
-abbrev pub GoesOn : Doing → Script Then → Type 0
-GoesOn (doing.Over e) script = Unit {0}
-GoesOn _ script = (op : Op) × (first_op script ≡ Some op)
+-- What is left of the script matches what the worker is doing: it goes on, or it ended as the worker did.
+abbrev pub Matches : Doing → Script Then → Type 0
+Matches (doing.Over e) script = script ≡ ends (stops e)
+Matches _ script = (op : Op) × (first_op script ≡ Some op)
 
--- the worker fits the job and the layout
+-- The worker fits the job and the layout. One that is over has heard what ended it.
 pub record Fits (job : JobData) (y : LayoutData) (w : Walking) : Type 0 where
   pub number : w.number < y.workers
   pub node : IfSome w.node (λ n. (1 ≤ n) × (n < 2 * y.leaves))
   pub phase : IsPhase job w.now
-  pub admitted : AllByRecursion (λ e. IsAdmitted job y e.0 e.1) (heard_of job y w)
-  pub goes_on : GoesOn w.now (rest_of job y w)
+  pub admitted : AllAdmitted job y (heard_of job y w)
+  pub matches : Matches w.now (rest_of job y w)

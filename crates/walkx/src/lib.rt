@@ -4,7 +4,7 @@
 mod ask;
 mod carry;
 mod compute;
-mod laws;
+pub mod laws;
 mod operation;
 mod reader;
 mod record;
