@@ -47,19 +47,22 @@ pub(crate) fn request_in(job: &Job, places: &[u32], processor: u32) -> Request
     let Some(instr) = job.code().get(counter as usize) else {
         return goes_to(counter);
     };
-    let (a, b) = match operands_of(*instr) {
-        Operands::None => (0, 0),
-        Operands::One(a) => (register(job, places, processor, a), 0),
-        Operands::Two(a, b) => (
-            register(job, places, processor, a),
-            register(job, places, processor, b),
-        ),
-    };
-    let value = match cell_read(job, *instr, a) {
-        Some(cell) => places[cell as usize],
-        None => 0,
-    };
-    decided(job, processor, counter, *instr, a, b, value)
+    match operands_of(*instr) {
+        Operands::None => decided(job, processor, counter, *instr, 0, 0, 0),
+        Operands::One(a) => {
+            let a = register(job, places, processor, a);
+            let value = match cell_read(job, *instr, a) {
+                Some(cell) => places[cell as usize],
+                None => 0,
+            };
+            decided(job, processor, counter, *instr, a, 0, value)
+        }
+        Operands::Two(a, b) => {
+            let a = register(job, places, processor, a);
+            let b = register(job, places, processor, b);
+            decided(job, processor, counter, *instr, a, b, 0)
+        }
+    }
 }
 
 /// What a register holds.
