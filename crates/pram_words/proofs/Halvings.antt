@@ -1,6 +1,7 @@
 -- Numbers of digits, leaves and depths.
-use Rattle.std.proofs.Common.{◌≡◌, ℕ, ◌+◌, ◌-◌, ◌*◌, ◌%◌, ◌^◌, ◌<◌, ◌≤◌, inl, inr, refl, ap, ◌∙◌, arith}
-use Rattle.std.proofs.lemmas.Nat.{leading_length, pow_pos, pow_below, pow-add}
+use Rattle.std.proofs.Common.{◌≡◌, ℕ, ◌==◌, ◌+◌, ◌-◌, ◌*◌, ◌%◌, ◌^◌, ◌<◌, ◌≤◌, inl, inr, refl, sym, ap, ◌∙◌, arith}
+use Rattle.std.proofs.lemmas.Nat.{leading_length, pow_pos, pow_below, pow-add, and_mask}
+use Rattle.std.proofs.lemmas.Nat.Bits.{bit_at_and, bit_at_ones}
 use Rattle.std.proofs.Math.Nat.{pow-le-pow_right}
 use Rattle.std.proofs.lemmas.Bool.{cases_order, eqb-true, eq-eqb}
 use Rattle.std.specs.Int.{IsPowerOfTwo, IsNextPowerOfTwo, leading_zeros, bit_at, w32}
@@ -84,3 +85,11 @@ turn l worker n l_fits n_fits = λ h d e low high.
     let height : h ≡ depth_of l = depth_unique l h l_fits (omega arith) (let pos = pow_pos h in omega arith) in
     let depth : d ≡ depth_of n = depth_unique n d n_fits low (omega (arith, double d)) in
     rw (height, depth) (eqb-true (bit_at (worker % l) (depth_of l - 1 - depth_of n)) 1, eq-eqb (bit_at (worker % l) (depth_of l - 1 - depth_of n)) 1)
+
+-- a bit below l is the same in w and in w mod l
+pub turn_bit : (l worker n h : ℕ) → l ≡ 2 ^ h → h ≡ depth_of l → depth_of n < h → turns_right l worker n ≡ (bit_at worker (h - 1 - depth_of n) == 1)
+turn_bit l worker n h e height inner =
+    let one = bit_at_ones h (h - 1 - depth_of n) (omega arith) in
+    let same : bit_at (worker % 2 ^ h) (h - 1 - depth_of n) ≡ bit_at worker (h - 1 - depth_of n)
+        = ap (λ x. bit_at x (h - 1 - depth_of n)) (sym (and_mask worker h)) ∙ bit_at_and worker (2 ^ h - 1) (h - 1 - depth_of n) ∙ omega arith in
+    rw (← height, e, same) refl

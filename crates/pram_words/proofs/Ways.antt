@@ -1,14 +1,15 @@
 -- A worker's way over the tree.
-use Rattle.std.proofs.Common.{◌≡◌, ℕ, Bool, true, false, ◌+◌, ◌-◌, ◌*◌, ◌^◌, ◌<◌, ◌≤◌, inl, inr, refl, ap, ◌∙◌, arith, zero, suc}
+use Rattle.std.proofs.Common.{◌≡◌, ℕ, Bool, true, false, ◌==◌, ◌+◌, ◌-◌, ◌*◌, ◌/◌, ◌%◌, ◌^◌, ◌<◌, ◌≤◌, inl, inr, refl, sym, ap, ◌∙◌, arith, zero, suc}
 use Rattle.std.proofs.lemmas.Bool.{cases_lt, lt-ltb, le-ltb, eqb-true, eq-eqb}
-use Rattle.std.proofs.Math.Nat.{pow-le-pow_right}
+use Rattle.std.proofs.Math.Nat.{pow-le-pow_right, div-eq_of_lt, div-div-eq-div-mul}
 use Rattle.std.proofs.lemmas.Nat.{mod_below, pow_pos}
 use Rattle.std.specs.Int.{from_bool}
-use Rattle.pram_words.specs.Tree.{digits_of, depth_of, first_leaf_of}
-use Rattle.pram_words.specs.Words.{LayoutData, IsLayout}
+use Rattle.pram_words.specs.declared.layout.Form.TheVariants.{Compact}
+use Rattle.pram_words.specs.Tree.{digits_of, depth_of, first_leaf_of, turns_right}
+use Rattle.pram_words.specs.Words.{LayoutData, IsLayout, by_form}
 use Rattle.pram_words.specs.Ways.{turn_bits, turns_right_wide, IsTurnWide, turns_right_in, way_of, first_leaf_in}
 use Rattle.pram_words.proofs.Halvings.{double, digits, exponents, depth_unique, leaves_least}
-use Rattle.pram_words.proofs.Numbering.{cases_form, form_wide}
+use Rattle.pram_words.proofs.Numbering.{cases_form, form_compact, form_wide}
 
 -- the least b with W ≤ 2 ^ b
 bits_least : (workers b : ℕ) → 1 ≤ workers → workers < 2 ^ 32 → workers ≤ 2 ^ b → ((c : ℕ) → workers ≤ 2 ^ c → b ≤ c) → b ≡ turn_bits workers
@@ -65,6 +66,44 @@ first_leaf y worker limits = elim (cases_form y.form) [
   | inl e ↦ rw e (let below = mod_below worker y.leaves limits.leaves.0 in (omega arith, omega arith))
   | inr e ↦ rw (form_wide y.form (first_leaf_of y.leaves worker) (way_of y worker (depth_of y.leaves)) e) (way_leaf y worker limits)
 ]
+
+-- in the compact form too, a worker begins where its turns lead
+is_bit : (b : ℕ) → b < 2 → from_bool (b == 1) ≡ b
+is_bit zero h = refl
+is_bit (suc zero) h = refl
+is_bit (suc (suc n)) h = absurd (omega arith)
+
+compact_way : (y : LayoutData) (worker h e d : ℕ) → y.form ≡ Compact → y.leaves ≡ 2 ^ h → y.leaves ≤ 1024 → e + d ≡ h
+    → way_of y worker d ≡ 2 ^ d + worker % y.leaves / 2 ^ e
+unfolding way_of turns_right_in
+compact_way y worker h e zero form power most sum =
+    let same : e ≡ h = omega arith in
+    let below = mod_below worker y.leaves (omega (arith, power, pow_pos h)) in
+    let none : worker % y.leaves / 2 ^ e ≡ 0 = div-eq_of_lt {n = worker % y.leaves} {m = 2 ^ e} (omega (arith, ap (λ x. 2 ^ x) same)) in
+    omega arith
+compact_way y worker h e (suc d) form power most sum =
+    let before : way_of y worker d ≡ 2 ^ d + worker % y.leaves / 2 ^ suc e = compact_way y worker h (suc e) d form power most (omega arith) in
+    let bounds = way_depth y worker d in
+    let up = pow-le-pow_right {n = 2} (omega arith) {i = d} {j = h} (omega arith) in
+    let depth : d ≡ depth_of (way_of y worker d) = depth_unique (way_of y worker d) d (omega arith) (bounds.0) (bounds.1) in
+    let height : h ≡ depth_of y.leaves = depth_unique y.leaves h (omega arith) (omega arith) (omega (arith, pow_pos h)) in
+    let bit : depth_of y.leaves - 1 - depth_of (way_of y worker d) ≡ e = omega arith in
+    let next : 2 ^ suc e ≡ 2 ^ e * 2 = omega (arith, double e) in
+    let half : worker % y.leaves / 2 ^ suc e ≡ worker % y.leaves / 2 ^ e / 2 = ap (λ m. worker % y.leaves / m) next ∙ sym (div-div-eq-div-mul (worker % y.leaves) (2 ^ e) 2) in
+    let turn : from_bool (by_form y.form (turns_right y.leaves worker (way_of y worker d)) (turns_right_wide y.workers worker (way_of y worker d))) ≡ worker % y.leaves / 2 ^ e % 2
+        = rw (form_compact y.form (turns_right y.leaves worker (way_of y worker d)) (turns_right_wide y.workers worker (way_of y worker d)) form, bit) (is_bit _ (omega arith)) in
+    omega (arith, turn, half, before, double d)
+
+pub begins_at_leaf : (y : LayoutData) (worker : ℕ) → IsLayout y
+    → (y.leaves ≤ first_leaf_in y worker) × (first_leaf_in y worker < 2 * y.leaves) × (first_leaf_in y worker ≡ way_of y worker (depth_of y.leaves))
+unfolding first_leaf_in
+begins_at_leaf y worker limits =
+    let leaf = first_leaf y worker limits in
+    (leaf.0, leaf.1, elim (cases_form y.form) [
+      | inl e ↦ rw (form_compact y.form (first_leaf_of y.leaves worker) (way_of y worker (depth_of y.leaves)) e)
+          (omega (arith, leaves_height y limits, compact_way y worker (depth_of y.leaves) 0 (depth_of y.leaves) e (leaves_height y limits) limits.leaves.1 (omega arith)))
+      | inr e ↦ form_wide y.form (first_leaf_of y.leaves worker) (way_of y worker (depth_of y.leaves)) e
+    ])
 
 -- a node of a worker's way that is no further than a leaf
 pub record OnWay (y : LayoutData) (worker node : ℕ) : Type 0 where

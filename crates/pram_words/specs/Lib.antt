@@ -4,3 +4,4 @@ pub mod Tree
 pub mod Words
 pub mod Ways
 pub mod Start
+pub mod Laws

@@ -1,11 +1,10 @@
 -- The words that a board starts with.
-use Rattle.std.specs.Prelude.{◌≡◌, ℕ, ◌≤◌, List, map, slice_index}
+use Rattle.std.specs.Prelude.{◌≡◌, ℕ, List, map, slice_index}
 use Rattle.std.specs.List.{range_with_len}
-use Rattle.pram_text.specs.Job.{JobData, IsJob}
-use Rattle.pram_words.specs.declared.layout.Form.{Form}
+use Rattle.pram_text.specs.Job.{JobData}
 use Rattle.pram_words.specs.declared.words.Word.{Word}
 use Rattle.pram_words.specs.declared.words.Word.TheVariants.{Conflict, Node, Asked, Position, Stored, Claim, Spare}
-use Rattle.pram_words.specs.Words.{LayoutData, IsWord, IsAdmitted, layout_of, number_of, length_of, word_at}
+use Rattle.pram_words.specs.Words.{LayoutData, IsWord, IsAdmitted, number_of, length_of, word_at}
 use Rattle.pram_words.specs.Ways.{first_leaf_in}
 
 -- what a word starts with: a cell's words have stamp 0 and its start value, a register's and a counter's 0
@@ -25,6 +24,3 @@ start_words y job = map (λ k. start_of y job (word_at y k)) (range_with_len 0 (
 pub record StartsAdmitted (y : LayoutData) (job : JobData) : Type 0 where
   pub values : (a : Word) → IsWord y a → slice_index (start_words y job) (number_of y a) ≡ start_of y job a
   pub admitted : IsAdmitted y job (start_words y job)
-
-abbrev pub WordsStartAdmitted : Type 0
-WordsStartAdmitted = (job : JobData) (form : Form) (workers : ℕ) → IsJob job → 1 ≤ workers → workers ≤ 64 → StartsAdmitted (layout_of job form workers) job

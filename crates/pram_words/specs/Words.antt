@@ -170,9 +170,6 @@ pub record IsNumbering (y : LayoutData) : Type 0 where
   pub below : (a : Word) → IsWord y a → number_of y a < length_of y
   pub word : (k : ℕ) → k < length_of y → IsWord y (word_at y k) × (number_of y (word_at y k) ≡ k)
 
-abbrev pub WordsKeepApart : Type 0
-WordsKeepApart = (y : LayoutData) → IsLayout y → IsNumbering y
-
 -- a word with a stamp up to `steps` and a payload up to `most`
 abbrev pub IsStamped : ℕ → ℕ → ℕ → Type 0
 IsStamped steps most v = (stamp_of v ≤ steps) × (payload_of v ≤ most)
@@ -202,9 +199,6 @@ Admits y job k v = (k < length_of y) × IsInRange y job (word_at y k) v
 pub record HasRanges (y : LayoutData) (job : JobData) : Type 0 where
   pub admitted : (a : Word) (v : ℕ) → IsWord y a → IsInRange y job a v ↔ Admits y job (number_of y a) v
   pub fits : (a : Word) (v : ℕ) → IsInRange y job a v → v < 2 ^ 64
-
-abbrev pub WordsHaveRanges : Type 0
-WordsHaveRanges = (y : LayoutData) (job : JobData) → IsLayout y → job.steps < 2 ^ 32 → HasRanges y job
 
 -- the words of a whole board, each with a value that it may have
 pub record IsAdmitted (y : LayoutData) (job : JobData) (words : List ℕ) : Type 0 where
