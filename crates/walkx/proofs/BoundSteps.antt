@@ -8,9 +8,9 @@ use Rattle.walkx.specs.declared.worker.Doing.{Doing}
 use Rattle.walkx.specs.declared.worker.Doing.TheVariants as doing
 use Rattle.walkx.specs.Scripts.{Script, asks, ends, behind, rest, first_op, op_with, heard_in}
 use Rattle.walkx.specs.Walk.{Then, begins, turns, stops, Walking, Fits, IsPhase, IsGoing, IsLayoutOf, node_of, script_by, script_of, rest_of, phase_begun, heard_of, ask_of, goes_on, told_by, told}
-use Rattle.walkx.specs.Bound.{low, told_all, history_of, MayHear, IsHeard, most_steps}
+use Rattle.walkx.specs.Bound.{told_all, history_of, MayHear, IsHeard, most_steps}
 use Rattle.walkx.specs.Laws.{OwnStepsAreBounded}
-use Rattle.walkx.proofs.BoundWeight.{longest, later_weight, weight}
+use Rattle.walkx.proofs.BoundWeight.{low_of, longest, later_weight, weight}
 use Rattle.walkx.proofs.BoundScripts.{Leads, To, phases_fewer, phase_enters, back_leads, begin_leads}
 use Rattle.walkx.proofs.BoundTurn.{turn_leads}
 use Rattle.walkx.proofs.Going.{asks_of}
@@ -136,7 +136,7 @@ start_weight : (job : JobData) (y : LayoutData) (history : List (Op × ℕ)) (n 
 unfolding later_weight
 start_weight job y history n heard doing.Back leaves phase = omega arith
 start_weight job y history n heard doing.Begin leaves phase =
-    let fewer = phases_fewer y (3 * job.steps - low history 1) (3 * job.steps) (omega arith) in
+    let fewer = phases_fewer y (3 * job.steps - low_of y history 1) (3 * job.steps) (omega arith) in
     omega arith
 start_weight job y history n heard (doing.Turn q) leaves phase =
     let first = phase.0 in

@@ -4,7 +4,7 @@ use Rattle.std.proofs.lemmas.Bool.{cond_both, eqb-true, eqb-false, leb-false, eq
 use Rattle.pram_text.specs.Job.{JobData}
 use Rattle.pram_words.specs.Words.{LayoutData, number_of}
 use Rattle.pram_words.specs.Phases.{step_at, kind_at}
-use Rattle.pram_words.specs.Tree.{turns_right}
+use Rattle.pram_words.specs.Ways.{turns_right_in}
 use Rattle.pram_words.specs.declared.words.Word.TheVariants.{Conflict, Node, Position}
 use Rattle.walkx.specs.declared.operation.Ended.TheVariants as ended
 use Rattle.walkx.specs.declared.operation.Op.{Op}
@@ -101,7 +101,7 @@ pub way_inside : (y : LayoutData) (w n q l r : ℕ) → 1 ≤ n → n < y.leaves
 way_inside y w n q l r low high =
     let Inside : ℕ → Type 0 = λ m. (1 ≤ m) × (m < 2 * y.leaves) in
     cond_both (nat_le q l) (2 * n + 1) _ Inside (λ e. (omega arith, omega arith))
-    (λ e. cond_both (nat_le q r) (2 * n) _ Inside (λ e. (omega arith, omega arith)) (λ e. cond_both (turns_right y.leaves w n) (2 * n + 1) (2 * n) Inside (λ e. (omega arith, omega arith)) (λ e. (omega arith, omega arith))))
+    (λ e. cond_both (nat_le q r) (2 * n) _ Inside (λ e. (omega arith, omega arith)) (λ e. cond_both (turns_right_in y w n) (2 * n + 1) (2 * n) Inside (λ e. (omega arith, omega arith)) (λ e. (omega arith, omega arith))))
 
 abbrev pub TurnEnds : LayoutData → ℕ → ℕ → List (Op × ℕ) → Script Then → Type 0
 TurnEnds y n q history script = AllEnds (λ r h. InTurn y n q r) script history

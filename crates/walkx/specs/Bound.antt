@@ -2,7 +2,7 @@
 use Rattle.std.specs.Prelude.{◌≡◌, ℕ, ◌+◌, ◌*◌, ◌<◌, ◌≤◌, ◌==◌, if◌then◌else◌, max, List, [], ◌∷◌}
 use Rattle.pram_text.specs.Job.{JobData}
 use Rattle.pram_words.specs.Words.{LayoutData, number_of}
-use Rattle.pram_words.specs.declared.words.Word.TheVariants.{Position}
+use Rattle.pram_words.specs.declared.words.Word.TheVariants.{Node, Position}
 use Rattle.walkx.specs.declared.operation.Op.{Op}
 use Rattle.walkx.specs.declared.operation.Op.TheVariants.{Load, Max}
 use Rattle.walkx.specs.Walk.{Walking, heard_of, ask_of, told}
@@ -35,8 +35,8 @@ low (e ∷ earlier) k = max (shown e.0 e.1 k) (low earlier k)
 -- What worker w may load from word k behind a history: of a node nothing below what the history shows, of the root nothing above
 -- the last phase, and as its position a node.
 pub record MayLoad (job : JobData) (y : LayoutData) (w : ℕ) (earlier : List (Op × ℕ)) (k found : ℕ) : Type 0 where
-  pub rises : 1 ≤ k → k < 2 * y.leaves → low earlier k ≤ found
-  pub root : k ≡ 1 → found ≤ 3 * job.steps
+  pub rises : (n : ℕ) → 1 ≤ n → n < 2 * y.leaves → k ≡ number_of y (Node n) → low earlier k ≤ found
+  pub root : k ≡ number_of y (Node 1) → found ≤ 3 * job.steps
   pub position : k ≡ number_of y (Position w) → (1 ≤ found) × (found < 2 * y.leaves)
 
 abbrev pub MayHear : JobData → LayoutData → ℕ → List (Op × ℕ) → Op → ℕ → Type 0

@@ -3,7 +3,7 @@ use Rattle.std.specs.Prelude.{◌≡◌, ℕ, ◌+◌, ◌-◌, ◌*◌, ◌/◌
 use Rattle.std.specs.List.{AllByRecursion}
 use Rattle.pram_text.specs.Job.{JobData, IsJob}
 use Rattle.pram_words.specs.Phases.{step_at, kind_at}
-use Rattle.pram_words.specs.Tree.{first_leaf_of, turns_right}
+use Rattle.pram_words.specs.Ways.{first_leaf_in, turns_right_in}
 use Rattle.pram_words.specs.Words.{LayoutData, IsLayout, Admits, number_of, length_of, layout_of}
 use Rattle.pram_words.specs.declared.words.Word.TheVariants.{Conflict, Node, Position}
 use Rattle.walkx.specs.declared.operation.Ended.{Ended}
@@ -37,7 +37,7 @@ begin_script job y n = asks (Load (number_of y (Node 1))) (λ root.
 -- the child of an inner node with an unfinished child to which worker w goes, its children having been heard
 abbrev pub way_down : LayoutData → ℕ → ℕ → ℕ → ℕ → ℕ → ℕ
 way_down y w n q l r =
-    if nat_le q l then 2 * n + 1 else (if nat_le q r then 2 * n else (if turns_right y.leaves w n then 2 * n + 1 else 2 * n))
+    if nat_le q l then 2 * n + 1 else (if nat_le q r then 2 * n else (if turns_right_in y w n then 2 * n + 1 else 2 * n))
 
 abbrev pub stands_at : LayoutData → ℕ → ℕ → ℕ → Script Then
 stands_at y w n q = asks (Store (number_of y (Position w)) n) (λ stored. ends (turns n q))
@@ -69,7 +69,7 @@ pub record Walking : Type 0 where
   pub heard : List ℕ
 
 abbrev pub node_of : LayoutData → Walking → ℕ
-node_of y w = unwrap_or w.node (first_leaf_of y.leaves w.number)
+node_of y w = unwrap_or w.node (first_leaf_in y w.number)
 
 -- A worker that is over has heard a whole begin.
 abbrev pub script_by : JobData → LayoutData → ℕ → ℕ → Doing → Script Then
@@ -147,7 +147,7 @@ AsksAdmitted job y (Over e) = Unit {0}
 
 -- the layout is the job's
 abbrev pub IsLayoutOf : JobData → LayoutData → Type 0
-IsLayoutOf job y = y ≡ layout_of job y.workers
+IsLayoutOf job y = y ≡ layout_of job y.form y.workers
 
 -- a job within its limits, and its board
 pub record IsBoard (job : JobData) (y : LayoutData) : Type 0 where
