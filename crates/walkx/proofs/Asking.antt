@@ -3,7 +3,6 @@ use Rattle.std.proofs.Common.{◌≡◌, ◌≢◌, ℕ, zero, suc, ◌+◌, ◌
 use Rattle.std.specs.List.{AllByRecursion}
 use Rattle.std.proofs.lemmas.Bool.{cond_both, cases_Bool, eqb-false, leb-false, ltb-true, le-ltb, lt-ltb}
 use Rattle.std.proofs.lemmas.Option.{slice_get_within}
-use Rattle.std.proofs.lemmas.Nat.{and_le_l, or_lt, xor_lt}
 use Rattle.pram_text.specs.declared.instr.Instr.{Instr}
 use Rattle.pram_text.specs.declared.instr.Instr.TheVariants.{Set, Pid, Add, Sub, Mul, And, Or, Xor, Lt, Eq, Ld, St, Jz, Jmp, Halt}
 use Rattle.pram_text.specs.declared.instr.Rule.{Rule}
@@ -11,7 +10,8 @@ use Rattle.pram_text.specs.declared.instr.Rule.TheVariants.{Common, Priority, Cr
 use Rattle.pram_text.specs.Job.{JobData, IsInstr}
 use Rattle.pram_step.specs.declared.requests.Request.{Request}
 use Rattle.pram_step.specs.Machine.{register_place, counter_place}
-use Rattle.pram_step.proofs.LawPlaces.{instr_is}
+use Rattle.pram_step.specs.Instructions.{operands_of, cell_read, decided, goes_to, place_part, value_part, HasShape}
+use Rattle.pram_step.proofs.Shapes.{decided_shape, instr_is}
 use Rattle.pram_words.specs.declared.phases.Kind.{Kind}
 use Rattle.pram_words.specs.declared.phases.Kind.TheVariants.{Compute, Apply, Verify}
 use Rattle.pram_words.specs.declared.words.Word.{Word}
@@ -25,15 +25,16 @@ use Rattle.walkx.specs.declared.worker.Doing.{Doing}
 use Rattle.walkx.specs.declared.worker.Doing.TheVariants as doing
 use Rattle.walkx.specs.Laws.{WhatIsAskedIsAdmitted}
 use Rattle.walkx.specs.Scripts.{Script, asks, ends, behind, rest, op_with, heard_in}
-use Rattle.walkx.specs.Tasks.{first_is_older, older, older_word, loads_both, reads_place, writes_place, operands_of, cell_read, decided, place_part, value_part, reads_registers, reads_cell, goes, claim_of, differs, raises_request, executes, compute_task, hears_part, claims, carries, apply_task, crew_apply_task, reports, verify_task, crew_verify_task, claim_task, priority_apply_task, task_of}
-use Rattle.walkx.specs.Walk.{Then, IsBoard, IsPhase, Matches, IsAdmitted, AllAdmitted, AsksAdmitted, node_of, script_by, script_of, rest_of, next_op, phase_begun, marks, stands_at, way_down, begin_script, turn_script}
-use Rattle.walkx.proofs.Boards.{admits, in_range, is_below, same_cells, same_procs, asked_part, stamps, step_most}
+use Rattle.walkx.specs.Tasks.{first_is_older, older, older_word, loads_both, reads_place, writes_place, reads_registers, reads_cell, claim_of, differs, raises_request, executes, compute_task, hears_part, claims, carries, apply_task, crew_apply_task, reports, verify_task, crew_verify_task, claim_task, priority_apply_task, task_of}
+use Rattle.walkx.specs.Walk.{Then, IsBoard, IsPhase, Matches, HearsAdmitted, AllAdmitted, AsksAdmitted, node_of, script_by, script_of, rest_of, next_op, phase_begun, marks, stands_at, way_down, begin_script, turn_script}
+use Rattle.walkx.proofs.Boards.{admits, in_range, is_below, place_shape, same_cells, same_procs, asked_part, stamps, step_most}
+use Rattle.walkx.proofs.Cells.{cell_is}
 use Rattle.walkx.proofs.Ends.{way_inside}
 use Rattle.walkx.proofs.Fitting.{node_range}
 
 -- whatever admitted answers it hears, what the script asks is admitted
 unfoldable pub AllAsk : {R : Type 0} → JobData → LayoutData → Script R → Type 0
-AllAsk job y (asks op next) = AsksAdmitted job y op × ((found : ℕ) → IsAdmitted job y op found → AllAsk job y (next found))
+AllAsk job y (asks op next) = AsksAdmitted job y op × ((found : ℕ) → HearsAdmitted job y op found → AllAsk job y (next found))
 AllAsk job y (ends r) = Unit {0}
 
 -- ---- the request of an instruction
@@ -55,64 +56,15 @@ operands_fit len (Jz r place) h = (h.0, tt)
 operands_fit len (Jmp place) h = tt
 operands_fit len Halt h = tt
 
--- only a load reads a cell
-cell_is : (job : JobData) (instr : Instr) (a c : ℕ) → cell_read job instr a ≡ Some c → c < job.cells
-cell_is job (Set r k) a c e = absurd (cc)
-cell_is job (Pid r) a c e = absurd (cc)
-cell_is job (Add r _ _) a c e = absurd (cc)
-cell_is job (Sub r _ _) a c e = absurd (cc)
-cell_is job (Mul r _ _) a c e = absurd (cc)
-cell_is job (And r _ _) a c e = absurd (cc)
-cell_is job (Or r _ _) a c e = absurd (cc)
-cell_is job (Xor r _ _) a c e = absurd (cc)
-cell_is job (Lt r _ _) a c e = absurd (cc)
-cell_is job (Eq r _ _) a c e = absurd (cc)
-cell_is job (Ld r _) a c e = elim (cases_Bool (nat_lt a job.cells)) [
-  | inl h ↦ (let g : Some a ≡ Some c = rw h at e in let same : a ≡ c = cc in let l = ltb-true a job.cells h in omega arith)
-  | inr h ↦ absurd (let g : None ≡ Some c = rw h at e in cc)
-]
-cell_is job (St _ _) a c e = absurd (cc)
-cell_is job (Jz r _) a c e = absurd (cc)
-cell_is job (Jmp _) a c e = absurd (cc)
-cell_is job Halt a c e = absurd (cc)
-
 -- the data place is below the counters, the value below 2^32, and the next counter at most one past the code's end
 record Shape (job : JobData) (r : Request) : Type 0 where
   place : place_part r ≤ job.cells + 4 * job.procs
   value : value_part r < 2 ^ 32
   next : r.next ≤ length job.code + 1
 
-module _ (job : JobData) (i counter : ℕ) (proc : i < job.procs) (within : counter < length job.code) where
-  gives_shape : (r v : ℕ) → r < 4 → v < 2 ^ 32 → Shape job (record { put = Some (register_place job i r, v); next = counter + 1 })
-  gives_shape r v low fits = record { place = omega arith; value = fits; next = omega arith }
-
-  goes_shape : (place : ℕ) → place ≤ length job.code + 1 → Shape job (goes place)
-  goes_shape place most = record { place = omega arith; value = omega arith; next = most }
-
-  either_shape : (b : Bool) (r s : Request) → Shape job r → Shape job s → Shape job (if b then r else s)
-  either_shape b r s h g = cond_both b r s (Shape job) (λ e. h) (λ e. g)
-
-  wrapped : (n : ℕ) → n % 2 ^ 32 < 2 ^ 32
-  wrapped n = omega arith
-
-  decided_shape : (instr : Instr) (a b v : ℕ) → i < 2 ^ 32 → IsInstr (length job.code) instr → a < 2 ^ 32 → b < 2 ^ 32 → v < 2 ^ 32 → Shape job (decided job i counter instr a b v)
-  unfolding decided
-  decided_shape (Set r k) a b v small is low high found = gives_shape r k is.0 is.1
-  decided_shape (Pid r) a b v small is low high found = gives_shape r i is small
-  decided_shape (Add r _ _) a b v small is low high found = gives_shape r _ is.0 (wrapped _)
-  decided_shape (Sub r _ _) a b v small is low high found = gives_shape r _ is.0 (wrapped _)
-  decided_shape (Mul r _ _) a b v small is low high found = gives_shape r _ is.0 (wrapped _)
-  decided_shape (And r _ _) a b v small is low high found = gives_shape r _ is.0 (omega (arith, and_le_l a b))
-  decided_shape (Or r _ _) a b v small is low high found = gives_shape r _ is.0 (or_lt 32 a b low high)
-  decided_shape (Xor r _ _) a b v small is low high found = gives_shape r _ is.0 (xor_lt 32 a b low high)
-  decided_shape (Lt r _ _) a b v small is low high found = gives_shape r _ is.0 (cond_both (nat_lt a b) 1 0 (λ (n : ℕ). n < 2 ^ 32) (λ e. lit< tt) (λ e. lit< tt))
-  decided_shape (Eq r _ _) a b v small is low high found = gives_shape r _ is.0 (cond_both (a == b) 1 0 (λ (n : ℕ). n < 2 ^ 32) (λ e. lit< tt) (λ e. lit< tt))
-  decided_shape (Ld r _) a b v small is low high found = either_shape (nat_lt a job.cells) _ _ (gives_shape r v is.0 found) (goes_shape (length job.code + 1) (omega arith))
-  decided_shape (St _ _) a b v small is low high found =
-      cond_both (nat_lt a job.cells) _ _ (Shape job) (λ e. let h = ltb-true a job.cells e in record { place = omega arith; value = high; next = omega arith }) (λ e. goes_shape (length job.code + 1) (omega arith))
-  decided_shape (Jz r place) a b v small is low high found = goes_shape _ (cond_both (a == 0) place (counter + 1) (λ (n : ℕ). n ≤ length job.code + 1) (λ e. omega (arith, is.1)) (λ e. omega arith))
-  decided_shape (Jmp place) a b v small is low high found = goes_shape place (omega (arith, is))
-  decided_shape Halt a b v small is low high found = goes_shape (length job.code) (omega arith)
+shape_of : (job : JobData) (i next : ℕ) (put : Option (ℕ × ℕ)) → i < job.procs → HasShape job i (record { put = put; next = next }) → Shape job (record { put = put; next = next })
+shape_of job i next None proc has = record { place = place_shape job i _ proc has; value = omega arith; next = has.next }
+shape_of job i next (Some w) proc has = record { place = place_shape job i _ proc has; value = has.data_value w.0 w.1 refl; next = has.next }
 
 -- what was heard of some registers
 abbrev AllFit : List ℕ → Type 0
@@ -201,7 +153,7 @@ module _ (job : JobData) (y : LayoutData) (board : IsBoard job y) where
       (max_of (Asked i 2) _ _ (proc, lit< tt) (stamps job.steps (most_asked y job 2) t request.next time next (omega (arith, limits.code_len))) late))
 
   executes_ask : {R : Type 0} (t i counter : ℕ) (o : Option Instr) (after : Script R) → slice_get job.code counter ≡ o → t ≤ job.steps → i < y.procs → counter ≤ length job.code + 1 → AllAsk job y after → AllAsk job y (executes job y t i counter o after)
-  executes_ask t i counter None after e time proc most late = raises_ask t i (goes counter) after time proc (record { place = omega arith; value = omega arith; next = most }) late
+  executes_ask t i counter None after e time proc most late = raises_ask t i (goes_to counter) after time proc (record { place = omega arith; value = omega arith; next = most }) late
   executes_ask t i counter (Some instr) after e time proc most late =
       let d = same_procs job y board in
       let limits = board.limits in
@@ -209,7 +161,7 @@ module _ (job : JobData) (y : LayoutData) (board : IsBoard job y) where
       let within = slice_get_within job.code counter instr e in
       registers_ask t i (operands_of instr) [] after _ proc (operands_fit (length job.code) instr is) tt late
       (λ values fit. cell_asks t (cell_read job instr (slice_index values 0)) after _ (λ c f. cell_is job instr (slice_index values 0) c f) late
-      (λ v fits. raises_ask t i _ after time proc (decided_shape job i counter (omega arith) within instr (slice_index values 0) (slice_index values 1) v (omega (arith, limits.procs)) is (at_index values 0 fit) (at_index values 1 fit) fits) late))
+      (λ v fits. raises_ask t i _ after time proc (shape_of job i _ _ (omega arith) (decided_shape job i counter (slice_index values 0) (slice_index values 1) v instr is (omega (arith, limits.procs)) (at_index values 0 fit) (at_index values 1 fit) fits within)) late))
 
   counter_most : (i v : ℕ) → v ≤ most_stored y job (counter_place job i) → v ≤ length job.code + 1
   counter_most i v most =

@@ -12,7 +12,7 @@ use Rattle.walkx.specs.declared.operation.Op.TheVariants.{Load}
 use Rattle.walkx.specs.declared.worker.Doing.{Doing}
 use Rattle.walkx.specs.declared.worker.Doing.TheVariants as doing
 use Rattle.walkx.specs.Scripts.{Script, asks, ends, behind, rest, op_with, heard_in}
-use Rattle.walkx.specs.Walk.{Then, begins, turns, stops, Walking, IsAdmitted, AllAdmitted, script_by, script_of, rest_of, node_of, phase_begun, heard_of, turn_script, begin_script, marks, way_down}
+use Rattle.walkx.specs.Walk.{Then, begins, turns, stops, Walking, HearsAdmitted, AllAdmitted, script_by, script_of, rest_of, node_of, phase_begun, heard_of, turn_script, begin_script, marks, way_down}
 use Rattle.walkx.proofs.BoundTasks.{IsWithin, task_within}
 
 -- whatever is heard, this holds of what comes of the script and of its steps, the newest first
@@ -42,7 +42,7 @@ pub record BeginsTurn (job : JobData) (y : LayoutData) (n m q : ℕ) (history : 
   pub phase : q ≡ root + 1
   pub is : history ≡ phase_begun y (doing.Turn q)
   pub less : root ≢ 3 * job.steps
-  pub admitted : AllAdmitted job y history → IsAdmitted job y (Load (number_of y (Node 1))) root
+  pub admitted : AllAdmitted job y history → HearsAdmitted job y (Load (number_of y (Node 1))) root
 
 abbrev pub BeginEnds : JobData → LayoutData → ℕ → Then → List (Op × ℕ) → Type 0
 BeginEnds job y n (begins m) history = ⊥
@@ -119,7 +119,7 @@ turn_ends job y w n q history = λ found. cond_both (nat_le q found) _ _ (TurnEn
 -- ---- the script of any worker
 
 abbrev pub BackEnds : JobData → LayoutData → ℕ → Then → List (Op × ℕ) → Type 0
-BackEnds job y number (begins m) history = AllAdmitted job y history → IsAdmitted job y (Load (number_of y (Position number))) m
+BackEnds job y number (begins m) history = AllAdmitted job y history → HearsAdmitted job y (Load (number_of y (Position number))) m
 BackEnds job y number _ history = ⊥
 
 abbrev pub Brings : JobData → LayoutData → ℕ → ℕ → Doing → Then → List (Op × ℕ) → Type 0

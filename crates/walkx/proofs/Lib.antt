@@ -1,8 +1,7 @@
-pub mod Begun
 pub mod Boards
+pub mod Cells
 pub mod Hearing
 pub mod Looks
-pub mod Meets
 pub mod Going
 pub mod Ends
 pub mod Fitting

@@ -4,7 +4,7 @@ use Rattle.pram_text.specs.Job.{JobData}
 use Rattle.pram_words.specs.Words.{LayoutData}
 use Rattle.walkx.specs.Bound.{told_all, history_of, IsHeard, most_steps}
 use Rattle.walkx.specs.Records.{Record, after, Knows}
-use Rattle.walkx.specs.Walk.{Walking, Fits, IsBoard, IsLayoutOf, IsGoing, IsAdmitted, AsksAdmitted, ask_of, told, started, come_back}
+use Rattle.walkx.specs.Walk.{Walking, Fits, IsBoard, IsLayoutOf, IsGoing, HearsAdmitted, AsksAdmitted, ask_of, told, started, come_back}
 
 -- those fit that are newly started or come back
 abbrev pub NewWorkersFit : Type 0
@@ -13,7 +13,7 @@ NewWorkersFit = (job : JobData) (y : LayoutData) (number : ℕ) → number < y.w
 -- each admitted answer leaves a worker that fits
 abbrev pub AnswersKeepFit : Type 0
 AnswersKeepFit = (job : JobData) (y : LayoutData) (w : Walking) (found : ℕ) → IsBoard job y → Fits job y w →
-    IsAdmitted job y (ask_of job y w) found → Fits job y (told job y w found)
+    HearsAdmitted job y (ask_of job y w) found → Fits job y (told job y w found)
 
 -- a record that knows a worker knows it with the next answer, once it has the step
 abbrev pub KnownStayKnown : Type 0

@@ -130,12 +130,12 @@ abbrev pub heard_of : JobData → LayoutData → Walking → List (Op × ℕ)
 heard_of job y w = heard_in (script_of job y w) w.heard ++ phase_begun y w.now
 
 -- what was loaded is admitted for its word
-abbrev pub IsAdmitted : JobData → LayoutData → Op → ℕ → Type 0
-IsAdmitted job y (Load k) found = Admits y job k found
-IsAdmitted job y _ found = Unit {0}
+abbrev pub HearsAdmitted : JobData → LayoutData → Op → ℕ → Type 0
+HearsAdmitted job y (Load k) found = Admits y job k found
+HearsAdmitted job y _ found = Unit {0}
 
 abbrev pub AllAdmitted : JobData → LayoutData → List (Op × ℕ) → Type 0
-AllAdmitted job y heard = AllByRecursion (λ (e : Op × ℕ). IsAdmitted job y e.0 e.1) heard
+AllAdmitted job y heard = AllByRecursion (λ (e : Op × ℕ). HearsAdmitted job y e.0 e.1) heard
 
 -- what is asked is on the board, and a value that it is to take is admitted for its word
 abbrev pub AsksAdmitted : JobData → LayoutData → Op → Type 0
