@@ -13,9 +13,8 @@ use Rattle.pram_words.specs.Stamps.{stamped_word}
 use Rattle.pram_words.specs.Words.{LayoutData}
 use Rattle.walkx.specs.declared.operation.Op.{Op}
 use Rattle.walkx.specs.Scripts.{Script}
-use Rattle.walkx.specs.Stages.{IsBoard}
 use Rattle.walkx.specs.Tasks.{carries, claims, claim_of, apply_task, crew_apply_task, claim_task}
-use Rattle.walkx.specs.Walk.{Then}
+use Rattle.walkx.specs.Walk.{Then, IsBoard}
 use Rattle.walkx.proofs.Boards.{same_procs}
 use Rattle.lawful_words.specs.Steps.{Asks, Wins, requests_after, phase_written, part_after}
 use Rattle.lawful_words.specs.Board.{held, root, Carried, Claimed}

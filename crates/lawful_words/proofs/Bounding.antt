@@ -7,10 +7,11 @@ use Rattle.pram_words.specs.declared.words.Word.TheVariants.{Node, Position}
 use Rattle.pram_words.specs.Words.{LayoutData, number_of}
 use Rattle.walkx.specs.declared.operation.Op.{Op}
 use Rattle.walkx.specs.declared.operation.Op.TheVariants.{Load, Store, Max, Swap, Over}
-use Rattle.walkx.specs.Bound.{told_all, history_of, shown, low, MayHear, IsHeard, IsGoing, StepsAreBounded, most_steps}
+use Rattle.walkx.specs.Bound.{told_all, history_of, shown, low, MayHear, IsHeard, most_steps}
 use Rattle.walkx.specs.Operations.{words_after}
 use Rattle.walkx.specs.Records.{Record, Has, Knows}
-use Rattle.walkx.specs.Walk.{Walking, ask_of}
+use Rattle.walkx.specs.Walk.{Walking, Fits, IsGoing, IsLayoutOf, ask_of}
+use Rattle.walkx.proofs.BoundSteps.{own_steps as bound}
 use Rattle.lawful_words.specs.Board.{held, Stands, Grows}
 use Rattle.lawful_words.specs.Moments.{Moment, Backed}
 use Rattle.lawful_words.proofs.Moments.{onward}
@@ -104,6 +105,7 @@ history_known job y r w [] knows = knows
 history_known job y r w (found ∷ earlier) knows = inl (refl, history_known job y r w earlier knows)
 
 -- So a worker that is going has made fewer steps than the bound.
-pub own_steps : (job : JobData) (y : LayoutData) (r : Record) (w : Walking) (answers now : List ℕ) → StepsAreBounded job y w → w.number < y.workers → Knows job y r w → Backed job y (afters r (steps_of job y w answers)) now → IsGoing (told_all job y w answers) → length answers < most_steps job y
-own_steps job y r w answers now bounded worker knows backed going =
-    bounded.bound answers going (backed_is_heard job y w.number (afters r (steps_of job y w answers)) (history_of job y w answers) now worker backed (history_known job y r w answers knows))
+pub own_steps : (job : JobData) (y : LayoutData) (r : Record) (w : Walking) (answers now : List ℕ) → IsLayoutOf job y → Fits job y w → Knows job y r w → Backed job y (afters r (steps_of job y w answers)) now → IsGoing (told_all job y w answers).now → length answers < most_steps job y
+own_steps job y r w answers now is fits knows backed going =
+    bound.0 job y w is fits answers going
+    (backed_is_heard job y w.number (afters r (steps_of job y w answers)) (history_of job y w answers) now fits.number backed (history_known job y r w answers knows))

@@ -7,7 +7,7 @@ use Rattle.pram_words.specs.Phases.{step_at}
 use Rattle.pram_words.specs.Words.{LayoutData, places_of}
 use Rattle.walkx.specs.declared.operation.Op.{Op}
 use Rattle.walkx.specs.Scripts.{Script}
-use Rattle.walkx.specs.Stages.{IsBoard}
+use Rattle.walkx.specs.Walk.{IsBoard}
 use Rattle.walkx.specs.Tasks.{writes_place, carries}
 use Rattle.walkx.proofs.Boards.{same_cells, same_procs}
 use Rattle.lawful_words.specs.Steps.{Asks, Wins, phase_written, part_after}

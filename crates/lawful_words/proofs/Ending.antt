@@ -17,25 +17,25 @@ use Rattle.walkx.specs.declared.worker.Doing.TheVariants as doing
 use Rattle.walkx.specs.Reads.{step_seen}
 use Rattle.walkx.specs.Records.{Record, Has, Knows}
 use Rattle.walkx.specs.Scripts.{Script, ends}
-use Rattle.walkx.specs.Walk.{Then, stops, Walking, node_of, rest_of, heard_of}
+use Rattle.walkx.specs.Walk.{Then, stops, Walking, Fits, Matches, node_of, rest_of, heard_of}
+use Rattle.walkx.proofs.Ends.{AllEnds, Brings, BeginEnds, heard_both, worker_ends}
+use Rattle.walkx.proofs.Knowing.{has_earlier, has_newest}
 use Rattle.lawful_words.specs.Board.{Stands}
 use Rattle.lawful_words.specs.Moments.{Backed}
 use Rattle.lawful_words.specs.Seen.{Heard, HeardThen, Shows, KnowsStep}
-use Rattle.lawful_words.specs.Told.{HeardEnd, FitsWell}
 use Rattle.lawful_words.proofs.Facts.{facts}
 use Rattle.lawful_words.proofs.Knowing.{conflict_now, conflict_fin, conflict_first, known_now}
-use Rattle.lawful_words.proofs.Telling.{Leads, Brings, BeginEnds, heard_both, worker_leads, has_earlier, has_newest}
 use Rattle.lawful_words.proofs.Reading.{load_root, load_conflict, glanced_both}
 
 -- ---- what a worker that is over heard
 
-over_rest : (d : Doing) (e : Ended) (script : Script Then) → d ≡ doing.Over e → HeardEnd d script → script ≡ ends (stops e)
-over_rest d e script is h = (subst (λ (x : Doing). HeardEnd x script → script ≡ ends (stops e)) (sym is) (λ g. g)) h
+over_rest : (d : Doing) (e : Ended) (script : Script Then) → d ≡ doing.Over e → Matches d script → script ≡ ends (stops e)
+over_rest d e script is h = (subst (λ (x : Doing). Matches x script → script ≡ ends (stops e)) (sym is) (λ g. g)) h
 
-pub over_heard : (job : JobData) (y : LayoutData) (w : Walking) (e : Ended) → FitsWell job y w → w.now ≡ doing.Over e → BeginEnds job y (node_of y w) (stops e) (heard_of job y w)
+pub over_heard : (job : JobData) (y : LayoutData) (w : Walking) (e : Ended) → Fits job y w → w.now ≡ doing.Over e → BeginEnds job y (node_of y w) (stops e) (heard_of job y w)
 over_heard job y w e well is =
     subst (λ (d : Doing). Brings job y w.number (node_of y w) d (stops e) (heard_of job y w)) is
-    (subst (λ (s : Script Then). Leads (Brings job y w.number (node_of y w) w.now) s (heard_of job y w)) (over_rest w.now e (rest_of job y w) is well.ended) (worker_leads job y w))
+    (subst (λ (s : Script Then). AllEnds (Brings job y w.number (node_of y w) w.now) s (heard_of job y w)) (over_rest w.now e (rest_of job y w) is well.matches) (worker_ends job y w))
 
 -- ---- Done
 
@@ -49,7 +49,7 @@ pub record DoneWell (job : JobData) (y : LayoutData) (r : Record) : Type 0 where
   pub heard : HeardThen y r (Node 1) (3 * job.steps) Conflict 0
   pub reached : IsReached job job.steps
 
-pub done_well : (job : JobData) (y : LayoutData) (r : Record) (w : Walking) (words : List ℕ) → Stands job y words → Backed job y r words → FitsWell job y w → Knows job y r w → w.now ≡ doing.Over ended.Done → DoneWell job y r
+pub done_well : (job : JobData) (y : LayoutData) (r : Record) (w : Walking) (words : List ℕ) → Stands job y words → Backed job y r words → Fits job y w → Knows job y r w → w.now ≡ doing.Over ended.Done → DoneWell job y r
 done_well job y r w words stands backed well knows is =
     let has : Has r (heard_both y (3 * job.steps) 0) = subst (λ (es : List (Op × ℕ)). Has r es) (over_heard job y w ended.Done well is) knows in
     let shows = both_shows y r job.steps has in
@@ -91,7 +91,7 @@ heard_conflict job y r (suc s) words stands backed heard some =
     let low = (facts job y words stands).b2_low in
     is_first job s c.0 c.1 (elim near [ inl e ↦ omega arith | inr e ↦ omega arith ])
 
-pub conflict_well : (job : JobData) (y : LayoutData) (r : Record) (w : Walking) (u : ℕ) (words : List ℕ) → Stands job y words → Backed job y r words → FitsWell job y w → Knows job y r w → w.now ≡ doing.Over (ended.Conflict u) → Heard y r Conflict u × IsConflict job u
+pub conflict_well : (job : JobData) (y : LayoutData) (r : Record) (w : Walking) (u : ℕ) (words : List ℕ) → Stands job y words → Backed job y r words → Fits job y w → Knows job y r w → w.now ≡ doing.Over (ended.Conflict u) → Heard y r Conflict u × IsConflict job u
 conflict_well job y r w u words stands backed well knows is =
     let h = over_heard job y w (ended.Conflict u) well is in
     let has : Has r (heard_both y h.1.0 u) = subst (λ (es : List (Op × ℕ)). Has r es) h.1.1 knows in

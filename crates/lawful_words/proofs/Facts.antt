@@ -15,8 +15,7 @@ use Rattle.pram_words.specs.Stamps.{stamp_of, payload_of, stamped_word}
 use Rattle.pram_words.specs.Words.{LayoutData, IsLayout, IsWord, has_claims, places_of}
 use Rattle.pram_words.proofs.Halvings.{leaves_least}
 use Rattle.walkx.specs.Tasks.{claim_of, newer_payload}
-use Rattle.walkx.specs.Stages.{IsBoard}
-use Rattle.walkx.specs.Walk.{IsLayoutOf}
+use Rattle.walkx.specs.Walk.{IsLayoutOf, IsBoard}
 use Rattle.walkx.proofs.Boards.{same_cells, same_procs}
 use Rattle.lawful_words.specs.Steps.{Asks, Wins, IsWritten, requests_after, phase_written, last_write, write_before, word_of_step, settled, settled_before}
 use Rattle.lawful_words.specs.Board.{held, root, conflict, leaf, stamp_at, finished, IsLate, HoldsNew, Raised, Claimed, Done, IsNew, IsPair, newer_first, newer_second, new_first, new_second, IsClaimed, claimed_before, claimed_now, LawfulFor, Stands}

@@ -13,8 +13,7 @@ use Rattle.pram_words.specs.declared.words.Word.TheVariants.{Conflict, Asked, St
 use Rattle.pram_words.specs.Stamps.{stamp_of, payload_of, stamped_word}
 use Rattle.pram_words.specs.Words.{LayoutData, IsLayout, IsWord, has_claims, places_of}
 use Rattle.walkx.specs.Tasks.{claim_of}
-use Rattle.walkx.specs.Walk.{IsLayoutOf}
-use Rattle.walkx.specs.Stages.{IsBoard}
+use Rattle.walkx.specs.Walk.{IsLayoutOf, IsBoard}
 use Rattle.walkx.proofs.Boards.{same_cells, same_procs}
 use Rattle.lawful_words.specs.Steps.{Asks, IsWritten, last_write, write_before, word_of_step, settled, settled_before}
 use Rattle.lawful_words.specs.Board.{held, root, conflict, leaf, stamp_at, finished, IsLate, HoldsNew, Raised, Carried, CarriedWon, Claimed, Stays, ClaimStays, Done, phase_in, IsNew, IsPair, newer_first, newer_second, new_first, new_second, ClaimsFor, IsClaimed, claimed_before, claimed_now, LawfulFor, Lawful, Grows}

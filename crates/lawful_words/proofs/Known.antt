@@ -8,8 +8,7 @@ use Rattle.walkx.specs.declared.operation.Op.{Op}
 use Rattle.walkx.specs.declared.operation.Op.TheVariants.{Max}
 use Rattle.walkx.specs.Operations.{words_after}
 use Rattle.walkx.specs.Scripts.{Script, asks, ends}
-use Rattle.walkx.specs.Stages.{IsBoard}
-use Rattle.walkx.specs.Walk.{Then}
+use Rattle.walkx.specs.Walk.{Then, IsBoard}
 use Rattle.lawful_words.specs.Board.{held, root, Stands, Grows}
 use Rattle.lawful_words.specs.Moments.{Moment, Goes}
 use Rattle.lawful_words.specs.Statements.{Floor, Does}

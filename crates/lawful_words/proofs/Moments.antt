@@ -1,5 +1,5 @@
 -- Growth, and records that the words bear out. Nothing here knows the walk.
-use Rattle.std.proofs.Common.{ℕ, zero, suc, ◌≤◌, List, [], ◌∷◌, refl, sym, ap, subst, ◌∙◌, inl, inr, le_refl, le_trans, lit<, arith}
+use Rattle.std.proofs.Common.{ℕ, zero, suc, ◌≤◌, List, ◌∷◌, refl, sym, ap, subst, ◌∙◌, inl, inr, le_refl, le_trans, lit<, arith}
 use Rattle.pram_text.specs.Job.{JobData}
 use Rattle.pram_words.specs.declared.words.Word.TheVariants.{Conflict, Node, Asked, Position, Stored, Claim}
 use Rattle.pram_words.specs.Stamps.{stamp_of}
@@ -92,7 +92,3 @@ find job y now (both r q) op found es b h = elim h [
   | inl t ↦ find job y now r op found es b.0 t
   | inr t ↦ find job y now q op found es b.1 t
 ]
-
-pub has_more : (r : Record) (op : Op) (found : ℕ) (es : List (Op × ℕ)) → Has r es → Has (after r op found) es
-has_more r op found [] h = tt
-has_more r op found (e ∷ es) h = inr h

@@ -16,14 +16,14 @@ use Rattle.pram_words.specs.declared.words.Word.TheVariants.{Conflict, Node, Ask
 use Rattle.pram_words.specs.Stamps.{stamp_of, payload_of, stamped_word}
 use Rattle.pram_words.specs.Phases.{kind_at, step_at}
 use Rattle.pram_words.specs.Words.{LayoutData, IsWord, IsStamped, number_of, places_of, counters_of, most_asked, most_stored}
-use Rattle.walkx.specs.Stages.{IsBoard}
-use Rattle.walkx.specs.Tasks.{claim_of, first_is_older, place_part, value_part}
+use Rattle.walkx.specs.Walk.{IsBoard}
+use Rattle.walkx.specs.Tasks.{claim_of, first_is_older, place_part, value_part, older, older_word}
 use Rattle.walkx.specs.declared.operation.Op.TheVariants.{Max, Store, Swap}
 use Rattle.walkx.proofs.Boards.{same_cells, same_procs}
 use Rattle.lawful_words.specs.Steps.{Asks, Wins, phase_written, last_write, write_before, word_of_step, settled, settled_before, part_after}
 use Rattle.lawful_words.specs.Board.{held, root, conflict, leaf, stamp_at, finished, phase_in, IsTree, IsAsked, IsNew, IsPair, newer_first, newer_second, new_first, new_second, IsClaimed, claimed_now, IsNamed, Lawful, Only, Stands, Grows}
 use Rattle.lawful_words.specs.Moments.{Keeps}
-use Rattle.lawful_words.specs.Statements.{B, C5, older, older_word, Floor, Does}
+use Rattle.lawful_words.specs.Statements.{B, C5, Floor, Does}
 use Rattle.lawful_words.proofs.Machine.{last_most, last_least, conflict_above, asks_fits}
 use Rattle.lawful_words.proofs.Values.{before_most, before_less, stamp_step}
 use Rattle.lawful_words.proofs.Frames.{only_grows, does_max, does_swap, keeps_store, same_or_other}

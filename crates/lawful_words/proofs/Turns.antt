@@ -15,9 +15,8 @@ use Rattle.walkx.specs.declared.operation.Op.TheVariants.{Load}
 use Rattle.walkx.specs.declared.worker.Doing.{Doing}
 use Rattle.walkx.specs.declared.worker.Doing.TheVariants as doing
 use Rattle.walkx.specs.Scripts.{Script, asks, ends}
-use Rattle.walkx.specs.Stages.{IsBoard}
 use Rattle.walkx.specs.Tasks.{task_of}
-use Rattle.walkx.specs.Walk.{Then, begins, IsPhase, node_of, script_by, phase_begun, turn_script, leaf_script, marks, stands_at, way_down}
+use Rattle.walkx.specs.Walk.{Then, begins, IsPhase, node_of, script_by, phase_begun, turn_script, leaf_script, marks, stands_at, way_down, IsBoard}
 use Rattle.walkx.proofs.Boards.{same_procs}
 use Rattle.lawful_words.specs.Steps.{phase_written}
 use Rattle.lawful_words.specs.Board.{Done, phase_in}

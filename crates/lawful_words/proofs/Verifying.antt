@@ -13,9 +13,8 @@ use Rattle.pram_words.specs.Words.{LayoutData, IsWord, number_of, places_of}
 use Rattle.walkx.specs.declared.operation.Op.{Op}
 use Rattle.walkx.specs.declared.operation.Op.TheVariants.{Load}
 use Rattle.walkx.specs.Scripts.{Script, asks}
-use Rattle.walkx.specs.Stages.{IsBoard}
 use Rattle.walkx.specs.Tasks.{claim_of, differs, reports, hears_part, loads_both, verify_task, crew_verify_task}
-use Rattle.walkx.specs.Walk.{Then}
+use Rattle.walkx.specs.Walk.{Then, IsBoard}
 use Rattle.walkx.proofs.Boards.{same_cells, same_procs}
 use Rattle.lawful_words.specs.Steps.{Asks, Wins, requests_after, phase_written, last_write, write_before, word_of_step, part_after}
 use Rattle.lawful_words.specs.Board.{held, root, conflict, stamp_at, finished, HoldsNew, Stays, ClaimStays, Stands, Grows}

@@ -11,9 +11,8 @@ use Rattle.pram_words.specs.Words.{LayoutData, IsWord, number_of}
 use Rattle.walkx.specs.declared.operation.Op.{Op}
 use Rattle.walkx.specs.declared.operation.Op.TheVariants.{Load}
 use Rattle.walkx.specs.Scripts.{Script, asks}
-use Rattle.walkx.specs.Stages.{IsBoard}
 use Rattle.walkx.specs.Tasks.{carries, claim_of, priority_apply_task}
-use Rattle.walkx.specs.Walk.{Then}
+use Rattle.walkx.specs.Walk.{Then, IsBoard}
 use Rattle.walkx.proofs.Boards.{same_cells}
 use Rattle.lawful_words.specs.Steps.{Asks, Wins, phase_written, part_after}
 use Rattle.lawful_words.specs.Board.{held, root, finished, IsLate, Carried, CarriedWon, ClaimsFor, IsClaimed, claimed_before, claimed_now, Stands}

@@ -1,5 +1,5 @@
 -- Lemmas A to E on lists of words, each as a statement. x is the number of steps before a step, q a phase. Each holds for every rule.
-use Rattle.std.specs.Prelude.{◌≡◌, ◌≢◌, ◌⊎◌, ◌↔◌, ℕ, suc, ◌+◌, ◌-◌, ◌*◌, ◌≤◌, ◌<◌, false, if◌then◌else◌, List, slice_index}
+use Rattle.std.specs.Prelude.{◌≡◌, ◌≢◌, ◌⊎◌, ◌↔◌, ℕ, suc, ◌+◌, ◌-◌, ◌*◌, ◌≤◌, ◌<◌, false, List, slice_index}
 use Rattle.pram_text.specs.Job.{JobData, IsJob}
 use Rattle.pram_step.specs.declared.answer.Fault.{Fault}
 use Rattle.pram_step.specs.Machine.{place_count}
@@ -12,7 +12,7 @@ use Rattle.pram_words.specs.Words.{LayoutData, IsWord, number_of, places_of}
 use Rattle.walkx.specs.declared.operation.Op.{Op}
 use Rattle.walkx.specs.declared.operation.Op.TheVariants.{Max, Swap}
 use Rattle.walkx.specs.Operations.{words_after}
-use Rattle.walkx.specs.Tasks.{is_late, first_is_older, newer_payload, claim_of}
+use Rattle.walkx.specs.Tasks.{is_late, first_is_older, newer_payload, claim_of, older, older_word}
 use Rattle.lawful_words.specs.Steps.{Asks, Wins, IsWritten, phase_written, last_write, settled, settled_before, part_after}
 use Rattle.lawful_words.specs.Board.{held, root, conflict, leaf, stamp_at, finished, IsLate, Done, Stands, Grows}
 use Rattle.lawful_words.specs.Moments.{Keeps}
@@ -71,13 +71,6 @@ pub record C (job : JobData) (y : LayoutData) (words later : List ℕ) : Type 0 
 
 abbrev pub AllC : Type 0
 AllC = (job : JobData) (y : LayoutData) (words later : List ℕ) → Stands job y words → Stands job y later → Grows y words later → C job y words later
-
--- of two words of a place as they were heard: the older one's number and the older one
-abbrev pub older : ℕ → ℕ → ℕ
-older a b = if first_is_older a b then 0 else 1
-
-abbrev pub older_word : ℕ → ℕ → ℕ
-older_word a b = if first_is_older a b then a else b
 
 -- Of a place of which a and b were heard: the older one as heard still stands, or the place was written in step x + 1 or later.
 pub record C5 (job : JobData) (y : LayoutData) (x p a b : ℕ) (now : List ℕ) : Type 0 where

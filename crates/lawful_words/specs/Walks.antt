@@ -7,7 +7,7 @@ use Rattle.pram_words.specs.Words.{LayoutData}
 use Rattle.walkx.specs.declared.worker.Doing.{Doing}
 use Rattle.walkx.specs.declared.worker.Doing.TheVariants as doing
 use Rattle.walkx.specs.Operations.{words_after, answer}
-use Rattle.walkx.specs.Walk.{Walking, Fits, ask_of, told}
+use Rattle.walkx.specs.Walk.{Walking, Fits, ask_of}
 use Rattle.walkx.specs.Records.{Record, after, Knows}
 use Rattle.lawful_words.specs.Board.{Stands}
 use Rattle.lawful_words.specs.Moments.{Backed, Goes}
@@ -26,10 +26,6 @@ pub record Moves (job : JobData) (y : LayoutData) (r : Record) (w : Walking) (wo
 
 abbrev pub AllF : Type 0
 AllF = (job : JobData) (y : LayoutData) (r : Record) (w : Walking) (words : List ℕ) → Stands job y words → Fits job y w → Knows job y r w → Backed job y r words → Moves job y r w words
-
--- what is known and fits is known and fits with one answer more
-abbrev pub KnowsNext : Type 0
-KnowsNext = (job : JobData) (y : LayoutData) (r : Record) (w : Walking) (found : ℕ) → Fits job y w → Knows job y r w → Knows job y (after r (ask_of job y w) found) (told job y w found)
 
 -- ---- G: a reply, the record before the read and the one behind it being these
 

@@ -1,5 +1,5 @@
 -- The world: words, bodies, events.
-use Rattle.std.specs.Prelude.{◌≡◌, ℕ, List, [], ◌∷◌, map, slice_get, slice_index, slice_set, Option, Some, None}
+use Rattle.std.specs.Prelude.{◌≡◌, ℕ, ◌<◌, List, [], ◌∷◌, map, slice_get, slice_index, slice_set, Option, Some, None}
 use Rattle.std.specs.List.{range_with_len}
 use Rattle.pram_text.specs.Job.{JobData}
 use Rattle.pram_words.specs.Words.{LayoutData, layout_of}
@@ -104,9 +104,11 @@ start job workers = record { job = job; workers = workers; words = start_words (
 abbrev pub Walks : Scene → ℕ → Walking → Type 0
 Walks s b w = slice_get s.bodies b ≡ Some (walks w)
 
--- one record of all steps, which the words bear out and which knows every worker
+-- One record of all steps, which the words bear out, and which knows every worker. Each worker fits, and each body, stopped ones
+-- too, has the number of a worker.
 pub record Holds (s : Scene) : Type 0 where
   pub stands : Stands s.job (layout s) s.words
   pub made : Record
   pub backed : Backed s.job (layout s) made s.words
   pub known : (b : ℕ) (w : Walking) → Walks s b w → Knows s.job (layout s) made w × Fits s.job (layout s) w
+  pub numbers : (b : ℕ) (body : Body) → slice_get s.bodies b ≡ Some body → number body < s.workers

@@ -1,6 +1,6 @@
 //! What holds of every board: each function here does nothing, and its contract is a law of the walk.
 ghost use Rattle.lawful_words.specs.Statements.{AllE};
-ghost use Rattle.lawful_words.specs.Walks.{AllF, KnowsNext};
+ghost use Rattle.lawful_words.specs.Walks.{AllF};
 
 /// What a worker writes while the words stand leaves words that stand and have grown; where its phase is over it changes none.
 pub fn writes_keep_words_lawful()
@@ -11,9 +11,4 @@ pub fn writes_keep_words_lawful()
 /// and where its phase is over no word but its own position changes.
 pub fn worker_keeps_words_lawful()
     ensures { AllF }
-{}
-
-/// A worker that a record knows is known to the record with its next answer.
-pub fn known_worker_stays_known()
-    ensures { KnowsNext }
 {}

@@ -5,7 +5,7 @@ pub mod Walk
 pub mod Reads
 pub mod Records
 pub mod Codes
-pub mod Stages
-pub mod Glances
+pub mod Inner
 pub mod Requests
 pub mod Bound
+pub mod Laws

@@ -3,8 +3,8 @@ ghost use Rattle.std.specs.Prelude.{◌≡◌, ℕ, ◌^◌, ◌<◌, ◌≤◌}
 ghost use Rattle.pram_step.specs.declared.requests.Request.{Request};
 ghost use Rattle.pram_words.specs.Stamps.{stamped_word};
 ghost use Rattle.walkx.specs.Reads.{step_seen};
-ghost use Rattle.walkx.specs.Requests.{heard_request, RequestsMeet};
-ghost use Rattle.walkx.specs.Tasks.{place_part, value_part};
+ghost use Rattle.walkx.specs.Requests.{heard_request};
+ghost use Rattle.pram_step.specs.Instructions.{place_part, value_part};
 
 use pram_step::Request;
 use pram_words::payload;
@@ -37,9 +37,3 @@ pub fn request_of(place: u64, value: u64, next: u64) -> Request
         next: payload(next),
     }
 }
-
-/// The law that a worker's request is the machine's: what is decided of a processor's counter, operands and cell in a state is its
-/// request there. It does nothing.
-pub fn requests_meet()
-    ensures { RequestsMeet }
-{}
