@@ -18,12 +18,15 @@ cell_lines c (v ∷ vs) = cell_line c v ++ cell_lines (c + 1) vs
 
 -- the line of a conflict
 abbrev pub conflict_line : Fault → List ℕ
-conflict_line fault = codes "conflict step=" ++ decimal fault.step ++ codes " cell=" ++ decimal fault.cell
-    ++ codes " processors=" ++ decimal fault.first ++ codes "," ++ decimal fault.second ++ codes "\n"
+conflict_line fault = codes "conflict step=" ++ decimal fault.step
+    ++ codes " cell=" ++ decimal fault.cell
+    ++ codes " processors=" ++ decimal fault.first ++ codes "," ++ decimal fault.second
+    ++ codes "\n"
 
 -- the printed answer of a job of so many steps
 abbrev pub printed : RunAnswer → ℕ → List ℕ
-printed (Final cells) steps = codes "done steps=" ++ decimal steps ++ codes "\n" ++ cell_lines 0 cells
+printed (Final cells) steps =
+    codes "done steps=" ++ decimal steps ++ codes "\n" ++ cell_lines 0 cells
 printed (Conflict fault) steps = conflict_line fault
 printed (Unfinished step) steps = codes "unfinished step=" ++ decimal step ++ codes "\n"
 
@@ -35,5 +38,6 @@ rule_mark Crew = codes " rule=crew"
 
 -- the summary of a job
 abbrev pub summary : JobData → List ℕ
-summary job = codes "ok cells=" ++ decimal job.cells ++ codes " procs=" ++ decimal job.procs ++ codes " steps=" ++ decimal job.steps
-    ++ codes " code=" ++ decimal (length job.code) ++ rule_mark job.rule ++ codes "\n"
+summary job = codes "ok cells=" ++ decimal job.cells ++ codes " procs=" ++ decimal job.procs
+    ++ codes " steps=" ++ decimal job.steps ++ codes " code=" ++ decimal (length job.code)
+    ++ rule_mark job.rule ++ codes "\n"

@@ -45,7 +45,8 @@ impl<W: Write> Sink for IntoWrite<W> {
     }
 }
 
-/// One write, made again where a signal interrupts it. Where there is nothing to write, none is made.
+/// One write, made again where a signal interrupts it. Where there is nothing to write, none is
+/// made.
 fn write_once<W: Write>(writer: &mut W, bytes: &[u8]) -> Result<usize, Failed>
     ensures bound { IfOk result (λ count. count ≤ length bytes.now) }
     ensures some { IfOk result (λ count. 0 < length bytes.now → 0 < count) }

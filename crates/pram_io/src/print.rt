@@ -58,8 +58,8 @@ pub fn print_answer<W: Sink>(
     Ok(())
 }
 
-/// Prints the summary of a job, or a beginning of it where the sink fails. Nothing is printed before
-/// memory for all of it was found.
+/// Prints the summary of a job, or a beginning of it where the sink fails. Nothing is printed
+/// before memory for all of it was found.
 pub fn print_summary<W: Sink>(alloc: Global, sink: &mut W, job: &Job) -> Result<(), PrintFault>
     requires { W.has_failed sink.old ≡ false }
     ensures ok { OnOk result (Appends (W.taken sink.old) (W.taken sink.new) (summary job.now)) }
@@ -87,7 +87,8 @@ fn answer_text(alloc: Global, answer: &RunAnswer, steps: u32) -> Result<String, 
 }
 
 fn push_cells(text: &mut String, values: &[u32]) -> Result<(), AllocError>
-    ensures { OnOk result (string_bytes text.new ≡ string_bytes text.old ++ cell_lines 0 values.now) }
+    ensures { OnOk result (string_bytes text.new
+        ≡ string_bytes text.old ++ cell_lines 0 values.now) }
 {
     for (cell, value) in values.iter().enumerate() {
         writeln!(text, "{cell}: {value}")?;

@@ -18,15 +18,18 @@ status_of (Conflict fault) = CONFLICT
 status_of (Unfinished step) = UNFINISHED
 
 -- The source gave a job, the sink took its printed answer, and the status is that of the answer.
-pub record PrintsWithStatus (source source' sink sink' : Option (List ℕ)) (status : ℕ) : Type 0 where
+pub record PrintsWithStatus (source source' sink sink' : Option (List ℕ)) (status : ℕ)
+    : Type 0 where
   pub answer : RunAnswer
   pub prints : PrintsAnswer source source' sink sink' answer
   pub of_answer : status ≡ status_of answer
 
 -- The line was done, and this is its status.
-abbrev pub IsDone : Line → Option (List ℕ) → Option (List ℕ) → Option (List ℕ) → Option (List ℕ) → ℕ → Type 0
-IsDone (Check file) source source' sink sink' status = PrintsSummary source source' sink sink' × (status ≡ DONE)
-IsDone (Plain file) source source' sink sink' status = PrintsWithStatus source source' sink sink' status
+abbrev pub IsDone : Line → (source source' sink sink' : Option (List ℕ)) → ℕ → Type 0
+IsDone (Check file) source source' sink sink' status =
+    PrintsSummary source source' sink sink' × (status ≡ DONE)
+IsDone (Plain file) source source' sink sink' status =
+    PrintsWithStatus source source' sink sink' status
 IsDone (Run file workers plan) source source' sink sink' status = ⊥
 IsDone (Replay file workers plan) source source' sink sink' status = ⊥
 
@@ -36,14 +39,14 @@ pub record GivesNoJob (source source' : Option (List ℕ)) : Type 0 where
   pub kind : TextKind
   pub gives : GivesFault source source' line kind
 
--- The source or the sink has failed, or the source gave more bytes than are taken.
-abbrev pub DeviceFailed : Bool → Bool → Option (List ℕ) → Option (List ℕ) → Type 0
-DeviceFailed source_failed sink_failed source source' =
-    IsTrue source_failed ⊎ IsTrue sink_failed ⊎ GivesMoreThan MOST source source'
+-- The fact holds, if the line is one that is served.
+abbrev pub IfServed : Line → Type 0 → Type 0
+IfServed (Check file) P = P
+IfServed (Plain file) P = P
+IfServed (Run file workers plan) P = ⊤
+IfServed (Replay file workers plan) P = ⊤
 
--- Why a line that makes sense ends with the status of a failure: a device failed, or it is not served.
-abbrev pub IsFailure : Line → Bool → Bool → Option (List ℕ) → Option (List ℕ) → Type 0
-IsFailure (Check file) source_failed sink_failed source source' = DeviceFailed source_failed sink_failed source source'
-IsFailure (Plain file) source_failed sink_failed source source' = DeviceFailed source_failed sink_failed source source'
-IsFailure (Run file workers plan) source_failed sink_failed source source' = ⊤
-IsFailure (Replay file workers plan) source_failed sink_failed source source' = ⊤
+-- The source or the sink has failed, or the source gave more bytes than are taken.
+abbrev pub HasCause : Bool → Bool → Option (List ℕ) → Option (List ℕ) → Type 0
+HasCause source_failed sink_failed source source' =
+    IsTrue source_failed ⊎ IsTrue sink_failed ⊎ GivesMoreThan MOST source source'

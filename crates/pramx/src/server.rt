@@ -1,6 +1,6 @@
 //! The work of a line that was read.
 ghost use Rattle.std.specs.Prelude.{◌≡◌, ◌≢◌, ◌<◌, ◌≤◌, false, IsTrue};
-ghost use Rattle.pramx.specs.Serve.{GivesNoJob, IsDone, IsFailure, status_of};
+ghost use Rattle.pramx.specs.Serve.{GivesNoJob, HasCause, IfServed, IsDone, status_of};
 
 use crate::line::Line;
 use crate::refusal::{CONFLICT, DONE, FAILED, MEMORY, REFUSED, Refusal, UNFINISHED, tell};
@@ -29,9 +29,9 @@ pub fn serve<J: Source, P: Source, O: Sink, E: Sink>(
     ensures refused { result ≡ REFUSED
         → GivesNoJob (J.remaining job.old) (J.remaining job.new) × (out.new ≡ out.old) }
 
-    // At status 4 there is a cause for it.
-    ensures failed { result ≡ FAILED → IsFailure line.now (J.has_failed job.new) (O.has_failed out.new)
-        (J.remaining job.old) (J.remaining job.new) }
+    // At status 4 a device failed or the job's source is too large, unless the line is not served.
+    ensures failed { result ≡ FAILED → IfServed line.now (HasCause (J.has_failed job.new)
+        (O.has_failed out.new) (J.remaining job.old) (J.remaining job.new)) }
 
     // Where the job's source or the output failed, the status says so, or that memory ran out too.
     ensures source { IsTrue (J.has_failed job.new) → FAILED ≤ result }
