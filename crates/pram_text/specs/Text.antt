@@ -96,7 +96,8 @@ names_rule version = result_unwrap_or (version_of version) 0 == 2
 
 -- the cells that lines before have named
 abbrev pub named_cells : ℕ → List Line → List ℕ
-named_cells cells lines = filter_map (λ line. option_map (λ p. p.0) (result_ok (init_of cells line))) lines
+named_cells cells lines =
+    filter_map (λ line. option_map (λ p. p.0) (result_ok (init_of cells line))) lines
 
 -- Behind the header stand start values, of each cell at most once.
 unfoldable pub init_fault : ℕ → List Line → Line → Option TextKind
@@ -110,7 +111,9 @@ init_fault cells before line =
 unfoldable pub label_fault : List Line → Line → Option TextKind
 label_fault body line = elim (label_of line) [
   | None ↦ None
-  | Some label ↦ if not (is_name label) then Some UnknownInstruction else (if list_any (defines label) body then Some DuplicateLabel else None)
+  | Some label ↦
+      if not (is_name label) then Some UnknownInstruction
+      else (if list_any (defines label) body then Some DuplicateLabel else None)
 ]
 
 -- The label first, then the instruction; a jump's label counts as known.
@@ -166,7 +169,7 @@ fault_at lines k =
 abbrev pub numbered_body : List (List ℕ) → List (ℕ × Line)
 numbered_body lines = after_first (λ l. is_code l.1) (drop 4 (numbered lines))
 
--- the fault of one of these instruction lines, where they have none by themselves: its jump's label is not defined
+-- the fault of one of these instruction lines, whose own are none: its jump's label is not defined
 abbrev pub label_fault_at : List Line → ℕ → Option TextKind
 label_fault_at body k = result_err (instr_of (place_of body) (unlabelled (slice_index_or body k [])))
 
@@ -183,9 +186,10 @@ Bears text line kind =
     let body = numbered_body lines in
     ((k : ℕ) × (line ≡ k + 1) × IsFirst (fault_at lines) (length lines) k kind)
     ⊎ (((j : ℕ) → j < length lines → fault_at lines j ≡ None)
-    × (k : ℕ) × (line ≡ slice_index (map (λ l. l.0) body) k) × IsFirst (label_fault_at (map (λ l. l.1) body)) (length body) k kind)
+    × (k : ℕ) × (line ≡ slice_index (map (λ l. l.0) body) k)
+    × IsFirst (label_fault_at (map (λ l. l.1) body)) (length body) k kind)
 
--- A refusal names a fault of the text. Where memory ran out it says nothing of the text, and names line 0.
+-- A refusal names a fault of the text. Where memory ran out it says nothing of it, and names line 0.
 abbrev pub IsRefusal : List ℕ → ℕ → TextKind → Type 0
 IsRefusal text line Memory = line ≡ 0
 IsRefusal text line kind = Bears text line kind

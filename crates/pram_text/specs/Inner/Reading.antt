@@ -41,13 +41,19 @@ IsFront _ = Unit {0}
 -- the header so far, by what comes next
 abbrev pub HoldsHead : Next → List Line → Head → Type 0
 HoldsHead Version lines head = (lines ≡ []) × (head.rule ≡ Common)
-HoldsHead Cells lines head = (v : Line) × (lines ≡ v ∷ []) × (version_of v ≡ Ok head.version) × (head.rule ≡ Common)
+HoldsHead Cells lines head =
+    (v : Line) × (lines ≡ v ∷ []) × (version_of v ≡ Ok head.version) × (head.rule ≡ Common)
 HoldsHead Procs lines head =
-    (v : Line) × (c : Line) × (lines ≡ v ∷ c ∷ []) × (version_of v ≡ Ok head.version) × (cells_of c ≡ Ok head.cells) × (head.rule ≡ Common)
+    (v : Line) × (c : Line) × (lines ≡ v ∷ c ∷ [])
+    × (version_of v ≡ Ok head.version) × (cells_of c ≡ Ok head.cells) × (head.rule ≡ Common)
 HoldsHead Steps lines head =
-    (v : Line) × (c : Line) × (p : Line) × (lines ≡ v ∷ c ∷ p ∷ []) × (version_of v ≡ Ok head.version) × (cells_of c ≡ Ok head.cells) × (procs_of p ≡ Ok head.procs) × (head.rule ≡ Common)
+    (v : Line) × (c : Line) × (p : Line) × (lines ≡ v ∷ c ∷ p ∷ [])
+    × (version_of v ≡ Ok head.version) × (cells_of c ≡ Ok head.cells)
+    × (procs_of p ≡ Ok head.procs) × (head.rule ≡ Common)
 HoldsHead Rules lines head =
-    (v : Line) × (c : Line) × (p : Line) × (s : Line) × (lines ≡ v ∷ c ∷ p ∷ s ∷ []) × (version_of v ≡ Ok head.version) × (cells_of c ≡ Ok head.cells) × (procs_of p ≡ Ok head.procs) × (steps_of s ≡ Ok head.steps) × (head.version ≡ 2)
+    (v : Line) × (c : Line) × (p : Line) × (s : Line) × (lines ≡ v ∷ c ∷ p ∷ s ∷ [])
+    × (version_of v ≡ Ok head.version) × (cells_of c ≡ Ok head.cells)
+    × (procs_of p ≡ Ok head.procs) × (steps_of s ≡ Ok head.steps) × (head.version ≡ 2)
 HoldsHead _ lines head = IsHeader lines head
 
 -- one line more
@@ -156,13 +162,14 @@ TakesLine before line old number (Err kind) reader = kind ≢ Memory → line_fa
 
 -- ---- the end
 
--- the fault of lines that were all read: what they lack, at their last line, or the first jump to an unknown label
-abbrev pub IsEndFault : List Line → List ℕ → ℕ → ℕ → TextKind → Type 0
-IsEndFault before numbers last line kind =
-    ((end_fault before ≡ Some kind) × (line ≡ last))
-    ⊎ ((end_fault before ≡ None) × (k : ℕ) × (line ≡ slice_index numbers k) × IsFirst (label_fault_at (body_of before)) (length (body_of before)) k kind)
+-- the first jump to an unknown label, and the number of its line
+abbrev pub IsUnknown : List Line → List ℕ → TextFault → Type 0
+IsUnknown before numbers fault =
+    (k : ℕ) × (fault.line ≡ slice_index numbers k) × IsFirst (label_fault_at (body_of before)) (length (body_of before)) k fault.kind
 
--- what the lines make, once all of them were read
+-- what lines that were all read make: where they lack something, a fault of their last one
 abbrev pub Finishes : List Line → List ℕ → ℕ → Result JobData TextFault → Type 0
 Finishes before numbers last (Ok job) = SpellsLines job before
-Finishes before numbers last (Err fault) = fault.kind ≢ Memory → IsEndFault before numbers last fault.line fault.kind
+Finishes before numbers last (Err fault) =
+    fault.kind ≢ Memory
+    → ((end_fault before ≡ Some fault.kind) × (fault.line ≡ last)) ⊎ ((end_fault before ≡ None) × IsUnknown before numbers fault)
