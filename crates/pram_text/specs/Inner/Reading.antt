@@ -24,7 +24,7 @@ use Rattle.pram_text.specs.Job.{JobData}
 use Rattle.pram_text.specs.Lines.{Word, Line, words_of, worded, is_filled}
 use Rattle.pram_text.specs.Judgement.{version_of, cells_of, procs_of, steps_of, unlabelled, is_name, instr_of}
 use Rattle.pram_text.specs.Inner.Statement.{resolved}
-use Rattle.pram_text.specs.Text.{place_of, NamesCells, IsLabelled, SpellsHeader, code_line, SpellsLines, words_fault, line_fault, init_fault, instr_fault, end_fault, has_code, body_of, label_fault_at, IsFirst}
+use Rattle.pram_text.specs.Text.{place_of, is_named, new_label_fault, NamesCells, IsLabelled, SpellsHeader, code_line, SpellsLines, words_fault, line_fault, init_fault, instr_fault, end_fault, has_code, body_of, label_fault_at, IsFirst}
 
 -- ---- the header
 
@@ -82,16 +82,9 @@ TakesStart cells inits line (Err kind) start = kind ≢ Memory → init_fault ce
 abbrev pub place_at : BTreeMap (Bor (List ℕ)) ℕ → Word → Option ℕ
 place_at places name = get_by (λ k. slice_cmp nat_cmp name k.now) places
 
--- whether this label, if there is one, has the name
-abbrev pub is_named : Option Word → Word → Bool
-is_named None name = false
-is_named (Some label) name = bytes_eq label name
-
 -- what is wrong with one label more
 abbrev pub define_fault : BTreeMap (Bor (List ℕ)) ℕ → Option Word → Option TextKind
-define_fault places None = None
-define_fault places (Some label) =
-    if not (is_name label) then Some UnknownInstruction else (if is_some (place_at places label) then Some DuplicateLabel else None)
+define_fault places label = new_label_fault (λ name. is_some (place_at places name)) label
 
 -- one label more
 abbrev pub Defines : BTreeMap (Bor (List ℕ)) ℕ → Option Word → ℕ → Result (Unit {0}) TextKind → BTreeMap (Bor (List ℕ)) ℕ → Type 0
