@@ -221,19 +221,32 @@ fn crew_names_the_two_least_writers(rt: HostRuntime) -> Result<(), Fail> {
 }
 
 #[test]
-fn processors_stop_by_an_address_out_of_range(rt: HostRuntime) -> Result<(), Fail> {
-    let load = "pram 1\ncells 2\nprocs 2\nsteps 5\ninit 0 5\ninit 1 9\ncode\n\
+fn load_out_of_range_stops_the_processor(rt: HostRuntime) -> Result<(), Fail> {
+    let text = "pram 1\ncells 2\nprocs 2\nsteps 5\ninit 0 5\ninit 1 9\ncode\n\
         pid r0\nset r1 1\nadd r2 r0 r1\nld r3 r2\nst r0 r3\n";
-    let store = "pram 1\ncells 1\nprocs 2\nsteps 2\ncode\npid r0\nst r0 r0\n";
-    // the steps, the place of processor 1's counter, and what it holds then
-    for (text, steps, place, counter) in [(load, 3, 11, 3), (load, 4, 11, 6), (store, 2, 10, 3)] {
-        let job = job(&rt, text)?;
-        let mut state = State::start(rt.alloc(), &job)?;
-        for _ in 0..steps {
-            step(rt.alloc(), &job, &mut state)?;
-        }
-        assert_eq!(rt; state.get(place), counter);
-    }
+    let job = job(&rt, text)?;
+    assert_eq!(rt; job.cells(), 2);
+    assert_eq!(rt; job.procs(), 2);
+    let mut state = State::start(rt.alloc(), &job)?;
+    step(rt.alloc(), &job, &mut state)?;
+    step(rt.alloc(), &job, &mut state)?;
+    step(rt.alloc(), &job, &mut state)?;
+    assert_eq!(rt; state.get(11), 3);
+    step(rt.alloc(), &job, &mut state)?;
+    assert_eq!(rt; state.get(11), 6);
+    Ok(())
+}
+
+#[test]
+fn store_out_of_range_stops_the_processor(rt: HostRuntime) -> Result<(), Fail> {
+    let text = "pram 1\ncells 1\nprocs 2\nsteps 2\ncode\npid r0\nst r0 r0\n";
+    let job = job(&rt, text)?;
+    assert_eq!(rt; job.cells(), 1);
+    assert_eq!(rt; job.procs(), 2);
+    let mut state = State::start(rt.alloc(), &job)?;
+    step(rt.alloc(), &job, &mut state)?;
+    step(rt.alloc(), &job, &mut state)?;
+    assert_eq!(rt; state.get(10), 3);
     Ok(())
 }
 
@@ -242,6 +255,8 @@ fn disputed_step_changes_nothing(rt: HostRuntime) -> Result<(), Fail> {
     let text = "pram 1\ncells 2\nprocs 4\nsteps 4\ncode\n\
         pid r0\nset r1 1\nand r2 r0 r1\nst r2 r0\n";
     let job = job(&rt, text)?;
+    assert_eq!(rt; job.cells(), 2);
+    assert_eq!(rt; job.procs(), 4);
     let mut state = State::start(rt.alloc(), &job)?;
     let asked = Request {
         put: Some((6, 1)),
