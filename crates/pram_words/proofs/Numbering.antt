@@ -1,13 +1,13 @@
 -- Each word has a number of its own.
-use Rattle.std.proofs.Common.{◌≡◌, ℕ, cond, ◌+◌, ◌-◌, ◌*◌, ◌/◌, ◌%◌, ◌<◌, ◌≤◌, ◌^◌, ◌↔◌, ◌⊎◌, ◌≢◌, inl, inr, refl, sym, ap, subst, ◌∙◌, arith, zero, suc}
-use Rattle.std.proofs.lemmas.Bool.{cases_lt, cases_eq, cases_Bool, lt-ltb, le-ltb, eq-eqb, ne_eqb, cond-true, cond-false}
+use Rattle.std.proofs.Common.{◌≡◌, ℕ, cond, ◌+◌, ◌-◌, ◌*◌, ◌/◌, ◌%◌, ◌<◌, ◌≤◌, ◌^◌, ◌↔◌, ◌⊎◌, inl, inr, refl, sym, ap, subst, ◌∙◌, arith, zero, suc}
+use Rattle.std.proofs.lemmas.Bool.{cases_lt, cases_eq, cases_Bool, cond-true, cond-false}
 use Rattle.std.proofs.lemmas.Bool.Decides.{nat_tests}
 use Rattle.pram_text.specs.Job.{JobData}
 use Rattle.pram_words.specs.declared.layout.Form.{Form}
 use Rattle.pram_words.specs.declared.layout.Form.TheVariants.{Compact, Wide}
 use Rattle.pram_words.specs.declared.words.Word.{Word}
 use Rattle.pram_words.specs.declared.words.Word.TheVariants.{Conflict, Node, Asked, Position, Stored, Claim, Spare}
-use Rattle.pram_words.specs.Words.{LayoutData, IsLayout, IsNeeded, IsWord, IsInRange, IsNumbering, HasRanges, Admits, counters_of, requests_at, positions_at, places_at, claims_at, compact_number, compact_word, block_at, cells_at, wide_claims_at, wide_place, wide_number, line_word, block_word, wide_word, by_form, number_of, length_of, word_at}
+use Rattle.pram_words.specs.Words.{LayoutData, IsLayout, IsNeeded, IsWord, IsInRange, IsNumbering, HasRanges, Admits, counters_of, requests_at, positions_at, places_at, claims_at, compact_number, compact_word, block_at, cells_at, wide_claims_at, wide_number, wide_word, by_form, number_of, length_of, word_at}
 use Rattle.pram_words.proofs.Halvings.{leaves_least}
 
 pub cases_form : (f : Form) → (f ≡ Compact) ⊎ (f ≡ Wide)
