@@ -1,6 +1,7 @@
 -- What each element of a list says.
-use Rattle.std.proofs.Common.{◌≡◌, List, [], ◌∷◌, ◌++◌, map, Result, Ok, refl}
+use Rattle.std.proofs.Common.{◌≡◌, List, [], ◌∷◌, ◌++◌, map, All, Result, Ok, refl}
 use Rattle.std.specs.List.{AllByRecursion}
+use Rattle.std.proofs.lemmas.List.Elements.{recursion_from_All}
 use Rattle.pram_text.specs.declared.fault.TextKind.{TextKind}
 
 -- each element says a value
@@ -44,43 +45,11 @@ said_around f (b ∷ before) x after (y ∷ ys) s =
     let front : Said f (b ∷ before) (y ∷ r.front) = λ i. first i ∷ r.said_front i in
     record { front = y ∷ r.front; value = r.value; back = r.back; parts = λ i. y ∷ r.parts i; said_front = front; said_value = r.said_value; said_back = r.said_back }
 
--- the element that says one of the values
-pub record SayerOf {X Y : Type 0} (f : X → Result Y TextKind) (xs : List X) (front : List Y) (y : Y) : Type 0 where
-  pub before : List X
-  pub sayer : X
-  pub after : List X
-  pub parts : xs ≡ before ++ sayer ∷ after
-  pub said_front : Said f before front
-  pub says : f sayer ≡ Ok y
-
-pub sayer_of : {X Y : Type 0} (f : X → Result Y TextKind) (xs : List X) (front : List Y) (y : Y) (back : List Y) → Said f xs (front ++ y ∷ back) → SayerOf f xs front y
-sayer_of f [] [] y back s = cc
-sayer_of f [] (z ∷ front) y back s = cc
-sayer_of f (x ∷ xs) [] y back s =
-    let first : f x ≡ Ok y = cc in
-    record { before = []; sayer = x; after = xs; parts = refl; said_front = refl; says = first }
-sayer_of f (x ∷ xs) (z ∷ front) y back s =
-    let first : f x ≡ Ok z = cc in
-    let rest : Said f xs (front ++ y ∷ back) = cc in
-    let r = sayer_of f xs front y back rest in
-    let said : Said f (x ∷ r.before) (z ∷ front) = λ i. first i ∷ r.said_front i in
-    record { before = x ∷ r.before; sayer = r.sayer; after = r.after; parts = λ i. x ∷ r.parts i; said_front = said; says = r.says }
-
 -- where each says a value, all say a list
-pub said_from_each : {X Y : Type 0} (f : X → Result Y TextKind) (xs : List X) → AllByRecursion (λ x. (y : Y) × (f x ≡ Ok y)) xs → (ys : List Y) × Said f xs ys
-said_from_each f [] h = ([], refl)
-said_from_each f (x ∷ xs) h =
-    let rest = said_from_each f xs h.1 in
-    (h.0.0 ∷ rest.0, λ i. h.0.1 i ∷ rest.1 i)
-
-pub each_from_said : {X Y : Type 0} (f : X → Result Y TextKind) (xs : List X) (ys : List Y) → Said f xs ys → AllByRecursion (λ x. (y : Y) × (f x ≡ Ok y)) xs
-each_from_said f [] ys s = tt
-each_from_said f (x ∷ xs) [] s = cc
-each_from_said f (x ∷ xs) (y ∷ ys) s =
-    let first : f x ≡ Ok y = cc in
-    let rest : Said f xs ys = cc in
-    ((y, first), each_from_said f xs ys rest)
-
-pub each_weaker : {X : Type 0} (P Q : X → Type 0) → ((x : X) → P x → Q x) → (xs : List X) → AllByRecursion P xs → AllByRecursion Q xs
-each_weaker P Q h [] a = tt
-each_weaker P Q h (x ∷ xs) a = (h x a.0, each_weaker P Q h xs a.1)
+pub said_from_each : {X Y : Type 0} (f : X → Result Y TextKind) (xs : List X) → All (λ x. (y : Y) × (f x ≡ Ok y)) xs → (ys : List Y) × Said f xs ys
+said_from_each {X} {Y} f xs h = by_each xs (recursion_from_All (λ x. (y : Y) × (f x ≡ Ok y)) xs h) where
+  by_each : (xs : List X) → AllByRecursion (λ x. (y : Y) × (f x ≡ Ok y)) xs → (ys : List Y) × Said f xs ys
+  by_each [] h = ([], refl)
+  by_each (x ∷ xs) h =
+      let rest = by_each xs h.1 in
+      (h.0.0 ∷ rest.0, λ i. h.0.1 i ∷ rest.1 i)

@@ -1,5 +1,5 @@
 -- A job that a text spells keeps the limits.
-use Rattle.std.proofs.Common.{◌≡◌, ℕ, ◌-◌, ◌<◌, ◌≤◌, ◌^◌, zero, suc, Bool, true, false, ◌&&◌, nat_le, if◌then◌else◌, List, [], ◌∷◌, length, map, codes, bytes_eq, All, Option, Some, None, Result, Ok, Err, IfOk, get_or, nat_eq, le_of_lt, refl, sym, ap, subst, arith}
+use Rattle.std.proofs.Common.{◌≡◌, ℕ, ◌-◌, ◌<◌, ◌≤◌, ◌^◌, Bool, true, false, ◌&&◌, nat_le, if◌then◌else◌, List, [], ◌∷◌, length, map, codes, bytes_eq, All, Option, Some, None, Result, Ok, Err, IfOk, get_or, nat_eq, le_of_lt, refl, sym, ap, subst, arith}
 use Rattle.std.specs.List.{AllByRecursion}
 use Rattle.std.specs.Map.{lookup}
 use Rattle.std.specs.Option.{ok_or, unwrap_or}
@@ -15,7 +15,7 @@ use Rattle.pram_text.specs.declared.instr.Instr.TheVariants.{Set, Pid, Add, Sub,
 use Rattle.pram_text.specs.Job.{JobData, IsJob, IsInstr}
 use Rattle.pram_text.specs.Lines.{Word, Line, lines_of, worded}
 use Rattle.pram_text.specs.Judgement.{◌>>=◌, is_number, number_of, number_in, most, named_number, init_of, register_of, no_operand, one_register, two_registers, three_registers, register_number, place_in, one_label, register_label, instr_of, unlabelled}
-use Rattle.pram_text.specs.Text.{place_of, defines, SpellsInit, SpellsCode, SpellsRest, SpellsRule, SpellsLines, Spells}
+use Rattle.pram_text.specs.Text.{place_of, defines, SpellsInit, SpellsCode, SpellsLines, Spells}
 
 -- the value, if there is one, is such
 pub record Keeps {A : Type 0} (P : A → Type 0) (r : Result A TextKind) : Type 0 where
@@ -30,6 +30,10 @@ err P kind = record { holds = tt }
 pub value_keeps : {A : Type 0} {P : A → Type 0} {r : Result A TextKind} (x : A) → Keeps P r → r ≡ Ok x → P x
 value_keeps {A} {P} x k e = IfOk-at_ok P e k.holds
 
+weaker : {A : Type 0} {P Q : A → Type 0} (r : Result A TextKind) → Keeps P r → ((x : A) → P x → Q x) → Keeps Q r
+weaker (Ok x) k h = record { holds = h x k.holds }
+weaker (Err kind) k h = record { holds = tt }
+
 -- what holds of both branches holds of the choice
 either : {A : Type 0} {P : A → Type 0} (b : Bool) (x y : Result A TextKind) → Keeps P x → Keeps P y → Keeps P (if b then x else y)
 either true x y p q = p
@@ -40,32 +44,32 @@ then_ok : {A B : Type 0} {P : A → Type 0} {Q : B → Type 0} (r : Result A Tex
 then_ok (Ok x) f p h = h x p.holds
 then_ok {A} {B} {P} {Q} (Err k) f p h = err Q k
 
-register_below : (word : Word) → Keeps (λ r. r < 4) (register_of word)
+register_of-keeps : (word : Word) → Keeps (λ r. r < 4) (register_of word)
 unfolding register_of
-register_below word =
+register_of-keeps word =
     either _ _ _ (ok _ 0 (omega arith)) (either _ _ _ (ok _ 1 (omega arith)) (either _ _ _ (ok _ 2 (omega arith)) (either _ _ _ (ok _ 3 (omega arith)) (err _ BadRegister))))
 
-number_between : (low high : ℕ) (word : Word) → Keeps (λ n. (low ≤ n) × (n ≤ high)) (number_in low high word)
+number_in-keeps : (low high : ℕ) (word : Word) → Keeps (λ n. (low ≤ n) × (n ≤ high)) (number_in low high word)
 unfolding number_in
-number_between low high word =
+number_in-keeps low high word =
     either (is_number word) _ _
     (cond_both (nat_le low (number_of word) && nat_le (number_of word) high) (Ok (number_of word)) (Err OutOfLimits) (λ r. Keeps (λ n. (low ≤ n) × (n ≤ high)) r)
     (λ e. let parts = and_parts _ _ e in ok _ (number_of word) (leb-true low (number_of word) parts.0, leb-true (number_of word) high parts.1))
     (λ e. err _ OutOfLimits))
     (err _ BadNumber)
 
-named_between : (name : Word) (low high : ℕ) (line : Line) → Keeps (λ n. (low ≤ n) × (n ≤ high)) (named_number name low high line)
+pub named_number-keeps : (name : Word) (low high : ℕ) (line : Line) → Keeps (λ n. (low ≤ n) × (n ≤ high)) (named_number name low high line)
 unfolding named_number
-named_between name low high (first ∷ number ∷ []) = either (bytes_eq first name) _ _ (number_between low high number) (err _ BadHeader)
-named_between name low high _ = err _ BadHeader
+named_number-keeps name low high (first ∷ number ∷ []) = either (bytes_eq first name) _ _ (number_in-keeps low high number) (err _ BadHeader)
+named_number-keeps name low high _ = err _ BadHeader
 
-value_fits : (cells : ℕ) (line : Line) → Keeps (λ p. p.1 < 2 ^ 32) (init_of cells line)
+pub init_of-keeps : (cells : ℕ) (line : Line) → Keeps (λ p. (p.0 ≤ cells - 1) × (p.1 < 2 ^ 32)) (init_of cells line)
 unfolding init_of
-value_fits cells (first ∷ cell ∷ value ∷ []) =
+init_of-keeps cells (first ∷ cell ∷ value ∷ []) =
     either (bytes_eq first (codes "init")) _ _
-    (then_ok _ _ (number_between 0 (cells - 1) cell) (λ c _. then_ok _ _ (number_between 0 most value) (λ v h. ok _ (c, v) (omega (arith, h.1)))))
+    (then_ok _ _ (number_in-keeps 0 (cells - 1) cell) (λ c g. then_ok _ _ (number_in-keeps 0 most value) (λ v h. ok _ (c, v) (g.1, omega (arith, h.1)))))
     (err _ BadHeader)
-value_fits cells _ = err _ BadHeader
+init_of-keeps cells _ = err _ BadHeader
 
 -- ---- instructions
 
@@ -75,20 +79,20 @@ module _ (len : ℕ) where
   keeps_none instr h (word ∷ words) = err _ WrongOperands
 
   keeps_one : (make : ℕ → Instr) → ((r : ℕ) → r < 4 → IsInstr len (make r)) → (operands : Line) → Keeps (IsInstr len) (one_register make operands)
-  keeps_one make h (r ∷ []) = then_ok _ _ (register_below r) (λ r' p. ok _ (make r') (h r' p))
+  keeps_one make h (r ∷ []) = then_ok _ _ (register_of-keeps r) (λ r' p. ok _ (make r') (h r' p))
   keeps_one make h _ = err _ WrongOperands
 
   keeps_two : (make : ℕ → ℕ → Instr) → ((a b : ℕ) → a < 4 → b < 4 → IsInstr len (make a b)) → (operands : Line) → Keeps (IsInstr len) (two_registers make operands)
-  keeps_two make h (a ∷ b ∷ []) = then_ok _ _ (register_below a) (λ a' p. then_ok _ _ (register_below b) (λ b' q. ok _ (make a' b') (h a' b' p q)))
+  keeps_two make h (a ∷ b ∷ []) = then_ok _ _ (register_of-keeps a) (λ a' p. then_ok _ _ (register_of-keeps b) (λ b' q. ok _ (make a' b') (h a' b' p q)))
   keeps_two make h _ = err _ WrongOperands
 
   keeps_three : (make : ℕ → ℕ → ℕ → Instr) → ((r a b : ℕ) → r < 4 → a < 4 → b < 4 → IsInstr len (make r a b)) → (operands : Line) → Keeps (IsInstr len) (three_registers make operands)
   keeps_three make h (r ∷ a ∷ b ∷ []) =
-      then_ok _ _ (register_below r) (λ r' o. then_ok _ _ (register_below a) (λ a' p. then_ok _ _ (register_below b) (λ b' q. ok _ (make r' a' b') (h r' a' b' o p q))))
+      then_ok _ _ (register_of-keeps r) (λ r' o. then_ok _ _ (register_of-keeps a) (λ a' p. then_ok _ _ (register_of-keeps b) (λ b' q. ok _ (make r' a' b') (h r' a' b' o p q))))
   keeps_three make h _ = err _ WrongOperands
 
   keeps_number : (make : ℕ → ℕ → Instr) → ((r k : ℕ) → r < 4 → k < 2 ^ 32 → IsInstr len (make r k)) → (operands : Line) → Keeps (IsInstr len) (register_number make operands)
-  keeps_number make h (r ∷ k ∷ []) = then_ok _ _ (register_below r) (λ r' p. then_ok _ _ (number_between 0 most k) (λ k' q. ok _ (make r' k') (h r' k' p (omega (arith, q.1)))))
+  keeps_number make h (r ∷ k ∷ []) = then_ok _ _ (register_of-keeps r) (λ r' p. then_ok _ _ (number_in-keeps 0 most k) (λ k' q. ok _ (make r' k') (h r' k' p (omega (arith, q.1)))))
   keeps_number make h _ = err _ WrongOperands
 
   module _ (find : Word → Option ℕ) (within : (label : Word) (place : ℕ) → find label ≡ Some place → place ≤ len) where
@@ -104,10 +108,10 @@ module _ (len : ℕ) where
     keeps_label make h _ = err _ WrongOperands
 
     keeps_jump : (make : ℕ → ℕ → Instr) → ((r place : ℕ) → r < 4 → place ≤ len → IsInstr len (make r place)) → (operands : Line) → Keeps (IsInstr len) (register_label find make operands)
-    keeps_jump make h (r ∷ label ∷ []) = then_ok _ _ (register_below r) (λ r' p. then_ok _ _ (place_within label) (λ place q. ok _ (make r' place) (h r' place p q)))
+    keeps_jump make h (r ∷ label ∷ []) = then_ok _ _ (register_of-keeps r) (λ r' p. then_ok _ _ (place_within label) (λ place q. ok _ (make r' place) (h r' place p q)))
     keeps_jump make h _ = err _ WrongOperands
 
-    pub instr_keeps : (line : Line) → Keeps (IsInstr len) (instr_of find line)
+    instr_keeps : (line : Line) → Keeps (IsInstr len) (instr_of find line)
     unfolding instr_of
     instr_keeps [] = err _ UnknownInstruction
     instr_keeps (name ∷ operands) =
@@ -127,7 +131,7 @@ module _ (len : ℕ) where
         (either _ _ _ (keeps_label (λ place. Jmp place) (λ place p. p) operands)
         (either _ _ _ (keeps_none Halt tt operands) (err _ UnknownInstruction)))))))))))))))
 
--- ---- lists
+-- ---- jobs
 
 -- what each answer keeps, all values keep
 said_all : {X Y : Type 0} (P : Y → Type 0) (f : X → Result Y TextKind) → ((x : X) → Keeps P (f x)) → (xs : List X) (ys : List Y) → map f xs ≡ map (λ y. Ok y) ys → AllByRecursion P ys
@@ -149,51 +153,33 @@ found_fits : (c : ℕ) (pairs : List (ℕ × ℕ)) → AllByRecursion (λ p. p.1
 found_fits c [] h = omega arith
 found_fits c (p ∷ pairs) h = cond_both (nat_eq p.0 c) (Some p.1) (lookup (λ d. nat_eq d c) pairs) (λ o. unwrap_or o 0 < 2 ^ 32) (λ e. h.0) (λ e. found_fits c pairs h.1)
 
-pub init_keeps : (cells : ℕ) (inits : List Line) (init : List ℕ) → SpellsInit cells inits init → All (λ v. v < 2 ^ 32) init
+init_keeps : (cells : ℕ) (inits : List Line) (init : List ℕ) → SpellsInit cells inits init → All (λ v. v < 2 ^ 32) init
 init_keeps cells inits init s k d lt =
-    let fits = said_all (λ (p : ℕ × ℕ). p.1 < 2 ^ 32) (init_of cells) (value_fits cells) inits s.pairs s.said in
+    let fits = said_all (λ (p : ℕ × ℕ). p.1 < 2 ^ 32) (init_of cells) (λ line. weaker _ (init_of-keeps cells line) (λ p h. h.1)) inits s.pairs s.named.said in
     let within : k < cells = omega (arith, s.len) in
     let one : get_or init k 0 < 2 ^ 32 = subst (λ v. v < 2 ^ 32) (sym (s.values k within)) (found_fits k s.pairs fits) in
     subst (λ v. v < 2 ^ 32) (get_or_default init k 0 d lt) one
 
-pub code_keeps : (body : List Line) (code : List Instr) → SpellsCode body code → All (IsInstr (length code)) code
+code_keeps : (body : List Line) (code : List Instr) → SpellsCode body code → All (IsInstr (length code)) code
 code_keeps body code s =
     let same = said_length (λ (line : Line). instr_of (place_of body) (unlabelled line)) body code s.said in
     let within = λ (label : Word) (place : ℕ) (e : place_of body label ≡ Some place). le_of_lt (subst (λ n. place < n) (sym same) (position-Some (defines label) body place [] e).0) in
     All-from_recursion (IsInstr (length code)) code
     (said_all (IsInstr (length code)) (λ (line : Line). instr_of (place_of body) (unlabelled line)) (λ line. instr_keeps (length code) (place_of body) within (unlabelled line)) body code s.said)
 
-pub rest_keeps : (job : JobData) (lines : List Line) → (1 ≤ job.cells) × (job.cells ≤ 65536) → (1 ≤ job.procs) × (job.procs ≤ 1024) → job.steps < 2 ^ 32 → SpellsRest job lines → IsJob job
-rest_keeps job lines cells procs steps s =
+pub lines_keep : (job : JobData) (lines : List Line) → SpellsLines job lines → IsJob job
+lines_keep job lines s =
     let same = said_length (λ (line : Line). instr_of (place_of s.body) (unlabelled line)) s.body job.code s.code.said in
+    let steps = value_keeps job.steps (named_number-keeps _ _ _ s.sizes.steps_line) s.sizes.steps_said in
     record {
-      cells = cells;
-      procs = procs;
-      steps = steps;
+      cells = value_keeps job.cells (named_number-keeps _ _ _ s.sizes.cells_line) s.sizes.cells_said;
+      procs = value_keeps job.procs (named_number-keeps _ _ _ s.sizes.procs_line) s.sizes.procs_said;
+      steps = omega (arith, steps.1);
       init_len = s.init.len;
       init_fits = init_keeps job.cells s.inits job.init s.init;
-      code_len = (omega (arith, same, s.code.some), omega (arith, same, s.code.few));
+      code_len = (omega (arith, same, s.code.some), omega (arith, same, s.code.labelled.few));
       code_fits = code_keeps s.body job.code s.code;
     }
-
-rule_rest : (v : ℕ) (job : JobData) (lines : List Line) → SpellsRule v job lines → (rest : List Line) × SpellsRest job rest
-rule_rest (suc zero) job lines s = (lines, s.1)
-rule_rest zero job [] s = absurd s
-rule_rest zero job (rule ∷ lines) s = (lines, s.1)
-rule_rest (suc (suc v)) job [] s = absurd s
-rule_rest (suc (suc v)) job (rule ∷ lines) s = (lines, s.1)
-
-lines_keep : (job : JobData) (lines : List Line) → SpellsLines job lines → IsJob job
-lines_keep job [] s = absurd s
-lines_keep job (version ∷ []) s = absurd s
-lines_keep job (version ∷ cells ∷ []) s = absurd s
-lines_keep job (version ∷ cells ∷ procs ∷ []) s = absurd s
-lines_keep job (version ∷ cells ∷ procs ∷ steps ∷ lines) s =
-    let rest = rule_rest s.0 job lines s.5 in
-    let c = value_keeps job.cells (named_between (codes "cells") 1 65536 cells) s.2 in
-    let p = value_keeps job.procs (named_between (codes "procs") 1 1024 procs) s.3 in
-    let t = value_keeps job.steps (named_between (codes "steps") 0 most steps) s.4 in
-    rest_keeps job rest.0 c p (omega (arith, t.1)) rest.1
 
 pub spells_lawful : (text : List ℕ) (job : JobData) → Spells text job → IsJob job
 spells_lawful text job s = lines_keep job (worded (lines_of text)) s.lines

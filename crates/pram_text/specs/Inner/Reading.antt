@@ -1,7 +1,7 @@
 -- What a reader holds of the lines with words that it has read.
 use Rattle.std.specs.BTreeMap.{BTreeMap, get_by}
 use Rattle.std.specs.Cmp.Lexicographic.{slice_cmp}
-use Rattle.std.specs.Prelude.{◌≡◌, ◌≢◌, ℕ, zero, suc, ◌≤◌, ◌==◌, Bool, true, false, ◌&&◌, if◌then◌else◌, List, [], ◌∷◌, ◌++◌, length, map, codes, All, AllPairs, Option, Some, None, Result, Ok, Err, IfSome, IsTrue, ◌⊎◌, slice_index, slice_index_or, not, is_some, Vec}
+use Rattle.std.specs.Prelude.{◌≡◌, ◌≢◌, ℕ, ◌==◌, Bool, true, false, ◌&&◌, if◌then◌else◌, List, [], ◌∷◌, ◌++◌, length, map, Option, Some, None, Result, Ok, Err, ◌⊎◌, slice_index, slice_index_or, not, is_some, Vec}
 use Rattle.std.specs.Global.{Global}
 use Rattle.std.specs.Borrow.{Bor}
 use Rattle.std.specs.Ordering.{nat_cmp}
@@ -14,7 +14,6 @@ use Rattle.pram_text.specs.declared.fault.TextKind.TheVariants.{UnknownInstructi
 use Rattle.pram_text.specs.declared.head.Head.{Head}
 use Rattle.pram_text.specs.declared.head.Next.{Next}
 use Rattle.pram_text.specs.declared.head.Next.TheVariants.{Version, Cells, Procs, Steps, Rules, Start, Code}
-use Rattle.pram_text.specs.declared.instr.Rule.{Rule}
 use Rattle.pram_text.specs.declared.instr.Rule.TheVariants.{Common}
 use Rattle.pram_text.specs.declared.instr.Instr.{Instr}
 use Rattle.pram_text.specs.declared.instr.Instr.TheVariants.{Halt}
@@ -23,34 +22,15 @@ use Rattle.pram_text.specs.declared.program.Written.{Written}
 use Rattle.pram_text.specs.declared.reader.Reader.{Reader}
 use Rattle.pram_text.specs.Job.{JobData}
 use Rattle.pram_text.specs.Lines.{Word, Line, words_of, worded, is_filled}
-use Rattle.pram_text.specs.Judgement.{version_of, cells_of, procs_of, steps_of, rule_of, init_of, label_of, unlabelled, is_name, instr_of}
-use Rattle.pram_text.specs.Statement.{resolved, IsStatement}
-use Rattle.pram_text.specs.Text.{place_of, SpellsLines, words_fault, line_fault, init_fault, instr_fault, end_fault, has_code, body_of, IsFirst}
+use Rattle.pram_text.specs.Judgement.{version_of, cells_of, procs_of, steps_of, unlabelled, is_name, instr_of}
+use Rattle.pram_text.specs.Inner.Statement.{resolved}
+use Rattle.pram_text.specs.Text.{place_of, is_named, new_label_fault, NamesCells, IsLabelled, SpellsHeader, code_line, SpellsLines, words_fault, line_fault, init_fault, instr_fault, end_fault, has_code, body_of, label_fault_at, IsFirst}
 
 -- ---- the header
 
--- the lines that name this version's rule
-abbrev pub IsRuled : ℕ → Rule → List Line → Type 0
-IsRuled (suc zero) rule lines = (lines ≡ []) × (rule ≡ Common)
-IsRuled version rule lines = (line : Line) × (lines ≡ line ∷ []) × (rule_of line ≡ Ok rule)
-
--- the first four lines
-pub record IsSized (v c p s : Line) (head : Head) : Type 0 where
-  pub version : version_of v ≡ Ok head.version
-  pub cells : cells_of c ≡ Ok head.cells
-  pub procs : procs_of p ≡ Ok head.procs
-  pub steps : steps_of s ≡ Ok head.steps
-
 -- a header to its end
-pub record IsHeader (lines : List Line) (head : Head) : Type 0 where
-  pub version : Line
-  pub cells : Line
-  pub procs : Line
-  pub steps : Line
-  pub ruled : List Line
-  pub parts : lines ≡ version ∷ cells ∷ procs ∷ steps ∷ ruled
-  pub sized : IsSized version cells procs steps head
-  pub rule : IsRuled head.version head.rule ruled
+abbrev pub IsHeader : List Line → Head → Type 0
+IsHeader lines head = SpellsHeader head.version head.cells head.procs head.steps head.rule lines
 
 -- what comes next stands in the header
 abbrev pub IsFront : Next → Type 0
@@ -61,13 +41,19 @@ IsFront _ = Unit {0}
 -- the header so far, by what comes next
 abbrev pub HoldsHead : Next → List Line → Head → Type 0
 HoldsHead Version lines head = (lines ≡ []) × (head.rule ≡ Common)
-HoldsHead Cells lines head = (v : Line) × (lines ≡ v ∷ []) × (version_of v ≡ Ok head.version) × (head.rule ≡ Common)
+HoldsHead Cells lines head =
+    (v : Line) × (lines ≡ v ∷ []) × (version_of v ≡ Ok head.version) × (head.rule ≡ Common)
 HoldsHead Procs lines head =
-    (v : Line) × (c : Line) × (lines ≡ v ∷ c ∷ []) × (version_of v ≡ Ok head.version) × (cells_of c ≡ Ok head.cells) × (head.rule ≡ Common)
+    (v : Line) × (c : Line) × (lines ≡ v ∷ c ∷ [])
+    × (version_of v ≡ Ok head.version) × (cells_of c ≡ Ok head.cells) × (head.rule ≡ Common)
 HoldsHead Steps lines head =
-    (v : Line) × (c : Line) × (p : Line) × (lines ≡ v ∷ c ∷ p ∷ []) × (version_of v ≡ Ok head.version) × (cells_of c ≡ Ok head.cells) × (procs_of p ≡ Ok head.procs) × (head.rule ≡ Common)
+    (v : Line) × (c : Line) × (p : Line) × (lines ≡ v ∷ c ∷ p ∷ [])
+    × (version_of v ≡ Ok head.version) × (cells_of c ≡ Ok head.cells)
+    × (procs_of p ≡ Ok head.procs) × (head.rule ≡ Common)
 HoldsHead Rules lines head =
-    (v : Line) × (c : Line) × (p : Line) × (s : Line) × (lines ≡ v ∷ c ∷ p ∷ s ∷ []) × IsSized v c p s head × (head.version ≡ 2)
+    (v : Line) × (c : Line) × (p : Line) × (s : Line) × (lines ≡ v ∷ c ∷ p ∷ s ∷ [])
+    × (version_of v ≡ Ok head.version) × (cells_of c ≡ Ok head.cells)
+    × (procs_of p ≡ Ok head.procs) × (steps_of s ≡ Ok head.steps) × (head.version ≡ 2)
 HoldsHead _ lines head = IsHeader lines head
 
 -- one line more
@@ -83,8 +69,7 @@ given start c = slice_index_or start c None
 
 pub record HoldsStart (cells : ℕ) (inits : List Line) (start : List (Option ℕ)) : Type 0 where
   pub pairs : List (ℕ × ℕ)
-  pub said : map (init_of cells) inits ≡ map (λ p. Ok p) pairs
-  pub once : AllPairs (λ (p q : ℕ × ℕ). p.0 ≢ q.0) pairs
+  pub named : NamesCells cells inits pairs
   pub found : (c : ℕ) → given start c ≡ lookup (λ d. d == c) pairs
 
 abbrev pub TakesStart : ℕ → List Line → Line → Result (Unit {0}) TextKind → List (Option ℕ) → Type 0
@@ -97,16 +82,9 @@ TakesStart cells inits line (Err kind) start = kind ≢ Memory → init_fault ce
 abbrev pub place_at : BTreeMap (Bor (List ℕ)) ℕ → Word → Option ℕ
 place_at places name = get_by (λ k. slice_cmp nat_cmp name k.now) places
 
--- whether this label, if there is one, has the name
-abbrev pub is_named : Option Word → Word → Bool
-is_named None name = false
-is_named (Some label) name = bytes_eq label name
-
 -- what is wrong with one label more
 abbrev pub define_fault : BTreeMap (Bor (List ℕ)) ℕ → Option Word → Option TextKind
-define_fault places None = None
-define_fault places (Some label) =
-    if not (is_name label) then Some UnknownInstruction else (if is_some (place_at places label) then Some DuplicateLabel else None)
+define_fault places label = new_label_fault (λ name. is_some (place_at places name)) label
 
 -- one label more
 abbrev pub Defines : BTreeMap (Bor (List ℕ)) ℕ → Option Word → ℕ → Result (Unit {0}) TextKind → BTreeMap (Bor (List ℕ)) ℕ → Type 0
@@ -119,12 +97,9 @@ abbrev pub HoldsPlaces : List Line → BTreeMap (Bor (List ℕ)) ℕ → Type 0
 HoldsPlaces body places = (name : Word) → place_at places name ≡ place_of body name
 
 pub record HoldsCode (body : List Line) (program : Program) : Type 0 where
-  pub few : length body ≤ 4096
-  pub names : All (λ line. IfSome (label_of line) (λ label. IsTrue (is_name label))) body
-  pub once : AllPairs (λ a b. (label : Word) → label_of a ≡ Some label → label_of b ≢ Some label) body
+  pub labelled : IsLabelled body
   pub places : HoldsPlaces body program.places
   pub said : (find : Word → Option ℕ) → map (λ line. instr_of find (unlabelled line)) body ≡ map (λ w. resolved find w.statement) program.written.items
-  pub sound : All (λ w. IsStatement w.statement) program.written.items
 
 -- the numbers of the lines with instructions
 abbrev pub numbers_of : Program → List ℕ
@@ -153,7 +128,7 @@ HoldsAt Start before reader =
     (front : List Line) × (inits : List Line) × (before ≡ front ++ inits)
     × IsHeader front reader.head × HoldsStart reader.head.cells inits reader.start.items × HoldsCode [] reader.program
 HoldsAt Code before reader =
-    (front : List Line) × (inits : List Line) × (body : List Line) × (before ≡ front ++ (inits ++ (codes "code" ∷ []) ∷ body))
+    (front : List Line) × (inits : List Line) × (body : List Line) × (before ≡ front ++ (inits ++ code_line ∷ body))
     × IsHeader front reader.head × HoldsStart reader.head.cells inits reader.start.items × HoldsCode body reader.program
 HoldsAt next before reader = HoldsHead next before reader.head × (reader.start.items ≡ []) × HoldsCode [] reader.program
 
@@ -180,17 +155,14 @@ TakesLine before line old number (Err kind) reader = kind ≢ Memory → line_fa
 
 -- ---- the end
 
--- the kind of the jump in this line, if it leads to an unknown label
-abbrev pub unknown_at : List Line → ℕ → Option TextKind
-unknown_at body k = result_err (instr_of (place_of body) (unlabelled (slice_index_or body k [])))
+-- the first jump to an unknown label, and the number of its line
+abbrev pub IsUnknown : List Line → List ℕ → TextFault → Type 0
+IsUnknown before numbers fault =
+    (k : ℕ) × (fault.line ≡ slice_index numbers k) × IsFirst (label_fault_at (body_of before)) (length (body_of before)) k fault.kind
 
--- the fault of lines that were all read: what they lack, at their last line, or the first jump to an unknown label
-abbrev pub IsEndFault : List Line → List ℕ → ℕ → ℕ → TextKind → Type 0
-IsEndFault before numbers last line kind =
-    ((end_fault before ≡ Some kind) × (line ≡ last))
-    ⊎ ((end_fault before ≡ None) × (k : ℕ) × (line ≡ slice_index numbers k) × IsFirst (unknown_at (body_of before)) (length (body_of before)) k kind)
-
--- what the lines make, once all of them were read
+-- what lines that were all read make: where they lack something, a fault of their last one
 abbrev pub Finishes : List Line → List ℕ → ℕ → Result JobData TextFault → Type 0
 Finishes before numbers last (Ok job) = SpellsLines job before
-Finishes before numbers last (Err fault) = fault.kind ≢ Memory → IsEndFault before numbers last fault.line fault.kind
+Finishes before numbers last (Err fault) =
+    fault.kind ≢ Memory
+    → ((end_fault before ≡ Some fault.kind) × (fault.line ≡ last)) ⊎ ((end_fault before ≡ None) × IsUnknown before numbers fault)

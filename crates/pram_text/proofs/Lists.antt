@@ -1,48 +1,38 @@
 -- A list around one of its elements.
-use Rattle.std.proofs.Common.{◌≡◌, ℕ, ◌+◌, ◌<◌, suc, Bool, true, false, List, [], ◌∷◌, ◌++◌, length, take, drop, All, AllPairs, get_or, refl, sym, ap, subst, ◌∙◌, arith}
+use Rattle.std.proofs.Common.{◌≡◌, ◌⊎◌, inl, inr, ⊎_elim, ◌+◌, suc, Bool, true, false, ◌||◌, cond, List, [], ◌∷◌, ◌++◌, length, drop, All, AllPairs, get_or, refl, sym, ap, ap₂, subst, ◌∙◌, append-nil, append_assoc, arith}
 use Rattle.std.specs.List.{AllByRecursion, list_any, after_first, position_or_len}
-use Rattle.std.proofs.lemmas.Bool.{or_left, or_right, or_parts}
-use Rattle.std.proofs.lemmas.List.{length-append, get_or_append_left, get_or_at, get_or-take, take-append-drop, length-take-le, drop_more}
-
--- where x stands in xs ++ c ∷ ys
-pub data Place {X : Type 0} (before : List X) (x : X) (after xs : List X) (c : X) (ys : List X) : Type 0 where
-  left : (rest : List X) → xs ≡ before ++ x ∷ rest → after ≡ rest ++ c ∷ ys → Place before x after xs c ys
-  here : before ≡ xs → x ≡ c → after ≡ ys → Place before x after xs c ys
-  right : (rest : List X) → before ≡ xs ++ c ∷ rest → ys ≡ rest ++ x ∷ after → Place before x after xs c ys
+use Rattle.std.proofs.lemmas.Bool.{or_left, or_right, or_parts, cases_Bool}
+use Rattle.std.proofs.lemmas.List.{length-append, get_or_append_left, get_or_at}
 
 module _ {X : Type 0} where
-  place_more : (y : X) (before : List X) (x : X) (after xs : List X) (c : X) (ys : List X) → Place before x after xs c ys → Place (y ∷ before) x after (y ∷ xs) c ys
-  place_more y before x after xs c ys (left rest e f) = left rest (ap (λ l. y ∷ l) e) f
-  place_more y before x after xs c ys (here e f g) = here (ap (λ l. y ∷ l) e) f g
-  place_more y before x after xs c ys (right rest e f) = right rest (ap (λ l. y ∷ l) e) f
+  -- an element of two lists in a row stands in the first or in the second
+  pub split_of_append : (xs ys before : List X) (x : X) (after : List X) → xs ++ ys ≡ before ++ x ∷ after
+      → ((rest : List X) × (xs ≡ before ++ x ∷ rest)) ⊎ ((more : List X) × (before ≡ xs ++ more) × (ys ≡ more ++ x ∷ after))
+  split_of_append [] ys before x after e = inr (before, refl, e)
+  split_of_append (z ∷ xs) ys [] x after e = let same : z ≡ x = cc in inl (xs, ap (λ w. w ∷ xs) same)
+  split_of_append (z ∷ xs) ys (b ∷ before) x after e =
+      let same : z ≡ b = cc in
+      let rest : xs ++ ys ≡ before ++ x ∷ after = cc in
+      elim (split_of_append xs ys before x after rest) [
+        | inl l ↦ inl (l.0, λ i. same i ∷ l.1 i)
+        | inr r ↦ let same' = sym same in inr (r.0, (λ i. same' i ∷ r.1 i), r.2)
+      ]
 
-  pub place_of_split : (before : List X) (x : X) (after xs : List X) (c : X) (ys : List X) → before ++ x ∷ after ≡ xs ++ c ∷ ys → Place before x after xs c ys
-  place_of_split [] x after [] c ys e =
-      let first : x ≡ c = cc in
-      let rest : after ≡ ys = cc in
-      here refl first rest
-  place_of_split [] x after (y ∷ xs) c ys e =
-      let first : x ≡ y = cc in
-      let rest : after ≡ xs ++ c ∷ ys = cc in
-      left xs (ap (λ z. z ∷ xs) (sym first)) rest
-  place_of_split (b ∷ before) x after [] c ys e =
-      let first : b ≡ c = cc in
-      let rest : ys ≡ before ++ x ∷ after = cc in
-      right before (ap (λ z. z ∷ before) first) rest
-  place_of_split (b ∷ before) x after (y ∷ xs) c ys e =
-      let first : b ≡ y = cc in
-      let rest : before ++ x ∷ after ≡ xs ++ c ∷ ys = cc in
-      subst (λ z. Place (b ∷ before) x after (z ∷ xs) c ys) first (place_more b before x after xs c ys (place_of_split before x after xs c ys rest))
+  -- what holds of no element, and of one more each time, holds of all
+  grown_from : (P : List X → Type 0) (front xs : List X) → P front → ((before : List X) (x : X) (after : List X) → front ++ xs ≡ before ++ x ∷ after → P before → P (before ++ x ∷ [])) → P (front ++ xs)
+  grown_from P front [] p more = subst P (sym (append-nil front)) p
+  grown_from P front (x ∷ xs) p more =
+      let same = append_assoc front (x ∷ []) xs in
+      subst P same (grown_from P (front ++ x ∷ []) xs (more front x xs refl p) (λ before y after e. more before y after (sym same ∙ e)))
+
+  pub grown : (P : List X → Type 0) (xs : List X) → P [] → ((before : List X) (x : X) (after : List X) → xs ≡ before ++ x ∷ after → P before → P (before ++ x ∷ [])) → P xs
+  grown P xs none more = grown_from P [] xs none more
 
   -- ---- the first element that passes a test
 
   module _ (p : X → Bool) where
     abbrev pub NonePasses : List X → Type 0
     NonePasses xs = AllByRecursion (λ x. p x ≡ false) xs
-
-    pub none_append : (xs ys : List X) → NonePasses xs → NonePasses ys → NonePasses (xs ++ ys)
-    none_append [] ys h k = k
-    none_append (x ∷ xs) ys h k = (h.0, none_append xs ys h.1 k)
 
     pub none_left : (xs ys : List X) → NonePasses (xs ++ ys) → NonePasses xs
     none_left [] ys h = tt
@@ -94,32 +84,37 @@ module _ {X : Type 0} where
         let at : position_or_len p (x ∷ xs) + 1 ≡ suc (position_or_len p xs + 1) = rw e (omega arith) in
         ap (λ n. drop n (x ∷ xs)) at
 
+    -- one element more
+    pub after_first-push : (xs : List X) (y : X) → after_first p (xs ++ y ∷ []) ≡ after_first p xs ++ cond (list_any p xs) (y ∷ []) []
+    after_first-push [] y = ⊎_elim (λ yes. rw yes refl) (λ no. rw no refl) (cases_Bool (p y))
+    after_first-push (x ∷ xs) y =
+        ⊎_elim
+        (λ here. rw here refl)
+        (λ later. after_first_skip x (xs ++ y ∷ []) later ∙ after_first-push xs y ∙ ap₂ (λ zs b. zs ++ cond b (y ∷ []) []) (sym (after_first_skip x xs later)) (sym (ap (λ b. b || list_any p xs) later)))
+        (cases_Bool (p x))
+
     -- the first that passes cuts a list in one way
     pub cut_once : (xs : List X) (c : X) (ys xs' : List X) (c' : X) (ys' : List X) → NonePasses xs → p c ≡ true → NonePasses xs' → p c' ≡ true → xs ++ c ∷ ys ≡ xs' ++ c' ∷ ys' → (xs ≡ xs') × (ys ≡ ys')
-    cut_once xs c ys xs' c' ys' n t n' t' e = go (place_of_split xs c ys xs' c' ys' e)
-      where
-        go : Place xs c ys xs' c' ys' → (xs ≡ xs') × (ys ≡ ys')
-        go (left rest f g) = let no = none_at xs c rest (subst NonePasses f n') in cc
-        go (here f g h) = (f, h)
-        go (right rest f g) = let no = none_at xs' c' rest (subst NonePasses f n) in cc
+    cut_once [] c ys [] c' ys' n t n' t' e = let same : ys ≡ ys' = cc in (refl, same)
+    cut_once [] c ys (x ∷ xs') c' ys' n t n' t' e = let same : c ≡ x = cc in let no = n'.0 in cc
+    cut_once (x ∷ xs) c ys [] c' ys' n t n' t' e = let same : x ≡ c' = cc in let no = n.0 in cc
+    cut_once (x ∷ xs) c ys (x' ∷ xs') c' ys' n t n' t' e =
+        let same : x ≡ x' = cc in
+        let more : xs ++ c ∷ ys ≡ xs' ++ c' ∷ ys' = cc in
+        let rest = cut_once xs c ys xs' c' ys' n.1 t n'.1 t' more in
+        ((λ i. same i ∷ rest.0 i), rest.1)
 
-  -- ---- from each element to all
+  -- ---- from all elements to each
 
   pub all_at : (P : X → Type 0) (before : List X) (x : X) (after : List X) → All P (before ++ x ∷ after) → P x
   all_at P before x after h = subst P (get_or_at before x after x (length before) refl) (h (length before) x (omega (arith, length-append before (x ∷ after))))
-
-  pub around : (xs : List X) (k : ℕ) (d : X) → k < length xs → xs ≡ take k xs ++ get_or xs k d ∷ drop (k + 1) xs
-  around xs k d lt = sym (take-append-drop k xs) ∙ ap (λ l. take k xs ++ l) (drop_more xs k d lt)
-
-  pub all_from_splits : (P : X → Type 0) (xs : List X) → ((before : List X) (x : X) (after : List X) → xs ≡ before ++ x ∷ after → P x) → All P xs
-  all_from_splits P xs h k d lt = h (take k xs) (get_or xs k d) (drop (k + 1) xs) (around xs k d lt)
 
   pub pairs_at : (R : X → X → Type 0) (before : List X) (x : X) (after : List X) → AllPairs R (before ++ x ∷ after) → All (λ y. R y x) before
   pairs_at R before x after h k d lt =
       let one : R (get_or (before ++ x ∷ after) k d) (get_or (before ++ x ∷ after) (length before) d) = h k (length before) d lt (omega (arith, length-append before (x ∷ after))) in
       rw (get_or_append_left before (x ∷ after) d k lt) at (rw (get_or_at before x after d (length before) refl) at one)
 
-  pub pairs_from_splits : (R : X → X → Type 0) (xs : List X) → ((before : List X) (x : X) (after : List X) → xs ≡ before ++ x ∷ after → All (λ y. R y x) before) → AllPairs R xs
-  pairs_from_splits R xs h i j d lt within =
-      let one = h (take j xs) (get_or xs j d) (drop (j + 1) xs) (around xs j d within) i d (omega (arith, length-take-le j xs)) in
-      subst (λ y. R y (get_or xs j d)) (get_or-take j xs i d lt) one
+  pub pairs_before : (R : X → X → Type 0) (before after : List X) → AllPairs R (before ++ after) → AllPairs R before
+  pairs_before R before after h i j d lt within =
+      let one : R (get_or (before ++ after) i d) (get_or (before ++ after) j d) = h i j d lt (omega (arith, length-append before after)) in
+      rw (get_or_append_left before after d i (omega arith)) at (rw (get_or_append_left before after d j within) at one)
