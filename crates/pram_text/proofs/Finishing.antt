@@ -1,21 +1,20 @@
 -- A reader that has read every line.
-use Rattle.std.proofs.Common.{◌≡◌, ◌≢◌, ℕ, ◌<◌, ◌≤◌, List, [], ◌∷◌, length, map, get_or, Ok, Option, Some, None, refl, ap, sym, ◌∙◌, true, false, unwrap_or, arith, ok_or}
+use Rattle.std.proofs.Common.{◌≡◌, ◌≢◌, ℕ, ◌<◌, ◌≤◌, List, [], ◌∷◌, length, map, get_or, Ok, Some, None, refl, ap, sym, ◌∙◌, true, false, unwrap_or, arith}
 use Rattle.std.specs.List.{range_with_len}
 use Rattle.std.specs.Result.{result_err}
 use Rattle.std.proofs.lemmas.List.{get_or-map, nil_from_length}
 use Rattle.pram_text.specs.declared.fault.TextKind.{TextKind}
-use Rattle.pram_text.specs.declared.fault.TextKind.TheVariants.{BadHeader, NoCode, UnknownLabel}
+use Rattle.pram_text.specs.declared.fault.TextKind.TheVariants.{BadHeader, NoCode}
 use Rattle.pram_text.specs.declared.head.Next.{Next}
 use Rattle.pram_text.specs.declared.head.Next.TheVariants.{Version, Cells, Procs, Steps, Rules, Start, Code}
 use Rattle.pram_text.specs.declared.instr.Instr.{Instr}
 use Rattle.pram_text.specs.declared.instr.Instr.TheVariants.{Halt}
 use Rattle.pram_text.specs.declared.program.Program.{Program}
 use Rattle.pram_text.specs.declared.reader.Reader.{Reader}
-use Rattle.pram_text.specs.declared.statement.Statement.{Statement}
-use Rattle.pram_text.specs.Lines.{Line, Word, is_filled}
-use Rattle.pram_text.specs.Judgement.{instr_of, unlabelled, place_in, ◌>>=◌}
+use Rattle.pram_text.specs.Lines.{Line, is_filled}
+use Rattle.pram_text.specs.Judgement.{instr_of, unlabelled}
 use Rattle.pram_text.specs.Inner.Reading.{given, HoldsAt, HoldsCode, place_at, fault_of_place}
-use Rattle.pram_text.specs.Inner.Statement.{resolved, aimed}
+use Rattle.pram_text.specs.Inner.Statement.{resolved}
 use Rattle.pram_text.specs.Text.{end_fault, has_code, place_of, label_fault_at, IsFirst, SpellsLines}
 use Rattle.pram_text.proofs.Inits.{SpellsInit-held}
 use Rattle.pram_text.proofs.Labels.{length-held}

@@ -1,5 +1,5 @@
 -- What the judgement of a line depends on, at each stage of a text.
-use Rattle.std.proofs.Common.{◌≡◌, ◌⊎◌, ℕ, ◌==◌, List, [], ◌∷◌, ◌++◌, Result, Ok, Err, Some, None, refl, ap, sym, ◌∙◌, subst, Bool, true, false, not, ◌||◌, cond, if◌then◌else◌, ⊎_elim, inl, inr, eqb-true, codes, bytes_eq, option_map}
+use Rattle.std.proofs.Common.{◌≡◌, ◌⊎◌, ℕ, ◌==◌, List, [], ◌∷◌, ◌++◌, Result, Ok, Err, None, refl, ap, sym, ◌∙◌, subst, Bool, true, false, not, ◌||◌, cond, if◌then◌else◌, ⊎_elim, inl, inr, eqb-true, codes, bytes_eq, option_map}
 use Rattle.std.specs.List.{list_any, after_first, cons_option}
 use Rattle.std.specs.Result.{result_ok, result_unwrap_or}
 use Rattle.std.proofs.lemmas.Bool.{cond-false, or_cases}

@@ -1,16 +1,15 @@
 -- What a reader holds of the lines with words that it has read.
 use Rattle.std.specs.BTreeMap.{BTreeMap, get_by}
 use Rattle.std.specs.Cmp.Lexicographic.{slice_cmp}
-use Rattle.std.specs.Prelude.{◌≡◌, ◌≢◌, ℕ, ◌==◌, Bool, true, false, ◌&&◌, if◌then◌else◌, List, [], ◌∷◌, ◌++◌, length, map, Option, Some, None, Result, Ok, Err, ◌⊎◌, slice_index, slice_index_or, not, is_some, Vec}
+use Rattle.std.specs.Prelude.{◌≡◌, ◌≢◌, ℕ, ◌==◌, Bool, true, false, ◌&&◌, if◌then◌else◌, List, [], ◌∷◌, ◌++◌, length, map, Option, Some, None, Result, Ok, Err, ◌⊎◌, slice_index, slice_index_or, is_some, Vec}
 use Rattle.std.specs.Global.{Global}
 use Rattle.std.specs.Borrow.{Bor}
 use Rattle.std.specs.Ordering.{nat_cmp}
-use Rattle.std.specs.Str.{bytes_eq}
 use Rattle.std.specs.Map.{lookup}
 use Rattle.std.specs.Result.{result_err}
 use Rattle.pram_text.specs.declared.fault.TextFault.{TextFault}
 use Rattle.pram_text.specs.declared.fault.TextKind.{TextKind}
-use Rattle.pram_text.specs.declared.fault.TextKind.TheVariants.{UnknownInstruction, DuplicateLabel, Memory}
+use Rattle.pram_text.specs.declared.fault.TextKind.TheVariants.{Memory}
 use Rattle.pram_text.specs.declared.head.Head.{Head}
 use Rattle.pram_text.specs.declared.head.Next.{Next}
 use Rattle.pram_text.specs.declared.head.Next.TheVariants.{Version, Cells, Procs, Steps, Rules, Start, Code}
@@ -22,7 +21,7 @@ use Rattle.pram_text.specs.declared.program.Written.{Written}
 use Rattle.pram_text.specs.declared.reader.Reader.{Reader}
 use Rattle.pram_text.specs.Job.{JobData}
 use Rattle.pram_text.specs.Lines.{Word, Line, words_of, worded, is_filled}
-use Rattle.pram_text.specs.Judgement.{version_of, cells_of, procs_of, steps_of, unlabelled, is_name, instr_of}
+use Rattle.pram_text.specs.Judgement.{version_of, cells_of, procs_of, steps_of, unlabelled, instr_of}
 use Rattle.pram_text.specs.Inner.Statement.{resolved}
 use Rattle.pram_text.specs.Text.{place_of, is_named, new_label_fault, NamesCells, IsLabelled, SpellsHeader, code_line, SpellsLines, words_fault, line_fault, init_fault, instr_fault, end_fault, has_code, body_of, label_fault_at, IsFirst}
 

@@ -1,4 +1,4 @@
-use Rattle.std.proofs.Common.{◌∙◌, sym, inr, arith}
+use Rattle.std.proofs.Common.{inr, arith}
 use Rattle.std.proofs.lemmas.Result.{err_from_is_err_and}
 use Rattle.pram_text.proofs.Finishing.{end_fault-none, first_unknown, SpellsLines-held}
 use Rattle.pram_text.proofs.Lawful.{lines_keep}
