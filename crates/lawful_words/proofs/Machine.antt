@@ -7,7 +7,8 @@ use Rattle.pram_step.specs.Runs.{IsReached, AgreesAfter, state_after}
 use Rattle.pram_step.proofs.LawWriters.{writer_cases}
 use Rattle.pram_step.proofs.LawNext.{next_is_next, after_none}
 use Rattle.pram_step.proofs.LawFixed.{length-state_after}
-use Rattle.pram_step.proofs.LawFits.{place_fits, state_fits, writes_fit}
+use Rattle.pram_step.proofs.LawFits.{state_fits, writes_fit}
+use Rattle.pram_step.proofs.Shapes.{place_fits}
 use Rattle.lawful_words.specs.Steps.{Asks, Wins, IsWritten, requests_after, last_by, last_write}
 
 -- step s + 1 writes the place, or leaves it
