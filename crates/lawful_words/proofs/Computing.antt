@@ -21,7 +21,7 @@ use Rattle.pram_step.specs.Instructions.{request_in, operands_of, cell_read, dec
 use Rattle.pram_step.proofs.Shapes.{instr_is}
 use Rattle.walkx.proofs.Asking.{operands_fit}
 use Rattle.walkx.proofs.Cells.{cell_is}
-use Rattle.lawful_words.specs.Steps.{part_after}
+use Rattle.pram_step.specs.History.{part_after}
 use Rattle.lawful_words.specs.Board.{held, root, Raised, Grows}
 use Rattle.lawful_words.specs.Statements.{Floor}
 use Rattle.lawful_words.proofs.Raising.{kind_of}

@@ -16,12 +16,13 @@ use Rattle.walkx.specs.Reads.{step_seen, lesser, told_at, read_script, reader_sc
 use Rattle.walkx.specs.Records.{Record, after}
 use Rattle.walkx.specs.Tasks.{newer_payload, is_late}
 use Rattle.pram_words.proofs.Numbering.{numbering}
-use Rattle.lawful_words.specs.Steps.{last_write, write_before}
+use Rattle.pram_step.specs.History.{last_write, write_before}
+use Rattle.pram_step.proofs.LawFixed.{reached_down}
+use Rattle.pram_step.proofs.Past.{last_most, last_rises, value_between, written_value}
 use Rattle.lawful_words.specs.Board.{held, root, conflict, stamp_at, finished, IsPair, newer_first, newer_second, new_first, new_second, Stands, Grows}
 use Rattle.lawful_words.specs.Moments.{Moment, Backed}
 use Rattle.lawful_words.specs.Seen.{Hears, Heard, Shows, KnowsStep}
 use Rattle.lawful_words.specs.Walks.{IsLawfulRead}
-use Rattle.lawful_words.proofs.Machine.{reached_down, last_most, last_rises, value_between, written_value}
 use Rattle.lawful_words.proofs.Values.{fin, WordIs, is_settled, is_before, is_new, stamp_step, payload_step, before_rises}
 use Rattle.lawful_words.proofs.Moments.{same, onward, stamps_rise, backed_later}
 use Rattle.lawful_words.proofs.Sees.{afters}

@@ -22,15 +22,16 @@ use Rattle.walkx.specs.declared.operation.Op.TheVariants.{Max, Store, Swap}
 use Rattle.walkx.proofs.Boards.{same_cells, same_procs}
 use Rattle.pram_step.specs.Instructions.{request_in, place_part, value_part, HasShape}
 use Rattle.pram_step.proofs.Shapes.{request_shape}
-use Rattle.lawful_words.specs.Steps.{Asks, Wins, phase_written, last_write, write_before, word_of_step, settled, settled_before, part_after}
+use Rattle.pram_step.specs.History.{Asks, Wins, last_write, write_before, part_after}
+use Rattle.pram_step.proofs.Past.{last_most, last_least, conflict_above, asks_fits, asks_place, before_most}
+use Rattle.lawful_words.specs.Steps.{phase_written, word_of_step, settled, settled_before}
 use Rattle.lawful_words.specs.Board.{held, root, conflict, leaf, stamp_at, finished, phase_in, IsTree, IsAsked, IsNew, IsPair, newer_first, newer_second, new_first, new_second, IsClaimed, claimed_now, IsNamed, Lawful, Only, Stands, Grows}
 use Rattle.lawful_words.specs.Moments.{Keeps}
 use Rattle.lawful_words.specs.Statements.{B, C5, Floor, Does}
-use Rattle.lawful_words.proofs.Machine.{last_most, last_least, conflict_above, asks_fits}
-use Rattle.lawful_words.proofs.Values.{before_most, before_less, stamp_step}
+use Rattle.lawful_words.proofs.Values.{before_less, stamp_step}
 use Rattle.lawful_words.proofs.Frames.{only_grows, does_max, does_swap, keeps_store, same_or_other}
 use Rattle.lawful_words.proofs.Facts.{facts, board, procs_fit, late_of, claim_fits}
-use Rattle.lawful_words.proofs.Keeping.{done_later, settle, asks_place}
+use Rattle.lawful_words.proofs.Keeping.{done_later, settle}
 use Rattle.lawful_words.proofs.Raising.{behind, alive}
 
 settled_stamp : (job : JobData) (t p : ℕ) → IsJob job → stamp_of (settled job t p) ≡ last_write job t p

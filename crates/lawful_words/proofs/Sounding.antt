@@ -19,8 +19,8 @@ use Rattle.walkx.proofs.BoundSteps.{own_steps as bound}
 use Rattle.walkx.proofs.Ends.{heard_root, heard_both}
 use Rattle.walkx.proofs.Knowing.{has_newest}
 use Rattle.walkx.specs.Tasks.{newer_payload}
+use Rattle.pram_step.specs.History.{part_after}
 use Rattle.lawful_words.specs.Board.{Stands}
-use Rattle.lawful_words.specs.Steps.{part_after}
 use Rattle.lawful_words.specs.Moments.{Backed, WasBacked, Sound}
 use Rattle.lawful_words.specs.Seen.{Heard, KnowsStep}
 use Rattle.lawful_words.specs.Walks.{IsLawfulRead}

@@ -17,9 +17,10 @@ use Rattle.pram_words.specs.Words.{LayoutData, IsLayout, IsWord, layout_of, plac
 use Rattle.pram_words.proofs.Halvings.{leaves_least}
 use Rattle.pram_words.proofs.Starts.{starts_admitted, layout_of_limits}
 use Rattle.pram_words.specs.declared.layout.Form.{Form}
-use Rattle.lawful_words.specs.Steps.{last_write, settled}
+use Rattle.pram_step.specs.History.{last_write}
+use Rattle.pram_step.proofs.Past.{last_most}
+use Rattle.lawful_words.specs.Steps.{settled}
 use Rattle.lawful_words.specs.Board.{held, root, leaf, phase_in, LawfulFor, newer_first, claimed_before, Stands}
-use Rattle.lawful_words.proofs.Machine.{last_most}
 use Rattle.lawful_words.proofs.Keeping.{settle}
 
 -- what a place holds before all steps

@@ -14,7 +14,8 @@ use Rattle.pram_words.specs.Words.{LayoutData, IsLayout, IsWord, IsAdmitted, num
 use Rattle.walkx.specs.Tasks.{claim_of}
 use Rattle.walkx.specs.Walk.{IsLayoutOf}
 use Rattle.walkx.specs.Reads.{step_seen}
-use Rattle.lawful_words.specs.Steps.{Asks, Wins, phase_written, last_write, settled, settled_before, part_after}
+use Rattle.pram_step.specs.History.{Asks, Wins, last_write, part_after}
+use Rattle.lawful_words.specs.Steps.{phase_written, settled, settled_before}
 
 -- what a word of the board holds
 abbrev pub held : LayoutData → List ℕ → Word → ℕ
