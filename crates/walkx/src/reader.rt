@@ -41,7 +41,7 @@ impl Reader {
     ghost use Rattle.std.specs.Prelude.{◌≡◌, ℕ, ◌<◌, [], length};
     ghost use Rattle.pram_text.specs.Job.{JobData};
     ghost use Rattle.pram_words.specs.Words.{LayoutData};
-    ghost use Rattle.walkx.specs.Inner.Glances.{Follows};
+    ghost use Rattle.walkx.specs.Serving.{Follows};
     ghost use Rattle.walkx.specs.Reads.{LooksFit, LooksOnBoard, HeardAdmitted, look_of, looked, looks_for};
     ghost use Rattle.walkx.specs.Walk.{IsLayoutOf};
 

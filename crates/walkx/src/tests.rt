@@ -1,7 +1,6 @@
 //! Worked rows: what no clause says, or what was worked out by hand.
-ghost use Rattle.walkx.specs.Inner.Glances.{Follows};
 ghost use Rattle.walkx.specs.Reads.{LooksFit};
-ghost use Rattle.walkx.specs.Inner.Stages.{Serves};
+ghost use Rattle.walkx.specs.Serving.{Follows, Serves};
 ghost use Rattle.walkx.specs.Walk.{IsLayoutOf};
 
 use crate::{Ended, Op, ReadOp, Reader, Reading, Worker, request_of, requests_meet, seen_step};

@@ -8,19 +8,6 @@ use pram_text::Job;
 use pram_words::Layout;
 use std::marker::Model;
 
-/// What a worker is doing: which script is in progress, a turn being part of a phase.
-#[derive(Clone, Copy, Debug, PartialEq, Eq)]
-pub enum Doing {
-    /// It comes back, and loads its position.
-    Back,
-    /// It begins, and looks for the phase.
-    Begin,
-    /// It makes a turn in this phase.
-    Turn(u64),
-    /// It is over.
-    Over(Ended),
-}
-
 /// A worker. It asks for one atomic step at a time, and is told the answer.
 #[derive(Drop)]
 pub struct Worker {
@@ -47,7 +34,8 @@ impl Worker {
     ghost use Rattle.std.specs.Prelude.{◌≡◌, ◌<◌};
     ghost use Rattle.pram_text.specs.Job.{JobData};
     ghost use Rattle.pram_words.specs.Words.{LayoutData};
-    ghost use Rattle.walkx.specs.Inner.Stages.{Serves, post_of};
+    ghost use Rattle.walkx.specs.Inner.Stages.{post_of};
+    ghost use Rattle.walkx.specs.Serving.{Serves};
     ghost use Rattle.walkx.specs.Walk.{AsksAdmitted, HearsAdmitted, IsBoard, IsLayoutOf, ask_of, come_back, end_of, started, told};
 
     /// Worker w, at its first leaf.

@@ -55,9 +55,8 @@ pub record ReaderData : Type 0 where
   pub looking : Looking
   pub stage : Glance
 
--- the cell is on the board, and the stage stands for the rest of the script
-pub record Follows (y : LayoutData) (k : ReaderData) : Type 0 where
-  pub cell : k.looking.cell < y.cells
+-- its stage stands for the rest of its script
+pub record StandsAt (y : LayoutData) (k : ReaderData) : Type 0 where
   pub rest : look_of y k.looking ≡ script_of_glance y k.looking.cell k.stage
   pub stage : IsGlance k.stage
   pub few : length k.looking.heard ≤ most_looked k.stage

@@ -15,8 +15,8 @@ use Rattle.pram_words.specs.Words.{LayoutData, number_of, places_of}
 use Rattle.pram_words.specs.declared.words.Word.TheVariants.{Conflict, Node, Asked, Stored, Claim}
 use Rattle.walkx.specs.declared.operation.Ended.TheVariants as ended
 use Rattle.walkx.specs.declared.operation.Op.TheVariants.{Load, Max, Swap}
-use Rattle.walkx.specs.declared.worker.Doing.{Doing}
-use Rattle.walkx.specs.declared.worker.Doing.TheVariants as doing
+use Rattle.walkx.specs.Doing.{Doing}
+use Rattle.walkx.specs.Doing as doing
 use Rattle.walkx.specs.declared.stage.Carry.{Carry}
 use Rattle.walkx.specs.declared.stage.Want.{Want}
 use Rattle.walkx.specs.declared.stage.Want.TheVariants as want
@@ -26,7 +26,7 @@ use Rattle.walkx.specs.declared.stage.Step.{Step}
 use Rattle.walkx.specs.declared.stage.Step.TheVariants as step
 use Rattle.walkx.specs.Scripts.{Script, asks, ends}
 use Rattle.walkx.specs.Tasks.{is_late, older, older_word, newer_payload, loads_both, reads_place, writes_place, reads_cell, raises_request, executes, hears_part, if_data, claim_of, carries, claims, differs, reports, task_of}
-use Rattle.walkx.specs.Walk.{Then, begins, turns, stops, way_down, stands_at, back_script, begin_script, turn_script, Walking, node_of, rest_of, IsGoing, Fits}
+use Rattle.walkx.specs.Walk.{Then, begins, turns, stops, way_down, stands_at, back_script, begin_script, turn_script, Walking, node_of, rest_of, IsGoing}
 use Rattle.walkx.specs.Inner.Posts.{PostData, IsCell, IsLeaf, IsPart, step_of, processor_of, then_marks}
 
 -- behind the data, the counter is written where there is a next one
@@ -264,9 +264,8 @@ pub record WorkerData : Type 0 where
 abbrev pub post_of : JobData → LayoutData → WorkerData → PostData
 post_of job y k = record { job = job; layout = y; worker = k.walking.number; node = node_of y k.walking; phase = k.phase }
 
--- the worker fits, and its stage stands for the rest of its script
-pub record Serves (job : JobData) (y : LayoutData) (k : WorkerData) : Type 0 where
-  pub fits : Fits job y k.walking
+-- its stage stands for the rest of its script
+pub record Stands (job : JobData) (y : LayoutData) (k : WorkerData) : Type 0 where
   pub now : k.walking.now ≡ doing_of k.stage k.phase
   pub rest : rest_of job y k.walking ≡ script_at (post_of job y k) k.stage
   pub stage : IsStage (post_of job y k) k.stage
