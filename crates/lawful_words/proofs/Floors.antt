@@ -7,7 +7,7 @@ use Rattle.pram_words.specs.declared.words.Word.TheVariants.{Conflict, Node}
 use Rattle.pram_words.specs.Words.{LayoutData, number_of}
 use Rattle.walkx.specs.declared.operation.Op.{Op}
 use Rattle.walkx.specs.declared.operation.Op.TheVariants.{Load}
-use Rattle.walkx.specs.declared.worker.Doing.TheVariants as doing
+use Rattle.walkx.specs.Doing as doing
 use Rattle.walkx.specs.Walk.{phase_begun}
 use Rattle.pram_step.proofs.LawFixed.{reached_down}
 use Rattle.lawful_words.specs.Board.{root, conflict, finished, Stands, Grows}

@@ -9,7 +9,7 @@ use Rattle.walkx.specs.declared.operation.Ended.TheVariants as ended
 use Rattle.walkx.specs.declared.operation.Op.{Op}
 use Rattle.walkx.specs.declared.operation.Op.TheVariants.{Load}
 use Rattle.walkx.specs.declared.operation.Reading.TheVariants.{At}
-use Rattle.walkx.specs.declared.worker.Doing.TheVariants as doing
+use Rattle.walkx.specs.Doing as doing
 use Rattle.walkx.specs.Bound.{told_all, history_of, IsHeard, most_steps}
 use Rattle.walkx.specs.Reads.{step_seen, reader_script}
 use Rattle.walkx.specs.Records.{Record, empty, after, both, Has, Knows}

@@ -11,8 +11,8 @@ use Rattle.pram_words.specs.Phases.{kind_at, step_at}
 use Rattle.pram_words.specs.Words.{LayoutData, has_claims, number_of}
 use Rattle.walkx.specs.declared.operation.Op.{Op}
 use Rattle.walkx.specs.declared.operation.Op.TheVariants.{Load}
-use Rattle.walkx.specs.declared.worker.Doing.{Doing}
-use Rattle.walkx.specs.declared.worker.Doing.TheVariants as doing
+use Rattle.walkx.specs.Doing.{Doing}
+use Rattle.walkx.specs.Doing as doing
 use Rattle.walkx.specs.Scripts.{Script, asks, ends}
 use Rattle.walkx.specs.Tasks.{task_of}
 use Rattle.walkx.specs.Walk.{Then, begins, IsPhase, node_of, script_by, phase_begun, turn_script, leaf_script, marks, stands_at, way_down, IsBoard}
