@@ -5,7 +5,7 @@ use Rattle.std.proofs.lemmas.Bool.{eq-eqb}
 use Rattle.std.proofs.lemmas.List.{get_or-append_right, get_or-replicate}
 use Rattle.pram_text.specs.Job.{JobData, IsJob}
 use Rattle.pram_step.specs.declared.requests.Request.{Request}
-use Rattle.pram_step.specs.Machine.{State, place_count, counter_place, counter, start}
+use Rattle.pram_step.specs.Machine.{State, place_count, counter_place, counter, out_of_range, IsStopped, start}
 use Rattle.pram_step.specs.Instructions.{request_in, requests_in}
 use Rattle.pram_step.specs.Steps.{Writes, written, next_state}
 use Rattle.pram_step.specs.Runs.{state_after}
@@ -13,7 +13,7 @@ use Rattle.pram_step.proofs.LawWriters.{HasFirst, HasNone, writer_cases}
 use Rattle.pram_step.proofs.LawPlaces.{one_writer_value}
 use Rattle.pram_step.proofs.Shapes.{asks, request_within}
 use Rattle.pram_step.proofs.LawNext.{after_first}
-use Rattle.pram_step.proofs.LawHalted.{stopped_request}
+use Rattle.pram_step.proofs.LawStopped.{stopped_request}
 use Rattle.pram_step.proofs.LawFixed.{length-state_after}
 
 -- ---- a counter takes what its processor asks for
@@ -41,22 +41,23 @@ next_counter job s i is_job len lt =
 
 -- ---- a processor that has stopped stays stopped, and writes no data
 
-pub stopped_counter : (job : JobData) (t k i : ℕ) → IsJob job → i < job.procs → length job.code ≤ counter job (state_after job t) i → counter job (state_after job (t + k)) i ≡ counter job (state_after job t) i
+stopped_counter : (job : JobData) (t k i : ℕ) → IsJob job → i < job.procs → IsStopped job (state_after job t) i → counter job (state_after job (t + k)) i ≡ counter job (state_after job t) i
 unfolding state_after
 stopped_counter job t zero i is_job lt past = ap (λ (n : ℕ). counter job (state_after job n) i) (omega arith)
 stopped_counter job t (suc k) i is_job lt past =
     let before : counter job (state_after job (t + k)) i ≡ counter job (state_after job t) i = stopped_counter job t k i is_job lt past in
-    let still : length job.code ≤ counter job (state_after job (t + k)) i = omega (arith, before, past) in
+    let still : IsStopped job (state_after job (t + k)) i = omega (arith, before, past) in
     let there : t + suc k ≡ suc (t + k) = omega arith in
     ap (λ (n : ℕ). counter job (state_after job n) i) there
     ∙ next_counter job (state_after job (t + k)) i is_job (length-state_after job (t + k) is_job) lt
     ∙ ap (λ (r : Request). r.next) (stopped_request job (state_after job (t + k)) i still)
     ∙ before
 
-pub stopped_puts : (job : JobData) (t k i : ℕ) → IsJob job → i < job.procs → length job.code ≤ counter job (state_after job t) i → (request_in job (state_after job (t + k)) i).put ≡ None
-stopped_puts job t k i is_job lt past =
-    let still : length job.code ≤ counter job (state_after job (t + k)) i = omega (arith, stopped_counter job t k i is_job lt past, past) in
-    ap (λ (r : Request). r.put) (stopped_request job (state_after job (t + k)) i still)
+pub stopped_processor : (job : JobData) (t k i : ℕ) → IsJob job → i < job.procs → IsStopped job (state_after job t) i → (counter job (state_after job (t + k)) i ≡ counter job (state_after job t) i) × ((request_in job (state_after job (t + k)) i).put ≡ None)
+stopped_processor job t k i is_job lt past =
+    let same = stopped_counter job t k i is_job lt past in
+    let still : IsStopped job (state_after job (t + k)) i = omega (arith, same, past) in
+    (same, ap (λ (r : Request). r.put) (stopped_request job (state_after job (t + k)) i still))
 
 -- ---- how far a counter goes
 
@@ -68,9 +69,9 @@ start_counter job i is_job lt =
     get_or-append_right job.init (replicate (5 * job.procs) 0) job.cells (counter_place job i) 0 len past ∙ get_or-replicate (5 * job.procs) (counter_place job i - job.cells) 0 0 within
 
 -- a counter is an instruction's place, the code's length, or one more
-pub counter_within : (job : JobData) (t i : ℕ) → IsJob job → i < job.procs → counter job (state_after job t) i ≤ length job.code + 1
+pub counter_within : (job : JobData) (t i : ℕ) → IsJob job → i < job.procs → counter job (state_after job t) i ≤ out_of_range job
 unfolding state_after
 counter_within job zero i is_job lt = omega (arith, start_counter job i is_job lt)
 counter_within job (suc t) i is_job lt =
-    let le : (request_in job (state_after job t) i).next ≤ length job.code + 1 = request_within job (state_after job t) i is_job (counter_within job t i is_job lt) in
+    let le : (request_in job (state_after job t) i).next ≤ out_of_range job = request_within job (state_after job t) i is_job (counter_within job t i is_job lt) in
     omega (arith, next_counter job (state_after job t) i is_job (length-state_after job t is_job) lt, le)

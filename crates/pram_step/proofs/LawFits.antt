@@ -5,7 +5,7 @@ use Rattle.std.specs.List.{All}
 use Rattle.std.proofs.lemmas.Bool.{cases_lt}
 use Rattle.std.proofs.lemmas.List.{get_or_default, get_or_append_left, get_or-append_right, get_or-replicate, length-append, length-replicate}
 use Rattle.pram_text.specs.Job.{JobData, IsJob}
-use Rattle.pram_step.specs.Machine.{State, counter, start}
+use Rattle.pram_step.specs.Machine.{State, place_count, counter, start}
 use Rattle.pram_step.specs.Instructions.{request_in, requests_in}
 use Rattle.pram_step.specs.Steps.{Writes, next_state}
 use Rattle.pram_step.specs.Runs.{state_after}
@@ -13,7 +13,8 @@ use Rattle.pram_step.proofs.LawWriters.{HasFirst, HasNone, writer_cases}
 use Rattle.pram_step.proofs.RequestList.{written_cases}
 use Rattle.pram_step.proofs.LawPlaces.{writer_is}
 use Rattle.pram_step.proofs.Shapes.{place_fits, request_value, request_next_fits}
-use Rattle.pram_step.proofs.LawNext.{length-after, after_first, after_none}
+use Rattle.pram_step.proofs.LawNext.{after_first, after_none}
+use Rattle.pram_step.proofs.LawFixed.{length-after, length-state_after}
 
 -- ---- what a state of such numbers holds at any place
 
@@ -57,3 +58,6 @@ pub state_fits : (job : JobData) (t : ℕ) → IsJob job → All (λ v. v < 2 ^ 
 unfolding state_after
 state_fits job zero is_job = fits_from_places (start job) (λ p lt. start_place_fits job p is_job lt)
 state_fits job (suc t) is_job = next_fits job (state_after job t) is_job (state_fits job t is_job)
+
+pub all_places : (job : JobData) (t : ℕ) → IsJob job → (length (state_after job t) ≡ place_count job) × All (λ v. v < 2 ^ 32) (state_after job t)
+all_places job t is_job = (length-state_after job t is_job, state_fits job t is_job)

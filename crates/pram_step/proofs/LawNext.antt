@@ -4,7 +4,7 @@ use Rattle.std.specs.Prelude.{slice_index}
 use Rattle.std.specs.Option.{unwrap_or}
 use Rattle.std.proofs.lemmas.Bool.{cases_lt, cases_eq}
 use Rattle.std.proofs.lemmas.List.{ext_get_or}
-use Rattle.std.proofs.lemmas.List.FromFn.{length-map-range_with_len, get_or-map-range_with_len}
+use Rattle.std.proofs.lemmas.List.FromFn.{get_or-map-range_with_len}
 use Rattle.pram_text.specs.declared.instr.Rule.{Rule}
 use Rattle.pram_text.specs.declared.instr.Rule.TheVariants.{Common, Priority, Crew}
 use Rattle.pram_text.specs.Job.{JobData, IsJob}
@@ -14,12 +14,9 @@ use Rattle.pram_step.specs.Instructions.{requests_in}
 use Rattle.pram_step.specs.Steps.{Writes, Forbids, Agrees, Counts, IsNext, first_written, after_requests, next_state}
 use Rattle.pram_step.proofs.LawWriters.{written_once, IsFirstWriter, HasFirst, HasNone, writer_cases}
 use Rattle.pram_step.proofs.LawPlaces.{one_writer_value}
+use Rattle.pram_step.proofs.LawFixed.{length-after}
 
 -- ---- the next state, place by place
-
-pub length-after : (job : JobData) (requests : List Request) (s : State) → length (after_requests job requests s) ≡ length s
-unfolding after_requests
-length-after job requests s = length-map-range_with_len _ 0 (length s)
 
 pub after_at : (job : JobData) (requests : List Request) (s : State) (p : ℕ) → p < length s → slice_index (after_requests job requests s) p ≡ unwrap_or (first_written job p 0 requests) (slice_index s p)
 unfolding after_requests

@@ -39,3 +39,6 @@ one_writer_value job s p i j v w is_job no_cell a b =
     let same : i ≡ j = one_writer job s p i j v w is_job no_cell a b in
     let here : Writes job (requests_in job s) p i w = subst (λ (k : ℕ). Writes job (requests_in job s) p k w) (sym same) b in
     written_once job (requests_in job s) p i v w a here
+
+pub one_write : (job : JobData) (s : State) (p i j v w : ℕ) → IsJob job → job.cells ≤ p → Writes job (requests_in job s) p i v → Writes job (requests_in job s) p j w → (i ≡ j) × (v ≡ w)
+one_write job s p i j v w is_job no_cell a b = (one_writer job s p i j v w is_job no_cell a b, one_writer_value job s p i j v w is_job no_cell a b)

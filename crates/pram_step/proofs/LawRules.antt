@@ -116,16 +116,16 @@ priority_counts job Common n m requests p i counts = tt
 priority_counts job Priority n m requests p i counts = λ j w writes. counts j w (writes_same job Priority Priority n m requests p j w writes)
 priority_counts job Crew n m requests p i counts = tt
 
-pub next_for_priority : (job : JobData) (r : Rule) (n m : ℕ) (requests : List Request) (old new : State) → IsNext (varied job r n) requests old new → IsNext (varied job Priority m) requests old new
-next_for_priority job r n m requests old new is = record {
+pub next_for_priority : (job : JobData) (r : Rule) (requests : List Request) (old new : State) → IsNext (record job { rule = r }) requests old new → IsNext (record job { rule = Priority }) requests old new
+next_for_priority job r requests old new is = record {
   len = is.len;
-  written_to = λ p i v lt w counts. is.written_to p i v lt (writes_same job Priority r m n requests p i v w) (priority_counts job r n m requests p i counts);
-  kept = λ p lt none. is.kept p lt (λ i v w. none i v (writes_same job r Priority n m requests p i v w));
+  written_to = λ p i v lt w counts. is.written_to p i v lt (writes_same job Priority r job.steps job.steps requests p i v w) (priority_counts job r job.steps job.steps requests p i counts);
+  kept = λ p lt none. is.kept p lt (λ i v w. none i v (writes_same job r Priority job.steps job.steps requests p i v w));
 }
 
-pub next_from_crew : (job : JobData) (r : Rule) (n m : ℕ) (requests : List Request) (old new : State) → IsNext (varied job Crew n) requests old new → IsNext (varied job r m) requests old new
-next_from_crew job r n m requests old new is = record {
+pub next_from_crew : (job : JobData) (r : Rule) (requests : List Request) (old new : State) → IsNext (record job { rule = Crew }) requests old new → IsNext (record job { rule = r }) requests old new
+next_from_crew job r requests old new is = record {
   len = is.len;
-  written_to = λ p i v lt w counts. is.written_to p i v lt (writes_same job r Crew m n requests p i v w) tt;
-  kept = λ p lt none. is.kept p lt (λ i v w. none i v (writes_same job Crew r n m requests p i v w));
+  written_to = λ p i v lt w counts. is.written_to p i v lt (writes_same job r Crew job.steps job.steps requests p i v w) tt;
+  kept = λ p lt none. is.kept p lt (λ i v w. none i v (writes_same job Crew r job.steps job.steps requests p i v w));
 }

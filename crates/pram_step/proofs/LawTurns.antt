@@ -11,7 +11,8 @@ use Rattle.pram_step.specs.Machine.{State}
 use Rattle.pram_step.specs.Instructions.{requests_in}
 use Rattle.pram_step.specs.Steps.{Writes, Agrees, next_state}
 use Rattle.pram_step.specs.Orders.{HasAll, written_by, first_found, after_writes_of, after_in_turn}
-use Rattle.pram_step.proofs.LawNext.{length-after, after_at}
+use Rattle.pram_step.proofs.LawNext.{after_at}
+use Rattle.pram_step.proofs.LawFixed.{length-after}
 use Rattle.pram_step.proofs.LawOrders.{Found, found_some, writes_from_by, one_value, first_found_is}
 
 length-writes_of : (job : JobData) (requests : List Request) (i : ℕ) (s : State) → length (after_writes_of job requests i s) ≡ length s

@@ -1,5 +1,5 @@
 -- Lists of requests, and their writers.
-use Rattle.std.proofs.Common.{◌≡◌, ℕ, zero, suc, ◌<◌, ◌⊎◌, true, false, eqb, cond, List, [], ◌∷◌, ◌++◌, length, take, Option, Some, None, refl, sym, ap, ap₂, inl, inr, arith}
+use Rattle.std.proofs.Common.{◌≡◌, ◌≢◌, ℕ, zero, suc, ◌<◌, ◌⊎◌, true, false, eqb, cond, List, [], ◌∷◌, ◌++◌, length, take, Option, Some, None, refl, sym, ap, ap₂, inl, inr, arith}
 use Rattle.std.specs.Prelude.{slice_get}
 use Rattle.std.proofs.lemmas.Bool.{eq-eqb, ne_eqb, eqb-true, cases_Bool}
 use Rattle.std.proofs.lemmas.Option.{none-some, same_Some}
@@ -7,7 +7,7 @@ use Rattle.pram_text.specs.Job.{JobData}
 use Rattle.pram_step.specs.declared.requests.Request.{Request}
 use Rattle.pram_step.specs.Machine.{counter_place}
 use Rattle.pram_step.specs.Steps.{written, Writes}
-use Rattle.pram_step.specs.Marks.{Puts}
+use Rattle.pram_step.specs.Inner.Marks.{Puts}
 
 -- ---- the elements of a list that got one more
 
@@ -38,11 +38,8 @@ slice_get-take (suc n) (x ∷ xs) (suc i) h = slice_get-take n xs i (omega arith
 
 -- ---- writes to cells are data
 
-pub written_of_put : (job : JobData) (cell i v : ℕ) (r : Request) → cell < job.cells → r.put ≡ Some (cell, v) → written job cell i r ≡ Some v
-written_of_put job cell i v r low puts =
-    let away : eqb cell (counter_place job i) ≡ false = ne_eqb cell (counter_place job i) (λ same. omega arith) in
-    let here : eqb cell cell ≡ true = eq-eqb cell cell refl in
-    rw (away, puts, here)
+pub written_of_put : (job : JobData) (p i v : ℕ) (r : Request) → p ≢ counter_place job i → r.put ≡ Some (p, v) → written job p i r ≡ Some v
+written_of_put job p i v r away puts = rw (ne_eqb p (counter_place job i) away, puts, eq-eqb p p refl)
 
 -- a write to a place is the processor's next counter or its data
 put_of_data : (p v : ℕ) (o : Option (ℕ × ℕ)) → (elim o [ None ↦ None | Some w ↦ cond (eqb w.0 p) (Some w.1) None ]) ≡ Some v → o ≡ Some (p, v)
@@ -68,4 +65,4 @@ pub Puts-from_Writes : (job : JobData) (requests : List Request) (cell i v : ℕ
 Puts-from_Writes job requests cell i v low w = record { request = w.request; asked = w.asked; puts = put_of_written job cell i v w.request low w.writes }
 
 pub Writes-from_Puts : (job : JobData) (requests : List Request) (cell i v : ℕ) → cell < job.cells → Puts requests cell i v → Writes job requests cell i v
-Writes-from_Puts job requests cell i v low p = record { request = p.request; asked = p.asked; writes = written_of_put job cell i v p.request low p.puts }
+Writes-from_Puts job requests cell i v low p = record { request = p.request; asked = p.asked; writes = written_of_put job cell i v p.request (λ same. omega arith) p.puts }

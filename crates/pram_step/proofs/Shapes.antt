@@ -11,9 +11,9 @@ use Rattle.pram_text.specs.declared.instr.Instr.{Instr}
 use Rattle.pram_text.specs.declared.instr.Instr.TheVariants.{Set, Pid, And, Or, Xor, Lt, Eq, Ld, St, Jz, Jmp, Halt}
 use Rattle.pram_text.specs.Job.{JobData, IsJob, IsInstr}
 use Rattle.pram_step.specs.declared.requests.Request.{Request}
-use Rattle.pram_step.specs.Machine.{State, IsDataPlace, register_place, counter_place, register, counter}
+use Rattle.pram_step.specs.Machine.{State, IsDataPlace, register_place, counter_place, register, counter, out_of_range}
 use Rattle.pram_step.specs.Instructions.{operands_of, cell_read, gives, goes_to, decided, HasShape, operand_held, decided_in, request_in, requests_in}
-use Rattle.pram_step.specs.Marks.{AreOwn}
+use Rattle.pram_step.specs.Inner.Marks.{AreOwn}
 
 -- ---- the request of each processor
 
@@ -112,11 +112,11 @@ module _ (job : JobData) (i counter a b v : ℕ) where
   decided_value Halt is low fits fits_too held = of_none
   decided_value _ is low fits fits_too held = of_value _ _ (omega arith)
 
-  pub decided_next : (instr : Instr) → IsInstr (length job.code) instr → counter < length job.code → (decided job i counter instr a b v).next ≤ length job.code + 1
+  pub decided_next : (instr : Instr) → IsInstr (length job.code) instr → counter < length job.code → (decided job i counter instr a b v).next ≤ out_of_range job
   unfolding decided
-  decided_next (Ld r _) is low = by_test (λ r. r.next ≤ length job.code + 1) (nat_lt a job.cells) _ _ (λ is. omega arith) (λ is. omega arith)
-  decided_next (St _ _) is low = by_test (λ r. r.next ≤ length job.code + 1) (nat_lt a job.cells) _ _ (λ is. omega arith) (λ is. omega arith)
-  decided_next (Jz r place) is low = either (λ n. n ≤ length job.code + 1) (a == 0) place (counter + 1) (omega (arith, is.1)) (omega arith)
+  decided_next (Ld r _) is low = by_test (λ r. r.next ≤ out_of_range job) (nat_lt a job.cells) _ _ (λ is. omega arith) (λ is. omega arith)
+  decided_next (St _ _) is low = by_test (λ r. r.next ≤ out_of_range job) (nat_lt a job.cells) _ _ (λ is. omega arith) (λ is. omega arith)
+  decided_next (Jz r place) is low = either (λ n. n ≤ out_of_range job) (a == 0) place (counter + 1) (omega (arith, is.1)) (omega arith)
   decided_next (Jmp place) is low = omega (arith, is)
   decided_next _ is low = omega arith
 
@@ -152,18 +152,18 @@ request_value job s i place value is_job fits low =
     cell_fits None = omega arith
     cell_fits (Some cell) = place_fits s cell fits
 
-pub request_within : (job : JobData) (s : State) (i : ℕ) → IsJob job → counter job s i ≤ length job.code + 1 → (request_in job s i).next ≤ length job.code + 1
+pub request_within : (job : JobData) (s : State) (i : ℕ) → IsJob job → counter job s i ≤ out_of_range job → (request_in job s i).next ≤ out_of_range job
 request_within job s i is_job low =
-    request_by (λ r. r.next ≤ length job.code + 1) job s i low (λ instr e. decided_next job i _ _ _ _ instr (instr_is job _ instr is_job e) (slice_get_within job.code _ instr e))
+    request_by (λ r. r.next ≤ out_of_range job) job s i low (λ instr e. decided_next job i _ _ _ _ instr (instr_is job _ instr is_job e) (slice_get_within job.code _ instr e))
 
 pub request_next_fits : (job : JobData) (s : State) (i : ℕ) → IsJob job → All (λ v. v < 2 ^ 32) s → (request_in job s i).next < 2 ^ 32
 request_next_fits job s i is_job fits =
     request_by (λ r. r.next < 2 ^ 32) job s i (place_fits s (counter_place job i) fits) (λ instr e.
-    let low : (decided_in job s i instr).next ≤ length job.code + 1 = decided_next job i _ _ _ _ instr (instr_is job _ instr is_job e) (slice_get_within job.code _ instr e) in
+    let low : (decided_in job s i instr).next ≤ out_of_range job = decided_next job i _ _ _ _ instr (instr_is job _ instr is_job e) (slice_get_within job.code _ instr e) in
     let most = is_job.code_len.1 in
     omega arith)
 
-pub request_shape : (job : JobData) (s : State) (i : ℕ) → IsJob job → All (λ v. v < 2 ^ 32) s → i < job.procs → counter job s i ≤ length job.code + 1 → HasShape job i (request_in job s i)
+pub request_shape : (job : JobData) (s : State) (i : ℕ) → IsJob job → All (λ v. v < 2 ^ 32) s → i < job.procs → counter job s i ≤ out_of_range job → HasShape job i (request_in job s i)
 request_shape job s i is_job fits low inside = record {
   data_place = λ place value. request_place job s i place value is_job;
   data_value = λ place value. request_value job s i place value is_job fits low;
@@ -171,4 +171,4 @@ request_shape job s i is_job fits low inside = record {
 }
 
 pub AreOwn-requests_in : (job : JobData) (s : State) → IsJob job → AreOwn job (requests_in job s)
-AreOwn-requests_in job s is_job i place v p = request_place job s i place v is_job (subst (λ (r : Request). r.put ≡ Some (place, v)) (asked_is job s i p.request p.asked) p.puts)
+AreOwn-requests_in job s is_job = record { own = λ i place v p. request_place job s i place v is_job (subst (λ (r : Request). r.put ≡ Some (place, v)) (asked_is job s i p.request p.asked) p.puts) }

@@ -7,7 +7,7 @@ use Rattle.pram_text.specs.Job.{JobData}
 use Rattle.pram_step.specs.declared.instructions.Operands.{Operands}
 use Rattle.pram_step.specs.declared.instructions.Operands.TheVariants as operands
 use Rattle.pram_step.specs.declared.requests.Request.{Request}
-use Rattle.pram_step.specs.Machine.{State, register_place, IsDataPlace, register, counter}
+use Rattle.pram_step.specs.Machine.{State, register_place, IsDataPlace, register, counter, halted, out_of_range}
 
 -- ---- the table
 
@@ -42,7 +42,7 @@ gives job i counter r value = record { put = Some (register_place job i r, value
 abbrev pub goes_to : ℕ → Request
 goes_to place = record { put = None; next = place }
 
--- What processor i asks for by the instruction at its counter: a and b are what its operands hold, v what the cell holds that it reads.
+-- What processor i asks for by the instruction at its counter: its operands hold a and b, the cell that it reads holds v.
 unfoldable pub decided : JobData → ℕ → ℕ → Instr → ℕ → ℕ → ℕ → Request
 decided job i counter (Set r k) a b v = gives job i counter r k
 decided job i counter (Pid r) a b v = gives job i counter r i
@@ -54,11 +54,12 @@ decided job i counter (Or r _ _) a b v = gives job i counter r (bit_or a b)
 decided job i counter (Xor r _ _) a b v = gives job i counter r (bit_xor a b)
 decided job i counter (Lt r _ _) a b v = gives job i counter r (if nat_lt a b then 1 else 0)
 decided job i counter (Eq r _ _) a b v = gives job i counter r (if a == b then 1 else 0)
-decided job i counter (Ld r _) a b v = if nat_lt a job.cells then gives job i counter r v else goes_to (length job.code + 1)
-decided job i counter (St _ _) a b v = if nat_lt a job.cells then record { put = Some (a, b); next = counter + 1 } else goes_to (length job.code + 1)
+decided job i counter (Ld r _) a b v = if nat_lt a job.cells then gives job i counter r v else goes_to (out_of_range job)
+decided job i counter (St _ _) a b v =
+    if nat_lt a job.cells then record { put = Some (a, b); next = counter + 1 } else goes_to (out_of_range job)
 decided job i counter (Jz r place) a b v = goes_to (if a == 0 then place else counter + 1)
 decided job i counter (Jmp place) a b v = goes_to place
-decided job i counter Halt a b v = goes_to (length job.code)
+decided job i counter Halt a b v = goes_to (halted job)
 
 -- ---- in code, and in words
 
@@ -80,11 +81,11 @@ part_of request zero = place_part request
 part_of request (suc zero) = value_part request
 part_of request (suc (suc j)) = request.next
 
--- data goes to a cell or a register of processor i, numbers fit, and the next counter is at most one past the code's end
+-- data goes to a cell or a register of processor i, numbers fit, and the counter goes to an instruction, or the processor stops
 pub record HasShape (job : JobData) (i : ℕ) (request : Request) : Type 0 where
   pub data_place : (place value : ℕ) → request.put ≡ Some (place, value) → IsDataPlace job i place
   pub data_value : (place value : ℕ) → request.put ≡ Some (place, value) → value < 2 ^ 32
-  pub next : request.next ≤ length job.code + 1
+  pub next : request.next ≤ out_of_range job
 
 -- ---- in a state
 

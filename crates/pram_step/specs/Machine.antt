@@ -1,5 +1,5 @@
 -- The machine's places, and what they hold at the start.
-use Rattle.std.specs.Prelude.{ℕ, ◌+◌, ◌*◌, ◌<◌, ◌≤◌, ◌⊎◌, List, ◌++◌, replicate, slice_index}
+use Rattle.std.specs.Prelude.{ℕ, ◌+◌, ◌*◌, ◌<◌, ◌≤◌, ◌⊎◌, List, ◌++◌, length, replicate, slice_index}
 use Rattle.pram_text.specs.Job.{JobData}
 
 -- The places: M cells, then four registers of each processor, then the counter of each.
@@ -28,3 +28,14 @@ register job s i r = slice_index s (register_place job i r)
 
 abbrev pub counter : JobData → State → ℕ → ℕ
 counter job s i = slice_index s (counter_place job i)
+
+-- A counter below K is the place of an instruction. K says that the processor has halted, K + 1 that an address was out of range.
+abbrev pub halted : JobData → ℕ
+halted job = length job.code
+
+abbrev pub out_of_range : JobData → ℕ
+out_of_range job = length job.code + 1
+
+-- it has stopped, by either
+abbrev pub IsStopped : JobData → State → ℕ → Type 0
+IsStopped job s i = halted job ≤ counter job s i

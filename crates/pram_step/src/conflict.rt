@@ -1,7 +1,8 @@
 //! Which step is against the rule, and who disputes what in it.
 ghost use Rattle.std.specs.Prelude.{◌≡◌, ◌≢◌, ℕ, ◌+◌, ◌<◌, ◌≤◌, length, take, IfOk, MatchOption, MatchBool};
-ghost use Rattle.pram_step.specs.Steps.{Forbids, Agrees, IsDispute};
-ghost use Rattle.pram_step.specs.Marks.{PutsFirst, PutsNone, AreMarked, IsVerdict};
+ghost use Rattle.pram_step.specs.Steps.{Forbids};
+ghost use Rattle.pram_step.specs.Inner.Marks.{PutsFirst, PutsNone, AreMarked};
+ghost use Rattle.pram_step.specs.Steps.{IsVerdict};
 
 use crate::answer::Dispute;
 use crate::requests::Request;
@@ -16,7 +17,7 @@ pub fn dispute(
     requests: &[Request],
 ) -> Result<Option<Dispute>, AllocError>
     requires { length requests.now ≡ job.now.procs }
-    ensures { IfOk result (λ found. MatchOption found (Agrees job.now requests.now) (IsDispute job.now requests.now)) }
+    ensures { IfOk result (IsVerdict job.now requests.now) }
 {
     let mut marks = vec![in alloc; 0; job.cells() as usize]?;
     let mut found = None;
@@ -77,7 +78,8 @@ fn earlier_writer(
     requires processor { processor ≤ length requests.now }
     requires cell { cell < length marks.now }
     requires marked { AreMarked (length marks.now) (take processor requests.now) marks.now }
-    ensures { MatchOption result (PutsNone (take processor requests.now) cell) (λ w. PutsFirst (take processor requests.now) cell w.0 w.1) }
+    ensures { MatchOption result (PutsNone (take processor requests.now) cell)
+        (λ w. PutsFirst (take processor requests.now) cell w.0 w.1) }
 {
     let first = marks[cell as usize];
     if first >= processor {
@@ -94,7 +96,8 @@ fn earlier_writer(
 
 /// Whether the rule forbids that two processors write these values to one cell.
 fn is_forbidden(rule: Rule, first: u32, second: u32) -> bool
-    ensures { MatchBool result ((i j : ℕ) → i ≢ j → Forbids rule i first j second) ((i j : ℕ) → i ≢ j → Forbids rule i first j second → ⊥) }
+    ensures { MatchBool result ((i j : ℕ) → i ≢ j → Forbids rule i first j second)
+        ((i j : ℕ) → i ≢ j → Forbids rule i first j second → ⊥) }
 {
     match rule {
         Rule::Common => first != second,

@@ -2,9 +2,9 @@
 ghost use Rattle.std.specs.Prelude.{◌≡◌, ◌<◌, length, take, slice_index, vec_len, IfOk, OnOk, OnErr, IfErr};
 ghost use Rattle.pram_step.specs.Machine.{place_count, start};
 ghost use Rattle.pram_step.specs.Instructions.{request_in, requests_in};
-ghost use Rattle.pram_step.specs.Faults.{IsStepFault, IsRun};
 ghost use Rattle.pram_step.specs.declared.state.StepFault.TheVariants.{Conflict, Memory};
-ghost use Rattle.pram_step.specs.Steps.{Agrees, next_state, IsNext};
+ghost use Rattle.pram_step.specs.Steps.{Agrees, IsStepFault, next_state, IsNext};
+ghost use Rattle.pram_step.specs.Inner.Marks.{IsRun};
 
 use crate::answer::{Cells, Dispute, Fault};
 use crate::pass::{advance, make_steps};
@@ -106,7 +106,8 @@ pub fn step(alloc: Global, job: &Job, state: &mut State) -> Result<(), StepFault
     requires { length state.old ≡ place_count job.now }
     ensures agrees { OnOk result (Agrees job.now (requests_in job.now state.old)) }
     ensures next { OnOk result (state.new ≡ next_state job.now state.old) }
-    ensures written { OnOk result (IsNext job.now (requests_in job.now state.old) state.old state.new) }
+    ensures written { OnOk result
+        (IsNext job.now (requests_in job.now state.old) state.old state.new) }
     ensures len { length state.new ≡ length state.old }
     ensures conflict { IfErr result (IsStepFault job.now (requests_in job.now state.old)) }
     ensures unchanged { OnErr result (state.new ≡ state.old) }

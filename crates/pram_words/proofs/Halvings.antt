@@ -91,5 +91,5 @@ pub turn_bit : (l worker n h : ℕ) → l ≡ 2 ^ h → h ≡ depth_of l → dep
 turn_bit l worker n h e height inner =
     let one = bit_at_ones h (h - 1 - depth_of n) (omega arith) in
     let same : bit_at (worker % 2 ^ h) (h - 1 - depth_of n) ≡ bit_at worker (h - 1 - depth_of n)
-        = ap (λ x. bit_at x (h - 1 - depth_of n)) (sym (and_mask worker h)) ∙ bit_at_and worker (2 ^ h - 1) (h - 1 - depth_of n) ∙ omega arith in
+    = ap (λ x. bit_at x (h - 1 - depth_of n)) (sym (and_mask worker h)) ∙ bit_at_and worker (2 ^ h - 1) (h - 1 - depth_of n) ∙ omega arith in
     rw (← height, e, same) refl

@@ -205,7 +205,7 @@ place_below y p padded place = elim (cases_lt p y.cells) [
 ]
 
 node_below : (y : LayoutData) (n : ℕ) → n < 2 * y.leaves → wide_number y (Node n) < wide_claims_at y
-node_below y n node = elim (cases_lt n y.leaves) [ | inl c ↦ omega (arith, node_inner y n c) | inr c ↦ omega (arith, node_leaf y n c) ]
+node_below y n node = elim (cases_lt n y.leaves) [ inl c ↦ omega (arith, node_inner y n c) | inr c ↦ omega (arith, node_leaf y n c) ]
 
 wide_below : (y : LayoutData) → 1 ≤ y.leaves → y.procs ≤ y.leaves → (a : Word) → IsNeeded y a → wide_number y a < wide_claims_at y + cond y.claims y.cells 0
 wide_below y some padded Conflict is = omega arith
@@ -285,7 +285,7 @@ found y k limits b = elim (cases_form y.form) [
       let below : k < claims_at y + cond y.claims y.cells 0 = rw e at b in
       let f = compact_found y k limits.leaves.0 below in
       rw (form_compact y.form (compact_word y k) (wide_word y k) e)
-        (record { is = f.is; number = form_compact y.form (compact_number y (compact_word y k)) (wide_number y (compact_word y k)) e ∙ f.number }))
+      (record { is = f.is; number = form_compact y.form (compact_number y (compact_word y k)) (wide_number y (compact_word y k)) e ∙ f.number }))
   | inr e ↦ (
       let below : k < wide_claims_at y + cond y.claims y.cells 0 = rw e at b in
       rw (form_wide y.form (compact_word y k) (wide_word y k) e) (elim (wide_found y k limits.leaves.0 below) [
@@ -311,7 +311,7 @@ spare_is y k limits below e =
 
 spare_number : (y : LayoutData) (k : ℕ) → number_of y (Spare k) ≡ k
 unfolding number_of
-spare_number y k = elim (cases_form y.form) [ | inl e ↦ rw e refl | inr e ↦ rw e refl ]
+spare_number y k = elim (cases_form y.form) [ inl e ↦ rw e refl | inr e ↦ rw e refl ]
 
 word_found : (y : LayoutData) (k : ℕ) → IsLayout y → k < length_of y → IsWord y (word_at y k) × (number_of y (word_at y k) ≡ k)
 word_found y k limits below = elim (found y k limits below) [
@@ -344,11 +344,11 @@ number_of_below y limits (Claim c) is = needed_below y limits (Claim c) is
 
 conflict_first : (y : LayoutData) → number_of y Conflict ≡ 0
 unfolding number_of
-conflict_first y = elim (cases_form y.form) [ | inl e ↦ rw e refl | inr e ↦ rw e refl ]
+conflict_first y = elim (cases_form y.form) [ inl e ↦ rw e refl | inr e ↦ rw e refl ]
 
 second_follows : (y : LayoutData) (p : ℕ) → number_of y (Stored p 1) ≡ number_of y (Stored p 0) + 1
 unfolding number_of
-second_follows y p = elim (cases_form y.form) [ | inl e ↦ rw e (omega arith) | inr e ↦ rw e (omega arith) ]
+second_follows y p = elim (cases_form y.form) [ inl e ↦ rw e (omega arith) | inr e ↦ rw e (omega arith) ]
 
 pub numbering : (y : LayoutData) → IsLayout y → IsNumbering y
 numbering y limits =

@@ -91,19 +91,22 @@ compact_way y worker h e (suc d) form power most sum =
     let next : 2 ^ suc e ≡ 2 ^ e * 2 = omega (arith, double e) in
     let half : worker % y.leaves / 2 ^ suc e ≡ worker % y.leaves / 2 ^ e / 2 = ap (λ m. worker % y.leaves / m) next ∙ sym (div-div-eq-div-mul (worker % y.leaves) (2 ^ e) 2) in
     let turn : from_bool (by_form y.form (turns_right y.leaves worker (way_of y worker d)) (turns_right_wide y.workers worker (way_of y worker d))) ≡ worker % y.leaves / 2 ^ e % 2
-        = rw (form_compact y.form (turns_right y.leaves worker (way_of y worker d)) (turns_right_wide y.workers worker (way_of y worker d)) form, bit) (is_bit _ (omega arith)) in
+    = rw (form_compact y.form (turns_right y.leaves worker (way_of y worker d)) (turns_right_wide y.workers worker (way_of y worker d)) form, bit) (is_bit _ (omega arith)) in
     omega (arith, turn, half, before, double d)
 
 pub begins_at_leaf : (y : LayoutData) (worker : ℕ) → IsLayout y
     → (y.leaves ≤ first_leaf_in y worker) × (first_leaf_in y worker < 2 * y.leaves) × (first_leaf_in y worker ≡ way_of y worker (depth_of y.leaves))
 unfolding first_leaf_in
 begins_at_leaf y worker limits =
-    let leaf = first_leaf y worker limits in
-    (leaf.0, leaf.1, elim (cases_form y.form) [
-      | inl e ↦ rw (form_compact y.form (first_leaf_of y.leaves worker) (way_of y worker (depth_of y.leaves)) e)
-          (omega (arith, leaves_height y limits, compact_way y worker (depth_of y.leaves) 0 (depth_of y.leaves) e (leaves_height y limits) limits.leaves.1 (omega arith)))
-      | inr e ↦ form_wide y.form (first_leaf_of y.leaves worker) (way_of y worker (depth_of y.leaves)) e
-    ])
+    let leaf = first_leaf y worker limits in (
+      leaf.0,
+      leaf.1,
+      elim (cases_form y.form) [
+        | inl e ↦ rw (form_compact y.form (first_leaf_of y.leaves worker) (way_of y worker (depth_of y.leaves)) e)
+            (omega (arith, leaves_height y limits, compact_way y worker (depth_of y.leaves) 0 (depth_of y.leaves) e (leaves_height y limits) limits.leaves.1 (omega arith)))
+        | inr e ↦ form_wide y.form (first_leaf_of y.leaves worker) (way_of y worker (depth_of y.leaves)) e
+      ],
+    )
 
 -- a node of a worker's way that is no further than a leaf
 pub record OnWay (y : LayoutData) (worker node : ℕ) : Type 0 where

@@ -117,11 +117,11 @@ wide_number y (Stored p k) = wide_place y p + k
 wide_number y (Claim c) = wide_claims_at y + c
 wide_number y (Spare k) = k
 
--- the word of number k that begins line q
+-- the word that begins line q
 abbrev pub line_word : LayoutData → ℕ → Word
 line_word y q = if q == 0 then Conflict else (if nat_lt q y.leaves then Node q else Position (q - y.leaves))
 
--- the word of number k that lies at place s of the block of leaf i
+-- the word of number k, which lies at place s of the block of leaf i
 abbrev pub block_word : LayoutData → ℕ → ℕ → ℕ → Word
 block_word y k i s =
     if s == 0 then Node (y.leaves + i)
@@ -150,6 +150,10 @@ number_of y a = by_form y.form (compact_number y a) (wide_number y a)
 -- how many words a board has
 unfoldable pub length_of : LayoutData → ℕ
 length_of y = by_form y.form (claims_at y) (wide_claims_at y) + (if y.claims then y.cells else 0)
+
+-- and how many at most: for 1,024 processors, 65,536 cells and 64 workers
+abbrev pub most_length : LayoutData → ℕ
+most_length y = by_form y.form 146496 156160 + (if y.claims then 65536 else 0)
 
 -- the word of a number below the length
 unfoldable pub word_at : LayoutData → ℕ → Word

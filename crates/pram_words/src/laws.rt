@@ -1,7 +1,6 @@
 //! Laws of the words, each the contract of a function that does nothing.
-ghost use Rattle.pram_words.specs.Laws.{
-    PhasesUndo, StampsUndo, WordsHaveRanges, WordsKeepApart, WordsStartAdmitted, WorkersBeginAtLeaves
-};
+ghost use Rattle.pram_words.specs.Laws.{PhasesUndo, StampsUndo, WordsHaveRanges};
+ghost use Rattle.pram_words.specs.Laws.{WordsKeepApart, WordsStartAdmitted, WorkersBeginAtLeaves};
 
 /// A word and its two halves give each other back.
 pub fn stamps_undo()

@@ -1,17 +1,17 @@
 //! Where the words of a board lie.
 ghost use Rattle.std.specs.Prelude.{◌≡◌, ℕ, ◌+◌, ◌*◌, ◌<◌, ◌≤◌, ◌↔◌, IsTrue, if◌then◌else◌};
 ghost use Rattle.pram_words.specs.declared.layout.Form.TheVariants.{Compact, Wide};
-ghost use Rattle.pram_words.specs.declared.words.Word.TheVariants.{
-    Asked, Claim, Conflict, Node, Position, Stored
-};
+ghost use Rattle.pram_words.specs.declared.words.Word.TheVariants.{Asked, Claim, Conflict};
+ghost use Rattle.pram_words.specs.declared.words.Word.TheVariants.{Node, Position, Stored};
 ghost use Rattle.pram_words.specs.Start.{start_of};
 ghost use Rattle.pram_words.specs.Tree.{depth_of, leaves_of};
 ghost use Rattle.pram_words.specs.Ways.{IsTurnOf, first_leaf_in, turns_right_in, way_of};
-ghost use Rattle.pram_words.specs.Words.{
-    Admits, IsInRange, IsLayout, IsStamped, LayoutData, block_at, block_word, by_form, cells_at,
-    claims_at, compact_word, has_claims, layout_of, length_of, line_word, number_of, places_at,
-    places_of, positions_at, wide_claims_at, wide_place, wide_word, word_at
-};
+ghost use Rattle.pram_words.specs.Words.{Admits, IsInRange, IsLayout, IsStamped, LayoutData};
+ghost use Rattle.pram_words.specs.Words.{has_claims, layout_of, length_of, most_length};
+ghost use Rattle.pram_words.specs.Words.{number_of, places_of, word_at};
+ghost use Rattle.pram_words.specs.Words.{claims_at, compact_word, places_at, positions_at};
+ghost use Rattle.pram_words.specs.Words.{block_at, block_word, cells_at, line_word};
+ghost use Rattle.pram_words.specs.Words.{wide_claims_at, wide_place, wide_word};
 
 use crate::stamps::{payload, stamp};
 use crate::tree::{first_leaf, goes_right, goes_right_wide, leaves};
@@ -49,18 +49,30 @@ impl Model for Layout {
     ghost Value = { LayoutData };
 
     ghost view = { λ y. record {
-        form = y.form; leaves = y.leaves; cells = y.cells; procs = y.procs; workers = y.workers;
-        claims = y.claims
+      form = y.form;
+      leaves = y.leaves;
+      cells = y.cells;
+      procs = y.procs;
+      workers = y.workers;
+      claims = y.claims;
     } };
 
     ghost invariant = { λ y. IsLayout (record {
-        form = y.form; leaves = y.leaves; cells = y.cells; procs = y.procs; workers = y.workers;
-        claims = y.claims
+      form = y.form;
+      leaves = y.leaves;
+      cells = y.cells;
+      procs = y.procs;
+      workers = y.workers;
+      claims = y.claims;
     }) };
 
     ghost inverse = { λ y. record {
-        form = y.form; leaves = y.leaves; cells = y.cells; procs = y.procs; workers = y.workers;
-        claims = y.claims
+      form = y.form;
+      leaves = y.leaves;
+      cells = y.cells;
+      procs = y.procs;
+      workers = y.workers;
+      claims = y.claims;
     } };
 }
 
@@ -91,8 +103,12 @@ impl Layout {
         requires procs { (1 ≤ procs) × (procs ≤ 1024) }
         requires workers { (1 ≤ workers) × (workers ≤ 64) }
         ensures value { result ≡ record {
-            form = form; leaves = leaves_of procs; cells = cells; procs = procs; workers = workers;
-            claims = has_claims rule
+          form = form;
+          leaves = leaves_of procs;
+          cells = cells;
+          procs = procs;
+          workers = workers;
+          claims = has_claims rule;
         } }
         ensures limits { IsLayout result }
     {
@@ -139,9 +155,7 @@ impl Layout {
     #[tactic(auto, unfolding(crate::specs::Words::length_of))]
     pub fn length(&self) -> u32
         ensures value { result ≡ length_of self.now }
-        ensures most {
-            result ≤ by_form self.now.form 146496 156160 + (if self.now.claims then 65536 else 0)
-        }
+        ensures most { result ≤ most_length self.now }
         ensures limits { IsLayout self.now }
     {
         let claims = if self.claims { self.cells } else { 0 };

@@ -13,7 +13,7 @@ mod words;
 
 pub use laws::{
     phases_undo, stamps_undo, words_have_ranges, words_keep_apart, words_start_admitted,
-    workers_begin_at_leaves
+    workers_begin_at_leaves,
 };
 pub use layout::{Form, Layout};
 pub use phases::{Kind, kind_of, phase, step_of};

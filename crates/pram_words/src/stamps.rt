@@ -2,7 +2,8 @@
 ghost use Rattle.std.specs.Prelude.{◌≡◌};
 ghost use Rattle.pram_words.specs.Stamps.{stamped_word, stamp_of, payload_of};
 
-/// The word with this stamp in its upper 32 bits and this payload in its lower 32. Words compare by their stamps first.
+/// The word with this stamp in its upper 32 bits and this payload in its lower 32. Words compare by
+/// their stamps first.
 pub fn stamped(stamp: u32, payload: u32) -> u64
     ensures { result ≡ stamped_word stamp payload }
 {

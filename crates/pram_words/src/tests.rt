@@ -37,9 +37,23 @@ fn layout_of_three_cells(rt: HostRuntime) {
     let layout = Layout::of(Form::Compact, Rule::Common, 3, 3, 2);
     assert_eq!(rt; (layout.leaves(), layout.workers()), (4, 2));
     assert_eq!(rt; (layout.conflict_word(), layout.node_word(7)), (0, 7));
-    assert_eq!(rt; (layout.request_word(0, 0), layout.request_word(2, 2)), (8, 16));
-    assert_eq!(rt; (layout.position_word(0), layout.position_word(1)), (17, 18));
-    for (place, word) in [(0, 19), (1, 21), (2, 23), (3, 25), (14, 47), (15, 49), (17, 53)] {
+    assert_eq!(rt;
+        (layout.request_word(0, 0), layout.request_word(2, 2)),
+        (8, 16)
+    );
+    assert_eq!(rt;
+        (layout.position_word(0), layout.position_word(1)),
+        (17, 18)
+    );
+    for (place, word) in [
+        (0, 19),
+        (1, 21),
+        (2, 23),
+        (3, 25),
+        (14, 47),
+        (15, 49),
+        (17, 53),
+    ] {
         assert_eq!(rt; layout.place_word(place), word, "place {place}");
     }
     assert_eq!(rt; layout.length(), 55);
@@ -54,9 +68,23 @@ fn wide_layout_of_three_cells(rt: HostRuntime) {
     for (node, word) in [(1, 8), (3, 24), (4, 48), (5, 64), (7, 96)] {
         assert_eq!(rt; layout.node_word(node), word, "node {node}");
     }
-    assert_eq!(rt; (layout.position_word(0), layout.position_word(1)), (32, 40));
-    assert_eq!(rt; (layout.request_word(0, 0), layout.request_word(2, 2)), (49, 83));
-    for (place, word) in [(0, 112), (2, 116), (3, 54), (6, 60), (14, 92), (15, 52), (17, 84)] {
+    assert_eq!(rt;
+        (layout.position_word(0), layout.position_word(1)),
+        (32, 40)
+    );
+    assert_eq!(rt;
+        (layout.request_word(0, 0), layout.request_word(2, 2)),
+        (49, 83)
+    );
+    for (place, word) in [
+        (0, 112),
+        (2, 116),
+        (3, 54),
+        (6, 60),
+        (14, 92),
+        (15, 52),
+        (17, 84),
+    ] {
         assert_eq!(rt; layout.place_word(place), word, "place {place}");
     }
     assert_eq!(rt; layout.length(), 118);
@@ -105,8 +133,14 @@ fn workers_of_a_wide_board_start_far_apart(rt: HostRuntime) {
     assert!(rt; layout.goes_right(1, 1));
     assert!(rt; !layout.goes_right(1, 3));
     assert!(rt; !layout.goes_right(1, 6));
-    assert_eq!(rt; Layout::of(Form::Wide, Rule::Common, 1, 8, 1).first_leaf(0), 8);
-    assert_eq!(rt; Layout::of(Form::Compact, Rule::Common, 1, 8, 4).first_leaf(3), 11);
+    assert_eq!(rt;
+        Layout::of(Form::Wide, Rule::Common, 1, 8, 1).first_leaf(0),
+        8
+    );
+    assert_eq!(rt;
+        Layout::of(Form::Compact, Rule::Common, 1, 8, 4).first_leaf(3),
+        11
+    );
 }
 
 #[test]

@@ -70,8 +70,8 @@ pub fn goes_right(l: u32, w: u32, n: u32) -> bool
     w >> bit & 1 == 1
 }
 
-// Whether one of so many workers goes right in the wide form: at depth d by bit d of its number, and
-// below the last bit that the workers need by that bit again; with one worker never.
+// Whether one of so many workers goes right in the wide form: at depth d by bit d of its number,
+// and below the last bit that the workers need by that bit again; with one worker never.
 pub(crate) fn goes_right_wide(workers: u32, w: u32, n: u32) -> bool
     requires some { 1 ≤ workers }
     requires node { 1 ≤ n }

@@ -39,7 +39,7 @@ AllAsk job y (ends r) = Unit {0}
 
 -- ---- the request of an instruction
 
-operands_fit : (len : ℕ) (instr : Instr) → IsInstr len instr → AllByRecursion (λ r. r < 4) (operands_of instr)
+pub operands_fit : (len : ℕ) (instr : Instr) → IsInstr len instr → AllByRecursion (λ r. r < 4) (operands_of instr)
 operands_fit len (Set r k) h = tt
 operands_fit len (Pid r) h = tt
 operands_fit len (Add r a b) h = (h.1, (h.2, tt))

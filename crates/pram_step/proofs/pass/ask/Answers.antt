@@ -1,9 +1,8 @@
-use Rattle.std.proofs.Common.{◌≡◌, None, sym, subst, arith}
+use Rattle.std.proofs.Common.{◌≡◌, None, sym, subst, ◌∙◌, arith}
 use Rattle.std.proofs.lemmas.List.{take-set, take_all}
 use Rattle.std.proofs.lemmas.List.FromFn.{fill_by_all}
 use Rattle.pram_step.specs.Instructions.{request_in, requests_in}
-use Rattle.pram_step.specs.Marks.{AreOwn, IsVerdict}
-use Rattle.pram_step.proofs.Shapes.{AreOwn-requests_in}
+use Rattle.pram_step.specs.Steps.{IsVerdict}
 use Rattle.pram_step.proofs.pass.ask.Goals as goal
 use Rattle.pram_step.proofs.pass.ask.Goals.{After-loop-processor}
 
@@ -20,9 +19,6 @@ all_asked c =
 pub returns-clause-requests : goal.returns-clause-requests
 returns-clause-requests c = all_asked c
 
-pub returns-clause-own : goal.returns-clause-own
-returns-clause-own c = subst (AreOwn c.args.job.now) (sym (all_asked c)) (AreOwn-requests_in c.args.job.now c.args.places.now c.procs-processor-end.ensures.job)
-
 pub returns-clause-found : goal.returns-clause-found
 returns-clause-found c =
-    subst (λ xs. IsVerdict c.args.job.now xs c.loop-processor.found) (take_all c.loop-processor.processor c.loop-processor.requests (omega arith)) c.loop-processor.invariant.found
+    subst (λ xs. IsVerdict c.args.job.now xs c.loop-processor.found) (take_all c.loop-processor.processor c.loop-processor.requests (omega arith) ∙ all_asked c) c.loop-processor.invariant.found

@@ -14,4 +14,4 @@ returns-then-workers-gt1-clause-value c =
 pub returns-then-workers-gt1-clause-turn : goal.returns-then-workers-gt1-clause-turn
 returns-then-workers-gt1-clause-turn c =
     subst (IsTurnWide c.args.workers c.args.w c.args.n) (sym (returns-then-workers-gt1-clause-value c))
-      (turn_wide c.args.workers c.args.w c.args.n c.requires.some c.ranges.workers.fits c.ranges.n.fits)
+    (turn_wide c.args.workers c.args.w c.args.n c.requires.some c.ranges.workers.fits c.ranges.n.fits)
