@@ -2,15 +2,8 @@
 ghost use Rattle.std.specs.Prelude.{◌≡◌, ◌≢◌};
 ghost use Rattle.pram_words.specs.Phases.{kind_at};
 ghost use Rattle.walkx.specs.Inner.Posts.{IsLeaf, IsPart};
-ghost use Rattle.walkx.specs.Inner.Stages.{
-  HearsStage,
-  StandsBehind,
-  StandsFor,
-  applies,
-  carries_out,
-  follows_claim,
-  follows_place,
-};
+ghost use Rattle.walkx.specs.Inner.Stages.{HearsStage, StandsBehind, StandsFor, applies};
+ghost use Rattle.walkx.specs.Inner.Stages.{carries_out, follows_claim, follows_part, follows_place};
 
 use crate::place::counter_write;
 use crate::post::Leaf;
@@ -35,8 +28,7 @@ pub(crate) fn after_first_part(leaf: &Leaf, answer: u64) -> Stage
 // What follows the data place plus 1, or 0 for none.
 fn after_data_place(leaf: &Leaf, part: u32) -> Stage
     requires part { IsPart leaf.now.layout part }
-    ensures { StandsFor leaf.now 13 (follows_place leaf.now leaf.now.job.rule (kind_at leaf.now.phase)
-        part) result }
+    ensures { StandsFor leaf.now 13 (follows_part leaf.now part) result }
 {
     match (leaf.rule(), leaf.kind()) {
         (Rule::Common, Kind::Verify) => value_check(leaf, part),

@@ -1,13 +1,7 @@
 //! The compute task: the places that a processor reads, and the request that comes of them.
-ghost use Rattle.std.specs.Prelude.{slice_get, Some};
-ghost use Rattle.walkx.specs.Inner.Stages.{
-  IsCode,
-  StandsFor,
-  then_asks,
-  then_computes,
-  then_executes,
-  then_raises,
-};
+ghost use Rattle.std.specs.Prelude.{Some};
+ghost use Rattle.walkx.specs.Inner.Stages.{IsCode, StandsFor, then_asks, then_computes};
+ghost use Rattle.walkx.specs.Inner.Stages.{then_executes, then_fetches, then_raises};
 
 use crate::post::Leaf;
 use crate::stage::{Stage, Want};
@@ -24,8 +18,7 @@ pub(crate) fn counter_read(leaf: &Leaf) -> Stage
 
 /// What follows the counter: the first operand is read, if there is one.
 pub(crate) fn after_counter(leaf: &Leaf, counter: u32) -> Stage
-    ensures { StandsFor leaf.now 12 (then_executes leaf.now counter (slice_get leaf.now.job.code counter))
-        result }
+    ensures { StandsFor leaf.now 12 (then_fetches leaf.now counter) result }
 {
     match leaf.job().code().get(counter as usize) {
         None => Stage::Ask(goes_to(counter)),

@@ -1,11 +1,6 @@
 //! Laws of the walk: each function here does nothing, and its contract is the law.
-ghost use Rattle.walkx.specs.Laws.{
-  AnswersKeepFit,
-  KnownStayKnown,
-  NewWorkersFit,
-  OwnStepsAreBounded,
-  WhatIsAskedIsAdmitted,
-};
+ghost use Rattle.walkx.specs.Laws.{AnswersKeepFit, KnownStayKnown, NewWorkersFit};
+ghost use Rattle.walkx.specs.Laws.{OwnStepsAreBounded, WhatIsAskedIsAdmitted};
 
 /// A worker that is newly started, or comes back, fits the job and the board.
 pub fn new_workers_fit()

@@ -4,16 +4,8 @@ ghost use Rattle.pram_step.specs.Machine.{counter_place, register_place};
 ghost use Rattle.pram_words.specs.Phases.{kind_at};
 ghost use Rattle.pram_words.specs.Words.{counters_of, length_of, number_of, places_of};
 ghost use Rattle.pram_words.specs.declared.words.Word.TheVariants.{Asked};
-ghost use Rattle.walkx.specs.Inner.Posts.{
-  IsCell,
-  IsLeaf,
-  IsPost,
-  PostData,
-  part_raised,
-  post_data,
-  processor_of,
-  step_of,
-};
+ghost use Rattle.walkx.specs.Inner.Posts.{IsCell, IsLeaf, IsPost, PostData, part_raised, post_data};
+ghost use Rattle.walkx.specs.Inner.Posts.{processor_of, step_of};
 ghost use Rattle.walkx.specs.Tasks.{claim_of};
 ghost use Rattle.walkx.specs.Walk.{IsBoard, IsLayoutOf};
 
@@ -229,7 +221,8 @@ impl<'a> Leaf<'a> {
     /// Whether a data place plus 1, or 0 for none, is that of a cell.
     pub(crate) fn is_cell(&self, part: u32) -> bool
         ensures cell { IsTrue result ↔ ((1 ≤ part) × (part - 1 < self.now.job.cells)) }
-        ensures claims { IsTrue result → self.now.job.rule ≢ Rule.Common → IsCell self.now.layout (part - 1) }
+        ensures claims { IsTrue result → self.now.job.rule ≢ Rule.Common → IsCell self.now.layout
+            (part - 1) }
         ensures limits { IsLeaf self.now }
     {
         part != 0 && part - 1 < self.job.cells()

@@ -1,15 +1,8 @@
 //! The reader of a cell.
 ghost use Rattle.std.specs.Prelude.{◌≡◌, ℕ, ◌<◌};
-ghost use Rattle.walkx.specs.Inner.Glances.{
-  HearsGlance,
-  IsGlance,
-  IsLaterGlance,
-  StandsBehindGlance,
-  most_looked,
-  reads_again,
-  reads_both,
-  script_of_glance,
-};
+ghost use Rattle.walkx.specs.Inner.Glances.{HearsGlance, IsGlance, IsLaterGlance};
+ghost use Rattle.walkx.specs.Inner.Glances.{StandsBehindGlance, most_looked, reads_again};
+ghost use Rattle.walkx.specs.Inner.Glances.{reads_both, script_of_glance};
 ghost use Rattle.walkx.specs.Reads.{LooksOnBoard, lesser, looks_for, told_at};
 ghost use Rattle.walkx.specs.Scripts.{ends};
 ghost use Rattle.walkx.specs.Walk.{IsBoard};
@@ -49,14 +42,8 @@ impl Reader {
     ghost use Rattle.pram_text.specs.Job.{JobData};
     ghost use Rattle.pram_words.specs.Words.{LayoutData};
     ghost use Rattle.walkx.specs.Serving.{Follows};
-    ghost use Rattle.walkx.specs.Reads.{
-      HeardAdmitted,
-      LooksFit,
-      LooksOnBoard,
-      look_of,
-      looked,
-      looks_for,
-    };
+    ghost use Rattle.walkx.specs.Reads.{HeardAdmitted, LooksFit, LooksOnBoard, look_of, looked};
+    ghost use Rattle.walkx.specs.Reads.{looks_for};
     ghost use Rattle.walkx.specs.Walk.{IsLayoutOf};
 
     /// A reader of this cell.
@@ -88,8 +75,10 @@ impl Reader {
         requires layout { IsLayoutOf job.now layout.now }
         requires follows { Follows layout.now self.old }
         requires fits { LooksFit job.now layout.now self.old.looking }
-        requires admitted { HeardAdmitted job.now layout.now (looks_for (look_of layout.now self.old.looking)) answer }
-        ensures told { self.new.looking ≡ looked self.old.looking answer (look_of layout.now self.old.looking) }
+        requires admitted { HeardAdmitted job.now layout.now (looks_for (look_of layout.now
+            self.old.looking)) answer }
+        ensures told { self.new.looking ≡ looked self.old.looking answer (look_of layout.now
+            self.old.looking) }
         ensures follows { Follows layout.now self.new }
         ensures fits { LooksFit job.now layout.now self.new.looking }
     {
@@ -162,7 +151,8 @@ fn after_root(job: &Job, layout: &Layout, cell: u32, root: u64) -> Glance
 
 // Both words were heard.
 fn after_both(layout: &Layout, cell: u32, step: u32, first: u64, second: u64) -> Glance
-    ensures rest { script_of_glance layout.now cell result ≡ reads_both layout.now cell step first second }
+    ensures rest { script_of_glance layout.now cell result ≡ reads_both layout.now cell step first
+        second }
     ensures stage { IsGlance result }
     ensures later { IsLaterGlance (Glance.Second step first) result }
 {

@@ -1,16 +1,8 @@
 //! What an answer leads to.
 ghost use Rattle.std.specs.Prelude.{◌≡◌};
-ghost use Rattle.walkx.specs.Inner.Stages.{
-  HearsStage,
-  IsStage,
-  IsStep,
-  StandsFor,
-  follows_children,
-  script_at,
-  script_behind,
-  task_at,
-  work_at,
-};
+ghost use Rattle.walkx.specs.Inner.Stages.{HearsStage, IsStage, IsStep, StandsFor};
+ghost use Rattle.walkx.specs.Inner.Stages.{follows_children, script_at, script_behind, task_at};
+ghost use Rattle.walkx.specs.Inner.Stages.{work_at};
 ghost use Rattle.walkx.specs.Scripts.{behind};
 
 use crate::apply::{after_claim, after_first_part, after_next, after_value, data_write};
@@ -85,7 +77,8 @@ fn after_root(at: &Post, root: u64) -> Step
 fn after_conflict(at: &Post, root: u64, conflict: u64) -> Step
     requires stage { IsStage at.now (Stage.Look root) }
     requires conflict { HearsStage at.now (Stage.Look root) conflict }
-    ensures rest { script_behind at.now result ≡ behind (script_at at.now (Stage.Look root)) conflict }
+    ensures rest { script_behind at.now result ≡ behind (script_at at.now (Stage.Look root))
+        conflict }
     ensures fits { IsStep at.now (Stage.Look root) result }
 {
     let last = 3 * u64::from(at.job().steps());

@@ -39,6 +39,10 @@ then_computes at = compute_task at.job at.layout (step_of at) (processor_of at) 
 abbrev pub then_executes : PostData → ℕ → Option Instr → Script Then
 then_executes at counter instr = executes at.job at.layout (step_of at) (processor_of at) counter instr (then_marks at)
 
+-- the instruction at a counter, if there is one
+abbrev pub then_fetches : PostData → ℕ → Script Then
+then_fetches at counter = then_executes at counter (slice_get at.job.code counter)
+
 -- the request of an instruction is raised, then the leaf
 abbrev pub then_raises : PostData → Instr → ℕ → ℕ → ℕ → ℕ → Script Then
 then_raises at instr counter a b v = raises_request at.layout (step_of at) (processor_of at) (decided at.job (processor_of at) counter instr a b v) (then_marks at)
@@ -55,7 +59,7 @@ then_asks at instr counter a b =
 
 -- a place was read for this, and held the value before the step
 abbrev pub reads_for : PostData → Want → ℕ → Script Then
-reads_for at want.Counter v = then_executes at v (slice_get at.job.code v)
+reads_for at want.Counter v = then_fetches at v
 reads_for at (want.Only instr counter) v = then_asks at instr counter v 0
 reads_for at (want.First instr counter r) v = reads_place at.layout (step_of at) (register_place at.job (processor_of at) r) (then_marks at) (λ b. then_asks at instr counter v b)
 reads_for at (want.Second instr counter a) v = then_asks at instr counter a v
@@ -113,6 +117,9 @@ follows_place at Priority Apply part = if_data part (then_marks at) (λ p. claim
 follows_place at Priority Verify part = hears_value at part
 follows_place at Crew Apply part = hears_value at part
 follows_place at Crew Verify part = if_data part (then_marks at) (λ p. if nat_lt p at.job.cells then checks_claim at p else then_marks at)
+
+abbrev pub follows_part : PostData → ℕ → Script Then
+follows_part at part = follows_place at at.job.rule (kind_at at.phase) part
 
 -- both children were heard
 abbrev pub follows_children : PostData → ℕ → ℕ → Script Then
