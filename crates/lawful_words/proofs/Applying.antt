@@ -4,7 +4,7 @@ use Rattle.std.proofs.lemmas.Bool.{cond_both, eqb-true, eqb-false}
 use Rattle.pram_text.specs.Job.{JobData}
 use Rattle.pram_text.specs.declared.instr.Rule.{Rule}
 use Rattle.pram_text.specs.declared.instr.Rule.TheVariants.{Common, Priority, Crew}
-use Rattle.pram_step.specs.Runs.{state_after}
+use Rattle.pram_step.specs.Runs.{state_after, requests_after}
 use Rattle.pram_step.specs.Steps.{Counts}
 use Rattle.pram_step.proofs.LawPlaces.{one_writer}
 use Rattle.pram_words.specs.declared.words.Word.TheVariants.{Claim}
@@ -16,10 +16,11 @@ use Rattle.walkx.specs.Scripts.{Script}
 use Rattle.walkx.specs.Tasks.{carries, claims, claim_of, apply_task, crew_apply_task, claim_task}
 use Rattle.walkx.specs.Walk.{Then, IsBoard}
 use Rattle.walkx.proofs.Boards.{same_procs}
-use Rattle.lawful_words.specs.Steps.{Asks, Wins, requests_after, phase_written, part_after}
+use Rattle.pram_step.specs.History.{Asks, Wins, part_after}
+use Rattle.pram_step.proofs.Past.{data_write, each_write}
+use Rattle.lawful_words.specs.Steps.{phase_written}
 use Rattle.lawful_words.specs.Board.{held, root, Carried, Claimed}
 use Rattle.lawful_words.specs.Statements.{Floor}
-use Rattle.lawful_words.proofs.Requests.{data_write, each_write}
 use Rattle.lawful_words.proofs.Sees.{Sees, Lasts, so}
 use Rattle.lawful_words.proofs.Scripts.{Safe}
 use Rattle.lawful_words.proofs.Carrying.{carries_safe}

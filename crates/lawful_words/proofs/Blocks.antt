@@ -13,7 +13,7 @@ use Rattle.walkx.specs.declared.operation.Op.TheVariants.{Load, Max, Swap}
 use Rattle.walkx.specs.Scripts.{Script}
 use Rattle.walkx.specs.Tasks.{is_late, newer_payload, hears_part, reads_place, reports}
 use Rattle.walkx.specs.Walk.{marks}
-use Rattle.lawful_words.specs.Steps.{part_after}
+use Rattle.pram_step.specs.History.{part_after}
 use Rattle.lawful_words.specs.Board.{held, root, stamp_at, Done, Stands, Grows}
 use Rattle.lawful_words.specs.Moments.{Moment, Goes}
 use Rattle.lawful_words.specs.Statements.{Floor}

@@ -10,11 +10,11 @@ use Rattle.walkx.specs.Scripts.{Script}
 use Rattle.walkx.specs.Walk.{IsBoard}
 use Rattle.walkx.specs.Tasks.{writes_place, carries}
 use Rattle.walkx.proofs.Boards.{same_cells, same_procs}
-use Rattle.lawful_words.specs.Steps.{Asks, Wins, phase_written, part_after}
+use Rattle.pram_step.specs.History.{Asks, Wins, part_after}
+use Rattle.pram_step.proofs.Past.{counter_write, data_write, each_write, asks_place}
+use Rattle.lawful_words.specs.Steps.{phase_written}
 use Rattle.lawful_words.specs.Board.{IsLate, Carried, Stands}
 use Rattle.lawful_words.specs.Statements.{Floor}
-use Rattle.lawful_words.proofs.Keeping.{asks_place}
-use Rattle.lawful_words.proofs.Requests.{counter_write, data_write, each_write}
 use Rattle.lawful_words.proofs.Sees.{Sees, Lasts, so}
 use Rattle.lawful_words.proofs.Scripts.{Safe}
 use Rattle.lawful_words.proofs.Writing.{writes_safe, late_later}

@@ -12,8 +12,8 @@ use Rattle.walkx.specs.declared.operation.Ended.{Ended}
 use Rattle.walkx.specs.declared.operation.Ended.TheVariants as ended
 use Rattle.walkx.specs.declared.operation.Op.{Op}
 use Rattle.walkx.specs.declared.operation.Op.TheVariants.{Load}
-use Rattle.walkx.specs.declared.worker.Doing.{Doing}
-use Rattle.walkx.specs.declared.worker.Doing.TheVariants as doing
+use Rattle.walkx.specs.Doing.{Doing}
+use Rattle.walkx.specs.Doing as doing
 use Rattle.walkx.specs.Reads.{step_seen}
 use Rattle.walkx.specs.Records.{Record, Has, Knows}
 use Rattle.walkx.specs.Scripts.{Script, ends}

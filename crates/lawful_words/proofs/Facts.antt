@@ -6,7 +6,7 @@ use Rattle.pram_text.specs.declared.instr.Rule.{Rule}
 use Rattle.pram_text.specs.declared.instr.Rule.TheVariants.{Common, Priority, Crew}
 use Rattle.pram_step.specs.Machine.{place_count}
 use Rattle.pram_step.specs.Steps.{Counts, Forbids}
-use Rattle.pram_step.specs.Runs.{IsReached, AgreesAfter, state_after}
+use Rattle.pram_step.specs.Runs.{IsReached, AgreesAfter, state_after, requests_after}
 use Rattle.pram_step.proofs.LawWriters.{writer_cases}
 use Rattle.pram_step.proofs.LawPlaces.{writer_is}
 use Rattle.pram_words.specs.declared.phases.Kind.TheVariants.{Compute, Apply, Verify}
@@ -17,11 +17,13 @@ use Rattle.pram_words.proofs.Halvings.{leaves_least}
 use Rattle.walkx.specs.Tasks.{claim_of, newer_payload}
 use Rattle.walkx.specs.Walk.{IsLayoutOf, IsBoard}
 use Rattle.walkx.proofs.Boards.{same_cells, same_procs}
-use Rattle.lawful_words.specs.Steps.{Asks, Wins, IsWritten, requests_after, phase_written, last_write, write_before, word_of_step, settled, settled_before}
+use Rattle.pram_step.specs.History.{Asks, Wins, IsWritten, last_write, write_before}
+use Rattle.pram_step.proofs.LawFixed.{reached_down}
+use Rattle.pram_step.proofs.Past.{last_most, last_is, last_least, last_between, value_between, before_most}
+use Rattle.lawful_words.specs.Steps.{phase_written, word_of_step, settled, settled_before}
 use Rattle.lawful_words.specs.Board.{held, root, conflict, leaf, stamp_at, finished, IsLate, HoldsNew, Raised, Claimed, Done, IsNew, IsPair, newer_first, newer_second, new_first, new_second, IsClaimed, claimed_before, claimed_now, LawfulFor, Stands}
 use Rattle.lawful_words.specs.Statements.{B, AllB}
-use Rattle.lawful_words.proofs.Machine.{last_most, last_is, last_least, last_between, value_between, reached_down}
-use Rattle.lawful_words.proofs.Values.{IsFin, fin, conflict_is, fin_reached, phase_low, phase_high, tree_below, stamp_step, payload_step, before_is, before_most, before_less, before_between, WordIs, is_settled, is_before, is_new, first_is, second_is, has_settled, newer_is_first, newer_is_second}
+use Rattle.lawful_words.proofs.Values.{IsFin, fin, conflict_is, fin_reached, phase_low, phase_high, tree_below, stamp_step, payload_step, before_is, before_less, before_between, WordIs, is_settled, is_before, is_new, first_is, second_is, has_settled, newer_is_first, newer_is_second}
 
 -- what is done with a kind, by the rule
 pub done_raised : (rule : Rule) (job : JobData) (y : LayoutData) (s : ℕ) (words : List ℕ) (i : ℕ) → Done rule Compute job y s words i → Raised job y s words i

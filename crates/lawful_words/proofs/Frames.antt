@@ -6,7 +6,7 @@ use Rattle.std.proofs.lemmas.List.{get_or-set_other, set-get_or}
 use Rattle.std.proofs.lemmas.Bool.{cases_eq, cases_lt, eq-eqb, ne_eqb}
 use Rattle.pram_text.specs.Job.{JobData}
 use Rattle.pram_words.specs.declared.words.Word.{Word}
-use Rattle.pram_words.specs.declared.words.Word.TheVariants.{Conflict, Node, Asked, Position, Stored, Claim}
+use Rattle.pram_words.specs.declared.words.Word.TheVariants.{Conflict, Node, Asked, Position, Stored, Claim, Spare}
 use Rattle.pram_words.specs.Words.{LayoutData, IsLayout, IsWord, IsAdmitted, IsInRange, number_of, length_of}
 use Rattle.pram_words.proofs.Numbering.{numbering}
 use Rattle.walkx.specs.declared.operation.Op.TheVariants.{Max, Store, Swap}
@@ -48,6 +48,7 @@ up_same y words (Asked i j) n = le_refl _
 up_same y words (Position w) n = tt
 up_same y words (Stored p k) n = inl refl
 up_same y words (Claim c) n = le_refl _
+up_same y words (Spare k) n = refl
 
 pub only_grows : (y : LayoutData) (a : Word) (v : ℕ) (words later : List ℕ) → IsLayout y → IsWord y a → Up y words a (held y words a) v → Only y a v words later → Grows y words later
 only_grows y a v words later limits is up only = λ b is_b. elim (same_or_other y a b limits is is_b) [

@@ -7,11 +7,12 @@ use Rattle.pram_words.specs.declared.words.Word.TheVariants.{Node, Asked, Stored
 use Rattle.pram_words.specs.Stamps.{stamp_of, payload_of}
 use Rattle.pram_words.specs.Words.{LayoutData, IsWord, places_of}
 use Rattle.walkx.specs.Tasks.{is_late, first_is_older, newer_payload, older, older_word}
-use Rattle.lawful_words.specs.Steps.{last_write, write_before, word_of_step, settled, settled_before}
+use Rattle.pram_step.specs.History.{last_write, write_before}
+use Rattle.pram_step.proofs.Past.{last_most, last_least, last_rises, value_between, before_most}
+use Rattle.lawful_words.specs.Steps.{word_of_step, settled, settled_before}
 use Rattle.lawful_words.specs.Board.{held, root, stamp_at, finished, IsLate, IsPair, newer_first, newer_second, new_first, new_second, Stands, Grows}
 use Rattle.lawful_words.specs.Statements.{C, AllC, C5, AllC5}
-use Rattle.lawful_words.proofs.Machine.{last_most, last_least, last_rises, value_between}
-use Rattle.lawful_words.proofs.Values.{payload_step, before_less, before_most, before_rises, has_settled, newer_is_first, newer_is_second}
+use Rattle.lawful_words.proofs.Values.{payload_step, before_less, before_rises, has_settled, newer_is_first, newer_is_second}
 use Rattle.lawful_words.proofs.Moments.{onward, stamps_rise}
 use Rattle.lawful_words.proofs.Facts.{facts, place_below, stamp_settled, stamp_before}
 

@@ -10,10 +10,11 @@ use Rattle.walkx.specs.declared.operation.Op.{Op}
 use Rattle.walkx.specs.declared.operation.Op.TheVariants.{Load, Store, Max, Swap, Over}
 use Rattle.walkx.specs.Operations.{words_after, answer}
 use Rattle.walkx.specs.Records.{empty, after, Knows}
-use Rattle.walkx.specs.Walk.{Walking, Fits, IsBoard, IsAdmitted, AsksAdmitted, ask_of, told, started, come_back, heard_of}
+use Rattle.walkx.specs.Walk.{Walking, Fits, IsBoard, HearsAdmitted, AsksAdmitted, ask_of, told, started, come_back, heard_of}
 use Rattle.walkx.proofs.Asking.{all_ask}
 use Rattle.walkx.proofs.Fitting.{fits_told, new_workers_fit}
 use Rattle.walkx.proofs.Knowing.{has_more, knows_next}
+use Rattle.pram_words.specs.declared.layout.Form.{Form}
 use Rattle.lawful_words.specs.Board.{Stands, held, root}
 use Rattle.lawful_words.specs.Walks.{phase_now}
 use Rattle.lawful_words.specs.Worlds.{Body, walks, stopped, number, Event, go, stop, back, Scene, layout, went_by, replaced, happens, run, start, Walks, Holds}
@@ -28,7 +29,7 @@ word_admitted job y words k stands below =
     let range : IsInRange y job (word_at y k) (slice_index words (number_of y (word_at y k))) = stands.admitted.in_range (word_at y k) w.0 in
     (below, subst (λ (n : ℕ). IsInRange y job (word_at y k) (slice_index words n)) w.1 range)
 
-answer_admitted : (job : JobData) (y : LayoutData) (words : List ℕ) (op : Op) → Stands job y words → AsksAdmitted job y op → IsAdmitted job y op (answer words op)
+answer_admitted : (job : JobData) (y : LayoutData) (words : List ℕ) (op : Op) → Stands job y words → AsksAdmitted job y op → HearsAdmitted job y op (answer words op)
 answer_admitted job y words (Load k) stands below = word_admitted job y words k stands below
 answer_admitted job y words (Store k v) stands below = tt
 answer_admitted job y words (Max k v) stands below = tt
@@ -63,16 +64,16 @@ starts_at low (suc n) (suc at) body e = let s = starts_at (low + 1) n at body e 
 
 -- ---- what holds of a world
 
-pub holds_start : (job : JobData) (workers : ℕ) → IsJob job → 1 ≤ workers → workers ≤ 64 → Holds (start job workers)
-holds_start job workers limits some most = record {
-  stands = starts_stand job workers limits some most;
+pub holds_start : (job : JobData) (form : Form) (workers : ℕ) → IsJob job → 1 ≤ workers → workers ≤ 64 → Holds (start job form workers)
+holds_start job form workers limits some most = record {
+  stands = starts_stand job form workers limits some most;
   made = empty;
   backed = tt;
   known = λ b w is.
       let s = starts_at 0 workers b (walks w) is in
       let e : w ≡ started s.worker = same_walking w (started s.worker) s.is in
       let below = s.below in
-      (subst (λ (v : Walking). Knows job (layout_of job workers) empty v) (sym e) tt, subst (Fits job (layout_of job workers)) (sym e) (new_workers_fit job (layout_of job workers) s.worker (omega arith)).0);
+      (subst (λ (v : Walking). Knows job (layout_of job form workers) empty v) (sym e) tt, subst (Fits job (layout_of job form workers)) (sym e) (new_workers_fit job (layout_of job form workers) s.worker (omega arith)).0);
   numbers = λ b body is. let s = starts_at 0 workers b body is in let below = s.below in subst (λ (x : Body). number x < workers) (sym s.is) (omega arith);
 }
 
@@ -158,5 +159,5 @@ run_holds [] s h = h
 run_holds (e ∷ es) s h = run_holds es (happens s e) (happens_holds s e h)
 
 -- Whatever happens in a world, in any order: its words are lawful, and bear out a record of all steps that knows each worker.
-pub every_run_holds : (job : JobData) (workers : ℕ) (events : List Event) → IsJob job → 1 ≤ workers → workers ≤ 64 → Holds (run (start job workers) events)
-every_run_holds job workers events limits some most = run_holds events (start job workers) (holds_start job workers limits some most)
+pub every_run_holds : (job : JobData) (form : Form) (workers : ℕ) (events : List Event) → IsJob job → 1 ≤ workers → workers ≤ 64 → Holds (run (start job form workers) events)
+every_run_holds job form workers events limits some most = run_holds events (start job form workers) (holds_start job form workers limits some most)

@@ -17,7 +17,7 @@ use Rattle.walkx.specs.Scripts.{Script, asks}
 use Rattle.walkx.specs.Tasks.{hears_part, reads_place, reports, claims, claim_of}
 use Rattle.walkx.specs.Walk.{Then, IsBoard}
 use Rattle.walkx.proofs.Boards.{same_cells}
-use Rattle.lawful_words.specs.Steps.{Asks, part_after}
+use Rattle.pram_step.specs.History.{Asks, part_after}
 use Rattle.lawful_words.specs.Board.{held, root, conflict, Stands}
 use Rattle.lawful_words.specs.Moments.{Moment}
 use Rattle.lawful_words.specs.Statements.{Floor}

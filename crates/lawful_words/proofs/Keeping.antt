@@ -4,9 +4,7 @@ use Rattle.std.proofs.lemmas.Bool.{cases_eq}
 use Rattle.pram_text.specs.Job.{JobData, IsJob}
 use Rattle.pram_text.specs.declared.instr.Rule.{Rule}
 use Rattle.pram_text.specs.declared.instr.Rule.TheVariants.{Common, Priority, Crew}
-use Rattle.pram_step.specs.Machine.{place_count}
 use Rattle.pram_step.specs.Runs.{AgreesAfter, state_after}
-use Rattle.pram_step.proofs.LawPlaces.{writes_place}
 use Rattle.pram_words.specs.declared.phases.Kind.{Kind}
 use Rattle.pram_words.specs.declared.phases.Kind.TheVariants.{Compute, Apply, Verify}
 use Rattle.pram_words.specs.declared.words.Word.TheVariants.{Conflict, Asked, Stored, Claim}
@@ -15,18 +13,14 @@ use Rattle.pram_words.specs.Words.{LayoutData, IsLayout, IsWord, has_claims, pla
 use Rattle.walkx.specs.Tasks.{claim_of}
 use Rattle.walkx.specs.Walk.{IsLayoutOf, IsBoard}
 use Rattle.walkx.proofs.Boards.{same_cells, same_procs}
-use Rattle.lawful_words.specs.Steps.{Asks, IsWritten, last_write, write_before, word_of_step, settled, settled_before}
+use Rattle.pram_step.specs.History.{Asks, IsWritten, last_write, write_before}
+use Rattle.pram_step.proofs.LawFixed.{reached_more}
+use Rattle.pram_step.proofs.Past.{last_most, last_new, write_cases, Left, Set, written_value, before_most, asks_place}
+use Rattle.lawful_words.specs.Steps.{word_of_step, settled, settled_before}
 use Rattle.lawful_words.specs.Board.{held, root, conflict, leaf, stamp_at, finished, IsLate, HoldsNew, Raised, Carried, CarriedWon, Claimed, Stays, ClaimStays, Done, phase_in, IsNew, IsPair, newer_first, newer_second, new_first, new_second, ClaimsFor, IsClaimed, claimed_before, claimed_now, LawfulFor, Lawful, Grows}
-use Rattle.lawful_words.proofs.Machine.{last_most, last_new, write_cases, Left, Set, written_value, reached_more}
-use Rattle.lawful_words.proofs.Values.{fin, phase_high, stamp_step, before_most}
+use Rattle.lawful_words.proofs.Values.{fin, phase_high, stamp_step}
 use Rattle.lawful_words.proofs.Moments.{stamps_rise}
 use Rattle.lawful_words.proofs.Facts.{place_below, low_leaf, raised, late, claim_fits, agrees_by, claim_high}
-
-pub asks_place : (job : JobData) (s p i v : ℕ) → IsJob job → Asks job s p i v → p < place_count job
-asks_place job s p i v limits asks =
-    let w = writes_place job (state_after job s) p i v limits asks in
-    let l = w.0 in
-    elim w.1 [ inl e ↦ omega arith | inr d ↦ elim d [ inl c ↦ omega arith | inr c ↦ (let m = c.1 in omega arith) ] ]
 
 has_claim_words : (rule : Rule) → rule ≢ Common → IsTrue (has_claims rule)
 has_claim_words Common other = absurd (other refl)

@@ -12,10 +12,10 @@ use Rattle.walkx.specs.declared.operation.Op.TheVariants.{Load, Store, Max, Swap
 use Rattle.walkx.specs.Operations.{words_after, answer}
 use Rattle.walkx.specs.Records.{Record, after, Has}
 use Rattle.walkx.proofs.Knowing.{has_more}
+use Rattle.pram_step.proofs.LawFixed.{reached_down}
 use Rattle.lawful_words.specs.Board.{held, root, conflict, stamp_at, finished, Stands, Grows}
 use Rattle.lawful_words.specs.Moments.{Backed}
 use Rattle.lawful_words.specs.Seen.{Hears, Heard, HeardThen, Shows, KnowsStep}
-use Rattle.lawful_words.proofs.Machine.{reached_down}
 use Rattle.lawful_words.proofs.Values.{phase_low}
 use Rattle.lawful_words.proofs.Moments.{onward, backed_later, find}
 use Rattle.lawful_words.proofs.Facts.{facts}

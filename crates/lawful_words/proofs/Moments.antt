@@ -1,7 +1,7 @@
 -- Growth, and records that the words bear out. Nothing here knows the walk.
 use Rattle.std.proofs.Common.{ℕ, zero, suc, ◌≤◌, List, ◌∷◌, refl, sym, ap, subst, ◌∙◌, inl, inr, le_refl, le_trans, lit<, arith}
 use Rattle.pram_text.specs.Job.{JobData}
-use Rattle.pram_words.specs.declared.words.Word.TheVariants.{Conflict, Node, Asked, Position, Stored, Claim}
+use Rattle.pram_words.specs.declared.words.Word.TheVariants.{Conflict, Node, Asked, Position, Stored, Claim, Spare}
 use Rattle.pram_words.specs.Stamps.{stamp_of}
 use Rattle.pram_words.specs.Words.{LayoutData, IsWord}
 use Rattle.walkx.specs.declared.operation.Op.{Op}
@@ -21,6 +21,7 @@ same y words (Asked i j) is = le_refl _
 same y words (Position w) is = tt
 same y words (Stored p k) is = inl refl
 same y words (Claim c) is = le_refl _
+same y words (Spare k) is = refl
 
 -- no stamp of a place is lower
 pub stamps_rise : (y : LayoutData) (words later : List ℕ) (p k : ℕ) → IsWord y (Stored p k) → Grows y words later → stamp_at y words p k ≤ stamp_at y later p k
@@ -51,6 +52,7 @@ onward y a b c up on (Asked i j) is = le_trans (up (Asked i j) is) (on (Asked i 
 onward y a b c up on (Position w) is = tt
 onward y a b c up on (Stored p k) is = stored_onward y a b c p k is up on
 onward y a b c up on (Claim i) is = le_trans (up (Claim i) is) (on (Claim i) is)
+onward y a b c up on (Spare k) is = up (Spare k) is ∙ on (Spare k) is
 
 -- ---- records
 

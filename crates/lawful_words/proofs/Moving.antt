@@ -6,8 +6,8 @@ use Rattle.pram_words.specs.Words.{LayoutData}
 use Rattle.walkx.specs.declared.operation.Ended.TheVariants as ended
 use Rattle.walkx.specs.declared.operation.Op.{Op}
 use Rattle.walkx.specs.declared.operation.Op.TheVariants.{Over}
-use Rattle.walkx.specs.declared.worker.Doing.{Doing}
-use Rattle.walkx.specs.declared.worker.Doing.TheVariants as doing
+use Rattle.walkx.specs.Doing.{Doing}
+use Rattle.walkx.specs.Doing as doing
 use Rattle.walkx.specs.Scripts.{Script, heard_in}
 use Rattle.walkx.specs.Walk.{Then, Walking, Fits, Matches, script_of, rest_of, next_op, ask_of, phase_begun, heard_of, turn_script, begin_script, back_script}
 use Rattle.walkx.proofs.Asking.{all_left}

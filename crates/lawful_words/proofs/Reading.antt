@@ -6,7 +6,7 @@ use Rattle.pram_step.specs.Runs.{IsReached, state_after}
 use Rattle.pram_words.specs.declared.words.Word.{Word}
 use Rattle.pram_words.specs.declared.words.Word.TheVariants.{Conflict, Node, Stored}
 use Rattle.pram_words.specs.Stamps.{stamp_of, payload_of}
-use Rattle.pram_words.specs.Words.{LayoutData, IsWord, number_of, places_of}
+use Rattle.pram_words.specs.Words.{LayoutData, IsWord, number_of, places_of, IsLayout}
 use Rattle.walkx.specs.declared.operation.Op.{Op}
 use Rattle.walkx.specs.declared.operation.Op.TheVariants.{Load, Store, Max, Swap, Over}
 use Rattle.walkx.specs.declared.operation.Reading.{Reading}
@@ -15,12 +15,14 @@ use Rattle.walkx.specs.Scripts.{Script, asks, ends, behind, rest, op_with, heard
 use Rattle.walkx.specs.Reads.{step_seen, lesser, told_at, read_script, reader_script}
 use Rattle.walkx.specs.Records.{Record, after}
 use Rattle.walkx.specs.Tasks.{newer_payload, is_late}
-use Rattle.lawful_words.specs.Steps.{last_write, write_before}
+use Rattle.pram_words.proofs.Numbering.{numbering}
+use Rattle.pram_step.specs.History.{last_write, write_before}
+use Rattle.pram_step.proofs.LawFixed.{reached_down}
+use Rattle.pram_step.proofs.Past.{last_most, last_rises, value_between, written_value}
 use Rattle.lawful_words.specs.Board.{held, root, conflict, stamp_at, finished, IsPair, newer_first, newer_second, new_first, new_second, Stands, Grows}
 use Rattle.lawful_words.specs.Moments.{Moment, Backed}
 use Rattle.lawful_words.specs.Seen.{Hears, Heard, Shows, KnowsStep}
 use Rattle.lawful_words.specs.Walks.{IsLawfulRead}
-use Rattle.lawful_words.proofs.Machine.{reached_down, last_most, last_rises, value_between, written_value}
 use Rattle.lawful_words.proofs.Values.{fin, WordIs, is_settled, is_before, is_new, stamp_step, payload_step, before_rises}
 use Rattle.lawful_words.proofs.Moments.{same, onward, stamps_rise, backed_later}
 use Rattle.lawful_words.proofs.Sees.{afters}
@@ -186,6 +188,13 @@ glanced_root job y before r words part m =
     more : (s : ℕ) → 3 * s ≤ r → 3 * s + 1 ≤ r
     more s h = elim (cases_lt (3 * s) r) [ inl c ↦ omega arith | inr c ↦ absurd (part (omega arith)) ]
 
+-- words that are not the same have other numbers
+words_apart : (y : LayoutData) (a b : Word) → IsLayout y → IsWord y a → IsWord y b → a ≢ b → number_of y a ≢ number_of y b
+words_apart y a b limits is is_b other = λ e. other ((numbering y limits).apart a b is is_b e)
+
+root_is : (y : LayoutData) → IsLayout y → IsWord y (Node 1)
+root_is y limits = let l = limits.leaves in (lit< tt, omega arith)
+
 module _ (job : JobData) (y : LayoutData) (before : Record) (r u : ℕ) (words : List ℕ) (stands : Stands job y words) (m : Backed job y (load_conflict y (load_root y before r) u) words) where
   first : Moment job y (Load (number_of y (Node 1))) r (Backed job y before) m.words
   first = m.earlier
@@ -245,8 +254,7 @@ module _ (job : JobData) (y : LayoutData) (before : Record) (r u : ℕ) (words :
   fin_high = shown_now job y (load_conflict y (load_root y before r) u) (step_seen r u) m.words m.stands (at_load job y (number_of y Conflict) u (Backed job y (load_root y before r)) words m) shows_seen
 
   not_root : number_of y Conflict ≢ number_of y (Node 1)
-  unfolding number_of
-  not_root = λ e. absurd (omega arith)
+  not_root = words_apart y Conflict (Node 1) m.stands.sizes tt (root_is y m.stands.sizes) (λ e. absurd (cc))
 
   shown_low : (t : ℕ) → Shows y (load_conflict y (load_root y before r) u) t → t ≤ step_seen r u
   shown_low t (inl s) = elim (s.2).has [
@@ -305,16 +313,13 @@ record Extends (y : LayoutData) (r longer : Record) : Type 0 where
   more : (t : ℕ) → Shows y r t → Shows y longer t
   heard : (u : ℕ) → Heard y r Conflict u → Heard y longer Conflict u
 
-place_is_none : (y : LayoutData) (c k : ℕ) → 1 ≤ y.leaves → (number_of y (Stored c k) ≢ number_of y (Node 1)) × (number_of y (Stored c k) ≢ number_of y Conflict)
-unfolding number_of
-place_is_none y c k some = (λ e. absurd (omega arith), λ e. absurd (omega arith))
-
 extends_same : (y : LayoutData) (r : Record) → Extends y r r
 extends_same y r = record { fewer = λ t s. s; more = λ t s. s; heard = λ u h. h }
 
-extends_on : (y : LayoutData) (r longer : Record) (c k found : ℕ) → 1 ≤ y.leaves → Extends y r longer → Extends y r (after longer (Load (number_of y (Stored c k))) found)
-extends_on y r longer c k found some x = record {
-  fewer = λ t s. x.fewer t (let n = place_is_none y c k some in shows_less y longer (number_of y (Stored c k)) found t n.0 n.1 s);
+extends_on : (y : LayoutData) (r longer : Record) (c k found : ℕ) → IsLayout y → IsWord y (Stored c k) → Extends y r longer → Extends y r (after longer (Load (number_of y (Stored c k))) found)
+extends_on y r longer c k found limits is x = record {
+  fewer = λ t s. x.fewer t
+      (shows_less y longer (number_of y (Stored c k)) found t (words_apart y (Stored c k) (Node 1) limits is (root_is y limits) (λ e. absurd (cc))) (words_apart y (Stored c k) Conflict limits is tt (λ e. absurd (cc))) s);
   more = λ t s. shows_too y longer (Load (number_of y (Stored c k))) found t (x.more t s);
   heard = λ u h. heard_too y longer (Load (number_of y (Stored c k))) found Conflict u (x.heard u h);
 }
@@ -382,8 +387,8 @@ module _ (job : JobData) (y : LayoutData) (before r : Record) (c s : ℕ) (cell 
   heard_second : (a b : ℕ) → Heard y (Two a b) (Stored c 1) b
   heard_second a b = heard_newest y (One a) (Stored c 1) b
 
-  extends_two : (a b : ℕ) → 1 ≤ y.leaves → Extends y r (Two a b)
-  extends_two a b some = extends_on y r (One a) c 1 b some (extends_on y r r c 0 a some (extends_same y r))
+  extends_two : (a b : ℕ) → IsLayout y → Extends y r (Two a b)
+  extends_two a b limits = extends_on y r (One a) c 1 b limits (place, lit< tt) (extends_on y r r c 0 a limits (place, lit< tt) (extends_same y r))
 
   -- the step seen at the moment of the first load, and reached
   fin_of : (words : List ℕ) → Stands job y words → Backed job y r words → IsReached job s × (s ≤ finished y words)
@@ -396,7 +401,7 @@ module _ (job : JobData) (y : LayoutData) (before r : Record) (c s : ℕ) (cell 
       let low = (facts job y first.words first.stands).b2_low in
       let leaves = stands.sizes.leaves in
       let early : is_late (suc s) a b ≡ false = or_from (nat_le (suc s) (stamp_of a)) (nat_le (suc s) (stamp_of b)) (lt-leb (suc s) (stamp_of a) (omega arith)) (lt-leb (suc s) (stamp_of b) (omega arith)) in
-      seen_read job y before r (Two a b) c s (newer_payload a b) (glance first.words first.stands first.earlier) (extends_two a b (omega arith)) f.0
+      seen_read job y before r (Two a b) c s (newer_payload a b) (glance first.words first.stands first.earlier) (extends_two a b stands.sizes) f.0
       (all_c5 job y s c a b first.words m.words words first.stands m.stands stands first.since m.since place f.0 (let g = f.1 in omega arith) first.heard m.heard early).value
 
   second_old : (a b : ℕ) → s < stamp_of a → stamp_of b ≤ s → Reads job y before c (ends (At s (payload_of b))) (Two a b)
@@ -408,7 +413,7 @@ module _ (job : JobData) (y : LayoutData) (before r : Record) (c s : ℕ) (cell 
       let eb : stamp_of b ≡ stamp_at y m.words c 1 = ap stamp_of m.heard in
       let up = stamps_rise y first.words m.words c 0 (place, lit< tt) first.since in
       let fin_m = fin_then job y first.words m.words s first.stands m.stands first.since f.1 in
-      seen_read job y before r (Two a b) c s (payload_of b) (glance first.words first.stands first.earlier) (extends_two a b (omega arith)) f.0
+      seen_read job y before r (Two a b) c s (payload_of b) (glance first.words first.stands first.earlier) (extends_two a b stands.sizes) f.0
       (ap payload_of m.heard ∙ second_value job y m.words s c m.stands place fin_m (omega arith) (omega arith))
 
   both_new : (a b : ℕ) → s < stamp_of a → s < stamp_of b → Reads job y before c (told_at (lesser a b)) (Two a b)
@@ -416,7 +421,7 @@ module _ (job : JobData) (y : LayoutData) (before r : Record) (c s : ℕ) (cell 
       let first = m.earlier in
       let g = glance first.words first.stands first.earlier in
       let leaves = stands.sizes.leaves in
-      let x = extends_two a b (omega arith) in
+      let x = extends_two a b stands.sizes in
       let ea : stamp_of a ≡ stamp_at y first.words c 0 = ap stamp_of first.heard in
       let eb : stamp_of b ≡ stamp_at y m.words c 1 = ap stamp_of m.heard in
       lesser_read job y before (Two a b) c a b
@@ -439,7 +444,7 @@ module _ (job : JobData) (y : LayoutData) (before r : Record) (c s : ℕ) (cell 
       let up = stamps_rise y m.words last.words c 0 (place, lit< tt) m.since in
       let still : held y first.words (Stored c 0) ≡ held y m.words (Stored c 0) = elim (first.since (Stored c 0) (place, lit< tt)) [ inl g ↦ g | inr more ↦ absurd (let h = more.0 in omega arith) ] in
       let sm : stamp_of a ≡ stamp_at y m.words c 0 = ap stamp_of (ea ∙ still) in
-      seen_read job y before r (Three a b again) c s (payload_of a) (glance first.words first.stands first.earlier) (extends_on y r (Two a b) c 0 again (omega arith) (extends_two a b (omega arith))) f.0
+      seen_read job y before r (Three a b again) c s (payload_of a) (glance first.words first.stands first.earlier) (extends_on y r (Two a b) c 0 again stands.sizes (place, lit< tt) (extends_two a b stands.sizes)) f.0
       (ap payload_of (ea ∙ still) ∙ first_value job y m.words s c m.stands place fin_m (omega arith) (omega arith))
 
   other_again : (a b again : ℕ) → s < stamp_of b → again ≢ a → Reads job y before c (told_at (lesser again b)) (Three a b again)
@@ -449,7 +454,7 @@ module _ (job : JobData) (y : LayoutData) (before r : Record) (c s : ℕ) (cell 
       let f = fin_of first.words first.stands first.earlier in
       let g = glance first.words first.stands first.earlier in
       let leaves = stands.sizes.leaves in
-      let x = extends_on y r (Two a b) c 0 again (omega arith) (extends_two a b (omega arith)) in
+      let x = extends_on y r (Two a b) c 0 again stands.sizes (place, lit< tt) (extends_two a b stands.sizes) in
       let ea : a ≡ held y first.words (Stored c 0) = first.heard in
       let el : again ≡ held y last.words (Stored c 0) = last.heard in
       let eb : stamp_of b ≡ stamp_at y m.words c 1 = ap stamp_of m.heard in

@@ -6,7 +6,7 @@ use Rattle.pram_words.specs.declared.words.Word.TheVariants.{Stored}
 use Rattle.walkx.specs.declared.operation.Op.{Op}
 use Rattle.walkx.specs.declared.operation.Op.TheVariants.{Load}
 use Rattle.walkx.specs.Scripts.{Script, asks, ends, behind, rest, first_op, op_with, heard_in}
-use Rattle.walkx.specs.Walk.{IsAdmitted, AllAdmitted}
+use Rattle.walkx.specs.Walk.{HearsAdmitted, AllAdmitted}
 use Rattle.walkx.specs.Tasks.{loads_both}
 use Rattle.walkx.proofs.Asking.{admitted_earlier}
 use Rattle.lawful_words.specs.Moments.{Moment, Goes}
@@ -15,7 +15,7 @@ use Rattle.lawful_words.proofs.Sees.{Sees, always, heard}
 
 -- behind this history each operation of the script goes well, whatever admitted answers it hears: the script is worker w's in phase q
 abbrev pub Safe : {R : Type 0} → JobData → LayoutData → ℕ → ℕ → Script R → List (Op × ℕ) → Type 0
-Safe job y w q (asks op next) history = Sees job y history (Goes job y w q op) × ((found : ℕ) → IsAdmitted job y op found → Safe job y w q (next found) ((op, found) ∷ history))
+Safe job y w q (asks op next) history = Sees job y history (Goes job y w q op) × ((found : ℕ) → HearsAdmitted job y op found → Safe job y w q (next found) ((op, found) ∷ history))
 Safe job y w q (ends r) history = Unit {0}
 
 safe_next : {R : Type 0} (job : JobData) (y : LayoutData) (w q : ℕ) (script : Script R) (history heard : List (Op × ℕ)) (found : ℕ) → AllAdmitted job y (op_with script found ++ heard) → Safe job y w q script (heard ++ history) →
@@ -38,7 +38,7 @@ safe_first job y w q (ends r) history op e safe = absurd (cc)
 
 -- ---- blocks: a load is always safe
 
-pub load_safe : {R : Type 0} (job : JobData) (y : LayoutData) (w q : ℕ) (k : ℕ) (next : ℕ → Script R) (history : List (Op × ℕ)) → ((found : ℕ) → IsAdmitted job y (Load k) found → Safe job y w q (next found) ((Load k, found) ∷ history)) → Safe job y w q (asks (Load k) next) history
+pub load_safe : {R : Type 0} (job : JobData) (y : LayoutData) (w q : ℕ) (k : ℕ) (next : ℕ → Script R) (history : List (Op × ℕ)) → ((found : ℕ) → HearsAdmitted job y (Load k) found → Safe job y w q (next found) ((Load k, found) ∷ history)) → Safe job y w q (asks (Load k) next) history
 load_safe job y w q k next history each = (always job y history (Goes job y w q (Load k)) (load_goes job y w q k), each)
 
 -- both words of a place, each heard at a moment of its own

@@ -3,12 +3,12 @@ use Rattle.std.proofs.Common.{◌≡◌, ◌≢◌, ◌⊎◌, ℕ, zero, suc, �
 use Rattle.std.proofs.lemmas.Bool.{cases_eq, cases_lt, cases_Bool, eq-eqb, leb-true, leb-false, lt-ltb, le-ltb}
 use Rattle.pram_text.specs.Job.{JobData, IsJob}
 use Rattle.pram_step.specs.declared.requests.Request.{Request}
-use Rattle.pram_step.specs.Machine.{counter_place, request_of}
+use Rattle.pram_step.specs.Machine.{counter_place}
 use Rattle.pram_step.specs.Steps.{written}
 use Rattle.pram_step.specs.Runs.{IsReached, AgreesAfter, state_after}
-use Rattle.pram_step.proofs.LawFits.{RequestFits, request_fits, state_fits}
-use Rattle.pram_step.proofs.LawCounters.{request_within, counter_within}
-use Rattle.pram_step.proofs.LawPlaces.{request_well, writes_place, writer_is}
+use Rattle.pram_step.proofs.LawFits.{state_fits}
+use Rattle.pram_step.proofs.LawCounters.{counter_within}
+use Rattle.pram_step.proofs.LawPlaces.{writes_place, writer_is}
 use Rattle.pram_words.specs.declared.phases.Kind.{Kind}
 use Rattle.pram_words.specs.declared.phases.Kind.TheVariants.{Verify}
 use Rattle.pram_words.specs.declared.words.Word.{Word}
@@ -17,18 +17,21 @@ use Rattle.pram_words.specs.Stamps.{stamp_of, payload_of, stamped_word}
 use Rattle.pram_words.specs.Phases.{kind_at, step_at}
 use Rattle.pram_words.specs.Words.{LayoutData, IsWord, IsStamped, number_of, places_of, counters_of, most_asked, most_stored}
 use Rattle.walkx.specs.Walk.{IsBoard}
-use Rattle.walkx.specs.Tasks.{claim_of, first_is_older, place_part, value_part, older, older_word}
+use Rattle.walkx.specs.Tasks.{claim_of, first_is_older, older, older_word}
 use Rattle.walkx.specs.declared.operation.Op.TheVariants.{Max, Store, Swap}
 use Rattle.walkx.proofs.Boards.{same_cells, same_procs}
-use Rattle.lawful_words.specs.Steps.{Asks, Wins, phase_written, last_write, write_before, word_of_step, settled, settled_before, part_after}
+use Rattle.pram_step.specs.Instructions.{request_in, place_part, value_part, HasShape}
+use Rattle.pram_step.proofs.Shapes.{request_shape}
+use Rattle.pram_step.specs.History.{Asks, Wins, last_write, write_before, part_after}
+use Rattle.pram_step.proofs.Past.{last_most, last_least, conflict_above, asks_fits, asks_place, before_most}
+use Rattle.lawful_words.specs.Steps.{phase_written, word_of_step, settled, settled_before}
 use Rattle.lawful_words.specs.Board.{held, root, conflict, leaf, stamp_at, finished, phase_in, IsTree, IsAsked, IsNew, IsPair, newer_first, newer_second, new_first, new_second, IsClaimed, claimed_now, IsNamed, Lawful, Only, Stands, Grows}
 use Rattle.lawful_words.specs.Moments.{Keeps}
 use Rattle.lawful_words.specs.Statements.{B, C5, Floor, Does}
-use Rattle.lawful_words.proofs.Machine.{last_most, last_least, conflict_above, asks_fits}
-use Rattle.lawful_words.proofs.Values.{before_most, before_less, stamp_step}
+use Rattle.lawful_words.proofs.Values.{before_less, stamp_step}
 use Rattle.lawful_words.proofs.Frames.{only_grows, does_max, does_swap, keeps_store, same_or_other}
 use Rattle.lawful_words.proofs.Facts.{facts, board, procs_fit, late_of, claim_fits}
-use Rattle.lawful_words.proofs.Keeping.{done_later, settle, asks_place}
+use Rattle.lawful_words.proofs.Keeping.{done_later, settle}
 use Rattle.lawful_words.proofs.Raising.{behind, alive}
 
 settled_stamp : (job : JobData) (t p : ℕ) → IsJob job → stamp_of (settled job t p) ≡ last_write job t p
@@ -200,6 +203,13 @@ same_some a b e = cc
 counter_value : (job : JobData) (i p v : ℕ) (r : Request) → p ≡ counter_place job i → written job p i r ≡ Some v → r.next ≡ v
 counter_value job i p v r e h = same_some r.next v (rw (eq-eqb p (counter_place job i) e) at h)
 
+-- a request that the machine makes has its shape
+shape_of : (job : JobData) (y : LayoutData) (s i : ℕ) → IsBoard job y → i < y.procs → HasShape job i (request_in job (state_after job s) i)
+shape_of job y s i is proc =
+    let procs = same_procs job y is in
+    let below : i < job.procs = omega arith in
+    request_shape job (state_after job s) i is.limits (state_fits job s is.limits) below (counter_within job s i is.limits below)
+
 written_most : (job : JobData) (y : LayoutData) (s p i v : ℕ) → IsBoard job y → Asks job s p i v → v ≤ most_stored y job p
 written_most job y s p i v is asks =
     let w = writes_place job (state_after job s) p i v is.limits asks in
@@ -208,17 +218,17 @@ written_most job y s p i v is asks =
     let procs = same_procs job y is in
     let fits = asks_fits job s p i v is.limits asks in
     elim w.1 [
-      | inl e ↦ rw (le-ltb p (counters_of y) (omega arith)) (let n = request_within job (state_after job s) i is.limits (counter_within job s i is.limits l) in let k = counter_value job i p v (request_of job (state_after job s) i) e (writer_is job (state_after job s) p i v asks).1 in omega arith)
+      | inl e ↦ rw (le-ltb p (counters_of y) (omega arith)) (let n = (shape_of job y s i is (omega arith)).next in let k = counter_value job i p v (request_in job (state_after job s) i) e (writer_is job (state_after job s) p i v asks).1 in omega arith)
       | inr d ↦ rw (lt-ltb p (counters_of y) (elim d [ inl c ↦ omega arith | inr c ↦ (let m = c.1 in omega arith) ])) (omega arith)
     ]
 
-place_most : (most : ℕ) (o : Option (ℕ × ℕ)) → ((w : ℕ × ℕ) → o ≡ Some w → w.0 < most) → elim o [ None ↦ 0 | Some w ↦ w.0 + 1 ] ≤ most
+place_most : (most : ℕ) (o : Option (ℕ × ℕ)) → ((p v : ℕ) → o ≡ Some (p, v) → p < most) → elim o [ None ↦ 0 | Some w ↦ w.0 + 1 ] ≤ most
 place_most most None h = omega arith
-place_most most (Some w) h = let l = h w refl in omega arith
+place_most most (Some (p, v)) h = let l = h p v refl in omega arith
 
-value_most : (most : ℕ) (o : Option (ℕ × ℕ)) → 0 < most → ((w : ℕ × ℕ) → o ≡ Some w → w.1 < most) → elim o [ None ↦ 0 | Some w ↦ w.1 ] < most
+value_most : (most : ℕ) (o : Option (ℕ × ℕ)) → 0 < most → ((p v : ℕ) → o ≡ Some (p, v) → v < most) → elim o [ None ↦ 0 | Some w ↦ w.1 ] < most
 value_most most None some h = some
-value_most most (Some w) some h = h w refl
+value_most most (Some (p, v)) some h = h p v refl
 
 part_most : (job : JobData) (y : LayoutData) (s i j : ℕ) → IsBoard job y → i < y.procs → j < 3 → (part_after job s i j ≤ most_asked y job j) × (part_after job s i j < 2 ^ 32)
 part_most job y s i zero is proc part =
@@ -226,16 +236,14 @@ part_most job y s i zero is proc part =
     let procs = same_procs job y is in
     let c = is.limits.cells.1 in
     let n = is.limits.procs.1 in
-    let h : place_part (request_of job (state_after job s) i) ≤ counters_of y = place_most (counters_of y) (request_of job (state_after job s) i).put (λ w e. elim (request_well job (state_after job s) i w is.limits e) [ inl l ↦ omega arith | inr l ↦ (let m = l.1 in omega arith) ]) in
+    let shape = shape_of job y s i is proc in
+    let h : place_part (request_in job (state_after job s) i) ≤ counters_of y = place_most (counters_of y) (request_in job (state_after job s) i).put (λ p v e. elim (shape.data_place p v e) [ inl l ↦ omega arith | inr l ↦ (let m = l.1 in omega arith) ]) in
     (h, omega arith)
 part_most job y s i (suc zero) is proc part =
-    let fits : RequestFits (request_of job (state_after job s) i) = request_fits job (state_after job s) i is.limits (state_fits job s is.limits) (let procs = same_procs job y is in omega arith) in
-    let h : value_part (request_of job (state_after job s) i) < 2 ^ 32 = value_most (2 ^ 32) (request_of job (state_after job s) i).put (lit< tt) (λ w e. fits.value w e) in
+    let shape = shape_of job y s i is proc in
+    let h : value_part (request_in job (state_after job s) i) < 2 ^ 32 = value_most (2 ^ 32) (request_in job (state_after job s) i).put (lit< tt) (λ p v e. shape.data_value p v e) in
     (omega arith, h)
-part_most job y s i (suc (suc zero)) is proc part =
-    let h = request_within job (state_after job s) i is.limits (counter_within job s i is.limits (let procs = same_procs job y is in omega arith)) in
-    let c = is.limits.code_len.1 in
-    (h, omega arith)
+part_most job y s i (suc (suc zero)) is proc part = let h = (shape_of job y s i is proc).next in let c = is.limits.code_len.1 in (h, omega arith)
 part_most job y s i (suc (suc (suc j))) is proc part = absurd (omega arith)
 
 -- ---- the older of the two words of a place takes a new value

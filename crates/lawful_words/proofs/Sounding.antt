@@ -9,7 +9,7 @@ use Rattle.walkx.specs.declared.operation.Ended.TheVariants as ended
 use Rattle.walkx.specs.declared.operation.Op.{Op}
 use Rattle.walkx.specs.declared.operation.Op.TheVariants.{Load}
 use Rattle.walkx.specs.declared.operation.Reading.TheVariants.{At}
-use Rattle.walkx.specs.declared.worker.Doing.TheVariants as doing
+use Rattle.walkx.specs.Doing as doing
 use Rattle.walkx.specs.Bound.{told_all, history_of, IsHeard, most_steps}
 use Rattle.walkx.specs.Reads.{step_seen, reader_script}
 use Rattle.walkx.specs.Records.{Record, empty, after, both, Has, Knows}
@@ -19,8 +19,8 @@ use Rattle.walkx.proofs.BoundSteps.{own_steps as bound}
 use Rattle.walkx.proofs.Ends.{heard_root, heard_both}
 use Rattle.walkx.proofs.Knowing.{has_newest}
 use Rattle.walkx.specs.Tasks.{newer_payload}
+use Rattle.pram_step.specs.History.{part_after}
 use Rattle.lawful_words.specs.Board.{Stands}
-use Rattle.lawful_words.specs.Steps.{part_after}
 use Rattle.lawful_words.specs.Moments.{Backed, WasBacked, Sound}
 use Rattle.lawful_words.specs.Seen.{Heard, KnowsStep}
 use Rattle.lawful_words.specs.Walks.{IsLawfulRead}

@@ -4,7 +4,7 @@ use Rattle.std.proofs.lemmas.Bool.{cond_both, cases_eq, cases_Bool, eq-eqb, ne_e
 use Rattle.pram_text.specs.Job.{JobData}
 use Rattle.pram_text.specs.declared.instr.Rule.{Rule}
 use Rattle.pram_text.specs.declared.instr.Rule.TheVariants.{Common, Priority, Crew}
-use Rattle.pram_step.specs.Runs.{AgreesAfter, state_after}
+use Rattle.pram_step.specs.Runs.{AgreesAfter, state_after, requests_after}
 use Rattle.pram_step.proofs.LawNext.{crew_writer}
 use Rattle.pram_words.specs.declared.words.Word.TheVariants.{Stored, Claim}
 use Rattle.pram_words.specs.Phases.{step_at}
@@ -16,18 +16,17 @@ use Rattle.walkx.specs.Scripts.{Script, asks}
 use Rattle.walkx.specs.Tasks.{claim_of, differs, reports, hears_part, loads_both, verify_task, crew_verify_task}
 use Rattle.walkx.specs.Walk.{Then, IsBoard}
 use Rattle.walkx.proofs.Boards.{same_cells, same_procs}
-use Rattle.lawful_words.specs.Steps.{Asks, Wins, requests_after, phase_written, last_write, write_before, word_of_step, part_after}
+use Rattle.pram_step.specs.History.{Asks, Wins, last_write, write_before, part_after}
+use Rattle.pram_step.proofs.Past.{written_value, each_write, asks_place}
+use Rattle.lawful_words.specs.Steps.{phase_written, word_of_step}
 use Rattle.lawful_words.specs.Board.{held, root, conflict, stamp_at, finished, HoldsNew, Stays, ClaimStays, Stands, Grows}
 use Rattle.lawful_words.specs.Moments.{Moment}
 use Rattle.lawful_words.specs.Statements.{Floor}
 use Rattle.lawful_words.proofs.Moments.{onward, stamps_rise}
-use Rattle.lawful_words.proofs.Machine.{written_value}
 use Rattle.lawful_words.proofs.Values.{stamp_step, payload_step, WordIs, is_settled, is_before, is_new}
 use Rattle.lawful_words.proofs.Facts.{facts, word_is}
 use Rattle.lawful_words.proofs.Growths.{all_c}
-use Rattle.lawful_words.proofs.Keeping.{asks_place}
 use Rattle.lawful_words.proofs.Raising.{stamps_most}
-use Rattle.lawful_words.proofs.Requests.{each_write}
 use Rattle.lawful_words.proofs.Sees.{Sees, so, heard, later}
 use Rattle.lawful_words.proofs.Scripts.{Safe, load_safe, both_safe}
 use Rattle.lawful_words.proofs.Known.{safe_known, floor_lasts, StaleSafe, EndSafe, stale_end}

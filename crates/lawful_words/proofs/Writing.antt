@@ -13,14 +13,15 @@ use Rattle.walkx.specs.declared.operation.Op.TheVariants.{Load, Swap}
 use Rattle.walkx.specs.Operations.{words_after}
 use Rattle.walkx.specs.Scripts.{Script, asks}
 use Rattle.walkx.specs.Tasks.{is_late, first_is_older, writes_place, older, older_word}
-use Rattle.lawful_words.specs.Steps.{Asks, Wins, phase_written}
+use Rattle.pram_step.specs.History.{Asks, Wins}
+use Rattle.pram_step.proofs.Past.{asks_place}
+use Rattle.lawful_words.specs.Steps.{phase_written}
 use Rattle.lawful_words.specs.Board.{held, stamp_at, IsLate, Stands, Grows}
 use Rattle.lawful_words.specs.Moments.{Moment, Goes}
 use Rattle.lawful_words.specs.Statements.{C5, Floor}
 use Rattle.lawful_words.proofs.Moments.{onward, stamps_rise, goes_of}
 use Rattle.walkx.specs.Walk.{IsBoard}
 use Rattle.walkx.proofs.Boards.{same_cells, same_procs}
-use Rattle.lawful_words.proofs.Keeping.{asks_place}
 use Rattle.lawful_words.proofs.Growths.{all_c5}
 use Rattle.lawful_words.proofs.Effects.{all_e}
 use Rattle.lawful_words.proofs.Sees.{Sees, Lasts, so, heard}

@@ -1,9 +1,7 @@
--- Lemmas A to E on lists of words, each as a statement. x is the number of steps before a step, q a phase. Each holds for every rule.
-use Rattle.std.specs.Prelude.{◌≡◌, ◌≢◌, ◌⊎◌, ◌↔◌, ℕ, suc, ◌+◌, ◌-◌, ◌*◌, ◌≤◌, ◌<◌, false, List, slice_index}
-use Rattle.pram_text.specs.Job.{JobData, IsJob}
-use Rattle.pram_step.specs.declared.answer.Fault.{Fault}
-use Rattle.pram_step.specs.Machine.{place_count}
-use Rattle.pram_step.specs.Runs.{IsReached, AgreesAfter, IsFirstConflict, state_after}
+-- Lemmas B to E on lists of words, each as a statement. x is the number of steps before a step, q a phase. Each holds for every rule.
+use Rattle.std.specs.Prelude.{◌≡◌, ◌≢◌, ◌⊎◌, ℕ, suc, ◌+◌, ◌-◌, ◌*◌, ◌≤◌, ◌<◌, false, List, slice_index}
+use Rattle.pram_text.specs.Job.{JobData}
+use Rattle.pram_step.specs.Runs.{IsReached, AgreesAfter, state_after}
 use Rattle.pram_words.specs.declared.phases.Kind.TheVariants.{Compute, Apply, Verify}
 use Rattle.pram_words.specs.declared.words.Word.TheVariants.{Conflict, Node, Asked, Stored, Claim}
 use Rattle.pram_words.specs.Stamps.{stamp_of, stamped_word}
@@ -13,26 +11,10 @@ use Rattle.walkx.specs.declared.operation.Op.{Op}
 use Rattle.walkx.specs.declared.operation.Op.TheVariants.{Max, Swap}
 use Rattle.walkx.specs.Operations.{words_after}
 use Rattle.walkx.specs.Tasks.{is_late, first_is_older, newer_payload, claim_of, older, older_word}
-use Rattle.lawful_words.specs.Steps.{Asks, Wins, IsWritten, phase_written, last_write, settled, settled_before, part_after}
+use Rattle.pram_step.specs.History.{Asks, Wins, IsWritten, last_write, part_after}
+use Rattle.lawful_words.specs.Steps.{phase_written, settled, settled_before}
 use Rattle.lawful_words.specs.Board.{held, root, conflict, leaf, stamp_at, finished, IsLate, Done, Stands, Grows}
 use Rattle.lawful_words.specs.Moments.{Keeps}
-
--- ---- A: the machine
-
-abbrev pub A1 : Type 0
-A1 = (job : JobData) (t p : ℕ) →
-    (last_write job t p ≤ t)
-    × ((s : ℕ) → last_write job t p ≡ suc s → IsWritten job s p)
-    × ((s : ℕ) → s < t → IsWritten job s p → s < last_write job t p)
-
-abbrev pub A2 : Type 0
-A2 = (job : JobData) (t f p : ℕ) → IsJob job → p < place_count job → t ≤ f → last_write job f p ≤ t → (last_write job f p ≡ last_write job t p) × (slice_index (state_after job f) p ≡ slice_index (state_after job t) p)
-
-abbrev pub A3 : Type 0
-A3 = (job : JobData) (x p i v : ℕ) → IsJob job → p < place_count job → AgreesAfter job x → Asks job x p i v → Wins job x p i → slice_index (state_after job (suc x)) p ≡ v
-
-abbrev pub A4 : Type 0
-A4 = (job : JobData) (fault : Fault) (t : ℕ) → IsFirstConflict job fault → IsReached job t ↔ (t < fault.step)
 
 -- ---- B: one list of words
 

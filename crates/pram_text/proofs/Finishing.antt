@@ -1,23 +1,22 @@
 -- A reader that has read every line.
-use Rattle.std.proofs.Common.{◌≡◌, ◌≢◌, ℕ, ◌<◌, ◌≤◌, List, [], ◌∷◌, length, map, get_or, Ok, Option, Some, None, refl, ap, sym, ◌∙◌, true, false, unwrap_or, arith, ok_or}
+use Rattle.std.proofs.Common.{◌≡◌, ◌≢◌, ℕ, ◌<◌, ◌≤◌, List, [], ◌∷◌, length, map, get_or, Ok, Some, None, refl, ap, sym, ◌∙◌, true, false, unwrap_or, arith}
 use Rattle.std.specs.List.{range_with_len}
 use Rattle.std.specs.Result.{result_err}
 use Rattle.std.proofs.lemmas.List.{get_or-map, nil_from_length}
 use Rattle.pram_text.specs.declared.fault.TextKind.{TextKind}
-use Rattle.pram_text.specs.declared.fault.TextKind.TheVariants.{BadHeader, NoCode, UnknownLabel}
+use Rattle.pram_text.specs.declared.fault.TextKind.TheVariants.{BadHeader, NoCode}
 use Rattle.pram_text.specs.declared.head.Next.{Next}
 use Rattle.pram_text.specs.declared.head.Next.TheVariants.{Version, Cells, Procs, Steps, Rules, Start, Code}
 use Rattle.pram_text.specs.declared.instr.Instr.{Instr}
 use Rattle.pram_text.specs.declared.instr.Instr.TheVariants.{Halt}
 use Rattle.pram_text.specs.declared.program.Program.{Program}
 use Rattle.pram_text.specs.declared.reader.Reader.{Reader}
-use Rattle.pram_text.specs.declared.statement.Statement.{Statement}
-use Rattle.pram_text.specs.Lines.{Line, Word, is_filled}
-use Rattle.pram_text.specs.Judgement.{instr_of, unlabelled, place_in, ◌>>=◌}
+use Rattle.pram_text.specs.Lines.{Line, is_filled}
+use Rattle.pram_text.specs.Judgement.{instr_of, unlabelled}
 use Rattle.pram_text.specs.Inner.Reading.{given, HoldsAt, HoldsCode, place_at, fault_of_place}
-use Rattle.pram_text.specs.Inner.Statement.{resolved, aimed}
+use Rattle.pram_text.specs.Inner.Statement.{resolved}
 use Rattle.pram_text.specs.Text.{end_fault, has_code, place_of, label_fault_at, IsFirst, SpellsLines}
-use Rattle.pram_text.proofs.Inits.{map_same, SpellsInit-held}
+use Rattle.pram_text.proofs.Inits.{SpellsInit-held}
 use Rattle.pram_text.proofs.Labels.{length-held}
 use Rattle.pram_text.proofs.Taking.{has_code-front, has_code-held_start, has_code-held, body_of-held}
 
@@ -55,18 +54,9 @@ module _ (before : List Line) (reader : Reader) (h : HoldsAt Code before reader)
 
 -- ---- statements and instructions
 
-resolved-same : (find find' : Word → Option ℕ) → ((name : Word) → find name ≡ find' name) → (s : Statement) → resolved find s ≡ resolved find' s
-resolved-same find find' e s =
-    elim s.target as (λ t. (elim t [ None ↦ Ok s.instr | Some label ↦ place_in find label.now >>= λ place. Ok (aimed s.instr place) ])
-    ≡ (elim t [ None ↦ Ok s.instr | Some label ↦ place_in find' label.now >>= λ place. Ok (aimed s.instr place) ])) [
-      | None ↦ refl
-      | Some label ↦ ap (λ o. ok_or o UnknownLabel >>= λ place. Ok (aimed s.instr place)) (e label.now)
-    ]
-
 -- what each line says is what its statement says
-pub outcomes-held : (body : List Line) (program : Program) → HoldsCode body program → map (λ line. instr_of (place_of body) (unlabelled line)) body ≡ map (λ w. resolved (place_at program.places) w.statement) program.written.items
-outcomes-held body program h =
-    h.said (place_of body) ∙ sym (map_same (λ w. resolved (place_at program.places) w.statement) (λ w. resolved (place_of body) w.statement) (λ w. resolved-same (place_at program.places) (place_of body) h.places w.statement) program.written.items)
+outcomes-held : (body : List Line) (program : Program) → HoldsCode body program → map (λ line. instr_of (place_of body) (unlabelled line)) body ≡ map (λ w. resolved (place_at program.places) w.statement) program.written.items
+outcomes-held body program h = h.said (place_of body) ∙ (λ i. map (λ w. resolved (λ name. sym (h.places name) i) w.statement) program.written.items)
 
 -- the first statement that is wrong stands in the first line that is
 pub first_unknown : (body : List Line) (program : Program) (k : ℕ) (kind : TextKind) → HoldsCode body program → IsFirst (fault_of_place (map (λ w. resolved (place_at program.places) w.statement) program.written.items)) (length program.written.items) k kind → IsFirst (label_fault_at body) (length body) k kind

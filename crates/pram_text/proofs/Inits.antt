@@ -13,7 +13,7 @@ use Rattle.pram_text.specs.declared.fault.TextKind.TheVariants.{BadHeader}
 use Rattle.pram_text.specs.Lines.{Line}
 use Rattle.pram_text.specs.Judgement.{init_of}
 use Rattle.pram_text.specs.Inner.Reading.{HoldsStart, given}
-use Rattle.pram_text.specs.Text.{init_fault, named_cells, NamesCells, SpellsInit}
+use Rattle.pram_text.specs.Text.{init_fault, new_cell_fault, named_cells, NamesCells, SpellsInit}
 use Rattle.pram_text.proofs.Said.{Said}
 
 -- ---- the cells that lines name
@@ -28,25 +28,25 @@ named_cells-said cells (line ∷ inits) (p ∷ pairs) s =
     rw first (ap (λ l. p.0 ∷ l) (named_cells-said cells inits pairs rest))
 
 -- whether one of these lines names the cell
-abbrev pub is_named : ℕ → List (ℕ × ℕ) → Bool
-is_named c pairs = list_any (λ d. d == c) (map (λ p. p.0) pairs)
+abbrev pub names_cell : ℕ → List (ℕ × ℕ) → Bool
+names_cell c pairs = list_any (λ d. d == c) (map (λ p. p.0) pairs)
 
-is_named-lookup : (c : ℕ) (pairs : List (ℕ × ℕ)) → is_named c pairs ≡ is_some (lookup (λ d. d == c) pairs)
-is_named-lookup c [] = refl
-is_named-lookup c (p ∷ pairs) = elim (p.0 == c) as (λ b. (b || is_named c pairs) ≡ is_some (cond b (Some p.1) (lookup (λ d. d == c) pairs))) [ true ↦ refl | false ↦ is_named-lookup c pairs ]
+names_cell-lookup : (c : ℕ) (pairs : List (ℕ × ℕ)) → names_cell c pairs ≡ is_some (lookup (λ d. d == c) pairs)
+names_cell-lookup c [] = refl
+names_cell-lookup c (p ∷ pairs) = elim (p.0 == c) as (λ b. (b || names_cell c pairs) ≡ is_some (cond b (Some p.1) (lookup (λ d. d == c) pairs))) [ true ↦ refl | false ↦ names_cell-lookup c pairs ]
 
 pub init_fault-err : (cells : ℕ) (inits : List Line) (w : Line) (kind : TextKind) → init_of cells w ≡ Err kind → init_fault cells inits w ≡ Some kind
 unfolding init_fault
-init_fault-err cells inits w kind e = rw (e, init_fault) refl
+init_fault-err cells inits w kind e = ap (new_cell_fault (named_cells cells inits)) e
 
-pub init_fault-ok : (cells : ℕ) (inits : List Line) (pairs : List (ℕ × ℕ)) (w : Line) (p : ℕ × ℕ) → NamesCells cells inits pairs → init_of cells w ≡ Ok p → init_fault cells inits w ≡ (if is_named p.0 pairs then Some BadHeader else None)
+pub init_fault-ok : (cells : ℕ) (inits : List Line) (pairs : List (ℕ × ℕ)) (w : Line) (p : ℕ × ℕ) → NamesCells cells inits pairs → init_of cells w ≡ Ok p → init_fault cells inits w ≡ (if names_cell p.0 pairs then Some BadHeader else None)
 unfolding init_fault
-init_fault-ok cells inits pairs w p h e = rw (e, init_fault) (ap (λ cs. if list_any (λ d. d == p.0) cs then Some BadHeader else None) (named_cells-said cells inits pairs h.said))
+init_fault-ok cells inits pairs w p h e = ap₂ new_cell_fault (named_cells-said cells inits pairs h.said) e
 
 pub NamesCells-none : (cells : ℕ) → NamesCells cells [] []
 NamesCells-none cells = record { said = refl; once = λ i j d l h. absurd (omega arith) }
 
-pub NamesCells-push : (cells : ℕ) (inits : List Line) (pairs : List (ℕ × ℕ)) (w : Line) (p : ℕ × ℕ) → NamesCells cells inits pairs → init_of cells w ≡ Ok p → is_named p.0 pairs ≡ false → NamesCells cells (inits ++ w ∷ []) (pairs ++ p ∷ [])
+pub NamesCells-push : (cells : ℕ) (inits : List Line) (pairs : List (ℕ × ℕ)) (w : Line) (p : ℕ × ℕ) → NamesCells cells inits pairs → init_of cells w ≡ Ok p → names_cell p.0 pairs ≡ false → NamesCells cells (inits ++ w ∷ []) (pairs ++ p ∷ [])
 NamesCells-push cells inits pairs w p h said new = record {
   said = map-append (init_of cells) inits (w ∷ []) ∙ ap₂ (λ xs r. xs ++ r ∷ []) h.said said ∙ sym (map-append (λ p. Ok p) pairs (p ∷ []));
   once = all_pairs_push (λ p q. p.0 ≢ q.0) pairs p h.once (λ k d l same. both_ways _ new
@@ -58,16 +58,12 @@ pub NamesCells-more : (cells : ℕ) (inits : List Line) (w : Line) → (pairs : 
 NamesCells-more cells inits w h none = by_line (init_of cells w) refl where
   by_line : (r : Result (ℕ × ℕ) TextKind) → init_of cells w ≡ r → (pairs : List (ℕ × ℕ)) × NamesCells cells (inits ++ w ∷ []) pairs
   by_line (Err kind) e = let some = init_fault-err cells inits w kind e in cc
-  by_line (Ok p) e = by_name (is_named p.0 h.0) refl where
-    by_name : (b : Bool) → is_named p.0 h.0 ≡ b → (pairs : List (ℕ × ℕ)) × NamesCells cells (inits ++ w ∷ []) pairs
+  by_line (Ok p) e = by_name (names_cell p.0 h.0) refl where
+    by_name : (b : Bool) → names_cell p.0 h.0 ≡ b → (pairs : List (ℕ × ℕ)) × NamesCells cells (inits ++ w ∷ []) pairs
     by_name true named = let some = init_fault-ok cells inits h.0 w p h.1 e ∙ ap (λ b. if b then Some BadHeader else None) named in cc
     by_name false new = (h.0 ++ p ∷ [], NamesCells-push cells inits h.0 w p h.1 e new)
 
 -- ---- the values of all cells
-
-pub map_same : {A B : Type 0} (f g : A → B) → ((x : A) → f x ≡ g x) → (xs : List A) → map f xs ≡ map g xs
-map_same f g e [] = refl
-map_same f g e (x ∷ xs) = ap₂ (λ y ys. y ∷ ys) (e x) (map_same f g e xs)
 
 pub SpellsInit-from : (cells : ℕ) (inits : List Line) (pairs : List (ℕ × ℕ)) → NamesCells cells inits pairs → SpellsInit cells inits (map (λ c. unwrap_or (lookup (λ d. d == c) pairs) 0) (range_with_len 0 cells))
 SpellsInit-from cells inits pairs h = record {
@@ -79,7 +75,7 @@ SpellsInit-from cells inits pairs h = record {
 
 pub SpellsInit-held : (cells : ℕ) (inits : List Line) (start : List (Option ℕ)) (init : List ℕ) → HoldsStart cells inits start → init ≡ map (λ c. unwrap_or (given start c) 0) (range_with_len 0 cells) → SpellsInit cells inits init
 SpellsInit-held cells inits start init h values =
-    subst (SpellsInit cells inits) (sym (values ∙ map_same _ _ (λ c. ap (λ o. unwrap_or o 0) (h.found c)) (range_with_len 0 cells))) (SpellsInit-from cells inits h.pairs h.named)
+    subst (SpellsInit cells inits) (sym (values ∙ (λ i. map (λ c. unwrap_or (h.found c i) 0) (range_with_len 0 cells)))) (SpellsInit-from cells inits h.pairs h.named)
 
 -- ---- what the reader holds
 
@@ -93,14 +89,14 @@ lookup-push test (q ∷ pairs) p = elim (test q.0) as (λ b. cond b (Some q.1) (
 
 pub init_fault-held : (cells : ℕ) (inits : List Line) (old : List (Option ℕ)) (w : Line) (c v : ℕ) → HoldsStart cells inits old → init_of cells w ≡ Ok (c, v) → init_fault cells inits w ≡ (if is_some (given old c) then Some BadHeader else None)
 init_fault-held cells inits old w c v h e =
-    init_fault-ok cells inits h.pairs w (c, v) h.named e ∙ ap (λ b. if b then Some BadHeader else None) (is_named-lookup c h.pairs ∙ ap is_some (sym (h.found c)))
+    init_fault-ok cells inits h.pairs w (c, v) h.named e ∙ ap (λ b. if b then Some BadHeader else None) (names_cell-lookup c h.pairs ∙ ap is_some (sym (h.found c)))
 
 pub HoldsStart-push : (cells : ℕ) (inits : List Line) (old new : List (Option ℕ)) (w : Line) (c v : ℕ) → HoldsStart cells inits old → init_of cells w ≡ Ok (c, v) → given old c ≡ None → ((q : ℕ) → given new q ≡ (if q == c then Some v else given old q)) → HoldsStart cells (inits ++ w ∷ []) new
 HoldsStart-push cells inits old new w c v h said none u =
     let unnamed = sym (h.found c) ∙ none in
     record {
       pairs = h.pairs ++ (c, v) ∷ [];
-      named = NamesCells-push cells inits h.pairs w (c, v) h.named said (is_named-lookup c h.pairs ∙ ap is_some unnamed);
+      named = NamesCells-push cells inits h.pairs w (c, v) h.named said (names_cell-lookup c h.pairs ∙ ap is_some unnamed);
       found = λ q. ⊎_elim
           (λ same. subst (λ n. given new n ≡ lookup (λ d. d == n) (h.pairs ++ (c, v) ∷ [])) same
           (u c ∙ ap (λ b. cond b (Some v) (given old c)) (eq-eqb c c refl) ∙ sym (lookup-push (λ d. d == c) h.pairs (c, v) ∙ ap₂ (λ o b. option_or o (cond b (Some v) None)) unnamed (eq-eqb c c refl))))

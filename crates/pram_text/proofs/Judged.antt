@@ -12,7 +12,7 @@ use Rattle.pram_text.specs.declared.fault.TextKind.TheVariants.{NotAscii, BadHea
 use Rattle.pram_text.specs.declared.reader.Reader.{Reader}
 use Rattle.pram_text.specs.Job.{JobData}
 use Rattle.pram_text.specs.Lines.{Line, lines_of, words_of, worded, is_allowed, is_filled}
-use Rattle.pram_text.specs.Inner.Reading.{Holds, numbers_of, number_if, IsEndFault, Finishes, TakesLine}
+use Rattle.pram_text.specs.Inner.Reading.{Holds, numbers_of, number_if, Finishes, TakesLine}
 use Rattle.pram_text.specs.Text.{line_fault, end_fault, fault_at, label_fault_at, has_code, body_of, numbered_body, IsFirst, Bears, IsRefusal, Spells, SpellsLines}
 use Rattle.pram_text.proofs.Worded.{numbered_body-push, words-numbered_body}
 
@@ -83,6 +83,7 @@ fault_at-fine lines k e fine = fault_at-end lines k e ∙ by_end ((k + 1) == len
 -- a line that is wrong by itself
 pub Bears-line : (text : List ℕ) (n number : ℕ) (line : List ℕ) (reader : Reader) (kind : TextKind) → HasRead (lines_of text) n reader → n < length (lines_of text) → line ≡ get_or (lines_of text) n [] → number ≡ n + 1
     → line_fault (worded (take n (lines_of text))) line ≡ Some kind → Bears text number kind
+unfolding Bears
 Bears-line text n number line reader kind h l here numbered e = inl (
   n,
   numbered,
@@ -95,6 +96,7 @@ Bears-line text n number line reader kind h l here numbered e = inl (
 
 -- what the text lacks at its end
 Bears-last : (text : List ℕ) (n : ℕ) (reader : Reader) (kind : TextKind) → HasRead (lines_of text) n reader → n ≡ length (lines_of text) → end_fault (worded (lines_of text)) ≡ Some kind → Bears text n kind
+unfolding Bears
 Bears-last text n reader kind h all e =
     let lines : List (List ℕ) = lines_of text in
     let some : 1 ≤ n = omega (arith, length-slice_split (λ b. b == 10) text) in
@@ -114,12 +116,13 @@ lawful_from_none : (before : List Line) (line : List ℕ) → line_fault before 
 unfolding line_fault
 lawful_from_none before line e = ⊎_elim (λ yes. yes) (λ no. absurd (let unlawful : ◌≡◌ {A = Option TextKind} (Some NotAscii) None = rw no at e in cc)) (cases_Bool (list_all is_allowed line))
 
-pub held-end : (lines : List (List ℕ)) (n : ℕ) (reader : Reader) → HasRead lines n reader → n ≡ length lines → Holds (worded lines) reader
+held-end : (lines : List (List ℕ)) (n : ℕ) (reader : Reader) → HasRead lines n reader → n ≡ length lines → Holds (worded lines) reader
 held-end lines n reader h all = subst (λ ls. Holds (worded ls) reader) (take_all n lines (omega arith)) h.held
 
-pub Bears-end : (text : List ℕ) (n line : ℕ) (reader : Reader) (kind : TextKind) → HasRead (lines_of text) n reader → n ≡ length (lines_of text) → IsEndFault (worded (lines_of text)) (numbers_of reader.program) n line kind → Bears text line kind
-Bears-end text n line reader kind h all fault = ⊎_elim
-    (λ lacks. subst (λ k. Bears text k kind) (sym lacks.1) (Bears-last text n reader kind h all lacks.0))
+Bears-end : (text : List ℕ) (n : ℕ) (reader : Reader) (fault : TextFault) → HasRead (lines_of text) n reader → n ≡ length (lines_of text) → fault.kind ≢ Memory → Finishes (worded (lines_of text)) (numbers_of reader.program) n (Err fault) → Bears text fault.line fault.kind
+unfolding Bears
+Bears-end text n reader fault h all other told = ⊎_elim
+    (λ lacks. subst (λ k. Bears text k fault.kind) (sym lacks.1) (Bears-last text n reader fault.kind h all lacks.0))
     (λ unknown.
     let lines : List (List ℕ) = lines_of text in
     let body : List (ℕ × Line) = numbered_body lines in
@@ -128,13 +131,13 @@ Bears-end text n line reader kind h all fault = ⊎_elim
     let len : length (body_of (worded lines)) ≡ length body = ap length (sym words) ∙ length-map body (λ l. l.1) in
     inr (
       (λ j l. fault_at-fine lines j (h.clean j (omega arith)) unknown.0),
-      unknown.1,
-      unknown.2 ∙ ap (λ ns. slice_index ns unknown.1) numbers,
-      subst (λ ls. IsFirst (label_fault_at ls) (length body) unknown.1 kind) (sym words) (subst (λ m. IsFirst (label_fault_at (body_of (worded lines))) m unknown.1 kind) len unknown.3),
+      unknown.1.0,
+      unknown.1.1 ∙ ap (λ ns. slice_index ns unknown.1.0) numbers,
+      subst (λ ls. IsFirst (label_fault_at ls) (length body) unknown.1.0 fault.kind) (sym words) (subst (λ m. IsFirst (label_fault_at (body_of (worded lines))) m unknown.1.0 fault.kind) len unknown.1.2),
     ))
-    fault
+    (told other)
 
-pub Spells-end : (text : List ℕ) (n : ℕ) (reader : Reader) (job : JobData) → HasRead (lines_of text) n reader → n ≡ length (lines_of text) → SpellsLines job (worded (lines_of text)) → Spells text job
+Spells-end : (text : List ℕ) (n : ℕ) (reader : Reader) (job : JobData) → HasRead (lines_of text) n reader → n ≡ length (lines_of text) → SpellsLines job (worded (lines_of text)) → Spells text job
 Spells-end text n reader job h all lines = record {
   allowed = λ k d l. subst (λ line. list_all is_allowed line ≡ true) (get_or_default (lines_of text) k [] d l) (lawful_from_none _ _ (h.clean k (omega arith)));
   lines = lines;
@@ -150,4 +153,4 @@ pub bears_from_finish : (text : List ℕ) (n : ℕ) (reader : Reader) (r : Resul
     → ((before : List Line) → Holds before reader → Finishes before (numbers_of reader.program) n r) → IfErr r (λ fault. fault.kind ≡ Memory → fault.line ≡ 0) → IfErr r (λ fault. IsRefusal text fault.line fault.kind)
 bears_from_finish text n reader (Ok job) h all told memory = tt
 bears_from_finish text n reader (Err fault) h all told memory =
-    IsRefusal-from text fault.line fault.kind (λ other. Bears-end text n fault.line reader fault.kind h all (told (worded (lines_of text)) (held-end (lines_of text) n reader h all) other)) memory
+    IsRefusal-from text fault.line fault.kind (λ other. Bears-end text n reader fault h all other (told (worded (lines_of text)) (held-end (lines_of text) n reader h all))) memory

@@ -15,10 +15,10 @@ use Rattle.pram_text.specs.declared.program.Written.{Written}
 use Rattle.pram_text.specs.declared.statement.Statement.{Statement}
 use Rattle.pram_text.specs.Lines.{Line, Word}
 use Rattle.pram_text.specs.Judgement.{label_of, unlabelled, is_name, instr_of, place_in, ◌>>=◌}
-use Rattle.pram_text.specs.Inner.Reading.{HoldsCode, HoldsPlaces, place_at, is_named, define_fault}
+use Rattle.pram_text.specs.Inner.Reading.{HoldsCode, HoldsPlaces, place_at, define_fault}
 use Rattle.pram_text.specs.Inner.Statement.{resolved, aimed, ReadsLine}
 use Rattle.pram_text.specs.declared.limits.TheConstants.{MAX_CODE}
-use Rattle.pram_text.specs.Text.{instr_fault, label_fault, defines, IsLabelled}
+use Rattle.pram_text.specs.Text.{instr_fault, new_label_fault, label_fault, is_named, defines, IsLabelled}
 
 -- ---- the first place that passes
 
@@ -68,13 +68,10 @@ position-push_later p xs y e =
 pub label_fault-held : (body : List Line) (places : BTreeMap (Bor (List ℕ)) ℕ) (line : Line) → HoldsPlaces body places → label_fault body line ≡ define_fault places (label_of line)
 unfolding label_fault
 label_fault-held body places line h =
-    elim (label_of line) as (λ o. (elim o [ None ↦ None | Some label ↦ if not (is_name label) then Some UnknownInstruction else (if list_any (defines label) body then Some DuplicateLabel else None) ]) ≡ define_fault places o) [
-      | None ↦ refl
-      | Some label ↦ ap (λ b. if not (is_name label) then Some UnknownInstruction else (if b then Some DuplicateLabel else None)) (sym (is_some-position (defines label) body) ∙ ap is_some (sym (h label)))
-    ]
+    ap (λ is_known. new_label_fault is_known (label_of line)) (λ i name. (sym (is_some-position (defines name) body) ∙ ap is_some (sym (h name))) i)
 
 -- a label without fault is a name that no line before defines
-new_label : (body : List Line) (label : Word) → (if not (is_name label) then Some UnknownInstruction else (if list_any (defines label) body then Some DuplicateLabel else None)) ≡ None → (is_name label ≡ true) × (list_any (defines label) body ≡ false)
+new_label : (body : List Line) (label : Word) → new_label_fault (λ label. list_any (defines label) body) (Some label) ≡ None → (is_name label ≡ true) × (list_any (defines label) body ≡ false)
 new_label body label e = picked (is_name label) (list_any (defines label) body) e where
   picked : (a b : Bool) → (if not a then Some UnknownInstruction else (if b then Some DuplicateLabel else None)) ≡ None → (a ≡ true) × (b ≡ false)
   picked false b e = cc
@@ -88,22 +85,18 @@ label_is_new body line label e l = new_label body label (rw (l, label_fault) at 
 name_itself : (a : Word) → bytes_eq a a ≡ true
 name_itself a = (bytes_eq-Decides a a).1 refl
 
-defines-named : (name : Word) (line : Line) → defines name line ≡ is_named (label_of line) name
-defines-named name line = elim (label_of line) as (λ o. (elim o [ None ↦ false | Some label ↦ bytes_eq label name ]) ≡ is_named o name) [ None ↦ refl | Some label ↦ refl ]
-
 named_label : (o : Option Word) (name : Word) → is_named o name ≡ true → o ≡ Some name
 named_label None name e = cc
 named_label (Some label) name e = ap Some ((bytes_eq-Decides label name).0 e)
 
 pub HoldsPlaces-push : (body : List Line) (old new : BTreeMap (Bor (List ℕ)) ℕ) (line : Line) → HoldsPlaces body old → label_fault body line ≡ None → ((name : Word) → place_at new name ≡ (if is_named (label_of line) name then Some (length body) else place_at old name)) → HoldsPlaces (body ++ line ∷ []) new
 HoldsPlaces-push body old new line h fine put name =
-    let same : defines name line ≡ is_named (label_of line) name = defines-named name line in
     ⊎_elim
     (λ yes. let named = (label_is_new body line name fine (named_label (label_of line) name yes)).1 in
-    put name ∙ ap (λ b. if b then Some (length body) else place_at old name) yes ∙ sym (position-push_first (defines name) body line named ∙ ap (λ b. cond b (Some (length body)) None) (same ∙ yes)))
+    put name ∙ ap (λ b. if b then Some (length body) else place_at old name) yes ∙ sym (position-push_first (defines name) body line named ∙ ap (λ b. cond b (Some (length body)) None) yes))
     (λ no. put name ∙ ap (λ b. if b then Some (length body) else place_at old name) no ∙ h name ∙ ⊎_elim
     (λ known. sym (position-push_later (defines name) body line known))
-    (λ new. position-none (defines name) body new ∙ sym (position-push_first (defines name) body line new ∙ ap (λ b. cond b (Some (length body)) None) (same ∙ no)))
+    (λ new. position-none (defines name) body new ∙ sym (position-push_first (defines name) body line new ∙ ap (λ b. cond b (Some (length body)) None) no))
     (cases_Bool (list_any (defines name) body)))
     (cases_Bool (is_named (label_of line) name))
 
@@ -119,7 +112,7 @@ AreApart a b = (label : Word) → label_of a ≡ Some label → label_of b ≢ S
 
 label_is_apart : (body : List Line) (line : Line) → label_fault body line ≡ None → (k : ℕ) (d : Line) → k < length body → AreApart (get_or body k d) line
 label_is_apart body line fine k d l label here again =
-    let defined : defines label (get_or body k d) ≡ true = defines-named label (get_or body k d) ∙ ap (λ o. is_named o label) here ∙ name_itself label in
+    let defined : defines label (get_or body k d) ≡ true = ap (λ o. is_named o label) here ∙ name_itself label in
     both_ways _ (label_is_new body line label fine again).1 (list_any_at (defines label) body k d l defined)
 
 -- ---- one line more

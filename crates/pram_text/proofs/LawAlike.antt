@@ -59,10 +59,8 @@ fault_is lines k = λ i.
     len : length lines ≡ length (map words_of lines)
     len = sym (length-map lines words_of)
 
-first_alike : (f g : ℕ → Option TextKind) (n m : ℕ) → ((k : ℕ) → f k ≡ g k) → n ≡ m → (k : ℕ) (kind : TextKind) → IsFirst f n k kind → IsFirst g m k kind
-first_alike f g n m same len k kind s = record { within = subst (λ n. k < n) len s.within; here = sym (same k) ∙ s.here; earlier = λ j lt. sym (same j) ∙ s.earlier j lt }
-
 bears_alike : (text other : List ℕ) → SameLines (lines_of text) (lines_of other) → (line : ℕ) (kind : TextKind) → Bears text line kind → Bears other line kind
+unfolding Bears
 bears_alike text other s line kind = go
   where
     len : length (lines_of text) ≡ length (lines_of other)
@@ -76,7 +74,7 @@ bears_alike text other s line kind = go
     body = ap (λ words. after_first (λ l. is_code l.1) (drop 4 (filter (λ l. is_filled l.1) (enumerate_from 1 words)))) s.words
 
     go : Bears text line kind → Bears other line kind
-    go (inl first) = inl (first.0, first.1, first_alike (fault_at (lines_of text)) (fault_at (lines_of other)) (length (lines_of text)) (length (lines_of other)) same len first.0 kind first.2)
+    go (inl first) = inl (first.0, first.1, subst (λ n. IsFirst (fault_at (lines_of other)) n first.0 kind) len (subst (λ f. IsFirst f (length (lines_of text)) first.0 kind) (λ i k. same k i) first.2))
     go (inr label) = inr (
       (λ j lt. sym (same j) ∙ label.0 j (subst (λ n. j < n) (sym len) lt)),
       label.1,

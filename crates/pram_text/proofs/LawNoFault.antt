@@ -15,7 +15,7 @@ use Rattle.pram_text.specs.declared.limits.TheConstants.{MAX_CODE}
 use Rattle.pram_text.specs.Job.{JobData}
 use Rattle.pram_text.specs.Lines.{Word, Line}
 use Rattle.pram_text.specs.Judgement.{◌>>=◌, version_of, cells_of, procs_of, steps_of, rule_of, init_of, is_code, label_of, unlabelled, is_name, register_of, no_operand, one_register, two_registers, three_registers, register_number, one_label, register_label, place_in, instr_of}
-use Rattle.pram_text.specs.Text.{defines, place_of, code_line, NamesCells, SpellsInit, SpellsCode, SpellsRule, SpellsHeader, SpellsLines, names_rule, init_fault, label_fault, instr_fault, rest_fault, words_fault}
+use Rattle.pram_text.specs.Text.{is_named, new_label_fault, defines, place_of, code_line, NamesCells, SpellsInit, SpellsCode, SpellsRule, SpellsHeader, SpellsLines, names_rule, init_fault, label_fault, instr_fault, rest_fault, words_fault}
 use Rattle.pram_text.proofs.Lists.{split_of_append, NonePasses, none_left, none_at, any_none, all_at, pairs_at, pairs_before}
 use Rattle.pram_text.proofs.Said.{said_around}
 use Rattle.pram_text.proofs.Inits.{init_fault-ok}
@@ -93,16 +93,10 @@ known_passes find line instr e = elim (instr_follows find line).same [
   | inr unknown ↦ let none = ap result_err e in let some = unknown.0 in cc
 ]
 
-abbrev label_judged : List Line → Option Word → Option TextKind
-label_judged body o = elim o [
-  | None ↦ None
-  | Some label ↦ if not (is_name label) then Some UnknownInstruction else (if list_any (defines label) body then Some DuplicateLabel else None)
-]
-
 undefined : (name : Word) (line : Line) → (label_of line ≡ Some name → ⊥) → defines name line ≡ false
 undefined name line h = go (label_of line) h
   where
-    go : (o : Option Word) → (o ≡ Some name → ⊥) → (elim o [ None ↦ false | Some label ↦ bytes_eq label name ]) ≡ false
+    go : (o : Option Word) → (o ≡ Some name → ⊥) → is_named o name ≡ false
     go None h = refl
     go (Some label) h = false_from_ne_true (bytes_eq label name) (λ e. h (ap (λ l. Some l) ((bytes_eq-Decides label name).0 e)))
 
@@ -120,7 +114,7 @@ label_passes before line after code s = go (label_of line) refl
     once : All (λ a. (label : Word) → label_of a ≡ Some label → label_of line ≢ Some label) before
     once = pairs_at (λ a b. (label : Word) → label_of a ≡ Some label → label_of b ≢ Some label) before line after s.labelled.once
 
-    go : (o : Option Word) → label_of line ≡ o → label_judged before o ≡ None
+    go : (o : Option Word) → label_of line ≡ o → new_label_fault (λ label. list_any (defines label) before) o ≡ None
     go None e = refl
     go (Some label) e =
         let good : IsTrue (is_name label) = subst (λ o. IfSome o (λ label. IsTrue (is_name label))) e named in

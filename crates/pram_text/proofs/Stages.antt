@@ -1,5 +1,5 @@
 -- What the judgement of a line depends on, at each stage of a text.
-use Rattle.std.proofs.Common.{◌≡◌, ◌⊎◌, ℕ, ◌==◌, List, [], ◌∷◌, ◌++◌, Result, Ok, Err, Some, None, refl, ap, sym, ◌∙◌, subst, Bool, true, false, not, ◌||◌, cond, if◌then◌else◌, ⊎_elim, inl, inr, eqb-true, codes, bytes_eq, option_map}
+use Rattle.std.proofs.Common.{◌≡◌, ◌⊎◌, ℕ, ◌==◌, List, [], ◌∷◌, ◌++◌, Result, Ok, Err, None, refl, ap, sym, ◌∙◌, subst, Bool, true, false, not, ◌||◌, cond, if◌then◌else◌, ⊎_elim, inl, inr, eqb-true, codes, bytes_eq, option_map}
 use Rattle.std.specs.List.{list_any, after_first, cons_option}
 use Rattle.std.specs.Result.{result_ok, result_unwrap_or}
 use Rattle.std.proofs.lemmas.Bool.{cond-false, or_cases}
@@ -9,7 +9,7 @@ use Rattle.pram_text.specs.declared.fault.TextKind.TheVariants.{BadHeader, BadNu
 use Rattle.pram_text.specs.declared.instr.Rule.{Rule}
 use Rattle.pram_text.specs.Lines.{Line}
 use Rattle.pram_text.specs.Judgement.{is_number, number_of, version_of, rule_of, init_of, is_code}
-use Rattle.pram_text.specs.Text.{words_fault, init_fault, instr_fault, rest_fault, names_rule, named_cells, has_code, body_of, code_line, NamesCells, SpellsRule, SpellsHeader}
+use Rattle.pram_text.specs.Text.{words_fault, init_fault, new_cell_fault, instr_fault, rest_fault, names_rule, named_cells, has_code, body_of, code_line, NamesCells, SpellsRule, SpellsHeader}
 use Rattle.pram_text.proofs.Lists.{NonePasses, any_none, any_at, after_first_at, after_first_skip}
 use Rattle.pram_text.proofs.Said.{Said}
 
@@ -91,8 +91,7 @@ rest_fault-rule cells first rule before w e =
     let any : list_any is_code (first ∷ before) ≡ list_any is_code before = ap (λ b. b || list_any is_code before) no_code in
     let after = after_first_skip is_code first before no_code in
     let named : named_cells cells (first ∷ before) ≡ named_cells cells before = ap (λ (r : Result (ℕ × ℕ) TextKind). cons_option (option_map (λ p. p.0) (result_ok r)) (named_cells cells before)) (init_of-rule cells first rule e) in
-    (λ i. if any i then instr_fault (after i) w
-    else (if is_code w then None else (elim (init_of cells w) [ Ok p ↦ if list_any (λ c. c == p.0) (named i) then Some BadHeader else None | Err kind ↦ Some kind ])))
+    (λ i. if any i then instr_fault (after i) w else (if is_code w then None else new_cell_fault (named i) (init_of cells w)))
 
 module _ (version cells procs steps : ℕ) (rule : Rule) (header : List Line) (h : SpellsHeader version cells procs steps rule header) where
   module _ (rest : List Line) where

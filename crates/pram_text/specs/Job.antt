@@ -14,7 +14,8 @@ pub record JobData : Type 0 where
   pub init : List ℕ
   pub code : List Instr
 
--- registers are those that there are, a number is a value, and a jump leads into the code of this length or to its end
+-- registers are those that there are, a number is below 2^32,
+-- and a jump leads into the code of this length or to its end
 abbrev pub IsInstr : ℕ → Instr → Type 0
 IsInstr len (Set r k) = (r < REGISTERS) × (k < 2 ^ 32)
 IsInstr len (Pid r) = r < REGISTERS

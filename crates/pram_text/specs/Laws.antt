@@ -3,9 +3,14 @@ use Rattle.std.specs.Prelude.{◌≡◌, ◌⊎◌, ◌↔◌, ℕ, ◌+◌, ◌
 use Rattle.std.specs.List.{list_all, join_with_byte}
 use Rattle.pram_text.specs.declared.fault.TextKind.{TextKind}
 use Rattle.pram_text.specs.declared.fault.TextKind.TheVariants.{UnknownLabel}
+use Rattle.pram_text.specs.declared.limits.TheConstants.{MAX_CELLS, MAX_PROCS, MAX_CODE, REGISTERS}
 use Rattle.pram_text.specs.Job.{JobData, IsJob}
 use Rattle.pram_text.specs.Lines.{lines_of, words_of, is_allowed, is_blank}
 use Rattle.pram_text.specs.Text.{Spells, Bears, fault_at}
+
+-- cells, processors, instructions and registers
+abbrev pub LimitsAre : Type 0
+LimitsAre = (MAX_CELLS ≡ 65536) × (MAX_PROCS ≡ 1024) × (MAX_CODE ≡ 4096) × (REGISTERS ≡ 4)
 
 -- the lines, joined by line feeds, are the text
 abbrev pub LinesAreJoined : Type 0
@@ -22,7 +27,8 @@ abbrev pub SpelledJobIsLawful : Type 0
 SpelledJobIsLawful = (text : List ℕ) (job : JobData) → Spells text job → IsJob job
 
 abbrev pub SpelledBearsNothing : Type 0
-SpelledBearsNothing = (text : List ℕ) (job : JobData) (line : ℕ) (kind : TextKind) → Spells text job → Bears text line kind → ⊥
+SpelledBearsNothing =
+    (text : List ℕ) (job : JobData) (line : ℕ) (kind : TextKind) → Spells text job → Bears text line kind → ⊥
 
 abbrev pub OneFault : Type 0
 OneFault =
@@ -30,10 +36,13 @@ OneFault =
     → Bears text line kind → Bears text other_line other_kind → (line ≡ other_line) × (kind ≡ other_kind)
 
 abbrev pub JobOrFault : Type 0
-JobOrFault = (text : List ℕ) → ((job : JobData) × Spells text job) ⊎ ((line : ℕ) × (kind : TextKind) × Bears text line kind)
+JobOrFault =
+    (text : List ℕ) → ((job : JobData) × Spells text job) ⊎ ((line : ℕ) × (kind : TextKind) × Bears text line kind)
 
 abbrev pub FaultIsWithin : Type 0
-FaultIsWithin = (text : List ℕ) (line : ℕ) (kind : TextKind) → Bears text line kind → (1 ≤ line) × (line ≤ length (lines_of text))
+FaultIsWithin =
+    (text : List ℕ) (line : ℕ) (kind : TextKind)
+    → Bears text line kind → (1 ≤ line) × (line ≤ length (lines_of text))
 
 -- where no line has another fault
 abbrev pub UnknownLabelComesLast : Type 0
@@ -65,7 +74,8 @@ CommentsSayNothing =
 abbrev pub BlanksSayNothing : Type 0
 BlanksSayNothing =
     (text other left line right : List ℕ) → HasOtherLine text other line (left ++ line ++ right)
-    → IsTrue (list_all is_blank left) → IsTrue (list_all is_blank right) → SpellsSame text other × BearsSame text other
+    → IsTrue (list_all is_blank left) → IsTrue (list_all is_blank right)
+    → SpellsSame text other × BearsSame text other
 
 -- a line without words can be left out
 abbrev pub WordlessLinesAreSkipped : Type 0

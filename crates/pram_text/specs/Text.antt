@@ -1,5 +1,5 @@
 -- A text spells a job; a line of a text bears a fault.
-use Rattle.std.specs.Prelude.{◌≡◌, ◌≢◌, ℕ, ◌+◌, ◌<◌, ◌≤◌, Bool, false, not, ◌&&◌, ◌==◌, nat_le, if◌then◌else◌, List, [], ◌∷◌, ◌++◌, length, take, map, codes, All, AllPairs, Option, Some, None, unwrap_or, Ok, Err, IfSome, IsTrue, ◌⊎◌, zero, suc, drop, option_map, slice_index, slice_index_or, position}
+use Rattle.std.specs.Prelude.{◌≡◌, ◌≢◌, ℕ, ◌+◌, ◌<◌, ◌≤◌, Bool, false, not, ◌&&◌, ◌==◌, nat_le, if◌then◌else◌, List, [], ◌∷◌, ◌++◌, length, take, map, codes, All, AllPairs, Option, Some, None, unwrap_or, Result, Ok, Err, IfSome, IsTrue, ◌⊎◌, zero, suc, drop, option_map, slice_index, slice_index_or, position}
 use Rattle.std.specs.List.{list_all, list_any, after_first, filter_map}
 use Rattle.std.specs.Map.{lookup}
 use Rattle.std.specs.Option.{option_or}
@@ -17,9 +17,14 @@ use Rattle.pram_text.specs.Judgement.{version_of, cells_of, procs_of, steps_of, 
 
 -- ---- labels
 
+-- whether this label, if there is one, has the name
+abbrev pub is_named : Option Word → Word → Bool
+is_named None name = false
+is_named (Some label) name = bytes_eq label name
+
 -- whether a line defines the label
 abbrev pub defines : Word → Line → Bool
-defines name line = elim (label_of line) [ None ↦ false | Some label ↦ bytes_eq label name ]
+defines name line = is_named (label_of line) name
 
 -- a label's place is the number of the first instruction that it stands before
 abbrev pub place_of : List Line → Word → Option ℕ
@@ -96,22 +101,26 @@ names_rule version = result_unwrap_or (version_of version) 0 == 2
 
 -- the cells that lines before have named
 abbrev pub named_cells : ℕ → List Line → List ℕ
-named_cells cells lines = filter_map (λ line. option_map (λ p. p.0) (result_ok (init_of cells line))) lines
+named_cells cells lines =
+    filter_map (λ line. option_map (λ p. p.0) (result_ok (init_of cells line))) lines
 
 -- Behind the header stand start values, of each cell at most once.
-unfoldable pub init_fault : ℕ → List Line → Line → Option TextKind
-init_fault cells before line =
-    elim (init_of cells line) [
-      | Ok p ↦ if list_any (λ c. c == p.0) (named_cells cells before) then Some BadHeader else None
-      | Err kind ↦ Some kind
-    ]
+abbrev pub new_cell_fault : List ℕ → Result (ℕ × ℕ) TextKind → Option TextKind
+new_cell_fault named (Ok p) = if list_any (λ c. c == p.0) named then Some BadHeader else None
+new_cell_fault named (Err kind) = Some kind
 
--- A label is a name that no earlier line defines.
+unfoldable pub init_fault : ℕ → List Line → Line → Option TextKind
+init_fault cells before line = new_cell_fault (named_cells cells before) (init_of cells line)
+
+-- A label is a name that is not known yet.
+abbrev pub new_label_fault : (Word → Bool) → Option Word → Option TextKind
+new_label_fault is_known None = None
+new_label_fault is_known (Some label) =
+    if not (is_name label) then Some UnknownInstruction
+    else (if is_known label then Some DuplicateLabel else None)
+
 unfoldable pub label_fault : List Line → Line → Option TextKind
-label_fault body line = elim (label_of line) [
-  | None ↦ None
-  | Some label ↦ if not (is_name label) then Some UnknownInstruction else (if list_any (defines label) body then Some DuplicateLabel else None)
-]
+label_fault body line = new_label_fault (λ label. list_any (defines label) body) (label_of line)
 
 -- The label first, then the instruction; a jump's label counts as known.
 unfoldable pub instr_fault : List Line → Line → Option TextKind
@@ -166,7 +175,7 @@ fault_at lines k =
 abbrev pub numbered_body : List (List ℕ) → List (ℕ × Line)
 numbered_body lines = after_first (λ l. is_code l.1) (drop 4 (numbered lines))
 
--- the fault of one of these instruction lines, where they have none by themselves: its jump's label is not defined
+-- the fault of one of these instruction lines, whose own are none: its jump's label is not defined
 abbrev pub label_fault_at : List Line → ℕ → Option TextKind
 label_fault_at body k = result_err (instr_of (place_of body) (unlabelled (slice_index_or body k [])))
 
@@ -177,15 +186,16 @@ pub record IsFirst (fault : ℕ → Option TextKind) (len place : ℕ) (kind : T
   pub earlier : (k : ℕ) → k < place → fault k ≡ None
 
 -- Lines count from 1. An unknown label is looked for where no line has another fault.
-abbrev pub Bears : List ℕ → ℕ → TextKind → Type 0
+unfoldable pub Bears : List ℕ → ℕ → TextKind → Type 0
 Bears text line kind =
     let lines = lines_of text in
     let body = numbered_body lines in
     ((k : ℕ) × (line ≡ k + 1) × IsFirst (fault_at lines) (length lines) k kind)
     ⊎ (((j : ℕ) → j < length lines → fault_at lines j ≡ None)
-    × (k : ℕ) × (line ≡ slice_index (map (λ l. l.0) body) k) × IsFirst (label_fault_at (map (λ l. l.1) body)) (length body) k kind)
+    × (k : ℕ) × (line ≡ slice_index (map (λ l. l.0) body) k)
+    × IsFirst (label_fault_at (map (λ l. l.1) body)) (length body) k kind)
 
--- A refusal names a fault of the text. Where memory ran out it says nothing of the text, and names line 0.
+-- A refusal names a fault of the text. Where memory ran out it says nothing of it, and names line 0.
 abbrev pub IsRefusal : List ℕ → ℕ → TextKind → Type 0
 IsRefusal text line Memory = line ≡ 0
 IsRefusal text line kind = Bears text line kind

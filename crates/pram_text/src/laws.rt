@@ -1,9 +1,15 @@
 //! Laws of the text: they show that the definitions mean what is meant.
 //! Nothing happens when they are called.
 ghost use Rattle.pram_text.specs.Laws.{BlanksSayNothing, CommentsSayNothing, FaultIsWithin};
-ghost use Rattle.pram_text.specs.Laws.{JobOrFault, LinesAreCounted, LinesAreJoined, OneFault, OneJob};
+ghost use Rattle.pram_text.specs.Laws.{JobOrFault, LimitsAre, LinesAreCounted, LinesAreJoined};
+ghost use Rattle.pram_text.specs.Laws.{OneFault, OneJob};
 ghost use Rattle.pram_text.specs.Laws.{SpelledBearsNothing, SpelledJobIsLawful};
 ghost use Rattle.pram_text.specs.Laws.{UnknownLabelComesLast, WordlessLinesAreSkipped};
+
+/// The limits by their numbers.
+pub fn limits_are()
+    ensures { LimitsAre }
+{}
 
 /// The lines of a text, joined by line feeds, are the text, and there is one more of them than
 /// line feeds.

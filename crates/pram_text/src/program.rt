@@ -2,7 +2,8 @@
 ghost use Rattle.std.specs.Prelude.{◌≡◌, ◌++◌, ◌∷◌, [], List, OnOk, IfErr};
 ghost use Rattle.std.specs.Option.{option_copied};
 ghost use Rattle.pram_text.specs.Lines.{Line, words_of};
-ghost use Rattle.pram_text.specs.Inner.Reading.{HoldsCode, TakesCode, Defines, IsCoded, numbers_of, place_at};
+ghost use Rattle.pram_text.specs.Inner.Reading.{HoldsCode, TakesCode, Defines, IsCoded};
+ghost use Rattle.pram_text.specs.Inner.Reading.{numbers_of, place_at};
 ghost use Rattle.pram_text.specs.Inner.Statement.{aimed, resolved};
 
 use crate::fault::{TextFault, TextKind};

@@ -6,7 +6,8 @@ ghost use Rattle.std.specs.Option.{option_copied};
 ghost use Rattle.std.specs.Str.{bytes_eq};
 ghost use Rattle.pram_text.specs.Lines.{words_of};
 ghost use Rattle.pram_text.specs.Inner.Statement.{ReadsNone, ReadsOne, ReadsTwo, ReadsThree};
-ghost use Rattle.pram_text.specs.Inner.Statement.{ReadsNumber, ReadsJump, ReadsLabel, ReadsLine, name_of};
+ghost use Rattle.pram_text.specs.Inner.Statement.{ReadsNumber, ReadsJump, ReadsLabel};
+ghost use Rattle.pram_text.specs.Inner.Statement.{ReadsLine, name_of};
 ghost use Rattle.pram_text.specs.Judgement.{label_of, unlabelled, is_name, register_of};
 
 use crate::fault::TextKind;
@@ -93,7 +94,7 @@ impl Mnemonic {
 }
 
 /// The label of a line without its colon, and the line behind it.
-#[tactic(auto, unfolding(crate::specs::Judgement::label_of, crate::specs::Judgement::unlabelled, crate::specs::Judgement::is_label))]
+#[tactic(auto, unfolding(crate::specs::Judgement::label_of, crate::specs::Judgement::unlabelled))]
 pub(crate) fn split_label(line: &[u8]) -> (Option<&[u8]>, &[u8])
     ensures label { option_copied result.0 ≡ label_of (words_of line.now) }
     ensures rest { words_of result.1.now ≡ unlabelled (words_of line.now) }

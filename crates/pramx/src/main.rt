@@ -1,7 +1,7 @@
 //! Runs programs of a synchronous parallel machine: `pramx check FILE`, `pramx plain FILE`.
 #![tactic(auto)]
 
-ghost use Rattle.std.specs.Prelude.{◌≡◌, false};
+ghost use Rattle.std.specs.Prelude.{◌≡◌, ◌≤◌, false};
 
 mod input;
 mod line;
@@ -12,7 +12,7 @@ mod tests;
 
 use crate::input::open_input;
 use crate::line::read_line;
-use crate::refusal::{DONE, FAILED, Refusal, tell};
+use crate::refusal::{DONE, FAILED, MEMORY, Refusal, tell};
 use crate::server::serve;
 use clap::error::ErrorKind;
 use pram_io::{IntoWrite, Sink};
@@ -30,6 +30,7 @@ fn main(rt: HostRuntime) -> ExitCode {
 /// Does what the program's words ask, and answers the exit status.
 fn status<R: AllocGlobal + Env + Files + Print + Eprint, E: Sink>(rt: &R, err: &mut E) -> u8
     requires { E.has_failed err.old ≡ false }
+    ensures { result ≤ MEMORY }
 {
     let alloc = rt.alloc();
     let words = match words_of(rt) {
@@ -60,6 +61,7 @@ fn line_status<'a, R: Files + Print + Eprint, E: Sink>(
     err: &mut E,
 ) -> u8
     requires { E.has_failed err.old ≡ false }
+    ensures { result ≤ MEMORY }
 {
     let line = match read_line(alloc, words) {
         Ok(line) => line,
@@ -79,6 +81,7 @@ fn refusal_status<R: Print + Eprint, E: Sink>(
     err: &mut E,
 ) -> u8
     requires { E.has_failed err.old ≡ false }
+    ensures { result ≤ MEMORY }
 {
     if error.kind() == ErrorKind::OutOfMemory {
         return tell(alloc, Refusal::Memory, err);

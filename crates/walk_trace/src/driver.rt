@@ -1,6 +1,6 @@
 //! One worker over a plain list of words.
 ghost use Rattle.std.specs.Prelude.{◌≡◌, IfOk, IfSome};
-ghost use Rattle.walkx.specs.Inner.Stages.{Serves};
+ghost use Rattle.walkx.specs.Serving.{Serves};
 ghost use Rattle.walkx.specs.Walk.{AsksAdmitted, HearsAdmitted, IsLayoutOf};
 ghost use Rattle.walk_trace.specs.Words.{AllAdmitted};
 

@@ -21,8 +21,8 @@ use Rattle.pram_words.specs.Stamps.{stamp_of, payload_of, stamped_word}
 use Rattle.pram_words.specs.Words.{LayoutData, IsWord, IsInRange, Admits, number_of, places_of, counters_of, most_asked, most_stored, has_claims}
 use Rattle.walkx.specs.declared.operation.Op.{Op}
 use Rattle.walkx.specs.declared.operation.Op.TheVariants.{Load, Max, Swap}
-use Rattle.walkx.specs.declared.worker.Doing.{Doing}
-use Rattle.walkx.specs.declared.worker.Doing.TheVariants as doing
+use Rattle.walkx.specs.Doing.{Doing}
+use Rattle.walkx.specs.Doing as doing
 use Rattle.walkx.specs.Laws.{WhatIsAskedIsAdmitted}
 use Rattle.walkx.specs.Scripts.{Script, asks, ends, behind, rest, op_with, heard_in}
 use Rattle.walkx.specs.Tasks.{first_is_older, older, older_word, loads_both, reads_place, writes_place, reads_registers, reads_cell, claim_of, differs, raises_request, executes, compute_task, hears_part, claims, carries, apply_task, crew_apply_task, reports, verify_task, crew_verify_task, claim_task, priority_apply_task, task_of}
@@ -39,7 +39,7 @@ AllAsk job y (ends r) = Unit {0}
 
 -- ---- the request of an instruction
 
-operands_fit : (len : ℕ) (instr : Instr) → IsInstr len instr → AllByRecursion (λ r. r < 4) (operands_of instr)
+pub operands_fit : (len : ℕ) (instr : Instr) → IsInstr len instr → AllByRecursion (λ r. r < 4) (operands_of instr)
 operands_fit len (Set r k) h = tt
 operands_fit len (Pid r) h = tt
 operands_fit len (Add r a b) h = (h.1, (h.2, tt))

@@ -6,7 +6,7 @@ use Rattle.pram_words.specs.Words.{LayoutData, number_of}
 use Rattle.pram_words.specs.declared.words.Word.TheVariants.{Conflict, Node, Position}
 use Rattle.walkx.specs.declared.operation.Op.{Op}
 use Rattle.walkx.specs.declared.operation.Op.TheVariants.{Load, Max}
-use Rattle.walkx.specs.declared.worker.Doing.TheVariants as doing
+use Rattle.walkx.specs.Doing as doing
 use Rattle.walkx.specs.Scripts.{Script, asks, ends}
 use Rattle.walkx.specs.Walk.{Then, begins, turns, stops, back_script, begin_script}
 use Rattle.walkx.specs.Bound.{low, MayHear}

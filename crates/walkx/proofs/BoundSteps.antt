@@ -4,8 +4,8 @@ use Rattle.pram_text.specs.Job.{JobData}
 use Rattle.pram_words.specs.Tree.{digits_of, leaves_of}
 use Rattle.pram_words.specs.Words.{LayoutData}
 use Rattle.walkx.specs.declared.operation.Op.{Op}
-use Rattle.walkx.specs.declared.worker.Doing.{Doing}
-use Rattle.walkx.specs.declared.worker.Doing.TheVariants as doing
+use Rattle.walkx.specs.Doing.{Doing}
+use Rattle.walkx.specs.Doing as doing
 use Rattle.walkx.specs.Scripts.{Script, asks, ends, behind, rest, first_op, op_with, heard_in}
 use Rattle.walkx.specs.Walk.{Then, begins, turns, stops, Walking, Fits, IsPhase, IsGoing, IsLayoutOf, node_of, script_by, script_of, rest_of, phase_begun, heard_of, ask_of, goes_on, told_by, told}
 use Rattle.walkx.specs.Bound.{told_all, history_of, MayHear, IsHeard, most_steps}

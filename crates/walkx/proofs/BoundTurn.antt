@@ -8,7 +8,7 @@ use Rattle.pram_words.specs.Words.{LayoutData, number_of}
 use Rattle.pram_words.specs.declared.words.Word.TheVariants.{Node, Position}
 use Rattle.walkx.specs.declared.operation.Op.{Op}
 use Rattle.walkx.specs.declared.operation.Op.TheVariants.{Load, Store, Max}
-use Rattle.walkx.specs.declared.worker.Doing.TheVariants as doing
+use Rattle.walkx.specs.Doing as doing
 use Rattle.walkx.specs.Scripts.{asks, ends}
 use Rattle.walkx.specs.Walk.{begins, turns, turn_script, leaf_script, marks, stands_at, way_down}
 use Rattle.walkx.proofs.BoundWeight.{low_of, turns_left, later_weight}

@@ -4,7 +4,7 @@ use Rattle.pram_text.specs.Job.{JobData}
 use Rattle.pram_words.specs.Words.{LayoutData}
 use Rattle.walkx.specs.declared.operation.Ended.{Ended}
 use Rattle.walkx.specs.declared.operation.Op.{Op}
-use Rattle.walkx.specs.declared.worker.Doing.TheVariants as doing
+use Rattle.walkx.specs.Doing as doing
 use Rattle.walkx.specs.Scripts.{Script, asks, ends, behind, first_op}
 use Rattle.walkx.specs.Walk.{Then, begins, turns, stops, Walking, node_of, rest_of, ask_of, IsGoing, goes_on, told, begin_script, turn_script}
 use Rattle.walkx.specs.Bound.{MayHear}

@@ -9,8 +9,8 @@ use Rattle.pram_words.specs.declared.words.Word.TheVariants.{Conflict, Node, Pos
 use Rattle.walkx.specs.declared.operation.Ended.TheVariants as ended
 use Rattle.walkx.specs.declared.operation.Op.{Op}
 use Rattle.walkx.specs.declared.operation.Op.TheVariants.{Load}
-use Rattle.walkx.specs.declared.worker.Doing.{Doing}
-use Rattle.walkx.specs.declared.worker.Doing.TheVariants as doing
+use Rattle.walkx.specs.Doing.{Doing}
+use Rattle.walkx.specs.Doing as doing
 use Rattle.walkx.specs.Scripts.{Script, asks, ends, behind, rest, op_with, heard_in}
 use Rattle.walkx.specs.Walk.{Then, begins, turns, stops, Walking, HearsAdmitted, AllAdmitted, script_by, script_of, rest_of, node_of, phase_begun, heard_of, turn_script, begin_script, marks, way_down}
 use Rattle.walkx.proofs.BoundTasks.{IsWithin, task_within}

@@ -13,8 +13,8 @@ use Rattle.pram_words.specs.Words.{LayoutData}
 use Rattle.pram_words.specs.declared.words.Word.TheVariants.{Node, Position}
 use Rattle.walkx.specs.declared.operation.Ended.{Ended}
 use Rattle.walkx.specs.declared.operation.Op.{Op}
-use Rattle.walkx.specs.declared.worker.Doing.{Doing}
-use Rattle.walkx.specs.declared.worker.Doing.TheVariants as doing
+use Rattle.walkx.specs.Doing.{Doing}
+use Rattle.walkx.specs.Doing as doing
 use Rattle.walkx.specs.Laws.{NewWorkersFit, AnswersKeepFit}
 use Rattle.walkx.specs.Scripts.{Script, asks, ends, behind, rest, heard_in}
 use Rattle.walkx.specs.Walk.{Then, begins, turns, stops, Walking, Fits, IsBoard, IsGoing, IsPhase, Matches, AllAdmitted, script_by, script_of, rest_of, node_of, ask_of, goes_on, phase_begun, heard_of, turn_script, begin_script}

@@ -8,7 +8,8 @@ use Rattle.walkx.specs.declared.operation.ReadOp.TheVariants as read
 use Rattle.walkx.specs.declared.operation.Reading.{Reading}
 use Rattle.walkx.specs.declared.stage.Glance.{Glance}
 use Rattle.walkx.specs.declared.stage.Glance.TheVariants as glance
-use Rattle.walkx.specs.Inner.Glances.{ReaderData, Follows, IsGlance, IsLaterGlance, most_looked, script_of_glance}
+use Rattle.walkx.specs.Inner.Glances.{ReaderData, IsGlance, IsLaterGlance, most_looked, script_of_glance}
+use Rattle.walkx.specs.Serving.{Follows}
 use Rattle.walkx.specs.Reads.{Looking, LooksFit, HeardAdmitted, look_of, looked, looks_for, reader_script, read_script}
 use Rattle.walkx.specs.Scripts.{Script, asks, ends, behind, first_op, op_with}
 
@@ -57,10 +58,10 @@ heard_on : (job : JobData) (y : LayoutData) (k : ReaderData) (found : ℕ) (new 
     → Heard job y k found (record { looking = record k.looking { heard = found ∷ k.looking.heard }; stage = new })
 heard_on job y k found new follows fits admitted going is stage later =
     let r = k.looking in
-    let loads : Loads (look_of y r) = subst Loads (sym follows.rest) (stage_loads y r.cell k.stage going) in
+    let loads : Loads (look_of y r) = subst Loads (sym follows.stands.rest) (stage_loads y r.cell k.stage going) in
     record {
       told = sym (looked_on r found (look_of y r) loads);
-      follows = record { cell = follows.cell; rest = ap (λ (s : Script Reading). behind s found) follows.rest ∙ sym is; stage = stage; few = later_few k.stage new (length r.heard) going follows.few later };
+      follows = record { cell = follows.cell; stands = record { rest = ap (λ (s : Script Reading). behind s found) follows.stands.rest ∙ sym is; stage = stage; few = later_few k.stage new (length r.heard) going follows.stands.few later } };
       fits = record {
         admitted = rw (op_with_load (look_of y r) found loads) (subst (λ (op : ReadOp). HeardAdmitted job y op found) (looks_load (look_of y r) loads) admitted, fits.admitted);
       };

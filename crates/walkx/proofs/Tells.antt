@@ -6,15 +6,16 @@ use Rattle.pram_words.specs.Phases.{kind_at}
 use Rattle.pram_words.specs.Words.{LayoutData}
 use Rattle.walkx.specs.declared.operation.Ended.{Ended}
 use Rattle.walkx.specs.declared.operation.Op.{Op}
-use Rattle.walkx.specs.declared.worker.Doing.{Doing}
-use Rattle.walkx.specs.declared.worker.Doing.TheVariants as doing
+use Rattle.walkx.specs.Doing.{Doing}
+use Rattle.walkx.specs.Doing as doing
 use Rattle.walkx.specs.declared.stage.Stage.{Stage}
 use Rattle.walkx.specs.declared.stage.Stage.TheVariants as stage
 use Rattle.walkx.specs.declared.stage.Step.{Step}
 use Rattle.walkx.specs.declared.stage.Step.TheVariants as step
 use Rattle.walkx.specs.Scripts.{Script, asks, ends, behind, first_op}
 use Rattle.walkx.specs.Inner.Posts.{PostData, processor_of, step_of, then_marks}
-use Rattle.walkx.specs.Inner.Stages.{IsStage, IsStep, WorkerData, Serves, post_of, doing_of, newest, script_at, script_behind, stepped}
+use Rattle.walkx.specs.Inner.Stages.{IsStage, IsStep, WorkerData, post_of, doing_of, newest, script_at, script_behind, stepped}
+use Rattle.walkx.specs.Serving.{Serves}
 use Rattle.walkx.specs.Walk.{Then, Walking, Fits, IsBoard, IsGoing, HearsAdmitted, ask_of, told, goes_on, rest_of, begin_script, turn_script, begins, turns, stops, started, come_back}
 use Rattle.walkx.proofs.Fitting.{fits_told, new_workers_fit}
 use Rattle.walkx.proofs.Going.{Asks, told_going}
@@ -63,7 +64,7 @@ going_told : (job : JobData) (y : LayoutData) (k : WorkerData) (found : ℕ) (s 
     → script_behind (post_of job y k) s ≡ behind (script_at (post_of job y k) k.stage) found → told job y k.walking found ≡ goes_on k.walking found (script_behind (post_of job y k) s)
 going_told job y k found s serves going is =
     let w = k.walking in
-    told_going w.now w found (behind (rest_of job y w) found) (rw serves.now going) ∙ ap (goes_on w found) (ap (λ (t : Script Then). behind t found) serves.rest ∙ sym is)
+    told_going w.now w found (behind (rest_of job y w) found) (rw serves.stands.now going) ∙ ap (goes_on w found) (ap (λ (t : Script Then). behind t found) serves.stands.rest ∙ sym is)
 
 -- the worker is what it was told to be, and so it fits
 hears_by_law : (job : JobData) (y : LayoutData) (k new : WorkerData) (found : ℕ) → IsBoard job y → Serves job y k → HearsAdmitted job y (ask_of job y k.walking) found
@@ -80,18 +81,18 @@ hears job y k found (step.On new) board serves admitted is fits =
     let asks_next : Asks (script_at at new) = stage_asks at new fits.1 new_going in
     let told_is = going_told job y k found (step.On new) serves fits.0 is in
     hears_by_law job y k _ found board serves admitted (told_is ∙ goes_on_asks k.walking found _ asks_next)
-    (λ f. record { fits = f; now = serves.now ∙ sym fits.2; rest = ap (λ (t : Script Then). behind t found) serves.rest ∙ sym is; stage = fits.1 })
+    (λ f. record { fits = f; stands = record { now = serves.stands.now ∙ sym fits.2; rest = ap (λ (t : Script Then). behind t found) serves.stands.rest ∙ sym is; stage = fits.1 } })
 hears job y k found (step.Begins n) board serves admitted is fits =
     hears_by_law job y k _ found board serves admitted (going_told job y k found (step.Begins n) serves fits is)
-    (λ f. record { fits = f; now = refl; rest = refl; stage = tt })
+    (λ f. record { fits = f; stands = record { now = refl; rest = refl; stage = tt } })
 hears job y k found (step.Turns n q) board serves admitted is fits =
     hears_by_law job y k _ found board serves admitted (going_told job y k found (step.Turns n q) serves fits is)
-    (λ f. record { fits = f; now = refl; rest = refl; stage = f.phase.1 })
+    (λ f. record { fits = f; stands = record { now = refl; rest = refl; stage = f.phase.1 } })
 hears job y k found (step.Stops e) board serves admitted is fits =
     hears_by_law job y k _ found board serves admitted (going_told job y k found (step.Stops e) serves (rw fits tt) is)
-    (λ f. record { fits = f; now = refl; rest = f.matches; stage = tt })
+    (λ f. record { fits = f; stands = record { now = refl; rest = f.matches; stage = tt } })
 hears job y k found (step.Stays e) board serves admitted is fits =
-    record { told = rw (serves.now ∙ fits); serves = serves }
+    record { told = rw (serves.stands.now ∙ fits); serves = serves }
 
 -- ---- what was heard, newest first
 
@@ -122,7 +123,7 @@ doing_stays job y v k at new e f =
 
 -- a new worker serves
 pub starts : (job : JobData) (y : LayoutData) (w : ℕ) → w < y.workers → Serves job y (record { walking = started w; phase = 0; stage = stage.Begin })
-starts job y w worker = record { fits = (new_workers_fit job y w worker).0; now = refl; rest = refl; stage = tt }
+starts job y w worker = record { fits = (new_workers_fit job y w worker).0; stands = record { now = refl; rest = refl; stage = tt } }
 
 pub comes_back : (job : JobData) (y : LayoutData) (w : ℕ) → w < y.workers → Serves job y (record { walking = come_back w; phase = 0; stage = stage.Back })
-comes_back job y w worker = record { fits = (new_workers_fit job y w worker).1; now = refl; rest = refl; stage = tt }
+comes_back job y w worker = record { fits = (new_workers_fit job y w worker).1; stands = record { now = refl; rest = refl; stage = tt } }

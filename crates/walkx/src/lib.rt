@@ -21,7 +21,7 @@ pub use operation::{Ended, Op, ReadOp, Reading};
 pub use reader::Reader;
 pub use record::Recorded;
 pub use words::{request_of, seen_step};
-pub use worker::{Doing, Worker};
+pub use worker::Worker;
 
 #[cfg(test)]
 mod tests;

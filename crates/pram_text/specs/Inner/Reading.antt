@@ -1,16 +1,15 @@
 -- What a reader holds of the lines with words that it has read.
 use Rattle.std.specs.BTreeMap.{BTreeMap, get_by}
 use Rattle.std.specs.Cmp.Lexicographic.{slice_cmp}
-use Rattle.std.specs.Prelude.{◌≡◌, ◌≢◌, ℕ, ◌==◌, Bool, true, false, ◌&&◌, if◌then◌else◌, List, [], ◌∷◌, ◌++◌, length, map, Option, Some, None, Result, Ok, Err, ◌⊎◌, slice_index, slice_index_or, not, is_some, Vec}
+use Rattle.std.specs.Prelude.{◌≡◌, ◌≢◌, ℕ, ◌==◌, Bool, true, false, ◌&&◌, if◌then◌else◌, List, [], ◌∷◌, ◌++◌, length, map, Option, Some, None, Result, Ok, Err, ◌⊎◌, slice_index, slice_index_or, is_some, Vec}
 use Rattle.std.specs.Global.{Global}
 use Rattle.std.specs.Borrow.{Bor}
 use Rattle.std.specs.Ordering.{nat_cmp}
-use Rattle.std.specs.Str.{bytes_eq}
 use Rattle.std.specs.Map.{lookup}
 use Rattle.std.specs.Result.{result_err}
 use Rattle.pram_text.specs.declared.fault.TextFault.{TextFault}
 use Rattle.pram_text.specs.declared.fault.TextKind.{TextKind}
-use Rattle.pram_text.specs.declared.fault.TextKind.TheVariants.{UnknownInstruction, DuplicateLabel, Memory}
+use Rattle.pram_text.specs.declared.fault.TextKind.TheVariants.{Memory}
 use Rattle.pram_text.specs.declared.head.Head.{Head}
 use Rattle.pram_text.specs.declared.head.Next.{Next}
 use Rattle.pram_text.specs.declared.head.Next.TheVariants.{Version, Cells, Procs, Steps, Rules, Start, Code}
@@ -22,9 +21,9 @@ use Rattle.pram_text.specs.declared.program.Written.{Written}
 use Rattle.pram_text.specs.declared.reader.Reader.{Reader}
 use Rattle.pram_text.specs.Job.{JobData}
 use Rattle.pram_text.specs.Lines.{Word, Line, words_of, worded, is_filled}
-use Rattle.pram_text.specs.Judgement.{version_of, cells_of, procs_of, steps_of, unlabelled, is_name, instr_of}
+use Rattle.pram_text.specs.Judgement.{version_of, cells_of, procs_of, steps_of, unlabelled, instr_of}
 use Rattle.pram_text.specs.Inner.Statement.{resolved}
-use Rattle.pram_text.specs.Text.{place_of, NamesCells, IsLabelled, SpellsHeader, code_line, SpellsLines, words_fault, line_fault, init_fault, instr_fault, end_fault, has_code, body_of, label_fault_at, IsFirst}
+use Rattle.pram_text.specs.Text.{place_of, is_named, new_label_fault, NamesCells, IsLabelled, SpellsHeader, code_line, SpellsLines, words_fault, line_fault, init_fault, instr_fault, end_fault, has_code, body_of, label_fault_at, IsFirst}
 
 -- ---- the header
 
@@ -41,13 +40,19 @@ IsFront _ = Unit {0}
 -- the header so far, by what comes next
 abbrev pub HoldsHead : Next → List Line → Head → Type 0
 HoldsHead Version lines head = (lines ≡ []) × (head.rule ≡ Common)
-HoldsHead Cells lines head = (v : Line) × (lines ≡ v ∷ []) × (version_of v ≡ Ok head.version) × (head.rule ≡ Common)
+HoldsHead Cells lines head =
+    (v : Line) × (lines ≡ v ∷ []) × (version_of v ≡ Ok head.version) × (head.rule ≡ Common)
 HoldsHead Procs lines head =
-    (v : Line) × (c : Line) × (lines ≡ v ∷ c ∷ []) × (version_of v ≡ Ok head.version) × (cells_of c ≡ Ok head.cells) × (head.rule ≡ Common)
+    (v : Line) × (c : Line) × (lines ≡ v ∷ c ∷ [])
+    × (version_of v ≡ Ok head.version) × (cells_of c ≡ Ok head.cells) × (head.rule ≡ Common)
 HoldsHead Steps lines head =
-    (v : Line) × (c : Line) × (p : Line) × (lines ≡ v ∷ c ∷ p ∷ []) × (version_of v ≡ Ok head.version) × (cells_of c ≡ Ok head.cells) × (procs_of p ≡ Ok head.procs) × (head.rule ≡ Common)
+    (v : Line) × (c : Line) × (p : Line) × (lines ≡ v ∷ c ∷ p ∷ [])
+    × (version_of v ≡ Ok head.version) × (cells_of c ≡ Ok head.cells)
+    × (procs_of p ≡ Ok head.procs) × (head.rule ≡ Common)
 HoldsHead Rules lines head =
-    (v : Line) × (c : Line) × (p : Line) × (s : Line) × (lines ≡ v ∷ c ∷ p ∷ s ∷ []) × (version_of v ≡ Ok head.version) × (cells_of c ≡ Ok head.cells) × (procs_of p ≡ Ok head.procs) × (steps_of s ≡ Ok head.steps) × (head.version ≡ 2)
+    (v : Line) × (c : Line) × (p : Line) × (s : Line) × (lines ≡ v ∷ c ∷ p ∷ s ∷ [])
+    × (version_of v ≡ Ok head.version) × (cells_of c ≡ Ok head.cells)
+    × (procs_of p ≡ Ok head.procs) × (steps_of s ≡ Ok head.steps) × (head.version ≡ 2)
 HoldsHead _ lines head = IsHeader lines head
 
 -- one line more
@@ -76,16 +81,9 @@ TakesStart cells inits line (Err kind) start = kind ≢ Memory → init_fault ce
 abbrev pub place_at : BTreeMap (Bor (List ℕ)) ℕ → Word → Option ℕ
 place_at places name = get_by (λ k. slice_cmp nat_cmp name k.now) places
 
--- whether this label, if there is one, has the name
-abbrev pub is_named : Option Word → Word → Bool
-is_named None name = false
-is_named (Some label) name = bytes_eq label name
-
 -- what is wrong with one label more
 abbrev pub define_fault : BTreeMap (Bor (List ℕ)) ℕ → Option Word → Option TextKind
-define_fault places None = None
-define_fault places (Some label) =
-    if not (is_name label) then Some UnknownInstruction else (if is_some (place_at places label) then Some DuplicateLabel else None)
+define_fault places label = new_label_fault (λ name. is_some (place_at places name)) label
 
 -- one label more
 abbrev pub Defines : BTreeMap (Bor (List ℕ)) ℕ → Option Word → ℕ → Result (Unit {0}) TextKind → BTreeMap (Bor (List ℕ)) ℕ → Type 0
@@ -156,13 +154,14 @@ TakesLine before line old number (Err kind) reader = kind ≢ Memory → line_fa
 
 -- ---- the end
 
--- the fault of lines that were all read: what they lack, at their last line, or the first jump to an unknown label
-abbrev pub IsEndFault : List Line → List ℕ → ℕ → ℕ → TextKind → Type 0
-IsEndFault before numbers last line kind =
-    ((end_fault before ≡ Some kind) × (line ≡ last))
-    ⊎ ((end_fault before ≡ None) × (k : ℕ) × (line ≡ slice_index numbers k) × IsFirst (label_fault_at (body_of before)) (length (body_of before)) k kind)
+-- the first jump to an unknown label, and the number of its line
+abbrev pub IsUnknown : List Line → List ℕ → TextFault → Type 0
+IsUnknown before numbers fault =
+    (k : ℕ) × (fault.line ≡ slice_index numbers k) × IsFirst (label_fault_at (body_of before)) (length (body_of before)) k fault.kind
 
--- what the lines make, once all of them were read
+-- what lines that were all read make: where they lack something, a fault of their last one
 abbrev pub Finishes : List Line → List ℕ → ℕ → Result JobData TextFault → Type 0
 Finishes before numbers last (Ok job) = SpellsLines job before
-Finishes before numbers last (Err fault) = fault.kind ≢ Memory → IsEndFault before numbers last fault.line fault.kind
+Finishes before numbers last (Err fault) =
+    fault.kind ≢ Memory
+    → ((end_fault before ≡ Some fault.kind) × (fault.line ≡ last)) ⊎ ((end_fault before ≡ None) × IsUnknown before numbers fault)

@@ -4,7 +4,8 @@ use Rattle.std.proofs.lemmas.Result.{err_from_is_err_and}
 use Rattle.pram_text.specs.Judgement.{instr_of}
 use Rattle.pram_text.specs.declared.limits.TheConstants.{MAX_CODE}
 use Rattle.pram_text.specs.Lines.{Word}
-use Rattle.pram_text.specs.Inner.Reading.{define_fault, place_at, is_named}
+use Rattle.pram_text.specs.Inner.Reading.{define_fault, place_at}
+use Rattle.pram_text.specs.Text.{is_named}
 use Rattle.pram_text.proofs.Labels.{label_fault-held, instr_fault-long, instr_fault-label, instr_fault-rest, resolved-known, length-held, HoldsPlaces-push, HoldsCode-push}
 use Rattle.pram_text.proofs.program.Program.take.Goals as goal
 
