@@ -18,9 +18,9 @@ use Rattle.walkx.specs.Walk.{Then, IsBoard}
 use Rattle.walkx.proofs.Boards.{same_procs}
 use Rattle.pram_step.specs.History.{Asks, Wins, part_after}
 use Rattle.pram_step.proofs.Past.{data_write, each_write}
+use Rattle.lawful_words.specs.Writes.{Floor}
 use Rattle.lawful_words.specs.Steps.{phase_written}
 use Rattle.lawful_words.specs.Board.{held, root, Carried, Claimed}
-use Rattle.lawful_words.specs.Statements.{Floor}
 use Rattle.lawful_words.proofs.Sees.{Sees, Lasts, so}
 use Rattle.lawful_words.proofs.Scripts.{Safe}
 use Rattle.lawful_words.proofs.Carrying.{carries_safe}

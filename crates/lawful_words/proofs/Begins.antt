@@ -10,9 +10,9 @@ use Rattle.walkx.specs.declared.operation.Op.{Op}
 use Rattle.walkx.specs.declared.operation.Op.TheVariants.{Load, Store, Max}
 use Rattle.walkx.specs.Walk.{Then, turns, begins, stops, begin_script, back_script, marks, stands_at}
 use Rattle.walkx.specs.Scripts.{Script, asks, ends}
+use Rattle.lawful_words.specs.Writes.{Floor}
 use Rattle.lawful_words.specs.Board.{held, Stands}
 use Rattle.lawful_words.specs.Moments.{Moment, Goes}
-use Rattle.lawful_words.specs.Statements.{Floor}
 use Rattle.lawful_words.proofs.Moments.{goes_of}
 use Rattle.lawful_words.proofs.Sees.{Sees, Lasts, so, always}
 use Rattle.lawful_words.proofs.Scripts.{Safe, load_safe}
@@ -63,10 +63,10 @@ module _ (job : JobData) (y : LayoutData) (w q x : ℕ) (some : 1 ≤ q) (most :
         let v : held y m.words (Node (2 * n)) ≤ held y words (Node (2 * n)) = m.since (Node (2 * n)) (omega arith, omega arith) in
         let z : held y m.words (Node (2 * n + 1)) ≤ held y words (Node (2 * n + 1)) = m.since (Node (2 * n + 1)) (omega arith, omega arith) in
         let p = lasts m.words words m.stands stands m.since (lasts first.words m.words first.stands m.stands first.since first.earlier) in
-        goes_of job y w q (Max (number_of y (Node n)) q) words ((all_e job y words q x stands some most step (floor words p)).e2 n low high (omega arith) (omega arith))) sees,
+        goes_of job y w q (Max (number_of y (Node n)) q) words ((all_e job y words q x stands some most step (floor words p)).inner n low high (omega arith) (omega arith))) sees,
     λ found ok. tt,
   )
 
   pub padded_safe : (n : ℕ) (history : List (Op × ℕ)) → y.leaves + y.procs ≤ n → n < 2 * y.leaves → Sees job y history P → Safe job y w q (marks y n q) history
   padded_safe n history low high sees =
-      (so job y history P (Goes job y w q (Max (number_of y (Node n)) q)) (λ words stands p. goes_of job y w q (Max (number_of y (Node n)) q) words ((all_e job y words q x stands some most step (floor words p)).e3 n low high)) sees, λ found ok. tt)
+      (so job y history P (Goes job y w q (Max (number_of y (Node n)) q)) (λ words stands p. goes_of job y w q (Max (number_of y (Node n)) q) words ((all_e job y words q x stands some most step (floor words p)).padded n low high)) sees, λ found ok. tt)

@@ -12,8 +12,8 @@ use Rattle.walkx.specs.Walk.{Walking, Fits, IsGoing, IsLayoutOf, ask_of}
 use Rattle.walkx.proofs.BoundSteps.{own_steps as bound}
 use Rattle.walkx.proofs.BoundHeard.{NodesRise, IsShownBelow, shown_below_none, shown_below_later, shown_below_more, may_hear}
 use Rattle.lawful_words.specs.Board.{Grows}
-use Rattle.lawful_words.specs.Moments.{Moment, Backed}
-use Rattle.lawful_words.proofs.Sees.{Chain, chain_of_has, afters}
+use Rattle.lawful_words.specs.Moments.{Moment, Backed, afters}
+use Rattle.lawful_words.proofs.Sees.{Chain, chain_of_has}
 
 -- nodes of words that grow only rise
 nodes_rise : (y : LayoutData) (words later : List ℕ) → Grows y words later → NodesRise y words later

@@ -12,9 +12,9 @@ use Rattle.walkx.specs.Tasks.{writes_place, carries}
 use Rattle.walkx.proofs.Boards.{same_cells, same_procs}
 use Rattle.pram_step.specs.History.{Asks, Wins, part_after}
 use Rattle.pram_step.proofs.Past.{counter_write, data_write, each_write, asks_place}
+use Rattle.lawful_words.specs.Writes.{Floor}
 use Rattle.lawful_words.specs.Steps.{phase_written}
 use Rattle.lawful_words.specs.Board.{IsLate, Carried, Stands}
-use Rattle.lawful_words.specs.Statements.{Floor}
 use Rattle.lawful_words.proofs.Sees.{Sees, Lasts, so}
 use Rattle.lawful_words.proofs.Scripts.{Safe}
 use Rattle.lawful_words.proofs.Writing.{writes_safe, late_later}

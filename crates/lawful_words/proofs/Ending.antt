@@ -20,6 +20,8 @@ use Rattle.walkx.specs.Scripts.{Script, ends}
 use Rattle.walkx.specs.Walk.{Then, stops, Walking, Fits, Matches, node_of, rest_of, heard_of}
 use Rattle.walkx.proofs.Ends.{AllEnds, Brings, BeginEnds, heard_both, worker_ends}
 use Rattle.walkx.proofs.Knowing.{has_earlier, has_newest}
+use Rattle.lawful_words.specs.Laws.{EndsAreTrue}
+use Rattle.lawful_words.specs.Walks.{DoneWell, IsConflict}
 use Rattle.lawful_words.specs.Board.{Stands}
 use Rattle.lawful_words.specs.Moments.{Backed}
 use Rattle.lawful_words.specs.Seen.{Heard, HeardThen, Shows, KnowsStep}
@@ -43,12 +45,6 @@ pub both_shows : (y : LayoutData) (r : Record) (t : ℕ) → Has r (heard_both y
 both_shows y r zero has = inr (inr (refl, record { op = Load (number_of y (Node 1)); hears = refl; has = has_earlier r (Load (number_of y Conflict), 0) ((Load (number_of y (Node 1)), 0) ∷ []) has }))
 both_shows y r (suc k) has = inr (inl (0, (λ e. absurd (omega arith)), record { op = Load (number_of y (Node 1)); next = Load (number_of y Conflict); hears = refl; hears_next = refl; has = has }))
 
--- the last step is shown, and word 0 was heard as 0 after the root as 3T
-pub record DoneWell (job : JobData) (y : LayoutData) (r : Record) : Type 0 where
-  pub shows : Shows y r job.steps
-  pub heard : HeardThen y r (Node 1) (3 * job.steps) Conflict 0
-  pub reached : IsReached job job.steps
-
 pub done_well : (job : JobData) (y : LayoutData) (r : Record) (w : Walking) (words : List ℕ) → Stands job y words → Backed job y r words → Fits job y w → Knows job y r w → w.now ≡ doing.Over ended.Done → DoneWell job y r
 done_well job y r w words stands backed well knows is =
     let has : Has r (heard_both y (3 * job.steps) 0) = subst (λ (es : List (Op × ℕ)). Has r es) (over_heard job y w ended.Done well is) knows in
@@ -60,13 +56,6 @@ done_well job y r w words stands backed well knows is =
     }
 
 -- ---- Conflict
-
--- word 0 was heard as the step of the first conflict, which is one of the job's
-pub record IsConflict (job : JobData) (t : ℕ) : Type 0 where
-  pub fault : Fault
-  pub first : IsFirstConflict job fault
-  pub step : fault.step ≡ t
-  pub within : t ≤ job.steps
 
 is_first : (job : JobData) (s : ℕ) → IsReached job s → (AgreesAfter job s → ⊥) → suc s ≤ job.steps → IsConflict job (suc s)
 is_first job s reached not within = elim (reached_or_conflict job (suc s)) [
@@ -97,6 +86,9 @@ conflict_well job y r w u words stands backed well knows is =
     let has : Has r (heard_both y h.1.0 u) = subst (λ (es : List (Op × ℕ)). Has r es) h.1.1 knows in
     let heard : Heard y r Conflict u = record { op = Load (number_of y Conflict); hears = refl; has = has_newest r (Load (number_of y Conflict), u) ((Load (number_of y (Node 1)), h.1.0) ∷ []) has } in
     (heard, heard_conflict job y r u words stands backed heard h.0)
+
+pub ends_true : EndsAreTrue
+ends_true job y r w words stands backed well knows = (done_well job y r w words stands backed well knows, λ u. conflict_well job y r w u words stands backed well knows)
 
 -- ---- progress
 

@@ -10,9 +10,9 @@ use Rattle.walkx.specs.declared.operation.Op.TheVariants.{Load}
 use Rattle.walkx.specs.Doing as doing
 use Rattle.walkx.specs.Walk.{phase_begun}
 use Rattle.pram_step.proofs.LawFixed.{reached_down}
+use Rattle.lawful_words.specs.Writes.{Floor}
 use Rattle.lawful_words.specs.Board.{root, conflict, finished, Stands, Grows}
 use Rattle.lawful_words.specs.Moments.{Moment}
-use Rattle.lawful_words.specs.Statements.{Floor}
 use Rattle.lawful_words.proofs.Facts.{facts}
 use Rattle.lawful_words.proofs.Sees.{Sees, always, so, heard}
 

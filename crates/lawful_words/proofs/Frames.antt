@@ -11,9 +11,9 @@ use Rattle.pram_words.specs.Words.{LayoutData, IsLayout, IsWord, IsAdmitted, IsI
 use Rattle.pram_words.proofs.Numbering.{numbering}
 use Rattle.walkx.specs.declared.operation.Op.TheVariants.{Max, Store, Swap}
 use Rattle.walkx.specs.Operations.{words_after}
+use Rattle.lawful_words.specs.Writes.{Does}
 use Rattle.lawful_words.specs.Board.{held, root, Up, Grows, Only, Stands, Lawful}
 use Rattle.lawful_words.specs.Moments.{Keeps}
-use Rattle.lawful_words.specs.Statements.{Does}
 use Rattle.lawful_words.proofs.Moments.{same}
 
 -- one word is set

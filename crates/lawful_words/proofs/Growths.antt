@@ -1,20 +1,45 @@
 -- Lemmas C: lawful words that have grown, and the two words of a place heard at two moments.
-use Rattle.std.proofs.Common.{◌≡◌, ◌≢◌, ◌⊎◌, ℕ, zero, suc, ◌+◌, ◌*◌, ◌<◌, ◌≤◌, nat_le, true, false, List, slice_index, refl, sym, ap, subst, ◌∙◌, inl, inr, lit<, arith}
+use Rattle.std.proofs.Common.{◌≡◌, ◌≢◌, ◌⊎◌, ℕ, zero, suc, ◌+◌, ◌*◌, ◌<◌, ◌≤◌, nat_le, true, false, List, slice_index, refl, sym, ap, subst, ◌∙◌, inl, inr, lit<, arith, ◌-◌}
 use Rattle.std.proofs.lemmas.Bool.{cases_eq, cases_lt, cases_Bool, leb-false, le-leb, lt-leb}
 use Rattle.pram_text.specs.Job.{JobData}
-use Rattle.pram_step.specs.Runs.{IsReached, state_after}
-use Rattle.pram_words.specs.declared.words.Word.TheVariants.{Node, Asked, Stored}
-use Rattle.pram_words.specs.Stamps.{stamp_of, payload_of}
-use Rattle.pram_words.specs.Words.{LayoutData, IsWord, places_of}
-use Rattle.walkx.specs.Tasks.{is_late, first_is_older, newer_payload, older, older_word}
-use Rattle.pram_step.specs.History.{last_write, write_before}
+use Rattle.pram_step.specs.Runs.{IsReached, state_after, AgreesAfter}
+use Rattle.pram_words.specs.declared.words.Word.TheVariants.{Node, Asked, Stored, Conflict, Claim}
+use Rattle.pram_words.specs.Stamps.{stamp_of, payload_of, stamped_word}
+use Rattle.pram_words.specs.Words.{LayoutData, IsWord, places_of, number_of}
+use Rattle.walkx.specs.Tasks.{is_late, first_is_older, newer_payload, older, older_word, claim_of}
+use Rattle.pram_step.specs.History.{last_write, write_before, Asks, Wins, IsWritten, part_after}
 use Rattle.pram_step.proofs.Past.{last_most, last_least, last_rises, value_between, before_most}
-use Rattle.lawful_words.specs.Steps.{word_of_step, settled, settled_before}
-use Rattle.lawful_words.specs.Board.{held, root, stamp_at, finished, IsLate, IsPair, newer_first, newer_second, new_first, new_second, Stands, Grows}
-use Rattle.lawful_words.specs.Statements.{C, AllC, C5, AllC5}
+use Rattle.pram_words.specs.declared.phases.Kind.TheVariants.{Compute, Apply, Verify}
+use Rattle.pram_words.specs.Phases.{kind_at, step_at}
+use Rattle.walkx.specs.declared.operation.Op.{Op}
+use Rattle.walkx.specs.declared.operation.Op.TheVariants.{Max, Swap}
+use Rattle.walkx.specs.Operations.{words_after}
+use Rattle.lawful_words.specs.Writes.{PlaceAsHeard}
+use Rattle.lawful_words.specs.Steps.{word_of_step, settled, settled_before, phase_written}
+use Rattle.lawful_words.specs.Board.{held, root, stamp_at, finished, IsLate, IsPair, newer_first, newer_second, new_first, new_second, Stands, Grows, conflict, leaf, Done}
 use Rattle.lawful_words.proofs.Values.{payload_step, before_less, before_rises, has_settled, newer_is_first, newer_is_second}
 use Rattle.lawful_words.proofs.Moments.{onward, stamps_rise}
 use Rattle.lawful_words.proofs.Facts.{facts, place_below, stamp_settled, stamp_before}
+
+-- ---- what holds of words and later ones
+
+pub record C (job : JobData) (y : LayoutData) (words later : List ℕ) : Type 0 where
+  pub c1 : finished y words ≤ finished y later
+  pub c2 : (i j : ℕ) → i < y.procs → j < 3 → 1 ≤ stamp_of (held y words (Asked i j)) →
+      stamp_of (held y words (Asked i j)) ≡ stamp_of (held y later (Asked i j)) → held y words (Asked i j) ≡ held y later (Asked i j)
+  pub c3 : (x q : ℕ) → IsReached job x → 3 * x < q → q ≤ 3 * x + 3 → q ≤ root y words + 1 → root y later + 1 ≡ q →
+      (root y words + 1 ≡ q) × (finished y words ≡ x) × (finished y later ≡ x)
+  pub c4 : (p k : ℕ) → IsWord y (Stored p k) → finished y words ≡ finished y later →
+      stamp_at y later p 0 ≤ finished y later → stamp_at y later p 1 ≤ finished y later → held y words (Stored p k) ≡ held y later (Stored p k)
+
+abbrev pub AllC : Type 0
+AllC = (job : JobData) (y : LayoutData) (words later : List ℕ) → Stands job y words → Stands job y later → Grows y words later → C job y words later
+
+abbrev pub AllC5 : Type 0
+AllC5 = (job : JobData) (y : LayoutData) (x p a b : ℕ) (first second now : List ℕ) → Stands job y first → Stands job y second → Stands job y now →
+    Grows y first second → Grows y second now →
+    p < places_of y → IsReached job x → 3 * x ≤ root y first → a ≡ held y first (Stored p 0) →
+    b ≡ held y second (Stored p 1) → is_late (suc x) a b ≡ false → PlaceAsHeard job y x p a b now
 
 pub root_up : (job : JobData) (y : LayoutData) (words later : List ℕ) → Stands job y words → Grows y words later → root y words ≤ root y later
 root_up job y words later stands up = up (Node 1) (lit< tt, let l = stands.sizes.leaves in omega arith)
@@ -85,7 +110,7 @@ module _ (job : JobData) (y : LayoutData) (words later : List ℕ) (stands : Sta
 pub all_c : AllC
 all_c job y words later stands after up = grown job y words later stands after up
 
--- ---- C5
+-- ---- PlaceAsHeard
 
 -- a word beside one with a stamp above x is of the last write up to x, at least
 beside : (job : JobData) (y : LayoutData) (words : List ℕ) (x p a b : ℕ) → Stands job y words → IsPair job (finished y words) (root y words) p a b → x ≤ finished y words →
@@ -279,7 +304,7 @@ module _ (job : JobData) (y : LayoutData) (x p a b : ℕ) (first second now : Li
     | inr c ↦ rw (le-leb (stamp_of a) (stamp_of b) c) (λ other. inl (changed job y first now x p 0 s1 s3 (onward y first second now up on) (place, lit< tt) fin_first (λ e. other (e ∙ sym is_a))))
   ]
 
-  two_moments : C5 job y x p a b now
+  two_moments : PlaceAsHeard job y x p a b now
   two_moments = record { value = value_of; stands = stands_of; written = written_of }
 
 early_both : (x a b : ℕ) → is_late (suc x) a b ≡ false → (stamp_of a ≤ x) × (stamp_of b ≤ x)

@@ -15,6 +15,7 @@ use Rattle.walkx.proofs.Asking.{all_ask}
 use Rattle.walkx.proofs.Fitting.{fits_told, new_workers_fit}
 use Rattle.walkx.proofs.Knowing.{has_more, knows_next}
 use Rattle.pram_words.specs.declared.layout.Form.{Form}
+use Rattle.lawful_words.specs.Laws.{EveryRunHolds}
 use Rattle.lawful_words.specs.Board.{Stands, held, root}
 use Rattle.lawful_words.specs.Walks.{phase_now}
 use Rattle.lawful_words.specs.Worlds.{Body, walks, stopped, number, Event, go, stop, back, Scene, layout, went_by, replaced, happens, run, start, Walks, Holds}
@@ -159,5 +160,5 @@ run_holds [] s h = h
 run_holds (e ∷ es) s h = run_holds es (happens s e) (happens_holds s e h)
 
 -- Whatever happens in a world, in any order: its words are lawful, and bear out a record of all steps that knows each worker.
-pub every_run_holds : (job : JobData) (form : Form) (workers : ℕ) (events : List Event) → IsJob job → 1 ≤ workers → workers ≤ 64 → Holds (run (start job form workers) events)
+pub every_run_holds : EveryRunHolds
 every_run_holds job form workers events limits some most = run_holds events (start job form workers) (holds_start job form workers limits some most)

@@ -18,9 +18,9 @@ use Rattle.walkx.specs.Tasks.{hears_part, reads_place, reports, claims, claim_of
 use Rattle.walkx.specs.Walk.{Then, IsBoard}
 use Rattle.walkx.proofs.Boards.{same_cells}
 use Rattle.pram_step.specs.History.{Asks, part_after}
+use Rattle.lawful_words.specs.Writes.{Floor}
 use Rattle.lawful_words.specs.Board.{held, root, conflict, Stands}
 use Rattle.lawful_words.specs.Moments.{Moment}
-use Rattle.lawful_words.specs.Statements.{Floor}
 use Rattle.lawful_words.proofs.Moments.{onward}
 use Rattle.lawful_words.proofs.Frames.{swap_same, swap_other}
 use Rattle.lawful_words.proofs.Facts.{facts}
@@ -103,6 +103,6 @@ module _ (job : JobData) (y : LayoutData) (w q x i : ℕ) (some : 1 ≤ q) (most
       (λ e.
       let cell : p < y.cells = (let l = ltb-true p job.cells e in let c = same_cells job y board in omega arith) in
       raises_safe job y w q (Claim p) (stamped_word (suc x) (claim_of job i)) (Floor job y q x) (floor_lasts job y q x) (has, cell) (λ words later up. up (Claim p) (has, cell))
-      (λ words stands f. (all_e job y words q x stands some most step f).e9 p i v (has, cell) (kind_of x q Apply phase) asked) after history sees (λ longer more.
+      (λ words stands f. (all_e job y words q x stands some most step f).claim p i v (has, cell) (kind_of x q Apply phase) asked) after history sees (λ longer more.
       on longer (so job y longer (λ words. Floor job y q x words × (stamped_word (suc x) (claim_of job i) ≤ held y words (Claim p))) (λ words. Floor job y q x words × (p < job.cells → stamped_word (suc x) (claim_of job i) ≤ held y words (Claim p))) (λ words stands h. (h.0, λ c. h.1)) more)))
       (λ e. on history (so job y history (Floor job y q x) (λ words. Floor job y q x words × (p < job.cells → stamped_word (suc x) (claim_of job i) ≤ held y words (Claim p))) (λ words stands f. (f, λ c. absurd (let l = ltb-false p job.cells e in omega arith))) sees))

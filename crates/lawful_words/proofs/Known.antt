@@ -9,9 +9,9 @@ use Rattle.walkx.specs.declared.operation.Op.TheVariants.{Max}
 use Rattle.walkx.specs.Operations.{words_after}
 use Rattle.walkx.specs.Scripts.{Script, asks, ends}
 use Rattle.walkx.specs.Walk.{Then, IsBoard}
+use Rattle.lawful_words.specs.Writes.{Floor, Does}
 use Rattle.lawful_words.specs.Board.{held, root, Stands, Grows}
 use Rattle.lawful_words.specs.Moments.{Moment, Goes}
-use Rattle.lawful_words.specs.Statements.{Floor, Does}
 use Rattle.lawful_words.proofs.Moments.{onward, goes_of}
 use Rattle.lawful_words.proofs.Growths.{root_up}
 use Rattle.lawful_words.proofs.Sees.{Sees, Lasts, always, so, heard, later}

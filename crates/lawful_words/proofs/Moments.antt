@@ -8,8 +8,8 @@ use Rattle.walkx.specs.declared.operation.Op.{Op}
 use Rattle.walkx.specs.declared.operation.Op.TheVariants.{Load}
 use Rattle.walkx.specs.Operations.{words_after, answer}
 use Rattle.walkx.specs.Records.{Record, empty, after, both, Has}
+use Rattle.lawful_words.specs.Writes.{Does}
 use Rattle.lawful_words.specs.Board.{Stands, Up, Grows, held, stamp_at}
-use Rattle.lawful_words.specs.Statements.{Does}
 use Rattle.lawful_words.specs.Moments.{Moment, Backed, Keeps, Goes}
 
 -- ---- words that grow

@@ -11,10 +11,11 @@ use Rattle.walkx.specs.Doing as doing
 use Rattle.walkx.specs.Scripts.{Script, heard_in}
 use Rattle.walkx.specs.Walk.{Then, Walking, Fits, Matches, script_of, rest_of, next_op, ask_of, phase_begun, heard_of, turn_script, begin_script, back_script}
 use Rattle.walkx.proofs.Asking.{all_left}
+use Rattle.lawful_words.specs.Laws.{WorkersKeepWordsLawful}
+use Rattle.lawful_words.specs.Writes.{Floor}
 use Rattle.lawful_words.specs.Board.{Stands}
 use Rattle.lawful_words.specs.Moments.{Goes}
-use Rattle.lawful_words.specs.Statements.{Floor}
-use Rattle.lawful_words.specs.Walks.{phase_now, AllF}
+use Rattle.lawful_words.specs.Walks.{phase_now}
 use Rattle.lawful_words.proofs.Moments.{same, backs}
 use Rattle.lawful_words.proofs.Sees.{Sees, chain_of_has}
 use Rattle.lawful_words.proofs.Scripts.{Safe, safe_behind, safe_first}
@@ -41,7 +42,7 @@ goes_by job y doing.Begin script w history words goes safe stands apply = subst 
 goes_by job y (doing.Turn q) script w history words goes safe stands apply = subst (λ (o : Option Op). Goes job y w q (unwrap_or o (Over ended.Done)) words) (sym goes.1) (apply goes.0 (safe_first job y w q script history goes.0 goes.1 safe))
 goes_by job y (doing.Over e) script w history words goes safe stands apply = record { keeps = record { stands = stands; grows = same y words }; stale = λ h a is other. refl }
 
-pub moves : WorkerSafe → AllF
+pub moves : WorkerSafe → WorkersKeepWordsLawful
 moves each job y r w words stands fits knows backed =
     let script = script_of job y w in
     let q = phase_now w.now in

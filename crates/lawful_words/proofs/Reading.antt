@@ -19,13 +19,13 @@ use Rattle.pram_words.proofs.Numbering.{numbering}
 use Rattle.pram_step.specs.History.{last_write, write_before}
 use Rattle.pram_step.proofs.LawFixed.{reached_down}
 use Rattle.pram_step.proofs.Past.{last_most, last_rises, value_between, written_value}
+use Rattle.lawful_words.specs.Laws.{ReadsAreLawful}
 use Rattle.lawful_words.specs.Board.{held, root, conflict, stamp_at, finished, IsPair, newer_first, newer_second, new_first, new_second, Stands, Grows}
-use Rattle.lawful_words.specs.Moments.{Moment, Backed}
+use Rattle.lawful_words.specs.Moments.{Moment, Backed, afters}
 use Rattle.lawful_words.specs.Seen.{Hears, Heard, Shows, KnowsStep}
 use Rattle.lawful_words.specs.Walks.{IsLawfulRead}
 use Rattle.lawful_words.proofs.Values.{fin, WordIs, is_settled, is_before, is_new, stamp_step, payload_step, before_rises}
 use Rattle.lawful_words.proofs.Moments.{same, onward, stamps_rise, backed_later}
-use Rattle.lawful_words.proofs.Sees.{afters}
 use Rattle.lawful_words.proofs.Facts.{facts, place_below, word_is}
 use Rattle.lawful_words.proofs.Growths.{all_c, changed, all_c5}
 use Rattle.lawful_words.proofs.Knowing.{root_now, conflict_fin, shown_now, known_now, heard_too, shows_too, fin_then}
@@ -494,8 +494,7 @@ reads_behind job y before r c script [] reads = reads
 reads_behind job y before r c script (found ∷ earlier) reads = reads_next job y before r c (rest script earlier) found (heard_in script earlier) (reads_behind job y before r c script earlier reads)
 
 -- A reader's answer is a lawful read, whatever it heard, if the words bear out the record that its loads lengthened.
-pub read_is_lawful : (job : JobData) (y : LayoutData) (before : Record) (c step value : ℕ) (answers words : List ℕ) → c < y.cells → rest (reader_script y c) answers ≡ ends (At step value) → Stands job y words → Backed job y (afters before (heard_in (reader_script y c) answers)) words →
-    IsLawfulRead job y before (afters before (heard_in (reader_script y c) answers)) c step value
+pub read_is_lawful : ReadsAreLawful
 read_is_lawful job y before c step value answers words cell is stands backed =
     subst (λ (t : Script Reading). Reads job y before c t (afters before (heard_in (reader_script y c) answers))) is (reads_behind job y before before c (reader_script y c) answers (reader_reads job y before c cell)) words stands backed
 

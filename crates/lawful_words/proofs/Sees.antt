@@ -6,7 +6,7 @@ use Rattle.walkx.specs.declared.operation.Op.{Op}
 use Rattle.walkx.specs.Operations.{words_after}
 use Rattle.walkx.specs.Records.{Record, after, Has}
 use Rattle.lawful_words.specs.Board.{Stands, Grows}
-use Rattle.lawful_words.specs.Moments.{Moment, Backed}
+use Rattle.lawful_words.specs.Moments.{Moment, Backed, afters}
 use Rattle.lawful_words.proofs.Moments.{Found, find, moment_later, onward}
 
 -- these steps were made one after the other, newest first, the first of them from words of which P holds
@@ -21,11 +21,6 @@ chain_of_has job y r (e ∷ es) words b has =
     let f : Found job y words e.0 e.1 es = find job y words r e.0 e.1 es b has in
     let m = f.moment in
     record { words = m.words; stands = m.stands; heard = m.heard; grew = m.grew; since = m.since; earlier = chain_of_has job y f.rest es m.words m.earlier f.has }
-
--- a record that was lengthened by steps
-abbrev pub afters : Record → List (Op × ℕ) → Record
-afters r [] = r
-afters r (e ∷ es) = after (afters r es) e.0 e.1
 
 pub chain_of_afters : (job : JobData) (y : LayoutData) (before : Record) (es : List (Op × ℕ)) (words : List ℕ) → Backed job y (afters before es) words → Chain job y (Backed job y before) es words
 chain_of_afters job y before [] words b = b

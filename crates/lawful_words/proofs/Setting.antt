@@ -24,13 +24,13 @@ use Rattle.pram_step.specs.Instructions.{request_in, place_part, value_part, Has
 use Rattle.pram_step.proofs.Shapes.{request_shape}
 use Rattle.pram_step.specs.History.{Asks, Wins, last_write, write_before, part_after}
 use Rattle.pram_step.proofs.Past.{last_most, last_least, conflict_above, asks_fits, asks_place, before_most}
+use Rattle.lawful_words.specs.Writes.{PlaceAsHeard, Floor, Does}
 use Rattle.lawful_words.specs.Steps.{phase_written, word_of_step, settled, settled_before}
 use Rattle.lawful_words.specs.Board.{held, root, conflict, leaf, stamp_at, finished, phase_in, IsTree, IsAsked, IsNew, IsPair, newer_first, newer_second, new_first, new_second, IsClaimed, claimed_now, IsNamed, Lawful, Only, Stands, Grows}
 use Rattle.lawful_words.specs.Moments.{Keeps}
-use Rattle.lawful_words.specs.Statements.{B, C5, Floor, Does}
 use Rattle.lawful_words.proofs.Values.{before_less, stamp_step}
 use Rattle.lawful_words.proofs.Frames.{only_grows, does_max, does_swap, keeps_store, same_or_other}
-use Rattle.lawful_words.proofs.Facts.{facts, board, procs_fit, late_of, claim_fits}
+use Rattle.lawful_words.proofs.Facts.{facts, board, procs_fit, late_of, claim_fits, B}
 use Rattle.lawful_words.proofs.Keeping.{done_later, settle}
 use Rattle.lawful_words.proofs.Raising.{behind, alive}
 
@@ -402,7 +402,7 @@ module _ (job : JobData) (y : LayoutData) (words : List ℕ) (q x : ℕ) (stands
             word_same : (p k r j : ℕ) → Stored p k ≡ Stored r j → k ≡ j
             word_same p k r j e = cc
 
-    pub stored_does : (a b : ℕ) → C5 job y x p a b words → Does job y q (Swap (number_of y (Stored p (older a b))) (older_word a b) (stamped_word (suc x) v)) words
+    pub stored_does : (a b : ℕ) → PlaceAsHeard job y x p a b words → Does job y q (Swap (number_of y (Stored p (older a b))) (older_word a b) (stamped_word (suc x) v)) words
     unfolding value Early
     stored_does a b c5 = elim (cases_Bool (first_is_older a b)) [
       | inl e ↦ (let stays = c5.stands in rw e (first_does a (λ h. let s = (rw e at stays) h in ((s.0, s.1), leb-true _ _ s.2))))

@@ -21,15 +21,14 @@ use Rattle.walkx.proofs.Knowing.{has_newest}
 use Rattle.walkx.specs.Tasks.{newer_payload}
 use Rattle.pram_step.specs.History.{part_after}
 use Rattle.lawful_words.specs.Board.{Stands}
-use Rattle.lawful_words.specs.Moments.{Backed, WasBacked, Sound}
+use Rattle.lawful_words.specs.Moments.{Backed, WasBacked, Sound, afters}
 use Rattle.lawful_words.specs.Seen.{Heard, KnowsStep}
-use Rattle.lawful_words.specs.Walks.{IsLawfulRead}
-use Rattle.lawful_words.proofs.Sees.{afters}
+use Rattle.lawful_words.specs.Walks.{IsLawfulRead, DoneWell, IsConflict}
 use Rattle.lawful_words.proofs.Knowing.{known_now}
 use Rattle.lawful_words.proofs.Reading.{load_root, load_conflict, read_is_lawful}
 use Rattle.lawful_words.proofs.Bounding.{backed_is_heard, steps_of, history_known}
 use Rattle.lawful_words.proofs.Finals.{final_place, final_part}
-use Rattle.lawful_words.proofs.Ending.{DoneWell, IsConflict, ProgressWell, progress_well, over_heard, both_shows, heard_conflict}
+use Rattle.lawful_words.proofs.Ending.{ProgressWell, progress_well, over_heard, both_shows, heard_conflict}
 
 -- a record that the words bear out is sound
 pub sound_of : (job : JobData) (y : LayoutData) (r : Record) (words : List ℕ) → Stands job y words → Backed job y r words → Sound job y r

@@ -19,11 +19,12 @@ use Rattle.walkx.specs.Walk.{Then, begins, IsPhase, node_of, script_by, phase_be
 use Rattle.walkx.proofs.Boards.{same_procs}
 use Rattle.walkx.proofs.Ends.{way_inside}
 use Rattle.walkx.proofs.Fitting.{node_range}
+use Rattle.lawful_words.specs.Laws.{WorkersKeepWordsLawful}
+use Rattle.lawful_words.specs.Writes.{Floor}
 use Rattle.lawful_words.specs.Steps.{phase_written}
 use Rattle.lawful_words.specs.Board.{Done, phase_in}
 use Rattle.lawful_words.specs.Moments.{Moment}
-use Rattle.lawful_words.specs.Statements.{Floor}
-use Rattle.lawful_words.specs.Walks.{phase_now, AllF}
+use Rattle.lawful_words.specs.Walks.{phase_now}
 use Rattle.lawful_words.proofs.Effects.{phase_at}
 use Rattle.lawful_words.proofs.Sees.{Sees, heard, later}
 use Rattle.lawful_words.proofs.Scripts.{Safe, load_safe}
@@ -129,5 +130,5 @@ worker_safe job y w fits = safe_board {R = Then} job y w.number (phase_now w.now
     doing_safe job y w.now w.number (node_of y w) fits.number is.0 is.1 fits.phase)
 
 -- the worker's lemma
-pub all_f : AllF
+pub all_f : WorkersKeepWordsLawful
 all_f = moves worker_safe

@@ -18,10 +18,10 @@ use Rattle.walkx.specs.Walk.{Then, IsBoard}
 use Rattle.walkx.proofs.Boards.{same_cells, same_procs}
 use Rattle.pram_step.specs.History.{Asks, Wins, last_write, write_before, part_after}
 use Rattle.pram_step.proofs.Past.{written_value, each_write, asks_place}
+use Rattle.lawful_words.specs.Writes.{Floor}
 use Rattle.lawful_words.specs.Steps.{phase_written, word_of_step}
 use Rattle.lawful_words.specs.Board.{held, root, conflict, stamp_at, finished, HoldsNew, Stays, ClaimStays, Stands, Grows}
 use Rattle.lawful_words.specs.Moments.{Moment}
-use Rattle.lawful_words.specs.Statements.{Floor}
 use Rattle.lawful_words.proofs.Moments.{onward, stamps_rise}
 use Rattle.lawful_words.proofs.Values.{stamp_step, payload_step, WordIs, is_settled, is_before, is_new}
 use Rattle.lawful_words.proofs.Facts.{facts, word_is}

@@ -16,10 +16,10 @@ use Rattle.walkx.specs.Walk.{Then, IsBoard}
 use Rattle.walkx.proofs.Boards.{same_cells}
 use Rattle.pram_step.specs.History.{Asks, Wins, part_after}
 use Rattle.pram_step.proofs.Past.{counter_write, each_write}
+use Rattle.lawful_words.specs.Writes.{Floor}
 use Rattle.lawful_words.specs.Steps.{phase_written}
 use Rattle.lawful_words.specs.Board.{held, root, finished, IsLate, Carried, CarriedWon, ClaimsFor, IsClaimed, claimed_before, claimed_now, Stands}
 use Rattle.lawful_words.specs.Moments.{Moment}
-use Rattle.lawful_words.specs.Statements.{Floor}
 use Rattle.lawful_words.proofs.Facts.{facts}
 use Rattle.lawful_words.proofs.Growths.{root_up}
 use Rattle.lawful_words.proofs.Sees.{Sees, so, heard, later}
