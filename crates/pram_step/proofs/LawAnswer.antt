@@ -7,7 +7,6 @@ use Rattle.pram_step.specs.declared.answer.Fault.{Fault}
 use Rattle.pram_step.specs.declared.answer.RunAnswer.{RunAnswer}
 use Rattle.pram_step.specs.declared.answer.RunAnswer.TheVariants.{Final, Conflict, Unfinished}
 use Rattle.pram_step.specs.declared.requests.Request.{Request}
-use Rattle.pram_step.specs.Instructions.{requests_in}
 use Rattle.pram_step.specs.Steps.{Writes, Clashes, IsDispute}
 use Rattle.pram_step.specs.Runs.{requests_after, IsReached, IsStateAfter, dispute_of, IsFirstConflict, IsAnswer}
 use Rattle.pram_step.specs.Machine.{State}

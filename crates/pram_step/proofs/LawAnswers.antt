@@ -1,5 +1,5 @@
 -- What answers jobs have in common that differ in their rule or their number of steps alone.
-use Rattle.std.proofs.Common.{◌≡◌, ◌↔◌, ℕ, ◌≤◌, List, take, sym, ap, subst, ◌∙◌, arith}
+use Rattle.std.proofs.Common.{◌≡◌, ◌↔◌, ℕ, ◌≤◌, List, sym, subst, ◌∙◌, arith}
 use Rattle.pram_text.specs.declared.instr.Rule.{Rule}
 use Rattle.pram_text.specs.declared.instr.Rule.TheVariants.{Priority, Crew}
 use Rattle.pram_text.specs.Job.{JobData}
@@ -7,7 +7,6 @@ use Rattle.pram_step.specs.declared.answer.Dispute.{Dispute}
 use Rattle.pram_step.specs.declared.answer.Fault.{Fault}
 use Rattle.pram_step.specs.declared.answer.RunAnswer.TheVariants.{Final, Conflict}
 use Rattle.pram_step.specs.declared.requests.Request.{Request}
-use Rattle.pram_step.specs.Instructions.{requests_in}
 use Rattle.pram_step.specs.Steps.{Agrees, Forbids, IsDispute}
 use Rattle.pram_step.specs.Runs.{state_after, requests_after, IsReached, IsStateAfter, dispute_of, IsFirstConflict, IsAnswer}
 use Rattle.pram_step.specs.Machine.{State}

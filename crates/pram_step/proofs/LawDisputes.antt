@@ -10,10 +10,9 @@ use Rattle.pram_step.specs.declared.answer.Fault.{Fault}
 use Rattle.pram_step.specs.declared.answer.RunAnswer.{RunAnswer}
 use Rattle.pram_step.specs.declared.answer.RunAnswer.TheVariants.{Final, Conflict}
 use Rattle.pram_step.specs.declared.requests.Request.{Request}
-use Rattle.pram_step.specs.Instructions.{requests_in}
 use Rattle.pram_step.specs.Steps.{Writes, Forbids, Clashes, Agrees, IsDispute}
 use Rattle.pram_step.specs.Orders.{written_by}
-use Rattle.pram_step.specs.Runs.{state_after, requests_after, AgreesAfter, IsReached, IsFirstConflict, IsAnswer}
+use Rattle.pram_step.specs.Runs.{state_after, requests_after, IsReached, IsFirstConflict, IsAnswer}
 use Rattle.pram_step.proofs.LawWriters.{written_once, option_cases, HasFirst, HasNone, writer_cases}
 use Rattle.pram_step.proofs.LawFixed.{reached_more}
 use Rattle.pram_step.proofs.LawOrders.{writes_from_by, not_by}

@@ -2,9 +2,8 @@
 use Rattle.std.proofs.Common.{◌≡◌, ◌≢◌, ◌⊎◌, ◌↔◌, ℕ, zero, suc, ◌+◌, ◌<◌, ◌≤◌, ◌^◌, slice_index, Option, Some, None, refl, sym, ap, subst, ◌∙◌, inl, inr, arith}
 use Rattle.std.proofs.lemmas.Bool.{cases_order, cases_lt}
 use Rattle.pram_text.specs.Job.{JobData, IsJob}
-use Rattle.pram_step.specs.declared.requests.Request.{Request}
 use Rattle.pram_step.specs.Machine.{place_count, counter_place}
-use Rattle.pram_step.specs.Instructions.{place_part, value_part, part_of, request_in}
+use Rattle.pram_step.specs.Instructions.{request_in}
 use Rattle.pram_step.specs.Runs.{IsReached, AgreesAfter, state_after, requests_after}
 use Rattle.pram_step.specs.History.{Asks, Wins, IsWritten, last_by, last_write, write_before, part_after}
 use Rattle.pram_step.proofs.LawWriters.{writer_cases}

@@ -1,6 +1,4 @@
 use Rattle.std.proofs.Common.{◌≡◌, ◌+◌, ◌-◌, sym, subst, ◌∙◌, arith}
-use Rattle.pram_step.specs.Instructions.{requests_in}
-use Rattle.pram_step.specs.Steps.{next_state}
 use Rattle.pram_step.specs.Runs.{IsStateAfter}
 use Rattle.pram_step.proofs.LawFixed.{start_after, next_after, unchanged_later}
 use Rattle.pram_step.proofs.pass.make_steps.Goals as goal
