@@ -83,6 +83,7 @@ fault_at-fine lines k e fine = fault_at-end lines k e ∙ by_end ((k + 1) == len
 -- a line that is wrong by itself
 pub Bears-line : (text : List ℕ) (n number : ℕ) (line : List ℕ) (reader : Reader) (kind : TextKind) → HasRead (lines_of text) n reader → n < length (lines_of text) → line ≡ get_or (lines_of text) n [] → number ≡ n + 1
     → line_fault (worded (take n (lines_of text))) line ≡ Some kind → Bears text number kind
+unfolding Bears
 Bears-line text n number line reader kind h l here numbered e = inl (
   n,
   numbered,
@@ -95,6 +96,7 @@ Bears-line text n number line reader kind h l here numbered e = inl (
 
 -- what the text lacks at its end
 Bears-last : (text : List ℕ) (n : ℕ) (reader : Reader) (kind : TextKind) → HasRead (lines_of text) n reader → n ≡ length (lines_of text) → end_fault (worded (lines_of text)) ≡ Some kind → Bears text n kind
+unfolding Bears
 Bears-last text n reader kind h all e =
     let lines : List (List ℕ) = lines_of text in
     let some : 1 ≤ n = omega (arith, length-slice_split (λ b. b == 10) text) in
@@ -118,6 +120,7 @@ held-end : (lines : List (List ℕ)) (n : ℕ) (reader : Reader) → HasRead lin
 held-end lines n reader h all = subst (λ ls. Holds (worded ls) reader) (take_all n lines (omega arith)) h.held
 
 Bears-end : (text : List ℕ) (n : ℕ) (reader : Reader) (fault : TextFault) → HasRead (lines_of text) n reader → n ≡ length (lines_of text) → fault.kind ≢ Memory → Finishes (worded (lines_of text)) (numbers_of reader.program) n (Err fault) → Bears text fault.line fault.kind
+unfolding Bears
 Bears-end text n reader fault h all other told = ⊎_elim
     (λ lacks. subst (λ k. Bears text k fault.kind) (sym lacks.1) (Bears-last text n reader fault.kind h all lacks.0))
     (λ unknown.

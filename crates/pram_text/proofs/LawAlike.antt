@@ -60,6 +60,7 @@ fault_is lines k = λ i.
     len = sym (length-map lines words_of)
 
 bears_alike : (text other : List ℕ) → SameLines (lines_of text) (lines_of other) → (line : ℕ) (kind : TextKind) → Bears text line kind → Bears other line kind
+unfolding Bears
 bears_alike text other s line kind = go
   where
     len : length (lines_of text) ≡ length (lines_of other)

@@ -82,6 +82,7 @@ faultless_spells text none known =
     (job.0, record { allowed = all_allowed lines some none; lines = job.1 })
 
 pub spells_or_bears : (text : List ℕ) → ((job : JobData) × Spells text job) ⊎ ((line : ℕ) × (kind : TextKind) × Bears text line kind)
+unfolding Bears
 spells_or_bears text = go (search_for (fault_at lines) (length lines)) (search_for (label_fault_at (map (λ l. l.1) body)) (length body))
   where
     lines : List (List ℕ)
@@ -99,6 +100,7 @@ spells_or_bears text = go (search_for (fault_at lines) (length lines)) (search_f
 
 -- where no line has a fault of its own, an instruction has none with its labels known
 pub label_comes_last : (text : List ℕ) (line : ℕ) (kind : TextKind) → Bears text line kind → ((k : ℕ) → k < length (lines_of text) → fault_at (lines_of text) k ≡ None) → kind ≡ UnknownLabel
+unfolding Bears
 label_comes_last text line kind (inl first) none = let at = none first.0 first.2.within in let here = first.2.here in cc
 label_comes_last text line kind (inr label) none =
     let lines = lines_of text in

@@ -55,6 +55,7 @@ passes_at job lines k lt allowed s =
     ap₂ option_or (line_passes job lines k lt allowed s) (if_none ((k + 1) == length lines) (end_fault (worded lines)) (end_passes job (worded lines) s))
 
 pub spelled_bears_none : (text : List ℕ) (job : JobData) (line : ℕ) (kind : TextKind) → Spells text job → Bears text line kind → ⊥
+unfolding Bears
 spelled_bears_none text job line kind s (inl first) =
     let none = passes_at job (lines_of text) first.0 first.2.within s.allowed s.lines in
     let some = first.2.here in
@@ -83,6 +84,7 @@ first_once fault len i j kind kind' a b = elim (cases_lt i j) [
 ]
 
 pub bears_once : (text : List ℕ) (line line' : ℕ) (kind kind' : TextKind) → Bears text line kind → Bears text line' kind' → (line ≡ line') × (kind ≡ kind')
+unfolding Bears
 bears_once text line line' kind kind' (inl a) (inl b) =
     let one = first_once (fault_at (lines_of text)) (length (lines_of text)) a.0 b.0 kind kind' a.2 b.2 in
     (a.1 ∙ ap (λ n. n + 1) one.0 ∙ sym b.1, one.1)

@@ -5,7 +5,7 @@ use Rattle.std.proofs.lemmas.List.{get_or-map}
 use Rattle.std.proofs.lemmas.List.Elements.{recursion_from_All, All-from_recursion}
 use Rattle.pram_text.specs.Laws.{FaultIsWithin, CommentsSayNothing, BlanksSayNothing, WordlessLinesAreSkipped}
 use Rattle.pram_text.specs.Lines.{Line, lines_of, words_of, worded, is_filled}
-use Rattle.pram_text.specs.Text.{SpellsLines, numbered_body}
+use Rattle.pram_text.specs.Text.{SpellsLines, numbered_body, Bears}
 use Rattle.pram_text.proofs.Worded.{body_numbers-within}
 use Rattle.pram_text.proofs.LawAlike.{allowed, same_lines, say_same}
 use Rattle.pram_text.proofs.LawBlanks.{comment_has_no_words, comment_is_allowed, blanks_are_no_words, blanks_are_allowed}
@@ -54,6 +54,7 @@ skipped text other before line after e f a w job = (
 -- ---- a fault is within its text
 
 pub fault_is_within : FaultIsWithin
+unfolding Bears
 fault_is_within text line kind (inl first) = (omega (arith, first.1), omega (arith, first.1, first.2.within))
 fault_is_within text line kind (inr label) =
     let lines = lines_of text in

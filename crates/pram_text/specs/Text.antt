@@ -186,7 +186,7 @@ pub record IsFirst (fault : ℕ → Option TextKind) (len place : ℕ) (kind : T
   pub earlier : (k : ℕ) → k < place → fault k ≡ None
 
 -- Lines count from 1. An unknown label is looked for where no line has another fault.
-abbrev pub Bears : List ℕ → ℕ → TextKind → Type 0
+unfoldable pub Bears : List ℕ → ℕ → TextKind → Type 0
 Bears text line kind =
     let lines = lines_of text in
     let body = numbered_body lines in
