@@ -27,7 +27,8 @@ pub record GivesFault (source source' : Option (List ℕ)) (line : ℕ) (kind : 
   pub of_the_text : kind ≢ text_kind.Memory
 
 -- The source gave a job, this is its answer, and the sink took it printed.
-pub record PrintsAnswer (source source' sink sink' : Option (List ℕ)) (answer : RunAnswer) : Type 0 where
+pub record PrintsAnswer (source source' sink sink' : Option (List ℕ)) (answer : RunAnswer)
+    : Type 0 where
   pub job : JobData
   pub gives : GivesJob source source' job
   pub answers : IsAnswer job answer
