@@ -60,7 +60,8 @@ module _ (job : JobData) (y : LayoutData) (w q x i place value next : ℕ) (some
   Known : List ℕ → Type 0
   Known words = P words × Stands job y words
 
-  pub carries_safe : {R : Type 0} (after : Script R) (history : List (Op × ℕ)) → Sees job y history P → ((longer : List (Op × ℕ)) → Sees job y longer (λ words. P words × Carried job y x words i) → Safe job y w q after longer) →
+  pub carries_safe : {R : Type 0} (after : Script R) (history : List (Op × ℕ)) → Sees job y history P →
+      ((longer : List (Op × ℕ)) → Sees job y longer (λ words. P words × Carried job y x words i) → Safe job y w q after longer) →
       Safe job y w q (carries job y (suc x) i place value next after) history
   unfolding Data Known
   carries_safe {R} after history sees on =

@@ -70,15 +70,18 @@ module _ (job : JobData) (y : LayoutData) (words later : List ℕ) (a : Word) (v
     most = λ n is. let a = nodes_same n is in let h = stands.lawful.tree.most n is in omega arith;
   }
 
-  pub asked_if : ((i j : ℕ) → i < y.procs → j < 3 → held y later (Asked i j) ≡ held y words (Asked i j)) → (i j : ℕ) → i < y.procs → j < 3 → IsAsked job (finished y words) i j (held y later (Asked i j))
+  pub asked_if : ((i j : ℕ) → i < y.procs → j < 3 → held y later (Asked i j) ≡ held y words (Asked i j)) → (i j : ℕ) → i < y.procs → j < 3 →
+      IsAsked job (finished y words) i j (held y later (Asked i j))
   asked_if same i j proc part = subst (IsAsked job (finished y words) i j) (sym (same i j proc part)) (stands.lawful.asked i j proc part)
 
-  pub stored_if : ((p k : ℕ) → IsWord y (Stored p k) → held y later (Stored p k) ≡ held y words (Stored p k)) → (p : ℕ) → p < places_of y → IsPair job (finished y words) (root y words) p (held y later (Stored p 0)) (held y later (Stored p 1))
+  pub stored_if : ((p k : ℕ) → IsWord y (Stored p k) → held y later (Stored p k) ≡ held y words (Stored p k)) → (p : ℕ) → p < places_of y →
+      IsPair job (finished y words) (root y words) p (held y later (Stored p 0)) (held y later (Stored p 1))
   stored_if same p place =
       subst (λ (w : ℕ). IsPair job (finished y words) (root y words) p w (held y later (Stored p 1))) (sym (same p 0 (place, lit< tt)))
       (subst (λ (w : ℕ). IsPair job (finished y words) (root y words) p (held y words (Stored p 0)) w) (sym (same p 1 (place, lit< tt))) (stands.lawful.stored p place))
 
-  pub claimed_if : ((c : ℕ) → IsWord y (Claim c) → held y later (Claim c) ≡ held y words (Claim c)) → (c : ℕ) → IsWord y (Claim c) → IsClaimed job (finished y words) (root y words) c (held y later (Claim c))
+  pub claimed_if : ((c : ℕ) → IsWord y (Claim c) → held y later (Claim c) ≡ held y words (Claim c)) → (c : ℕ) → IsWord y (Claim c) →
+      IsClaimed job (finished y words) (root y words) c (held y later (Claim c))
   claimed_if same c is = subst (IsClaimed job (finished y words) (root y words) c) (sym (same c is)) (stands.lawful.claimed c is)
 
   pub named_if : conflict y later ≡ conflict y words → IsNamed job (conflict y later) (root y words)
@@ -109,7 +112,8 @@ module _ (job : JobData) (y : LayoutData) (words later : List ℕ) (a : Word) (v
 
 -- ---- a position
 
-pub store_keeps : (job : JobData) (y : LayoutData) (w n : ℕ) (words : List ℕ) → Stands job y words → w < y.workers → 1 ≤ n → n < 2 * y.leaves → Keeps job y (Store (number_of y (Position w)) n) words
+pub store_keeps : (job : JobData) (y : LayoutData) (w n : ℕ) (words : List ℕ) → Stands job y words → w < y.workers → 1 ≤ n → n < 2 * y.leaves →
+    Keeps job y (Store (number_of y (Position w)) n) words
 store_keeps job y w n words stands worker low high = keeps_store job y w n words stands worker (low, high) (λ later only.
     let up = only_grows y (Position w) n words later stands.sizes worker tt only in
     set_lawful job y words later (Position w) n stands up only (λ m e. absurd (cc))
@@ -248,7 +252,8 @@ part_most job y s i (suc (suc (suc j))) is proc part = absurd (omega arith)
 
 -- ---- the older of the two words of a place takes a new value
 
-swapped_first : (job : JobData) (f r p a b word : ℕ) → IsJob job → IsPair job f r p a b → stamp_of a ≤ f → stamp_of b ≤ f → IsNew job f r p word → stamp_of a ≤ stamp_of b → IsPair job f r p word b
+swapped_first : (job : JobData) (f r p a b word : ℕ) → IsJob job → IsPair job f r p a b → stamp_of a ≤ f → stamp_of b ≤ f → IsNew job f r p word →
+    stamp_of a ≤ stamp_of b → IsPair job f r p word b
 swapped_first job f r p a b word limits (newer_first e g) la lb n less =
     let s = ap stamp_of e ∙ settled_stamp job f p limits in
     let o = ap stamp_of g ∙ before_stamp job f p limits in
@@ -259,7 +264,8 @@ swapped_first job f r p a b word limits (newer_second e g some) la lb n less = n
 swapped_first job f r p a b word limits (new_first m e) la lb n less = absurd (let s = m.stamp in omega arith)
 swapped_first job f r p a b word limits (new_second m e some) la lb n less = absurd (let s = m.stamp in omega arith)
 
-swapped_second : (job : JobData) (f r p a b word : ℕ) → IsJob job → IsPair job f r p a b → stamp_of a ≤ f → stamp_of b ≤ f → IsNew job f r p word → stamp_of b < stamp_of a → IsPair job f r p a word
+swapped_second : (job : JobData) (f r p a b word : ℕ) → IsJob job → IsPair job f r p a b → stamp_of a ≤ f → stamp_of b ≤ f → IsNew job f r p word →
+    stamp_of b < stamp_of a → IsPair job f r p a word
 swapped_second job f r p a b word limits (newer_first e g) la lb n less = new_second n e (omega arith)
 swapped_second job f r p a b word limits (newer_second e g some) la lb n less =
     absurd (let s = ap stamp_of e ∙ settled_stamp job f p limits in let o = ap stamp_of g ∙ before_stamp job f p limits in let k = before_most job (last_write job f p) p in omega arith)
@@ -358,7 +364,8 @@ module _ (job : JobData) (y : LayoutData) (words : List ℕ) (q x : ℕ) (stands
           (full_if job y words later (Stored p k) value stands grows_stored only (λ m e. absurd (cc)) (only.rest Conflict tt (λ e. absurd (cc))))
 
     -- the first word is the older one
-    first_does : (old : ℕ) → (held y words (Stored p 0) ≡ old → Early × (stamp_at y words p 0 ≤ stamp_at y words p 1)) → Does job y q (Swap (number_of y (Stored p 0)) old value) words
+    first_does : (old : ℕ) → (held y words (Stored p 0) ≡ old → Early × (stamp_at y words p 0 ≤ stamp_at y words p 1)) →
+        Does job y q (Swap (number_of y (Stored p 0)) old value) words
     unfolding Early
     first_does old stays = does_swap job y q (Stored p 0) old value words stands (place, lit< tt) range (λ h e. not_early h (stays e).0) (λ e.
         let s = stays e in
@@ -380,7 +387,8 @@ module _ (job : JobData) (y : LayoutData) (words : List ℕ) (q x : ℕ) (stands
             word_same : (p k r j : ℕ) → Stored p k ≡ Stored r j → k ≡ j
             word_same p k r j e = cc
 
-    second_does : (old : ℕ) → (held y words (Stored p 1) ≡ old → Early × (stamp_at y words p 1 < stamp_at y words p 0)) → Does job y q (Swap (number_of y (Stored p 1)) old value) words
+    second_does : (old : ℕ) → (held y words (Stored p 1) ≡ old → Early × (stamp_at y words p 1 < stamp_at y words p 0)) →
+        Does job y q (Swap (number_of y (Stored p 1)) old value) words
     unfolding Early
     second_does old stays = does_swap job y q (Stored p 1) old value words stands (place, lit< tt) range (λ h e. not_early h (stays e).0) (λ e.
         let s = stays e in

@@ -79,13 +79,15 @@ module _ (job : JobData) (x p i v : ℕ) (y : LayoutData) (board : IsBoard job y
 
 module _ (job : JobData) (y : LayoutData) (w q x i : ℕ) (some : 1 ≤ q) (most : q ≤ 3 * job.steps) (step : step_at q ≡ suc x) (board : IsBoard job y) (proc : i < y.procs) (phase : 3 * x + 3 ≡ q) where
   -- while the phase is not behind, the root and the finished step have been the same
-  live : (words later : List ℕ) → Stands job y words → Stands job y later → Grows y words later → Floor job y q x words → root y later + 1 ≡ q → (root y words + 1 ≡ q) × (finished y words ≡ x) × (finished y later ≡ x)
+  live : (words later : List ℕ) → Stands job y words → Stands job y later → Grows y words later → Floor job y q x words → root y later + 1 ≡ q →
+      (root y words + 1 ≡ q) × (finished y words ≡ x) × (finished y later ≡ x)
   live words later stands after up floor now = (all_c job y words later stands after up).c3 x q floor.reached (omega arith) (omega arith) floor.root now
 
   -- ---- common
 
   -- a word of the step stays, as long as the step isn't finished
-  stays_so : (p k : ℕ) (words later : List ℕ) → IsWord y (Stored p k) → Stands job y later → Grows y words later → finished y later ≡ x → x < stamp_at y words p k → (held y words (Stored p k) ≡ held y later (Stored p k)) × (stamp_at y words p k ≡ suc x)
+  stays_so : (p k : ℕ) (words later : List ℕ) → IsWord y (Stored p k) → Stands job y later → Grows y words later → finished y later ≡ x →
+      x < stamp_at y words p k → (held y words (Stored p k) ≡ held y later (Stored p k)) × (stamp_at y words p k ≡ suc x)
   stays_so p zero words later is after up gone late =
       let high = stamps_most job y later after p 0 is in
       let rise = stamps_rise y words later p 0 is up in
@@ -128,7 +130,8 @@ module _ (job : JobData) (y : LayoutData) (w q x i : ℕ) (some : 1 ≤ q) (most
       ]
 
   -- neither word differs: the value stands
-  holds_new : (p v a b : ℕ) (words : List ℕ) → job.rule ≡ Common → Asks job x p i v → Stands job y words → Both p a b words → (differs (suc x) v a || differs (suc x) v b) ≡ false → root y words + 1 ≡ q → HoldsNew y words p (suc x) v
+  holds_new : (p v a b : ℕ) (words : List ℕ) → job.rule ≡ Common → Asks job x p i v → Stands job y words → Both p a b words →
+      (differs (suc x) v a || differs (suc x) v b) ≡ false → root y words + 1 ≡ q → HoldsNew y words p (suc x) v
   unfolding Both
   holds_new p v a b words rule asked stands m h now =
       let first = m.earlier in
@@ -153,7 +156,8 @@ module _ (job : JobData) (y : LayoutData) (w q x i : ℕ) (some : 1 ≤ q) (most
             )
       ]
 
-  pub verify_safe : job.rule ≡ Common → (after : Script Then) → EndSafe job y w q x (λ words. Stays job y x words i) after → (history : List (Op × ℕ)) → Sees job y history (Floor job y q x) → Safe {R = Then} job y w q (verify_task job y (suc x) i after) history
+  pub verify_safe : job.rule ≡ Common → (after : Script Then) → EndSafe job y w q x (λ words. Stays job y x words i) after → (history : List (Op × ℕ)) →
+      Sees job y history (Floor job y q x) → Safe {R = Then} job y w q (verify_task job y (suc x) i after) history
   unfolding verify_task Both
   verify_safe rule after done history sees =
       let stale : StaleSafe job y w q x after = stale_end job y w q x (λ words. Stays job y x words i) after done in
@@ -181,7 +185,8 @@ module _ (job : JobData) (y : LayoutData) (w q x i : ℕ) (some : 1 ≤ q) (most
   no_claims words none = inr (λ c v asked cell. absurd (none c v asked cell))
 
   -- another claim of the step: the step doesn't agree
-  other_claims : (p v found : ℕ) (words : List ℕ) → job.rule ≡ Crew → IsTrue y.claims → p < job.cells → Asks job x p i v → Moment job y (Load (number_of y (Claim p))) found (Floor job y q x) words → differs (suc x) (claim_of job i) found ≡ true → AgreesAfter job x → ⊥
+  other_claims : (p v found : ℕ) (words : List ℕ) → job.rule ≡ Crew → IsTrue y.claims → p < job.cells → Asks job x p i v →
+      Moment job y (Load (number_of y (Claim p))) found (Floor job y q x) words → differs (suc x) (claim_of job i) found ≡ true → AgreesAfter job x → ⊥
   other_claims p v found words rule has cell asked m h agrees =
       let is : IsWord y (Claim p) = (has, let c = same_cells job y board in omega arith) in
       let d = differs_is (suc x) (claim_of job i) found h in
@@ -190,7 +195,8 @@ module _ (job : JobData) (y : LayoutData) (w q x i : ℕ) (some : 1 ≤ q) (most
       d.1 (ap payload_of m.heard ∙ c.is ∙ ap (claim_of job) (sym same))
 
   -- the claim that was heard is the processor's: it still is
-  claim_now : (p v found : ℕ) (words : List ℕ) → IsTrue y.claims → p < job.cells → Asks job x p i v → Stands job y words → Moment job y (Load (number_of y (Claim p))) found (Floor job y q x) words → differs (suc x) (claim_of job i) found ≡ false → root y words + 1 ≡ q →
+  claim_now : (p v found : ℕ) (words : List ℕ) → IsTrue y.claims → p < job.cells → Asks job x p i v → Stands job y words →
+      Moment job y (Load (number_of y (Claim p))) found (Floor job y q x) words → differs (suc x) (claim_of job i) found ≡ false → root y words + 1 ≡ q →
       payload_of (held y words (Claim p)) ≡ claim_of job i
   claim_now p v found words has cell asked stands m h now =
       let is : IsWord y (Claim p) = (has, let c = same_cells job y board in omega arith) in
@@ -208,7 +214,8 @@ module _ (job : JobData) (y : LayoutData) (w q x i : ℕ) (some : 1 ≤ q) (most
       let is_his = c.is in
       omega arith
     where
-      stamp_is : (words : List ℕ) → Stands job y words → IsWord y (Claim p) → root y words ≤ 3 * x + 2 → suc x ≤ stamp_of (held y words (Claim p)) → stamp_of (held y words (Claim p)) ≡ suc x
+      stamp_is : (words : List ℕ) → Stands job y words → IsWord y (Claim p) → root y words ≤ 3 * x + 2 → suc x ≤ stamp_of (held y words (Claim p)) →
+          stamp_of (held y words (Claim p)) ≡ suc x
       stamp_is words stands is low more = by_stamp (stamp_of (held y words (Claim p))) refl more
         where
           by_stamp : (s : ℕ) → stamp_of (held y words (Claim p)) ≡ s → suc x ≤ s → stamp_of (held y words (Claim p)) ≡ suc x
@@ -222,7 +229,8 @@ module _ (job : JobData) (y : LayoutData) (w q x i : ℕ) (some : 1 ≤ q) (most
       let same : part_after job x i 0 - 1 ≡ c = omega arith in
       subst (λ (c : ℕ). payload_of (held y words (Claim c)) ≡ claim_of job i) same here)
 
-  pub crew_verify_safe : job.rule ≡ Crew → IsTrue y.claims → (after : Script Then) → EndSafe job y w q x (λ words. ClaimStays job y x words i) after → (history : List (Op × ℕ)) → Sees job y history (Floor job y q x) → Safe {R = Then} job y w q (crew_verify_task job y (suc x) i after) history
+  pub crew_verify_safe : job.rule ≡ Crew → IsTrue y.claims → (after : Script Then) → EndSafe job y w q x (λ words. ClaimStays job y x words i) after →
+      (history : List (Op × ℕ)) → Sees job y history (Floor job y q x) → Safe {R = Then} job y w q (crew_verify_task job y (suc x) i after) history
   unfolding crew_verify_task
   crew_verify_safe rule has after done history sees =
       let stale : StaleSafe job y w q x after = stale_end job y w q x (λ words. ClaimStays job y x words i) after done in
