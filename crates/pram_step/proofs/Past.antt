@@ -119,14 +119,12 @@ written_value job s p i v is below agrees asks wins =
 pub value_fits : (job : JobData) (t p : ℕ) → IsJob job → slice_index (state_after job t) p < 2 ^ 32
 value_fits job t p is = place_fits (state_after job t) p (state_fits job t is)
 
-pub asks_fits : (job : JobData) (s p i v : ℕ) → IsJob job → Asks job s p i v → v < 2 ^ 32
-asks_fits job s p i v is asks = writes_fit job (state_after job s) p i v is (state_fits job s is) asks
-
-pub asks_place : (job : JobData) (s p i v : ℕ) → IsJob job → Asks job s p i v → p < place_count job
-asks_place job s p i v is asks =
+pub asks_fit : (job : JobData) (s p i v : ℕ) → IsJob job → Asks job s p i v → (p < place_count job) × (v < 2 ^ 32)
+asks_fit job s p i v is asks =
     let w = writes_place job (state_after job s) p i v is asks in
     let l = w.0 in
-    elim w.1 [ inl e ↦ omega arith | inr d ↦ elim d [ inl c ↦ omega arith | inr c ↦ (let m = c.1 in omega arith) ] ]
+    let place : p < place_count job = elim w.1 [ inl e ↦ omega arith | inr d ↦ elim d [ inl c ↦ omega arith | inr c ↦ (let m = c.1 in omega arith) ] ] in
+    (place, writes_fit job (state_after job s) p i v is (state_fits job s is) asks)
 
 put_of : (o : Option (ℕ × ℕ)) (p v : ℕ) → elim o [ None ↦ 0 | Some w ↦ w.0 + 1 ] ≡ suc p → elim o [ None ↦ 0 | Some w ↦ w.1 ] ≡ v → o ≡ Some (p, v)
 put_of None p v e g = absurd (omega arith)

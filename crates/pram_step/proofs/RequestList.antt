@@ -20,9 +20,6 @@ pub slice_get-push : {X : Type 0} (xs : List X) (x : X) → slice_get (xs ++ x �
 slice_get-push [] x = refl
 slice_get-push (y ∷ xs) x = slice_get-push xs x
 
-pub slice_get_nil : {X : Type 0} (i : ℕ) (x : X) → slice_get [] i ≡ Some x → ⊥
-slice_get_nil i x h = none-some x h
-
 -- an element of the longer list is one of the shorter, or the new one
 pub slice_get_of_push : {X : Type 0} (xs : List X) (x : X) (i : ℕ) (y : X) → slice_get (xs ++ x ∷ []) i ≡ Some y → (slice_get xs i ≡ Some y) ⊎ ((i ≡ length xs) × (x ≡ y))
 slice_get_of_push [] x zero y h = inr (refl, same_Some x y h)

@@ -2,14 +2,15 @@
 use Rattle.std.specs.Prelude.{◌≡◌, ◌≢◌, ◌⊎◌, ◌↔◌, ℕ, suc, ◌+◌, ◌^◌, ◌<◌, ◌≤◌, List, length, slice_index, All, None}
 use Rattle.pram_text.specs.declared.instr.Rule.{Rule}
 use Rattle.pram_text.specs.declared.instr.Rule.TheVariants.{Priority, Crew}
-use Rattle.pram_text.specs.Job.{JobData, IsJob}
+use Rattle.pram_text.specs.declared.instr.Instr.{Instr}
+use Rattle.pram_text.specs.Job.{JobData, IsJob, IsInstr}
 use Rattle.pram_step.specs.declared.answer.Dispute.{Dispute}
 use Rattle.pram_step.specs.declared.answer.Fault.{Fault}
 use Rattle.pram_step.specs.declared.answer.RunAnswer.{RunAnswer}
 use Rattle.pram_step.specs.declared.answer.RunAnswer.TheVariants.{Final, Conflict}
 use Rattle.pram_step.specs.declared.requests.Request.{Request}
 use Rattle.pram_step.specs.Machine.{State, start, counter_place, place_count, register, counter, out_of_range, IsStopped}
-use Rattle.pram_step.specs.Instructions.{HasShape, request_in, requests_in}
+use Rattle.pram_step.specs.Instructions.{decided, HasShape, request_in, requests_in}
 use Rattle.pram_step.specs.Steps.{Writes, Agrees, IsDispute, IsNext, next_state}
 use Rattle.pram_step.specs.Runs.{state_after, requests_after, AgreesAfter, IsReached, IsStateAfter, IsFirstConflict, IsAnswer}
 use Rattle.pram_step.specs.History.{Asks, Wins, IsWritten, last_write, part_after}
@@ -30,6 +31,12 @@ abbrev pub RequestsHaveShape : Type 0
 RequestsHaveShape =
     (job : JobData) (s : State) (i : ℕ) → IsJob job → i < job.procs → All (λ v. v < 2 ^ 32) s → counter job s i ≤ out_of_range job
     → HasShape job i (request_in job s i)
+
+abbrev pub DecisionsHaveShape : Type 0
+DecisionsHaveShape =
+    (job : JobData) (i counter a b v : ℕ) (instr : Instr)
+    → IsInstr (length job.code) instr → i < 2 ^ 32 → a < 2 ^ 32 → b < 2 ^ 32 → v < 2 ^ 32 → counter < length job.code
+    → HasShape job i (decided job i counter instr a b v)
 
 abbrev pub ReadsOneCell : Type 0
 ReadsOneCell =
@@ -145,6 +152,10 @@ ProcessorsWriteTheirRequests =
     (job : JobData) (s p i v : ℕ) → IsJob job → i < job.procs
     → Asks job s p i v
     ↔ (((p ≡ counter_place job i) × (v ≡ part_after job s i 2)) ⊎ ((part_after job s i 0 ≡ suc p) × (part_after job s i 1 ≡ v)))
+
+abbrev pub WritesFit : Type 0
+WritesFit =
+    (job : JobData) (s p i v : ℕ) → IsJob job → Asks job s p i v → (p < place_count job) × (v < 2 ^ 32)
 
 -- ---- what stops
 

@@ -1,5 +1,6 @@
 //! Which step is against the rule, and who disputes what in it.
-ghost use Rattle.std.specs.Prelude.{◌≡◌, ◌≢◌, ℕ, ◌+◌, ◌<◌, ◌≤◌, length, take, IfOk, MatchOption, MatchBool};
+ghost use Rattle.std.specs.Prelude.{◌≡◌, ◌≢◌, ℕ, ◌+◌, ◌<◌, ◌≤◌, length, take};
+ghost use Rattle.std.specs.Prelude.{IfOk, MatchOption, MatchBool};
 ghost use Rattle.pram_step.specs.Steps.{Forbids};
 ghost use Rattle.pram_step.specs.Inner.Marks.{PutsFirst, PutsNone, AreMarked};
 ghost use Rattle.pram_step.specs.Steps.{IsVerdict};
@@ -9,8 +10,10 @@ use crate::requests::Request;
 use pram_text::{Job, Rule};
 use std::alloc::{AllocError, Global};
 
-/// What two of these requests dispute, one request being of each processor, in their order: the least disputed cell, its
-/// least writer, and the least writer that may not write beside that one. With rule priority there is none.
+/// What two of these requests dispute, one request being of each processor, in their order: the
+/// least disputed cell, its least writer, and the least writer that may not write beside that one.
+/// With rule priority there is none. It costs time in the number of processors, and memory for a
+/// mark of each cell.
 pub fn dispute(
     alloc: Global,
     job: &Job,
@@ -27,8 +30,8 @@ pub fn dispute(
     Ok(found)
 }
 
-/// The dispute so far, this processor's request being looked at too. The marks are those of the requests before it, and
-/// then of this one too.
+/// The dispute so far, this processor's request being looked at too. The marks are those of the
+/// requests before it, and then of this one too.
 pub(crate) fn judge(
     job: &Job,
     requests: &[Request],
@@ -67,8 +70,8 @@ pub(crate) fn judge(
     }
 }
 
-/// The least of the processors before this one that writes to the cell, and its value. A mark of a step before says
-/// nothing, and is told by what the processor that it names asks for now.
+/// The least of the processors before this one that writes to the cell, and its value. A mark of a
+/// step before says nothing, and is told by what the processor that it names asks for now.
 fn earlier_writer(
     requests: &[Request],
     marks: &[u32],

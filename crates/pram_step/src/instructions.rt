@@ -1,7 +1,8 @@
 //! The table of the fifteen instructions: what each reads, and what it asks for.
 ghost use Rattle.std.specs.Prelude.{◌≡◌, ℕ, ◌+◌, ◌^◌, ◌<◌, length, All};
 ghost use Rattle.pram_text.specs.Job.{IsInstr};
-ghost use Rattle.pram_step.specs.Instructions.{operands_of, listed, cell_read, gives, goes_to, decided, HasShape};
+ghost use Rattle.pram_step.specs.Instructions.{operands_of, listed, cell_read};
+ghost use Rattle.pram_step.specs.Instructions.{gives, goes_to, decided, HasShape};
 
 use crate::requests::Request;
 use pram_text::{Instr, Job};
@@ -47,8 +48,8 @@ pub fn cell_read(job: &Job, instr: Instr, address: u32) -> Option<u32>
     }
 }
 
-/// What a processor asks for by the instruction at its counter. Its operands hold `a` and `b`, and the cell that it reads
-/// holds `value`; those that it has not may be any number.
+/// What a processor asks for by the instruction at its counter. Its operands hold `a` and `b`, and
+/// the cell that it reads holds `value`; for those that it has not any number will do.
 #[inline(always)]
 #[tactic(auto, unfolding(crate::specs::Instructions::decided))]
 pub fn decided(

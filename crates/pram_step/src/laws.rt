@@ -1,17 +1,18 @@
 //! What holds of every job: each function here does nothing, and its contract is a law of the
 //! machine.
-ghost use Rattle.pram_step.specs.Laws.{RequestsHaveShape, ReadsOneCell, NextIsNext, OneNext};
-ghost use Rattle.pram_step.specs.Laws.{AgreesOrHasADispute, OneDispute, PriorityAlwaysAgrees};
-ghost use Rattle.pram_step.specs.Laws.{OnlyCellsClash, OrderIsFree, LeastWriterIsFound};
-ghost use Rattle.pram_step.specs.Laws.{TurnsAreFree, StartIsAState, NextIsAState, OneState};
-ghost use Rattle.pram_step.specs.Laws.{ReachedWhereNothingIsDisputed, StatesHaveAllPlaces};
-ghost use Rattle.pram_step.specs.Laws.{CountersStayWithin, CountersFollowRequests};
-ghost use Rattle.pram_step.specs.Laws.{LastWriteIsTheLast, UnwrittenPlaceKeepsItsValue};
-ghost use Rattle.pram_step.specs.Laws.{ValueIsOfTheLastWrite, WrittenPlaceHoldsTheValue};
-ghost use Rattle.pram_step.specs.Laws.{ProcessorsWriteTheirRequests, StoppedMachineStays};
-ghost use Rattle.pram_step.specs.Laws.{StoppedMachineGoesOn, UnchangedStays};
-ghost use Rattle.pram_step.specs.Laws.{StoppedProcessorStays, ConflictExcludesFinal, HasAnswer};
-ghost use Rattle.pram_step.specs.Laws.{OneAnswer, CrewIsStrictest, PriorityIsFreest};
+ghost use Rattle.pram_step.specs.Laws.{RequestsHaveShape, DecisionsHaveShape, ReadsOneCell};
+ghost use Rattle.pram_step.specs.Laws.{NextIsNext, OneNext, AgreesOrHasADispute, OneDispute};
+ghost use Rattle.pram_step.specs.Laws.{PriorityAlwaysAgrees, OnlyCellsClash, OrderIsFree};
+ghost use Rattle.pram_step.specs.Laws.{LeastWriterIsFound, TurnsAreFree, StartIsAState};
+ghost use Rattle.pram_step.specs.Laws.{NextIsAState, OneState, ReachedWhereNothingIsDisputed};
+ghost use Rattle.pram_step.specs.Laws.{StatesHaveAllPlaces, CountersStayWithin};
+ghost use Rattle.pram_step.specs.Laws.{CountersFollowRequests, LastWriteIsTheLast};
+ghost use Rattle.pram_step.specs.Laws.{UnwrittenPlaceKeepsItsValue, ValueIsOfTheLastWrite};
+ghost use Rattle.pram_step.specs.Laws.{WrittenPlaceHoldsTheValue, ProcessorsWriteTheirRequests};
+ghost use Rattle.pram_step.specs.Laws.{WritesFit, StoppedMachineStays, StoppedMachineGoesOn};
+ghost use Rattle.pram_step.specs.Laws.{UnchangedStays, StoppedProcessorStays};
+ghost use Rattle.pram_step.specs.Laws.{ConflictExcludesFinal, HasAnswer, OneAnswer};
+ghost use Rattle.pram_step.specs.Laws.{CrewIsStrictest, PriorityIsFreest};
 ghost use Rattle.pram_step.specs.Laws.{NextOfCrewIsNextOfEachRule};
 ghost use Rattle.pram_step.specs.Laws.{NextOfEachRuleIsNextOfPriority, CrewEndsAsEachRule};
 ghost use Rattle.pram_step.specs.Laws.{PriorityEndsAsEachRule, ConflictIsThatOfALongerJob};
@@ -24,6 +25,13 @@ ghost use Rattle.pram_step.specs.Laws.{LongerJobGoesOn};
 #[tactic(auto, using(crate::proofs::Shapes::request_shape))]
 pub fn requests_have_shape()
     ensures { RequestsHaveShape }
+{}
+
+/// What an instruction of the job asks for has that shape, whatever numbers its operands and its
+/// cell hold.
+#[tactic(auto, using(crate::proofs::Shapes::decided_shape))]
+pub fn decisions_have_shape()
+    ensures { DecisionsHaveShape }
 {}
 
 /// A request depends on its processor's registers and counter, and on one cell at most.
@@ -157,6 +165,11 @@ pub fn written_place_holds_the_value()
 /// counter, and nothing else.
 pub fn processors_write_their_requests()
     ensures { ProcessorsWriteTheirRequests }
+{}
+
+/// What a step writes goes to places of the job, and is below 2^32.
+pub fn writes_fit()
+    ensures { WritesFit }
 {}
 
 // ---- what stops

@@ -6,7 +6,8 @@ ghost use Rattle.pram_step.specs.Instructions.{place_part, value_part, request_i
 use crate::instructions::{Operands, cell_read, decided, goes_to, operands_of};
 use pram_text::Job;
 
-/// What a processor asks for in a step: at most one data write, and the place of its next instruction.
+/// What a processor asks for in a step: at most one data write, and the place of its next
+/// instruction.
 #[derive(Clone, Copy, Debug, PartialEq, Eq)]
 pub struct Request {
     /// The place that the data write goes to, and the value.

@@ -1,5 +1,6 @@
 //! The places of the machine, and a step.
-ghost use Rattle.std.specs.Prelude.{◌≡◌, ◌<◌, length, take, slice_index, vec_len, IfOk, OnOk, OnErr, IfErr};
+ghost use Rattle.std.specs.Prelude.{◌≡◌, ◌<◌, length, take, slice_index, vec_len};
+ghost use Rattle.std.specs.Prelude.{IfOk, OnOk, OnErr, IfErr};
 ghost use Rattle.pram_step.specs.Machine.{place_count, start};
 ghost use Rattle.pram_step.specs.Instructions.{request_in, requests_in};
 ghost use Rattle.pram_step.specs.declared.state.StepFault.TheVariants.{Conflict, Memory};
@@ -13,9 +14,11 @@ use pram_text::Job;
 use std::alloc::{AllocError, Global};
 use std::marker::Model;
 
-/// What each place of the machine holds: the cells, then four registers of each processor, then the counter of each.
+/// What each place of the machine holds: the cells, then four registers of each processor, then the
+/// counter of each.
 ///
-/// Contracts see it as this list. It keeps room for the requests of a step, which its first step takes.
+/// Contracts see it as this list. It keeps room for the requests of a step and for a mark of each
+/// cell, which its first step takes.
 #[derive(Debug, Drop)]
 pub struct State {
     places: Vec<u32>,
@@ -70,7 +73,8 @@ impl State {
         Cells::new(places)
     }
 
-    /// Makes all steps of the job from its start, or those up to the first that is against the rule, which it answers.
+    /// Makes all steps of the job from its start, or those up to the first that is against the
+    /// rule, which it answers.
     pub(crate) fn run(&mut self, alloc: Global, job: &Job) -> Result<Option<Fault>, AllocError>
         requires { self.old ≡ start job.now }
         ensures { IfOk result (IsRun job.now self.new) }
@@ -100,8 +104,9 @@ pub enum StepFault {
 
 /// Makes a step of the machine. After a fault the state is as before.
 ///
-/// It costs time in the number of processors, whatever the number of cells is. The first step of a state takes memory for
-/// the requests and for a mark of each cell, later ones of the same job take none.
+/// It costs time in the number of processors, whatever the number of cells is. The first step of a
+/// state takes memory for the requests and for a mark of each cell, later ones of the same job take
+/// none.
 pub fn step(alloc: Global, job: &Job, state: &mut State) -> Result<(), StepFault>
     requires { length state.old ≡ place_count job.now }
     ensures agrees { OnOk result (Agrees job.now (requests_in job.now state.old)) }
