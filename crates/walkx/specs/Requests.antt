@@ -1,7 +1,15 @@
 -- The request that its three words stand for.
-use Rattle.std.specs.Prelude.{ℕ, ◌-◌, ◌==◌, if◌then◌else◌, Some, None}
+use Rattle.std.specs.Prelude.{◌≡◌, ℕ, ◌-◌, ◌^◌, ◌<◌, ◌==◌, if◌then◌else◌, Some, None}
 use Rattle.pram_step.specs.declared.requests.Request.{Request}
-use Rattle.pram_words.specs.Stamps.{payload_of}
+use Rattle.pram_step.specs.Instructions.{place_part, value_part}
+use Rattle.pram_words.specs.Stamps.{stamped_word, payload_of}
 
 abbrev pub heard_request : ℕ → ℕ → ℕ → Request
 heard_request place value next = record { put = if payload_of place == 0 then None else Some (payload_of place - 1, payload_of value); next = payload_of next }
+
+-- the words of a request of step t, whose parts fit
+pub record AreWordsOf (t : ℕ) (r : Request) (place value next : ℕ) : Type 0 where
+  pub fits : (place_part r < 2 ^ 32) × (value_part r < 2 ^ 32) × (r.next < 2 ^ 32)
+  pub first : place ≡ stamped_word t (place_part r)
+  pub second : value ≡ stamped_word t (value_part r)
+  pub third : next ≡ stamped_word t r.next

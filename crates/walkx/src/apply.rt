@@ -1,11 +1,9 @@
 //! The apply tasks: a request is heard, and claimed or carried out.
 ghost use Rattle.std.specs.Prelude.{◌≡◌, ◌≢◌};
 ghost use Rattle.pram_words.specs.Phases.{kind_at};
-ghost use Rattle.pram_words.specs.Words.{Admits, number_of};
-ghost use Rattle.pram_words.specs.declared.words.Word.TheVariants as Word;
-ghost use Rattle.walkx.specs.Inner.Posts.{IsLeaf, IsPart, processor_of};
-ghost use Rattle.walkx.specs.Inner.Stages.{StandsFor, applies, carries_out, follows_claim, follows_place, script_at};
-ghost use Rattle.walkx.specs.Scripts.{behind};
+ghost use Rattle.walkx.specs.Inner.Posts.{IsLeaf, IsPart};
+ghost use Rattle.walkx.specs.Inner.Stages.{HearsStage, StandsBehind, StandsFor, applies};
+ghost use Rattle.walkx.specs.Inner.Stages.{carries_out, follows_claim, follows_part, follows_place};
 
 use crate::place::counter_write;
 use crate::post::Leaf;
@@ -17,8 +15,8 @@ use pram_words::{Kind, payload, stamp};
 /// What follows the first word of the request.
 pub(crate) fn after_first_part(leaf: &Leaf, answer: u64) -> Stage
     requires kind { kind_at leaf.now.phase ≢ Kind.Compute }
-    requires answer { Admits leaf.now.layout leaf.now.job (number_of leaf.now.layout (Word.Asked (processor_of leaf.now) 0)) answer }
-    ensures { StandsFor leaf.now 13 (behind (script_at leaf.now Stage.Hear) answer) result }
+    requires answer { HearsStage leaf.now Stage.Hear answer }
+    ensures { StandsBehind leaf.now 13 Stage.Hear answer result }
 {
     if stamp(answer) == leaf.step() {
         after_data_place(leaf, payload(answer))
@@ -30,7 +28,7 @@ pub(crate) fn after_first_part(leaf: &Leaf, answer: u64) -> Stage
 // What follows the data place plus 1, or 0 for none.
 fn after_data_place(leaf: &Leaf, part: u32) -> Stage
     requires part { IsPart leaf.now.layout part }
-    ensures { StandsFor leaf.now 13 (follows_place leaf.now leaf.now.job.rule (kind_at leaf.now.phase) part) result }
+    ensures { StandsFor leaf.now 13 (follows_part leaf.now part) result }
 {
     match (leaf.rule(), leaf.kind()) {
         (Rule::Common, Kind::Verify) => value_check(leaf, part),
@@ -57,7 +55,7 @@ fn claim(leaf: &Leaf, part: u32) -> Stage
 /// What follows the second word of the request, which is to be carried out.
 pub(crate) fn after_value(leaf: &Leaf, place: u32, answer: u64) -> Stage
     requires place { IsPart leaf.now.layout place }
-    ensures { StandsFor leaf.now 12 (behind (script_at leaf.now (Stage.HearValue place)) answer) result }
+    ensures { StandsBehind leaf.now 12 (Stage.HearValue place) answer result }
 {
     if stamp(answer) == leaf.step() {
         Stage::HearNext(place, payload(answer))
@@ -69,7 +67,7 @@ pub(crate) fn after_value(leaf: &Leaf, place: u32, answer: u64) -> Stage
 /// What follows the third word of the request.
 pub(crate) fn after_next(leaf: &Leaf, place: u32, value: u32, answer: u64) -> Stage
     requires place { IsPart leaf.now.layout place }
-    ensures { StandsFor leaf.now 11 (behind (script_at leaf.now (Stage.HearNext place value)) answer) result }
+    ensures { StandsBehind leaf.now 11 (Stage.HearNext place value) answer result }
 {
     if stamp(answer) == leaf.step() {
         let next = payload(answer);

@@ -1,9 +1,7 @@
 //! The compute task: the places that a processor reads, and the request that comes of them.
-ghost use Rattle.std.specs.Prelude.{slice_get, Some};
-ghost use Rattle.pram_step.specs.Instructions.{decided};
-ghost use Rattle.walkx.specs.Inner.Posts.{processor_of, step_of, then_marks};
-ghost use Rattle.walkx.specs.Inner.Stages.{IsCode, StandsFor, then_asks};
-ghost use Rattle.walkx.specs.Tasks.{compute_task, executes, raises_request};
+ghost use Rattle.std.specs.Prelude.{Some};
+ghost use Rattle.walkx.specs.Inner.Stages.{IsCode, StandsFor, then_asks, then_computes};
+ghost use Rattle.walkx.specs.Inner.Stages.{then_executes, then_fetches, then_raises};
 
 use crate::post::Leaf;
 use crate::stage::{Stage, Want};
@@ -13,14 +11,14 @@ use pram_text::Instr;
 /// The counter is read.
 #[tactic(auto, unfolding(crate::specs::Tasks::compute_task))]
 pub(crate) fn counter_read(leaf: &Leaf) -> Stage
-    ensures { StandsFor leaf.now 14 (compute_task leaf.now.job leaf.now.layout (step_of leaf.now) (processor_of leaf.now) (then_marks leaf.now)) result }
+    ensures { StandsFor leaf.now 14 (then_computes leaf.now) result }
 {
     Stage::Place(leaf.counter_place(), Want::Counter)
 }
 
 /// What follows the counter: the first operand is read, if there is one.
 pub(crate) fn after_counter(leaf: &Leaf, counter: u32) -> Stage
-    ensures { StandsFor leaf.now 12 (executes leaf.now.job leaf.now.layout (step_of leaf.now) (processor_of leaf.now) counter (slice_get leaf.now.job.code counter) (then_marks leaf.now)) result }
+    ensures { StandsFor leaf.now 12 (then_fetches leaf.now counter) result }
 {
     match leaf.job().code().get(counter as usize) {
         None => Stage::Ask(goes_to(counter)),
@@ -31,7 +29,7 @@ pub(crate) fn after_counter(leaf: &Leaf, counter: u32) -> Stage
 // The first operand of an instruction is read, if there is one.
 fn first_operand(leaf: &Leaf, instr: Instr, counter: u32) -> Stage
     requires code { IsCode leaf.now.job instr counter }
-    ensures { StandsFor leaf.now 12 (executes leaf.now.job leaf.now.layout (step_of leaf.now) (processor_of leaf.now) counter (Some instr) (then_marks leaf.now)) result }
+    ensures { StandsFor leaf.now 12 (then_executes leaf.now counter (Some instr)) result }
 {
     match operands_of(instr) {
         Operands::None => after_operands(leaf, instr, counter, 0, 0),
@@ -57,11 +55,11 @@ pub(crate) fn after_operands(leaf: &Leaf, instr: Instr, counter: u32, a: u32, b:
     }
 }
 
-/// The request of an instruction is asked for: its operands hold a and b, the cell that it reads holds v.
+/// The request of an instruction is asked for: its operands hold a and b, the cell that it reads v.
 #[tactic(auto, using(crate::proofs::Boards::place_shape))]
 pub(crate) fn asks_for(leaf: &Leaf, instr: Instr, counter: u32, a: u32, b: u32, v: u32) -> Stage
     requires code { IsCode leaf.now.job instr counter }
-    ensures { StandsFor leaf.now 6 (raises_request leaf.now.layout (step_of leaf.now) (processor_of leaf.now) (decided leaf.now.job (processor_of leaf.now) counter instr a b v) (then_marks leaf.now)) result }
+    ensures { StandsFor leaf.now 6 (then_raises leaf.now instr counter a b v) result }
 {
     Stage::Ask(decided(leaf.job(), leaf.processor(), counter, instr, a, b, v))
 }

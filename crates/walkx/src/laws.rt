@@ -1,5 +1,6 @@
 //! Laws of the walk: each function here does nothing, and its contract is the law.
-ghost use Rattle.walkx.specs.Laws.{NewWorkersFit, AnswersKeepFit, KnownStayKnown, WhatIsAskedIsAdmitted, OwnStepsAreBounded};
+ghost use Rattle.walkx.specs.Laws.{AnswersKeepFit, KnownStayKnown, NewWorkersFit};
+ghost use Rattle.walkx.specs.Laws.{OwnStepsAreBounded, WhatIsAskedIsAdmitted};
 
 /// A worker that is newly started, or comes back, fits the job and the board.
 pub fn new_workers_fit()
@@ -21,8 +22,8 @@ pub fn what_is_asked_is_admitted()
     ensures { WhatIsAskedIsAdmitted }
 {}
 
-/// A worker that is still going has made fewer than 300 L T + 8 steps, L being the leaves and T the steps of the job, if it hears
-/// no node below what it loaded there before or raised it to.
+/// A worker that is still going has made fewer than 300 L T + 8 steps, L being the leaves and T the
+/// steps of the job, if it hears no node below what it loaded there before or raised it to.
 pub fn own_steps_are_bounded()
     ensures { OwnStepsAreBounded }
 {}

@@ -2,7 +2,8 @@
 ghost use Rattle.std.specs.Prelude.{◌≡◌, ◌-◌, ◌<◌};
 ghost use Rattle.pram_words.specs.Words.{places_of};
 ghost use Rattle.walkx.specs.Inner.Posts.{step_of};
-ghost use Rattle.walkx.specs.Inner.Stages.{IsWant, StandsFor, follows_words, left_for, left_swap, then_counts};
+ghost use Rattle.walkx.specs.Inner.Stages.{IsWant, StandsFor, follows_words, left_for, left_swap};
+ghost use Rattle.walkx.specs.Inner.Stages.{then_counts};
 ghost use Rattle.walkx.specs.Tasks.{differs, is_late, newer_payload};
 
 use crate::compute::{after_counter, after_operands, asks_for};
@@ -15,7 +16,8 @@ use pram_words::{payload, stamp, stamped};
 pub(crate) fn after_words(leaf: &Leaf, place: u32, want: Want, first: u64, second: u64) -> Stage
     requires place { place < places_of leaf.now.layout }
     requires want { IsWant leaf.now.job want }
-    ensures { StandsFor leaf.now (left_for want - 1) (follows_words leaf.now place want first second) result }
+    ensures { StandsFor leaf.now (left_for want - 1) (follows_words leaf.now place want first
+        second) result }
 {
     match want {
         Want::Write(value, next) => older_swap(leaf, place, value, next, first, second),
@@ -51,7 +53,8 @@ fn older_swap(
     second: u64,
 ) -> Stage
     requires place { place < places_of leaf.now.layout }
-    ensures { StandsFor leaf.now (left_for (Want.Write value next) - 1) (follows_words leaf.now place (Want.Write value next) first second) result }
+    ensures { StandsFor leaf.now (left_for (Want.Write value next) - 1) (follows_words leaf.now
+        place (Want.Write value next) first second) result }
 {
     let word = leaf.layout().place_word(place);
     let new = stamped(leaf.step(), value);

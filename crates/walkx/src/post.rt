@@ -1,12 +1,11 @@
 //! Where a worker stands.
-ghost use Rattle.std.specs.Prelude.{◌≡◌, ◌≢◌, ◌↔◌, IsTrue, ◌+◌, ◌-◌, ◌*◌, ◌<◌, ◌≤◌};
+ghost use Rattle.std.specs.Prelude.{◌≡◌, ◌≢◌, ◌↔◌, IsTrue, ◌-◌, ◌<◌, ◌≤◌};
 ghost use Rattle.pram_step.specs.Machine.{counter_place, register_place};
 ghost use Rattle.pram_words.specs.Phases.{kind_at};
-ghost use Rattle.pram_words.specs.Stamps.{stamped_word};
-ghost use Rattle.walkx.specs.declared.operation.Op.TheVariants.{Max};
 ghost use Rattle.pram_words.specs.Words.{counters_of, length_of, number_of, places_of};
 ghost use Rattle.pram_words.specs.declared.words.Word.TheVariants.{Asked};
-ghost use Rattle.walkx.specs.Inner.Posts.{IsCell, IsLeaf, IsPost, PostData, processor_of, step_of};
+ghost use Rattle.walkx.specs.Inner.Posts.{IsCell, IsLeaf, IsPost, PostData, part_raised, post_data};
+ghost use Rattle.walkx.specs.Inner.Posts.{processor_of, step_of};
 ghost use Rattle.walkx.specs.Tasks.{claim_of};
 ghost use Rattle.walkx.specs.Walk.{IsBoard, IsLayoutOf};
 
@@ -37,9 +36,9 @@ pub(crate) struct Post<'a> {
 impl<'a> Model for Post<'a> {
     ghost Value = { PostData };
 
-    ghost view = { λ p. record { job = p.job.now; layout = p.layout.now; worker = p.worker; node = p.node; phase = p.phase } };
+    ghost view = { λ p. post_data p.job.now p.layout.now p.worker p.node p.phase };
 
-    ghost invariant = { λ p. IsPost (record { job = p.job.now; layout = p.layout.now; worker = p.worker; node = p.node; phase = p.phase }) };
+    ghost invariant = { λ p. IsPost (post_data p.job.now p.layout.now p.worker p.node p.phase) };
 }
 
 impl<'a> Post<'a> {
@@ -50,8 +49,8 @@ impl<'a> Post<'a> {
         node: u32,
         phase: u64,
     ) -> Post<'a>
-        requires { IsPost (record { job = job.now; layout = layout.now; worker = worker; node = node; phase = phase }) }
-        ensures { result ≡ record { job = job.now; layout = layout.now; worker = worker; node = node; phase = phase } }
+        requires { IsPost (post_data job.now layout.now worker node phase) }
+        ensures { result ≡ post_data job.now layout.now worker node phase }
     {
         Post {
             job,
@@ -125,9 +124,9 @@ pub(crate) struct Leaf<'a> {
 impl<'a> Model for Leaf<'a> {
     ghost Value = { PostData };
 
-    ghost view = { λ p. record { job = p.job.now; layout = p.layout.now; worker = p.worker; node = p.node; phase = p.phase } };
+    ghost view = { λ p. post_data p.job.now p.layout.now p.worker p.node p.phase };
 
-    ghost invariant = { λ p. IsLeaf (record { job = p.job.now; layout = p.layout.now; worker = p.worker; node = p.node; phase = p.phase }) };
+    ghost invariant = { λ p. IsLeaf (post_data p.job.now p.layout.now p.worker p.node p.phase) };
 }
 
 impl<'a> Leaf<'a> {
@@ -207,7 +206,7 @@ impl<'a> Leaf<'a> {
     /// Part j of the processor's request is raised to this payload of the step.
     pub(crate) fn raise(&self, j: u32, payload: u32) -> Op
         requires { j < 3 }
-        ensures { result ≡ Max (number_of self.now.layout (Asked (processor_of self.now) j)) (stamped_word (step_of self.now) payload) }
+        ensures { result ≡ part_raised self.now j payload }
     {
         Op::Max(self.request_word(j), stamped(self.step(), payload))
     }
@@ -222,7 +221,8 @@ impl<'a> Leaf<'a> {
     /// Whether a data place plus 1, or 0 for none, is that of a cell.
     pub(crate) fn is_cell(&self, part: u32) -> bool
         ensures cell { IsTrue result ↔ ((1 ≤ part) × (part - 1 < self.now.job.cells)) }
-        ensures claims { IsTrue result → self.now.job.rule ≢ Rule.Common → IsCell self.now.layout (part - 1) }
+        ensures claims { IsTrue result → self.now.job.rule ≢ Rule.Common → IsCell self.now.layout
+            (part - 1) }
         ensures limits { IsLeaf self.now }
     {
         part != 0 && part - 1 < self.job.cells()

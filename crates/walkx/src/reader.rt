@@ -1,10 +1,10 @@
 //! The reader of a cell.
 ghost use Rattle.std.specs.Prelude.{◌≡◌, ℕ, ◌<◌};
-ghost use Rattle.pram_words.specs.Words.{Admits, number_of};
-ghost use Rattle.pram_words.specs.declared.words.Word.TheVariants as Word;
-ghost use Rattle.walkx.specs.Inner.Glances.{IsGlance, IsLaterGlance, most_looked, reads_again, reads_both, script_of_glance};
-ghost use Rattle.walkx.specs.Reads.{HeardAdmitted, LooksOnBoard, lesser, looks_for, reader_script, told_at};
-ghost use Rattle.walkx.specs.Scripts.{behind, ends};
+ghost use Rattle.walkx.specs.Inner.Glances.{HearsGlance, IsGlance, IsLaterGlance};
+ghost use Rattle.walkx.specs.Inner.Glances.{StandsBehindGlance, most_looked, reads_again};
+ghost use Rattle.walkx.specs.Inner.Glances.{reads_both, script_of_glance};
+ghost use Rattle.walkx.specs.Reads.{LooksOnBoard, lesser, looks_for, told_at};
+ghost use Rattle.walkx.specs.Scripts.{ends};
 ghost use Rattle.walkx.specs.Walk.{IsBoard};
 
 use crate::operation::{ReadOp, Reading};
@@ -27,12 +27,12 @@ pub struct Reader {
 
 impl Model for Reader {
     ghost use Rattle.std.specs.Prelude.{◌≤◌};
-    ghost use Rattle.walkx.specs.Inner.Glances.{ReaderData, most_looked};
+    ghost use Rattle.walkx.specs.Inner.Glances.{ReaderData, most_looked, reader_data};
     ghost use Rattle.walkx.specs.Inner.Stages.{newest};
 
     ghost Value = { ReaderData };
 
-    ghost view = { λ r. record { looking = record { cell = r.cell; heard = newest r.count r.heard }; stage = r.stage } };
+    ghost view = { λ r. reader_data r.cell r.stage (newest r.count r.heard) };
 
     ghost invariant = { λ r. r.count ≤ most_looked r.stage };
 }
@@ -42,7 +42,8 @@ impl Reader {
     ghost use Rattle.pram_text.specs.Job.{JobData};
     ghost use Rattle.pram_words.specs.Words.{LayoutData};
     ghost use Rattle.walkx.specs.Serving.{Follows};
-    ghost use Rattle.walkx.specs.Reads.{LooksFit, LooksOnBoard, HeardAdmitted, look_of, looked, looks_for};
+    ghost use Rattle.walkx.specs.Reads.{HeardAdmitted, LooksFit, LooksOnBoard, look_of, looked};
+    ghost use Rattle.walkx.specs.Reads.{looks_for};
     ghost use Rattle.walkx.specs.Walk.{IsLayoutOf};
 
     /// A reader of this cell.
@@ -74,8 +75,10 @@ impl Reader {
         requires layout { IsLayoutOf job.now layout.now }
         requires follows { Follows layout.now self.old }
         requires fits { LooksFit job.now layout.now self.old.looking }
-        requires admitted { HeardAdmitted job.now layout.now (looks_for (look_of layout.now self.old.looking)) answer }
-        ensures told { self.new.looking ≡ looked self.old.looking answer (look_of layout.now self.old.looking) }
+        requires admitted { HeardAdmitted job.now layout.now (looks_for (look_of layout.now
+            self.old.looking)) answer }
+        ensures told { self.new.looking ≡ looked self.old.looking answer (look_of layout.now
+            self.old.looking) }
         ensures follows { Follows layout.now self.new }
         ensures fits { LooksFit job.now layout.now self.new.looking }
     {
@@ -113,8 +116,8 @@ fn operation(layout: &Layout, cell: u32, stage: Glance) -> ReadOp
 fn after(job: &Job, layout: &Layout, cell: u32, stage: Glance, answer: u64) -> Glance
     requires board { IsBoard job.now layout.now }
     requires stage { IsGlance stage }
-    requires answer { HeardAdmitted job.now layout.now (looks_for (script_of_glance layout.now cell stage)) answer }
-    ensures rest { script_of_glance layout.now cell result ≡ behind (script_of_glance layout.now cell stage) answer }
+    requires answer { HearsGlance job.now layout.now cell stage answer }
+    ensures rest { StandsBehindGlance layout.now cell stage answer result }
     ensures stage { IsGlance result }
     ensures later { IsLaterGlance stage result }
 {
@@ -134,8 +137,8 @@ fn after(job: &Job, layout: &Layout, cell: u32, stage: Glance, answer: u64) -> G
 #[tactic(auto, using(crate::proofs::Boards::root_most), unfolding(crate::specs::Reads::reader_script))]
 fn after_root(job: &Job, layout: &Layout, cell: u32, root: u64) -> Glance
     requires board { IsBoard job.now layout.now }
-    requires root { Admits layout.now job.now (number_of layout.now (Word.Node 1)) root }
-    ensures rest { script_of_glance layout.now cell result ≡ behind (reader_script layout.now cell) root }
+    requires root { HearsGlance job.now layout.now cell Glance.Begin root }
+    ensures rest { StandsBehindGlance layout.now cell Glance.Begin root result }
     ensures stage { IsGlance result }
     ensures later { IsLaterGlance Glance.Begin result }
 {
@@ -148,7 +151,8 @@ fn after_root(job: &Job, layout: &Layout, cell: u32, root: u64) -> Glance
 
 // Both words were heard.
 fn after_both(layout: &Layout, cell: u32, step: u32, first: u64, second: u64) -> Glance
-    ensures rest { script_of_glance layout.now cell result ≡ reads_both layout.now cell step first second }
+    ensures rest { script_of_glance layout.now cell result ≡ reads_both layout.now cell step first
+        second }
     ensures stage { IsGlance result }
     ensures later { IsLaterGlance (Glance.Second step first) result }
 {

@@ -16,7 +16,8 @@ pub(crate) enum Want {
     Second(Instr, u32, u32),
     /// The cell that an instruction reads; its number.
     Cell(Instr, u32, u32),
-    /// The older of the two words is swapped for this value; then, if there is a next counter, it is written too.
+    /// The older of the two words is swapped for this value; then the next counter is written, if
+    /// there is one.
     Write(u32, Option<u32>),
     /// A word of this step with another value is a conflict.
     Compare(u32),
@@ -53,7 +54,8 @@ pub(crate) enum Stage {
     Place(u32, Want),
     /// The second word of a place is loaded, the first being this.
     Again(u32, Want, u64),
-    /// This word is swapped, from the first value to the second; then the counter is written, if there is a next one.
+    /// This word is swapped, from the first value to the second; then the next counter is written,
+    /// if there is one.
     Swap(u32, u64, u64, Option<u32>),
     /// The first word of the request is raised.
     Ask(Request),

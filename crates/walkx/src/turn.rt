@@ -1,13 +1,9 @@
 //! What an answer leads to.
-ghost use Rattle.std.specs.Prelude.{◌≡◌, ◌≤◌, nat_le, if◌then◌else◌};
-ghost use Rattle.pram_words.specs.Words.{Admits, number_of};
-ghost use Rattle.pram_words.specs.declared.words.Word.TheVariants as Word;
-ghost use Rattle.pram_words.specs.Phases.{kind_at};
-ghost use Rattle.walkx.specs.Inner.Posts.{processor_of, step_of, then_marks};
-ghost use Rattle.walkx.specs.Inner.Stages.{IsStage, IsStep, StandsFor, doing_of, follows_children, script_at, script_behind};
+ghost use Rattle.std.specs.Prelude.{◌≡◌};
+ghost use Rattle.walkx.specs.Inner.Stages.{HearsStage, IsStage, IsStep, StandsFor};
+ghost use Rattle.walkx.specs.Inner.Stages.{follows_children, script_at, script_behind, task_at};
+ghost use Rattle.walkx.specs.Inner.Stages.{work_at};
 ghost use Rattle.walkx.specs.Scripts.{behind};
-ghost use Rattle.walkx.specs.Tasks.{task_of};
-ghost use Rattle.walkx.specs.Walk.{HearsAdmitted, leaf_script, next_op};
 
 use crate::apply::{after_claim, after_first_part, after_next, after_value, data_write};
 use crate::compute::counter_read;
@@ -22,7 +18,7 @@ use pram_words::{Kind, left, parent, right};
 #[tactic(auto, unfolding(crate::specs::Walk::begin_script, crate::specs::Walk::turn_script))]
 pub(crate) fn after(at: &Post, stage: Stage, answer: u64) -> Step
     requires stage { IsStage at.now stage }
-    requires answer { HearsAdmitted at.now.job at.now.layout (next_op (doing_of stage at.now.phase) (script_at at.now stage)) answer }
+    requires answer { HearsStage at.now stage answer }
     ensures rest { script_behind at.now result ≡ behind (script_at at.now stage) answer }
     ensures fits { IsStep at.now stage result }
 {
@@ -64,7 +60,7 @@ pub(crate) fn after(at: &Post, stage: Stage, answer: u64) -> Step
 // What follows the root.
 #[tactic(auto, using(crate::proofs::Boards::root_most), unfolding(crate::specs::Walk::begin_script))]
 fn after_root(at: &Post, root: u64) -> Step
-    requires root { Admits at.now.layout at.now.job (number_of at.now.layout (Word.Node 1)) root }
+    requires root { HearsStage at.now Stage.Begin root }
     ensures rest { script_behind at.now result ≡ behind (script_at at.now Stage.Begin) root }
     ensures fits { IsStep at.now Stage.Begin result }
 {
@@ -80,8 +76,9 @@ fn after_root(at: &Post, root: u64) -> Step
 #[tactic(auto, using(crate::proofs::Boards::conflict_most))]
 fn after_conflict(at: &Post, root: u64, conflict: u64) -> Step
     requires stage { IsStage at.now (Stage.Look root) }
-    requires conflict { Admits at.now.layout at.now.job (number_of at.now.layout Word.Conflict) conflict }
-    ensures rest { script_behind at.now result ≡ behind (script_at at.now (Stage.Look root)) conflict }
+    requires conflict { HearsStage at.now (Stage.Look root) conflict }
+    ensures rest { script_behind at.now result ≡ behind (script_at at.now (Stage.Look root))
+        conflict }
     ensures fits { IsStep at.now (Stage.Look root) result }
 {
     let last = 3 * u64::from(at.job().steps());
@@ -113,7 +110,7 @@ fn after_node(at: &Post, found: u64) -> Step
 // The work at an unfinished node.
 fn work(at: &Post) -> Stage
     requires turn { IsStage at.now Stage.Node }
-    ensures { StandsFor at.now 14 (if nat_le at.now.layout.leaves at.now.node then leaf_script at.now.job at.now.layout at.now.node at.now.phase else script_at at.now Stage.Left) result }
+    ensures { StandsFor at.now 14 (work_at at.now) result }
 {
     let leaves = at.layout().leaves();
     if at.node() < leaves {
@@ -128,7 +125,7 @@ fn work(at: &Post) -> Stage
 // The task at an unfinished leaf of a processor.
 #[tactic(auto, using(crate::proofs::Hearing::task_computes))]
 fn task(leaf: &Leaf) -> Stage
-    ensures { StandsFor leaf.now 14 (task_of leaf.now.job.rule (kind_at leaf.now.phase) leaf.now.job leaf.now.layout (step_of leaf.now) (processor_of leaf.now) (then_marks leaf.now)) result }
+    ensures { StandsFor leaf.now 14 (task_at leaf.now) result }
 {
     match leaf.kind() {
         Kind::Compute => counter_read(leaf),

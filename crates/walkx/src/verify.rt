@@ -2,8 +2,7 @@
 ghost use Rattle.std.specs.Prelude.{◌≡◌, ◌<◌};
 ghost use Rattle.pram_words.specs.Words.{places_of};
 ghost use Rattle.walkx.specs.Inner.Posts.{IsLeaf, IsPart};
-ghost use Rattle.walkx.specs.Inner.Stages.{StandsFor, follows_place, follows_words, script_at};
-ghost use Rattle.walkx.specs.Scripts.{behind};
+ghost use Rattle.walkx.specs.Inner.Stages.{StandsBehind, StandsFor, follows_place, follows_words};
 
 use crate::place::differs;
 use crate::post::Leaf;
@@ -27,7 +26,7 @@ pub(crate) fn value_check(leaf: &Leaf, part: u32) -> Stage
 /// What follows the value of the request, which is to be compared with its place.
 pub(crate) fn after_own_value(leaf: &Leaf, place: u32, answer: u64) -> Stage
     requires place { place < places_of leaf.now.layout }
-    ensures { StandsFor leaf.now 12 (behind (script_at leaf.now (Stage.CheckValue place)) answer) result }
+    ensures { StandsBehind leaf.now 12 (Stage.CheckValue place) answer result }
 {
     if stamp(answer) == leaf.step() {
         Stage::Place(place, Want::Compare(payload(answer)))
@@ -38,7 +37,8 @@ pub(crate) fn after_own_value(leaf: &Leaf, place: u32, answer: u64) -> Stage
 
 /// What follows both words of the place: a word of the step with another value is a conflict.
 pub(crate) fn values_compared(leaf: &Leaf, place: u32, value: u32, first: u64, second: u64) -> Stage
-    ensures { StandsFor leaf.now 10 (follows_words leaf.now place (Want.Compare value) first second) result }
+    ensures { StandsFor leaf.now 10 (follows_words leaf.now place (Want.Compare value) first second)
+        result }
 {
     let step = leaf.step();
     if differs(step, value, first) || differs(step, value, second) {
@@ -60,9 +60,9 @@ pub(crate) fn claim_check(leaf: &Leaf, part: u32) -> Stage
     }
 }
 
-/// What follows the claim to the cell: one of the step that is not the processor's own is a conflict.
+/// What follows the claim to the cell: another one of the step is a conflict.
 pub(crate) fn after_checked_claim(leaf: &Leaf, cell: u32, answer: u64) -> Stage
-    ensures { StandsFor leaf.now 12 (behind (script_at leaf.now (Stage.CheckClaim cell)) answer) result }
+    ensures { StandsBehind leaf.now 12 (Stage.CheckClaim cell) answer result }
 {
     if differs(leaf.step(), leaf.claim(), answer) {
         Stage::Report

@@ -21,11 +21,11 @@ pub struct Worker {
 
 impl Model for Worker {
     ghost use Rattle.std.specs.Prelude.{◌≤◌};
-    ghost use Rattle.walkx.specs.Inner.Stages.{WorkerData, doing_of, most_heard, newest};
+    ghost use Rattle.walkx.specs.Inner.Stages.{WorkerData, most_heard, newest, worker_data};
 
     ghost Value = { WorkerData };
 
-    ghost view = { λ w. record { walking = record { number = w.number; node = w.node; now = doing_of w.stage w.phase; heard = newest w.count w.heard }; phase = w.phase; stage = w.stage } };
+    ghost view = { λ w. worker_data w.number w.node w.phase w.stage (newest w.count w.heard) };
 
     ghost invariant = { λ w. w.count ≤ most_heard w.stage };
 }
@@ -36,7 +36,8 @@ impl Worker {
     ghost use Rattle.pram_words.specs.Words.{LayoutData};
     ghost use Rattle.walkx.specs.Inner.Stages.{post_of};
     ghost use Rattle.walkx.specs.Serving.{Serves};
-    ghost use Rattle.walkx.specs.Walk.{AsksAdmitted, HearsAdmitted, IsBoard, IsLayoutOf, ask_of, come_back, end_of, started, told};
+    ghost use Rattle.walkx.specs.Walk.{AsksAdmitted, HearsAdmitted, IsBoard, IsLayoutOf, ask_of};
+    ghost use Rattle.walkx.specs.Walk.{come_back, end_of, started, told};
 
     /// Worker w, at its first leaf.
     pub fn start(w: u32) -> Worker
@@ -101,7 +102,8 @@ impl Worker {
     pub fn tell(&mut self, job: &Job, layout: &Layout, answer: u64)
         requires layout { IsLayoutOf job.now layout.now }
         requires serves { Serves job.now layout.now self.old }
-        requires admitted { HearsAdmitted job.now layout.now (ask_of job.now layout.now self.old.walking) answer }
+        requires admitted { HearsAdmitted job.now layout.now (ask_of job.now layout.now
+            self.old.walking) answer }
         ensures told { self.new.walking ≡ told job.now layout.now self.old.walking answer }
         ensures serves { Serves job.now layout.now self.new }
     {

@@ -1,5 +1,6 @@
 -- What a stage of a reader stands for: the rest of its script.
-use Rattle.std.specs.Prelude.{◌≡◌, ℕ, ◌%◌, ◌<◌, ◌≤◌, ◌==◌, length, nat_le, if◌then◌else◌}
+use Rattle.std.specs.Prelude.{◌≡◌, ℕ, ◌%◌, ◌<◌, ◌≤◌, ◌==◌, length, nat_le, if◌then◌else◌, List}
+use Rattle.pram_text.specs.Job.{JobData}
 use Rattle.pram_words.specs.Stamps.{stamp_of, payload_of}
 use Rattle.pram_words.specs.Words.{LayoutData, number_of}
 use Rattle.pram_words.specs.declared.words.Word.TheVariants.{Conflict, Stored}
@@ -8,9 +9,9 @@ use Rattle.walkx.specs.declared.operation.Reading.{Reading}
 use Rattle.walkx.specs.declared.operation.Reading.TheVariants.{At}
 use Rattle.walkx.specs.declared.stage.Glance.{Glance}
 use Rattle.walkx.specs.declared.stage.Glance.TheVariants as glance
-use Rattle.walkx.specs.Scripts.{Script, asks, ends}
+use Rattle.walkx.specs.Scripts.{Script, asks, ends, behind}
 use Rattle.walkx.specs.Tasks.{newer_payload}
-use Rattle.walkx.specs.Reads.{Looking, look_of, read_script, reader_script, step_seen, lesser, told_at}
+use Rattle.walkx.specs.Reads.{HeardAdmitted, Looking, look_of, looks_for, read_script, reader_script, step_seen, lesser, told_at}
 
 -- the first word was heard once more
 abbrev pub reads_again : ℕ → ℕ → ℕ → ℕ → Script Reading
@@ -30,6 +31,13 @@ script_of_glance y c (glance.First s) = read_script y c s
 script_of_glance y c (glance.Second s a) = asks (Load (number_of y (Stored c 1))) (λ b. reads_both y c s a b)
 script_of_glance y c (glance.Again s a b) = asks (Load (number_of y (Stored c 0))) (λ again. reads_again s a b again)
 script_of_glance y c (glance.Over reading) = ends reading
+
+-- an answer to a stage, and a stage behind it
+abbrev pub HearsGlance : JobData → LayoutData → ℕ → Glance → ℕ → Type 0
+HearsGlance job y c g answer = HeardAdmitted job y (looks_for (script_of_glance y c g)) answer
+
+abbrev pub StandsBehindGlance : LayoutData → ℕ → Glance → ℕ → Glance → Type 0
+StandsBehindGlance y c old answer new = script_of_glance y c new ≡ behind (script_of_glance y c old) answer
 
 -- the greatest phase
 abbrev pub IsGlance : Glance → Type 0
@@ -54,6 +62,10 @@ IsLaterGlance old new = most_looked old < most_looked new
 pub record ReaderData : Type 0 where
   pub looking : Looking
   pub stage : Glance
+
+-- by the fields of the code
+abbrev pub reader_data : ℕ → Glance → List ℕ → ReaderData
+reader_data cell g heard = record { looking = record { cell = cell; heard = heard }; stage = g }
 
 -- its stage stands for the rest of its script
 pub record StandsAt (y : LayoutData) (k : ReaderData) : Type 0 where

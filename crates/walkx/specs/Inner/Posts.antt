@@ -2,7 +2,11 @@
 use Rattle.std.specs.Prelude.{IsTrue, ℕ, ◌+◌, ◌-◌, ◌*◌, ◌<◌, ◌≤◌}
 use Rattle.pram_text.specs.Job.{JobData}
 use Rattle.pram_words.specs.Phases.{step_at}
-use Rattle.pram_words.specs.Words.{LayoutData, places_of}
+use Rattle.pram_words.specs.Stamps.{stamped_word}
+use Rattle.pram_words.specs.Words.{LayoutData, number_of, places_of}
+use Rattle.pram_words.specs.declared.words.Word.TheVariants.{Asked}
+use Rattle.walkx.specs.declared.operation.Op.{Op}
+use Rattle.walkx.specs.declared.operation.Op.TheVariants.{Max}
 use Rattle.walkx.specs.Scripts.{Script}
 use Rattle.walkx.specs.Walk.{Then, IsBoard, marks}
 
@@ -13,6 +17,9 @@ pub record PostData : Type 0 where
   pub worker : ℕ
   pub node : ℕ
   pub phase : ℕ
+
+abbrev pub post_data : JobData → LayoutData → ℕ → ℕ → ℕ → PostData
+post_data job y worker node phase = record { job = job; layout = y; worker = worker; node = node; phase = phase }
 
 -- the worker and its node are on the job's board
 pub record IsPost (at : PostData) : Type 0 where
@@ -38,6 +45,10 @@ processor_of at = at.node - at.layout.leaves
 -- behind a task the leaf is marked
 abbrev pub then_marks : PostData → Script Then
 then_marks at = marks at.layout at.node at.phase
+
+-- part j of the processor's request is raised to this payload
+abbrev pub part_raised : PostData → ℕ → ℕ → Op
+part_raised at j payload = Max (number_of at.layout (Asked (processor_of at) j)) (stamped_word (step_of at) payload)
 
 -- a cell with a claim word
 abbrev pub IsCell : LayoutData → ℕ → Type 0

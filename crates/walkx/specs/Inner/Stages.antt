@@ -24,10 +24,28 @@ use Rattle.walkx.specs.declared.stage.Stage.{Stage}
 use Rattle.walkx.specs.declared.stage.Stage.TheVariants as stage
 use Rattle.walkx.specs.declared.stage.Step.{Step}
 use Rattle.walkx.specs.declared.stage.Step.TheVariants as step
-use Rattle.walkx.specs.Scripts.{Script, asks, ends}
-use Rattle.walkx.specs.Tasks.{is_late, older, older_word, newer_payload, loads_both, reads_place, writes_place, reads_cell, raises_request, executes, hears_part, if_data, claim_of, carries, claims, differs, reports, task_of}
-use Rattle.walkx.specs.Walk.{Then, begins, turns, stops, way_down, stands_at, back_script, begin_script, turn_script, Walking, node_of, rest_of, IsGoing}
-use Rattle.walkx.specs.Inner.Posts.{PostData, IsCell, IsLeaf, IsPart, step_of, processor_of, then_marks}
+use Rattle.walkx.specs.Scripts.{Script, asks, ends, behind}
+use Rattle.walkx.specs.Tasks.{is_late, older, older_word, newer_payload, loads_both, reads_place, writes_place, reads_cell, raises_request, executes, compute_task, hears_part, if_data, claim_of, carries, claims, differs, reports, task_of}
+use Rattle.walkx.specs.Walk.{Then, begins, turns, stops, way_down, stands_at, back_script, begin_script, leaf_script, turn_script, HearsAdmitted, next_op, Walking, node_of, rest_of, IsGoing}
+use Rattle.walkx.specs.Inner.Posts.{PostData, post_data, IsCell, IsLeaf, IsPart, step_of, processor_of, then_marks}
+
+-- the task of the phase
+abbrev pub task_at : PostData → Script Then
+task_at at = task_of at.job.rule (kind_at at.phase) at.job at.layout (step_of at) (processor_of at) (then_marks at)
+
+abbrev pub then_computes : PostData → Script Then
+then_computes at = compute_task at.job at.layout (step_of at) (processor_of at) (then_marks at)
+
+abbrev pub then_executes : PostData → ℕ → Option Instr → Script Then
+then_executes at counter instr = executes at.job at.layout (step_of at) (processor_of at) counter instr (then_marks at)
+
+-- the instruction at a counter, if there is one
+abbrev pub then_fetches : PostData → ℕ → Script Then
+then_fetches at counter = then_executes at counter (slice_get at.job.code counter)
+
+-- the request of an instruction is raised, then the leaf
+abbrev pub then_raises : PostData → Instr → ℕ → ℕ → ℕ → ℕ → Script Then
+then_raises at instr counter a b v = raises_request at.layout (step_of at) (processor_of at) (decided at.job (processor_of at) counter instr a b v) (then_marks at)
 
 -- behind the data, the counter is written where there is a next one
 abbrev pub then_counts : PostData → Option ℕ → Script Then
@@ -37,15 +55,15 @@ then_counts at (Some next) = writes_place at.layout (step_of at) (counter_place 
 -- the request of an instruction with these operands
 abbrev pub then_asks : PostData → Instr → ℕ → ℕ → ℕ → Script Then
 then_asks at instr counter a b =
-    reads_cell at.layout (step_of at) (cell_read at.job instr a) (then_marks at) (λ v. raises_request at.layout (step_of at) (processor_of at) (decided at.job (processor_of at) counter instr a b v) (then_marks at))
+    reads_cell at.layout (step_of at) (cell_read at.job instr a) (then_marks at) (then_raises at instr counter a b)
 
 -- a place was read for this, and held the value before the step
 abbrev pub reads_for : PostData → Want → ℕ → Script Then
-reads_for at want.Counter v = executes at.job at.layout (step_of at) (processor_of at) v (slice_get at.job.code v) (then_marks at)
+reads_for at want.Counter v = then_fetches at v
 reads_for at (want.Only instr counter) v = then_asks at instr counter v 0
 reads_for at (want.First instr counter r) v = reads_place at.layout (step_of at) (register_place at.job (processor_of at) r) (then_marks at) (λ b. then_asks at instr counter v b)
 reads_for at (want.Second instr counter a) v = then_asks at instr counter a v
-reads_for at (want.Cell instr counter a) v = raises_request at.layout (step_of at) (processor_of at) (decided at.job (processor_of at) counter instr a 0 v) (then_marks at)
+reads_for at (want.Cell instr counter a) v = then_raises at instr counter a 0 v
 reads_for at (want.Write value next) v = then_marks at
 reads_for at (want.Compare value) v = then_marks at
 
@@ -100,6 +118,9 @@ follows_place at Priority Verify part = hears_value at part
 follows_place at Crew Apply part = hears_value at part
 follows_place at Crew Verify part = if_data part (then_marks at) (λ p. if nat_lt p at.job.cells then checks_claim at p else then_marks at)
 
+abbrev pub follows_part : PostData → ℕ → Script Then
+follows_part at part = follows_place at at.job.rule (kind_at at.phase) part
+
 -- both children were heard
 abbrev pub follows_children : PostData → ℕ → ℕ → Script Then
 follows_children at l r =
@@ -123,7 +144,7 @@ script_at at (stage.AskValue request) =
     asks (Max (number_of at.layout (Asked (processor_of at) 1)) (stamped_word (step_of at) (value_part request))) (λ found.
     asks (Max (number_of at.layout (Asked (processor_of at) 2)) (stamped_word (step_of at) request.next)) (λ found. then_marks at))
 script_at at (stage.AskNext request) = asks (Max (number_of at.layout (Asked (processor_of at) 2)) (stamped_word (step_of at) request.next)) (λ found. then_marks at)
-script_at at stage.Hear = task_of at.job.rule (kind_at at.phase) at.job at.layout (step_of at) (processor_of at) (then_marks at)
+script_at at stage.Hear = task_at at
 script_at at (stage.HearValue p) = hears_value at p
 script_at at (stage.HearNext p value) =
     hears_part at.layout (step_of at) (processor_of at) 2 (then_marks at) (λ next. applies at at.job.rule (record { place = p; value = value; next = next }))
@@ -133,6 +154,22 @@ script_at at (stage.HearClaim c carry) = asks (Load (number_of at.layout (Claim 
 script_at at (stage.CheckClaim c) = checks_claim at c
 script_at at stage.Report = reports at.layout (step_of at) (then_marks at)
 script_at at (stage.Over e) = ends (stops e)
+
+-- what the worker is doing
+abbrev pub doing_of : Stage → ℕ → Doing
+doing_of stage.Back q = doing.Back
+doing_of stage.Begin q = doing.Begin
+doing_of (stage.Look root) q = doing.Begin
+doing_of (stage.Over e) q = doing.Over e
+doing_of _ q = doing.Turn q
+
+-- the work at an unfinished node
+abbrev pub work_at : PostData → Script Then
+work_at at = if nat_le at.layout.leaves at.node then leaf_script at.job at.layout at.node at.phase else script_at at stage.Left
+
+-- an answer to a stage
+abbrev pub HearsStage : PostData → Stage → ℕ → Type 0
+HearsStage at st answer = HearsAdmitted at.job at.layout (next_op (doing_of st at.phase) (script_at at st)) answer
 
 -- what a step of the worker leads to
 abbrev pub script_behind : PostData → Step → Script Then
@@ -230,20 +267,16 @@ left_at (stage.Over e) = 0
 abbrev pub most_heard : Stage → ℕ
 most_heard st = 14 - left_at st
 
--- what the worker is doing
-abbrev pub doing_of : Stage → ℕ → Doing
-doing_of stage.Back q = doing.Back
-doing_of stage.Begin q = doing.Begin
-doing_of (stage.Look root) q = doing.Begin
-doing_of (stage.Over e) q = doing.Over e
-doing_of _ q = doing.Turn q
-
 -- The stage stands for this script of a turn, of which so many answers are left before it.
 pub record StandsFor (at : PostData) (left : ℕ) (script : Script Then) (st : Stage) : Type 0 where
   pub rest : script_at at st ≡ script
   pub stage : IsStage at st
   pub turn : doing_of st at.phase ≡ doing.Turn at.phase
   pub later : left_at st < left
+
+-- behind an answer to an earlier stage
+abbrev pub StandsBehind : PostData → ℕ → Stage → ℕ → Stage → Type 0
+StandsBehind at left old answer new = StandsFor at left (behind (script_at at old) answer) new
 
 -- what a worker's step may lead to
 abbrev pub IsStep : PostData → Stage → Step → Type 0
@@ -261,8 +294,12 @@ pub record WorkerData : Type 0 where
   pub phase : ℕ
   pub stage : Stage
 
+-- by the fields of the code
+abbrev pub worker_data : ℕ → Option ℕ → ℕ → Stage → List ℕ → WorkerData
+worker_data number node phase st heard = record { walking = record { number = number; node = node; now = doing_of st phase; heard = heard }; phase = phase; stage = st }
+
 abbrev pub post_of : JobData → LayoutData → WorkerData → PostData
-post_of job y k = record { job = job; layout = y; worker = k.walking.number; node = node_of y k.walking; phase = k.phase }
+post_of job y k = post_data job y k.walking.number (node_of y k.walking) k.phase
 
 -- its stage stands for the rest of its script
 pub record Stands (job : JobData) (y : LayoutData) (k : WorkerData) : Type 0 where
