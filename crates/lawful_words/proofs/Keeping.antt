@@ -15,7 +15,7 @@ use Rattle.walkx.specs.Walk.{IsLayoutOf, IsBoard}
 use Rattle.walkx.proofs.Boards.{same_cells, same_procs}
 use Rattle.pram_step.specs.History.{Asks, IsWritten, last_write, write_before}
 use Rattle.pram_step.proofs.LawFixed.{reached_more}
-use Rattle.pram_step.proofs.Past.{last_most, last_new, write_cases, Left, Set, written_value, before_most, asks_place}
+use Rattle.pram_step.proofs.Past.{last_most, last_new, write_cases, Left, Set, written_value, before_most, asks_fit}
 use Rattle.lawful_words.specs.Steps.{word_of_step, settled, settled_before}
 use Rattle.lawful_words.specs.Board.{held, root, conflict, leaf, stamp_at, finished, IsLate, HoldsNew, Raised, Carried, CarriedWon, Claimed, Stays, ClaimStays, Done, phase_in, IsNew, IsPair, newer_first, newer_second, new_first, new_second, ClaimsFor, IsClaimed, claimed_before, claimed_now, LawfulFor, Lawful, Grows}
 use Rattle.lawful_words.proofs.Values.{fin, phase_high, stamp_step}
@@ -35,7 +35,7 @@ module _ (job : JobData) (y : LayoutData) (words later : List ℕ) (s : ℕ) (li
   is_board = record { limits = limits; layout = sizes; is = layout }
 
   place_of : (p i v : ℕ) → Asks job s p i v → p < places_of y
-  place_of p i v asks = let a = asks_place job s p i v limits asks in let b = same_cells job y is_board in let c = same_procs job y is_board in omega arith
+  place_of p i v asks = let a = (asks_fit job s p i v limits asks).0 in let b = same_cells job y is_board in let c = same_procs job y is_board in omega arith
 
   raised_later : (i : ℕ) → i < y.procs → Raised job y s words i → Raised job y s later i
   raised_later i proc r j part = let h = r j part in let u = up (Asked i j) (proc, part) in omega arith

@@ -23,7 +23,7 @@ use Rattle.walkx.proofs.Boards.{same_cells, same_procs}
 use Rattle.pram_step.specs.Instructions.{request_in, place_part, value_part, HasShape}
 use Rattle.pram_step.proofs.Shapes.{request_shape}
 use Rattle.pram_step.specs.History.{Asks, Wins, last_write, write_before, part_after}
-use Rattle.pram_step.proofs.Past.{last_most, last_least, conflict_above, asks_fits, asks_place, before_most}
+use Rattle.pram_step.proofs.Past.{last_most, last_least, conflict_above, before_most, asks_fit}
 use Rattle.lawful_words.specs.Writes.{PlaceAsHeard, Floor, Does}
 use Rattle.lawful_words.specs.Steps.{phase_written, word_of_step, settled, settled_before}
 use Rattle.lawful_words.specs.Board.{held, root, conflict, leaf, stamp_at, finished, phase_in, IsTree, IsAsked, IsNew, IsPair, newer_first, newer_second, new_first, new_second, IsClaimed, claimed_now, IsNamed, Lawful, Only, Stands, Grows}
@@ -220,7 +220,7 @@ written_most job y s p i v is asks =
     let l = w.0 in
     let cells = same_cells job y is in
     let procs = same_procs job y is in
-    let fits = asks_fits job s p i v is.limits asks in
+    let fits = (asks_fit job s p i v is.limits asks).1 in
     elim w.1 [
       | inl e ↦ rw (le-ltb p (counters_of y) (omega arith)) (let n = (shape_of job y s i is (omega arith)).next in let k = counter_value job i p v (request_in job (state_after job s) i) e (writer_is job (state_after job s) p i v asks).1 in omega arith)
       | inr d ↦ rw (lt-ltb p (counters_of y) (elim d [ inl c ↦ omega arith | inr c ↦ (let m = c.1 in omega arith) ])) (omega arith)
@@ -286,18 +286,18 @@ module _ (job : JobData) (y : LayoutData) (words : List ℕ) (q x : ℕ) (stands
 
   module _ (p i v : ℕ) (phase : q ≡ phase_written job.rule x) (asks : Asks job x p i v) (wins : Wins job x p i) where
     place : p < places_of y
-    place = let a = asks_place job x p i v stands.limits asks in let c = same_cells job y a_board in let d = same_procs job y a_board in omega arith
+    place = let a = (asks_fit job x p i v stands.limits asks).0 in let c = same_cells job y a_board in let d = same_procs job y a_board in omega arith
 
     value : ℕ
     value = stamped_word (suc x) v
 
     value_stamp : stamp_of value ≡ suc x
     unfolding value
-    value_stamp = let fits = asks_fits job x p i v stands.limits asks in omega arith
+    value_stamp = let fits = (asks_fit job x p i v stands.limits asks).1 in omega arith
 
     value_payload : payload_of value ≡ v
     unfolding value
-    value_payload = let fits = asks_fits job x p i v stands.limits asks in omega arith
+    value_payload = let fits = (asks_fit job x p i v stands.limits asks).1 in omega arith
 
     range : IsStamped job.steps (most_stored y job p) value
     range = let s = value_stamp in let l = value_payload in let m = written_most job y x p i v a_board asks in (omega arith, omega arith)

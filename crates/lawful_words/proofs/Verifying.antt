@@ -17,7 +17,7 @@ use Rattle.walkx.specs.Tasks.{claim_of, differs, reports, hears_part, loads_both
 use Rattle.walkx.specs.Walk.{Then, IsBoard}
 use Rattle.walkx.proofs.Boards.{same_cells, same_procs}
 use Rattle.pram_step.specs.History.{Asks, Wins, last_write, write_before, part_after}
-use Rattle.pram_step.proofs.Past.{written_value, each_write, asks_place}
+use Rattle.pram_step.proofs.Past.{written_value, each_write, asks_fit}
 use Rattle.lawful_words.specs.Writes.{Floor}
 use Rattle.lawful_words.specs.Steps.{phase_written, word_of_step}
 use Rattle.lawful_words.specs.Board.{held, root, conflict, stamp_at, finished, HoldsNew, Stays, ClaimStays, Stands, Grows}
@@ -55,7 +55,7 @@ differs_not t v a h e = elim (cases_eq (payload_of a) v) [
 
 module _ (job : JobData) (x p i v : ℕ) (y : LayoutData) (board : IsBoard job y) (agrees : AgreesAfter job x) (asked : Asks job x p i v) (wins : (j : ℕ) → Wins job x p j) where
   step_value : slice_index (state_after job (suc x)) p ≡ v
-  step_value = written_value job x p i v board.limits (asks_place job x p i v board.limits asked) agrees asked (wins i)
+  step_value = written_value job x p i v board.limits ((asks_fit job x p i v board.limits asked).0) agrees asked (wins i)
 
   by_step : (t word : ℕ) → word ≡ word_of_step job t p → stamp_of word ≡ suc x → payload_of word ≡ v
   by_step t word e s =
@@ -65,7 +65,7 @@ module _ (job : JobData) (x p i v : ℕ) (y : LayoutData) (board : IsBoard job y
   by_new : (f word j : ℕ) → f ≡ x → Asks job f p j (payload_of word) → payload_of word ≡ v
   by_new f word j e a =
       let a_here : Asks job x p j (payload_of word) = subst (λ (s : ℕ). Asks job s p j (payload_of word)) e a in
-      sym (written_value job x p j (payload_of word) board.limits (asks_place job x p j (payload_of word) board.limits a_here) agrees a_here (wins j)) ∙ step_value
+      sym (written_value job x p j (payload_of word) board.limits ((asks_fit job x p j (payload_of word) board.limits a_here).0) agrees a_here (wins j)) ∙ step_value
 
   agreed : (f root word : ℕ) → WordIs job f root p word → stamp_of word ≡ suc x → payload_of word ≡ v
   agreed f root word (is_settled e) s = by_step (last_write job f p) word e s
@@ -115,7 +115,7 @@ module _ (job : JobData) (y : LayoutData) (w q x i : ℕ) (some : 1 ≤ q) (most
   both_floor p a b words stands m = let first = m.earlier in floor_lasts job y q x first.words words first.stands stands (onward y first.words m.words words first.since m.since) first.earlier
 
   place_in : (p v : ℕ) → Asks job x p i v → p < places_of y
-  place_in p v asked = let a = asks_place job x p i v board.limits asked in let b = same_cells job y board in let c = same_procs job y board in omega arith
+  place_in p v asked = let a = (asks_fit job x p i v board.limits asked).0 in let b = same_cells job y board in let c = same_procs job y board in omega arith
 
   -- a word of the step with another value: the step doesn't agree
   disagrees : (p v a b : ℕ) (words : List ℕ) → job.rule ≡ Common → Asks job x p i v → Both p a b words → (differs (suc x) v a || differs (suc x) v b) ≡ true → AgreesAfter job x → ⊥

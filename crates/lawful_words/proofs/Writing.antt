@@ -14,7 +14,7 @@ use Rattle.walkx.specs.Operations.{words_after}
 use Rattle.walkx.specs.Scripts.{Script, asks}
 use Rattle.walkx.specs.Tasks.{is_late, first_is_older, writes_place, older, older_word}
 use Rattle.pram_step.specs.History.{Asks, Wins}
-use Rattle.pram_step.proofs.Past.{asks_place}
+use Rattle.pram_step.proofs.Past.{asks_fit}
 use Rattle.lawful_words.specs.Writes.{PlaceAsHeard, Floor}
 use Rattle.lawful_words.specs.Steps.{phase_written}
 use Rattle.lawful_words.specs.Board.{held, stamp_at, IsLate, Stands, Grows}
@@ -54,7 +54,7 @@ module _ (job : JobData) (y : LayoutData) (w q x p i v : ℕ) (some : 1 ≤ q) (
   place_by : (words : List ℕ) → Stands job y words → P words → p < places_of y
   place_by words stands k =
       let is_board : IsBoard job y = record { limits = stands.limits; layout = stands.sizes; is = stands.layout } in
-      let a = asks_place job x p i v stands.limits (asked words k).0 in let b = same_cells job y is_board in let c = same_procs job y is_board in omega arith
+      let a = (asks_fit job x p i v stands.limits (asked words k).0).0 in let b = same_cells job y is_board in let c = same_procs job y is_board in omega arith
 
   Both : ℕ → ℕ → List ℕ → Type 0
   Both a b = Moment job y (Load (number_of y (Stored p 1))) b (Moment job y (Load (number_of y (Stored p 0))) a P)
