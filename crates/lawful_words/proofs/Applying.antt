@@ -62,13 +62,15 @@ module _ (job : JobData) (y : LayoutData) (w q x i : ℕ) (some : 1 ≤ q) (most
 
   -- ---- apply
 
-  pub carried_safe : q ≡ phase_written job.rule x → ((p v : ℕ) → Asks job x p i v → Wins job x p i) → (after : Script Then) → (P : List ℕ → Type 0) → Lasts job y P → ((words : List ℕ) → P words → Floor job y q x words) →
+  pub carried_safe : q ≡ phase_written job.rule x → ((p v : ℕ) → Asks job x p i v → Wins job x p i) → (after : Script Then) → (P : List ℕ → Type 0) →
+      Lasts job y P → ((words : List ℕ) → P words → Floor job y q x words) →
       (history : List (Op × ℕ)) → Sees job y history P → ((longer : List (Op × ℕ)) → Sees job y longer (λ words. P words × Carried job y x words i) → Safe {R = Then} job y w q after longer) →
       Safe {R = Then} job y w q (carries job y (suc x) i (part_after job x i 0) (part_after job x i 1) (part_after job x i 2) after) history
   carried_safe phase wins after P lasts floor history sees on =
       carries_safe job y w q x i (part_after job x i 0) (part_after job x i 1) (part_after job x i 2) some most step phase proc_job wins P lasts floor (λ words p. (refl, refl, refl)) {R = Then} after history sees on
 
-  pub apply_safe : job.rule ≢ Priority → q ≡ phase_written job.rule x → 3 * x + 2 ≤ q → (after : Script Then) → EndSafe job y w q x (λ words. Carried job y x words i) after → (history : List (Op × ℕ)) → Sees job y history (Floor job y q x) →
+  pub apply_safe : job.rule ≢ Priority → q ≡ phase_written job.rule x → 3 * x + 2 ≤ q → (after : Script Then) →
+      EndSafe job y w q x (λ words. Carried job y x words i) after → (history : List (Op × ℕ)) → Sees job y history (Floor job y q x) →
       Safe {R = Then} job y w q (apply_task job y (suc x) i after) history
   unfolding apply_task
   apply_safe rule phase late after done history sees =
@@ -81,14 +83,16 @@ module _ (job : JobData) (y : LayoutData) (w q x i : ℕ) (some : 1 ≤ q) (most
   no_claim : (words : List ℕ) → part_after job x i 0 ≡ 0 → Claimed job y x words i
   no_claim words none c v asked cell = absurd (let e = cell_written job x c i v asked cell in omega arith)
 
-  claimed_by : (words : List ℕ) → (part_after job x i 0 == 0) ≡ false → (part_after job x i 0 - 1 < job.cells → stamped_word (suc x) (claim_of job i) ≤ held y words (Claim (part_after job x i 0 - 1))) → Claimed job y x words i
+  claimed_by : (words : List ℕ) → (part_after job x i 0 == 0) ≡ false →
+      (part_after job x i 0 - 1 < job.cells → stamped_word (suc x) (claim_of job i) ≤ held y words (Claim (part_after job x i 0 - 1))) → Claimed job y x words i
   claimed_by words e claimed c v asked cell =
       let f = eqb-false (part_after job x i 0) 0 e in
       let is = cell_written job x c i v asked cell in
       let same : part_after job x i 0 - 1 ≡ c = omega arith in
       subst (λ (c : ℕ). stamped_word (suc x) (claim_of job i) ≤ held y words (Claim c)) same (claimed (omega arith))
 
-  pub claim_safe : IsTrue y.claims → 3 * x + 2 ≡ q → (after : Script Then) → EndSafe job y w q x (λ words. Claimed job y x words i) after → (history : List (Op × ℕ)) → Sees job y history (Floor job y q x) →
+  pub claim_safe : IsTrue y.claims → 3 * x + 2 ≡ q → (after : Script Then) → EndSafe job y w q x (λ words. Claimed job y x words i) after →
+      (history : List (Op × ℕ)) → Sees job y history (Floor job y q x) →
       Safe {R = Then} job y w q (claim_task job y (suc x) i after) history
   unfolding claim_task
   claim_safe has phase after done history sees =
@@ -109,7 +113,8 @@ module _ (job : JobData) (y : LayoutData) (w q x i : ℕ) (some : 1 ≤ q) (most
   at_lasts has =
       both_last job y (Floor job y q x) (λ words. part_after job x i 0 - 1 < job.cells → stamped_word (suc x) (claim_of job i) ≤ held y words (Claim (part_after job x i 0 - 1))) (floor_lasts job y q x) (claimed_lasts job y w q x i some most step board proc (part_after job x i 0 - 1) has)
 
-  pub crew_apply_safe : job.rule ≢ Priority → IsTrue y.claims → q ≡ phase_written job.rule x → 3 * x + 2 ≡ q → (after : Script Then) → EndSafe job y w q x (λ words. Carried job y x words i × Claimed job y x words i) after →
+  pub crew_apply_safe : job.rule ≢ Priority → IsTrue y.claims → q ≡ phase_written job.rule x → 3 * x + 2 ≡ q → (after : Script Then) →
+      EndSafe job y w q x (λ words. Carried job y x words i × Claimed job y x words i) after →
       (history : List (Op × ℕ)) → Sees job y history (Floor job y q x) → Safe {R = Then} job y w q (crew_apply_task job y (suc x) i after) history
   unfolding crew_apply_task At
   crew_apply_safe rule has written phase after done history sees =

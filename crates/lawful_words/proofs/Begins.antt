@@ -40,7 +40,8 @@ begin_safe job y n w q history = load_safe {R = Then} job y w q (number_of y (No
         (λ e. cond_both (r == 3 * job.steps) (ends (stops ended.Done)) (ends (turns n (r + 1))) (λ (s : Script Then). Safe {R = Then} job y w q s longest) (λ e. tt) (λ e. tt)) (λ e. tt)
 
 -- a worker's position is stored
-pub store_goes : (job : JobData) (y : LayoutData) (w q n : ℕ) (words : List ℕ) → Stands job y words → w < y.workers → 1 ≤ n → n < 2 * y.leaves → Goes job y w q (Store (number_of y (Position w)) n) words
+pub store_goes : (job : JobData) (y : LayoutData) (w q n : ℕ) (words : List ℕ) → Stands job y words → w < y.workers → 1 ≤ n → n < 2 * y.leaves →
+    Goes job y w q (Store (number_of y (Position w)) n) words
 store_goes job y w q n words stands worker low high = record {
   keeps = store_keeps job y w n words stands worker low high;
   stale = λ h a is other. (only_set y (Position w) n words stands.sizes stands.admitted.len worker).rest a is other;

@@ -29,18 +29,21 @@ low_below job y (e ∷ es) now m =
     (shown_below_more y m.words es e.0 (λ n some most. let b = (numbering y m.stands.sizes).below (Node n) (some, most) in let l = m.stands.admitted.len in omega arith)
     (nodes_rise y m.words after m.grew) (low_below job y es m.words m.earlier)))
 
-heard_may : (job : JobData) (y : LayoutData) (w : ℕ) (es : List (Op × ℕ)) (op : Op) (found : ℕ) (now : List ℕ) → w < y.workers → Moment job y op found (Chain job y (λ words. Unit {0}) es) now → MayHear job y w es op found
+heard_may : (job : JobData) (y : LayoutData) (w : ℕ) (es : List (Op × ℕ)) (op : Op) (found : ℕ) (now : List ℕ) → w < y.workers →
+    Moment job y op found (Chain job y (λ words. Unit {0}) es) now → MayHear job y w es op found
 heard_may job y w es op found now worker m =
     let leaves = m.stands.sizes.leaves in
     subst (λ (answer : ℕ). MayHear job y w es op answer) (sym m.heard)
     (may_hear job y w m.words es op (low_below job y es m.words m.earlier) (m.stands.admitted.in_range (Node 1) (lit< tt, omega arith)) (m.stands.admitted.in_range (Position w) worker))
 
-pub chain_is_heard : (job : JobData) (y : LayoutData) (w : ℕ) (history : List (Op × ℕ)) (now : List ℕ) → w < y.workers → Chain job y (λ words. Unit {0}) history now → IsHeard job y w history
+pub chain_is_heard : (job : JobData) (y : LayoutData) (w : ℕ) (history : List (Op × ℕ)) (now : List ℕ) → w < y.workers →
+    Chain job y (λ words. Unit {0}) history now → IsHeard job y w history
 chain_is_heard job y w [] now worker chain = tt
 chain_is_heard job y w (e ∷ es) now worker m = (heard_may job y w es e.0 e.1 now worker m, chain_is_heard job y w es m.words worker m.earlier)
 
 -- whatever steps a record has that the words bear out
-pub backed_is_heard : (job : JobData) (y : LayoutData) (w : ℕ) (r : Record) (history : List (Op × ℕ)) (now : List ℕ) → w < y.workers → Backed job y r now → Has r history → IsHeard job y w history
+pub backed_is_heard : (job : JobData) (y : LayoutData) (w : ℕ) (r : Record) (history : List (Op × ℕ)) (now : List ℕ) → w < y.workers → Backed job y r now →
+    Has r history → IsHeard job y w history
 backed_is_heard job y w r history now worker backed has = chain_is_heard job y w history now worker (chain_of_has job y r history now backed has)
 
 -- ---- a known worker
@@ -51,12 +54,14 @@ steps_of job y w [] = []
 steps_of job y w (found ∷ earlier) = (ask_of job y (told_all job y w earlier), found) ∷ steps_of job y w earlier
 
 -- the record that knew it, lengthened by them, has its whole history
-pub history_known : (job : JobData) (y : LayoutData) (r : Record) (w : Walking) (answers : List ℕ) → Knows job y r w → Has (afters r (steps_of job y w answers)) (history_of job y w answers)
+pub history_known : (job : JobData) (y : LayoutData) (r : Record) (w : Walking) (answers : List ℕ) → Knows job y r w →
+    Has (afters r (steps_of job y w answers)) (history_of job y w answers)
 history_known job y r w [] knows = knows
 history_known job y r w (found ∷ earlier) knows = inl (refl, history_known job y r w earlier knows)
 
 -- So a worker that is going has made fewer steps than the bound.
-pub own_steps : (job : JobData) (y : LayoutData) (r : Record) (w : Walking) (answers now : List ℕ) → IsLayoutOf job y → Fits job y w → Knows job y r w → Backed job y (afters r (steps_of job y w answers)) now → IsGoing (told_all job y w answers).now → length answers < most_steps job y
+pub own_steps : (job : JobData) (y : LayoutData) (r : Record) (w : Walking) (answers now : List ℕ) → IsLayoutOf job y → Fits job y w → Knows job y r w →
+    Backed job y (afters r (steps_of job y w answers)) now → IsGoing (told_all job y w answers).now → length answers < most_steps job y
 own_steps job y r w answers now is fits knows backed going =
     bound.0 job y w is fits answers going
     (backed_is_heard job y w.number (afters r (steps_of job y w answers)) (history_of job y w answers) now fits.number backed (history_known job y r w answers knows))

@@ -70,7 +70,8 @@ module _ (job : JobData) (y : LayoutData) (w q x i : ℕ) (some : 1 ≤ q) (most
   bound_lasts : (j v : ℕ) → j < 3 → Lasts job y (λ words. v ≤ held y words (Asked i j))
   bound_lasts j v part words later a b up h = let m = asked_up j part words later up in omega arith
 
-  raised_by : (a b c : ℕ) (words : List ℕ) → stamped_word (suc x) a ≤ held y words (Asked i 0) → stamped_word (suc x) b ≤ held y words (Asked i 1) → stamped_word (suc x) c ≤ held y words (Asked i 2) → Raised job y x words i
+  raised_by : (a b c : ℕ) (words : List ℕ) → stamped_word (suc x) a ≤ held y words (Asked i 0) → stamped_word (suc x) b ≤ held y words (Asked i 1) →
+      stamped_word (suc x) c ≤ held y words (Asked i 2) → Raised job y x words i
   raised_by a b c words one two three zero part = omega arith
   raised_by a b c words one two three (suc zero) part = omega arith
   raised_by a b c words one two three (suc (suc zero)) part = omega arith
@@ -97,7 +98,8 @@ module _ (job : JobData) (y : LayoutData) (w q x i : ℕ) (some : 1 ≤ q) (most
   unfolding Second
   second_lasts = both_last job y First (Low 1) first_lasts (low_lasts 1 (lit< tt))
 
-  raises : (history : List (Op × ℕ)) → Sees job y history (Floor job y q x) → Safe {R = Then} job y w q (raises_request y (suc x) i (request_in job (state_after job x) i) after) history
+  raises : (history : List (Op × ℕ)) → Sees job y history (Floor job y q x) →
+      Safe {R = Then} job y w q (raises_request y (suc x) i (request_in job (state_after job x) i) after) history
   unfolding Low First Second
   raises history sees =
       let kind = kind_of x q Compute phase in
@@ -107,10 +109,12 @@ module _ (job : JobData) (y : LayoutData) (w q x i : ℕ) (some : 1 ≤ q) (most
       done longer (so job y longer (λ words. Second words × (stamped_word (suc x) (part_after job x i 2) ≤ held y words (Asked i 2))) (λ words. Floor job y q x words × (root y words + 1 ≡ q → Raised job y x words i))
       (λ words stands h. (h.0.0.0, λ live. raised_by (part_after job x i 0) (part_after job x i 1) (part_after job x i 2) words h.0.0.1 h.0.1 h.1)) more))))
 
-  raises_it : (r : Request) (history : List (Op × ℕ)) → request_in job (state_after job x) i ≡ r → Sees job y history (Floor job y q x) → Safe {R = Then} job y w q (raises_request y (suc x) i r after) history
+  raises_it : (r : Request) (history : List (Op × ℕ)) → request_in job (state_after job x) i ≡ r → Sees job y history (Floor job y q x) →
+      Safe {R = Then} job y w q (raises_request y (suc x) i r after) history
   raises_it r history e sees = subst (λ (r : Request). Safe {R = Then} job y w q (raises_request y (suc x) i r after) history) e (raises history sees)
 
-  does : (o : Option Instr) → slice_get job.code (counter job (state_after job x) i) ≡ o → (history : List (Op × ℕ)) → Sees job y history (Floor job y q x) → Safe {R = Then} job y w q (executes job y (suc x) i (counter job (state_after job x) i) o after) history
+  does : (o : Option Instr) → slice_get job.code (counter job (state_after job x) i) ≡ o → (history : List (Op × ℕ)) → Sees job y history (Floor job y q x) →
+      Safe {R = Then} job y w q (executes job y (suc x) i (counter job (state_after job x) i) o after) history
   does None e history sees = raises_it (goes_to (counter job (state_after job x) i)) history (stays job (state_after job x) i e) sees
   does (Some instr) e history sees =
       let s = state_after job x in

@@ -45,7 +45,8 @@ pub both_shows : (y : LayoutData) (r : Record) (t : ℕ) → Has r (heard_both y
 both_shows y r zero has = inr (inr (refl, record { op = Load (number_of y (Node 1)); hears = refl; has = has_earlier r (Load (number_of y Conflict), 0) ((Load (number_of y (Node 1)), 0) ∷ []) has }))
 both_shows y r (suc k) has = inr (inl (0, (λ e. absurd (omega arith)), record { op = Load (number_of y (Node 1)); next = Load (number_of y Conflict); hears = refl; hears_next = refl; has = has }))
 
-pub done_well : (job : JobData) (y : LayoutData) (r : Record) (w : Walking) (words : List ℕ) → Stands job y words → Backed job y r words → Fits job y w → Knows job y r w → w.now ≡ doing.Over ended.Done → DoneWell job y r
+pub done_well : (job : JobData) (y : LayoutData) (r : Record) (w : Walking) (words : List ℕ) → Stands job y words → Backed job y r words → Fits job y w →
+    Knows job y r w → w.now ≡ doing.Over ended.Done → DoneWell job y r
 done_well job y r w words stands backed well knows is =
     let has : Has r (heard_both y (3 * job.steps) 0) = subst (λ (es : List (Op × ℕ)). Has r es) (over_heard job y w ended.Done well is) knows in
     let shows = both_shows y r job.steps has in
@@ -63,13 +64,14 @@ is_first job s reached not within = elim (reached_or_conflict job (suc s)) [
   | inr c ↦ (
       let low : c.0.step ≤ suc s = c.2 in
       elim (cases_lt s c.0.step) [
-        | inl k ↦ record { fault = c.0; first = c.1; step = omega arith; within = within }
+        | inl k ↦ record { fault = c.0; is = record { first = c.1; within = omega arith }; step = omega arith }
         | inr k ↦ absurd (conflict_ends job c.0 s c.1 k reached)
       ]
       )
 ]
 
-pub heard_conflict : (job : JobData) (y : LayoutData) (r : Record) (u : ℕ) (words : List ℕ) → Stands job y words → Backed job y r words → Heard y r Conflict u → u ≢ 0 → IsConflict job u
+pub heard_conflict : (job : JobData) (y : LayoutData) (r : Record) (u : ℕ) (words : List ℕ) → Stands job y words → Backed job y r words →
+    Heard y r Conflict u → u ≢ 0 → IsConflict job u
 heard_conflict job y r zero words stands backed heard some = absurd (some refl)
 heard_conflict job y r (suc s) words stands backed heard some =
     let c = conflict_first job y r s words stands backed heard in
@@ -80,7 +82,8 @@ heard_conflict job y r (suc s) words stands backed heard some =
     let low = (facts job y words stands).b2_low in
     is_first job s c.0 c.1 (elim near [ inl e ↦ omega arith | inr e ↦ omega arith ])
 
-pub conflict_well : (job : JobData) (y : LayoutData) (r : Record) (w : Walking) (u : ℕ) (words : List ℕ) → Stands job y words → Backed job y r words → Fits job y w → Knows job y r w → w.now ≡ doing.Over (ended.Conflict u) → Heard y r Conflict u × IsConflict job u
+pub conflict_well : (job : JobData) (y : LayoutData) (r : Record) (w : Walking) (u : ℕ) (words : List ℕ) → Stands job y words → Backed job y r words →
+    Fits job y w → Knows job y r w → w.now ≡ doing.Over (ended.Conflict u) → Heard y r Conflict u × IsConflict job u
 conflict_well job y r w u words stands backed well knows is =
     let h = over_heard job y w (ended.Conflict u) well is in
     let has : Has r (heard_both y h.1.0 u) = subst (λ (es : List (Op × ℕ)). Has r es) h.1.1 knows in
@@ -101,7 +104,8 @@ pub record ProgressWell (job : JobData) (y : LayoutData) (before behind : Record
   pub named : (v : ℕ) → v ≢ 0 → Heard y before Conflict v → suc step ≡ v
   pub conflict : u ≢ 0 → IsConflict job u
 
-pub progress_well : (job : JobData) (y : LayoutData) (before : Record) (r u : ℕ) (words : List ℕ) → Stands job y words → Backed job y (load_conflict y (load_root y before r) u) words → ProgressWell job y before (load_conflict y (load_root y before r) u) (step_seen r u) u
+pub progress_well : (job : JobData) (y : LayoutData) (before : Record) (r u : ℕ) (words : List ℕ) → Stands job y words →
+    Backed job y (load_conflict y (load_root y before r) u) words → ProgressWell job y before (load_conflict y (load_root y before r) u) (step_seen r u) u
 progress_well job y before r u words stands backed =
     let g = glanced_both job y before r u words stands backed in
     let behind = load_conflict y (load_root y before r) u in

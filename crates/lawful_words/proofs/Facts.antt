@@ -55,9 +55,6 @@ pub record B (job : JobData) (y : LayoutData) (words : List ℕ) : Type 0 where
       newer_payload (held y words (Stored p 0)) (held y words (Stored p 1)) ≡ slice_index (state_after job job.steps) p
   pub b10 : (x c i v : ℕ) → IsWord y (Claim c) → 3 * x + 2 ≤ root y words → Asks job x c i v → stamped_word (suc x) (claim_of job i) ≤ held y words (Claim c)
 
-abbrev pub AllB : Type 0
-AllB = (job : JobData) (y : LayoutData) (words : List ℕ) → Stands job y words → B job y words
-
 -- what is done with a kind, by the rule
 pub done_raised : (rule : Rule) (job : JobData) (y : LayoutData) (s : ℕ) (words : List ℕ) (i : ℕ) → Done rule Compute job y s words i → Raised job y s words i
 done_raised Common job y s words i d = d
@@ -69,7 +66,8 @@ claims_rule Common h e = absurd (cc)
 claims_rule Priority h e = absurd (cc)
 claims_rule Crew h e = absurd (cc)
 
-pub done_claimed : (rule : Rule) (job : JobData) (y : LayoutData) (s : ℕ) (words : List ℕ) (i : ℕ) → IsTrue (has_claims rule) → Done rule Apply job y s words i → Claimed job y s words i
+pub done_claimed : (rule : Rule) (job : JobData) (y : LayoutData) (s : ℕ) (words : List ℕ) (i : ℕ) → IsTrue (has_claims rule) →
+    Done rule Apply job y s words i → Claimed job y s words i
 done_claimed Common job y s words i h d = absurd (claims_rule Common h refl)
 done_claimed Priority job y s words i h d = d
 done_claimed Crew job y s words i h d = d.1
@@ -136,7 +134,8 @@ module _ (job : JobData) (y : LayoutData) (words : List ℕ) (gone : ℕ) (limit
   pub stamp_before : (t p : ℕ) → stamp_of (settled_before job t p) ≡ write_before job (last_write job t p) p
   stamp_before t p = stamp_step job (write_before job (last_write job t p) p) p limits
 
-  stored_step : (x p word : ℕ) → stamp_of word ≡ suc x → WordIs job (gone) (root y words) p word → IsReached job x × IsWritten job x p × (phase_written job.rule x ≤ root y words + 1)
+  stored_step : (x p word : ℕ) → stamp_of word ≡ suc x → WordIs job (gone) (root y words) p word →
+      IsReached job x × IsWritten job x p × (phase_written job.rule x ≤ root y words + 1)
   stored_step x p word e (is_settled is) =
       let s : last_write job (gone) p ≡ suc x = sym (stamp_settled (gone) p) ∙ sym (ap stamp_of is) ∙ e in
       let m = last_most job (gone) p in
@@ -374,7 +373,8 @@ module _ (job : JobData) (y : LayoutData) (words : List ℕ) (stands : Stands jo
         )
   ]
 
-  final : (p : ℕ) → p < places_of y → root y words ≡ 3 * job.steps → conflict y words ≡ 0 → newer_payload (held y words (Stored p 0)) (held y words (Stored p 1)) ≡ slice_index (state_after job job.steps) p
+  final : (p : ℕ) → p < places_of y → root y words ≡ 3 * job.steps → conflict y words ≡ 0 →
+      newer_payload (held y words (Stored p 0)) (held y words (Stored p 1)) ≡ slice_index (state_after job job.steps) p
   final p place full none =
       let low = fins.low in
       let same : finished y words ≡ job.steps = (elim (cases_lt (root y words) (3 * finished y words + 3)) [ inl c ↦ omega arith | inr c ↦ absurd (let h = fins.high in let u = fins.full (omega arith) in omega arith) ]) in
@@ -403,6 +403,3 @@ module _ (job : JobData) (y : LayoutData) (words : List ℕ) (stands : Stands jo
     b9_final = final;
     b10 = claim_high job y words (finished y words) stands.limits stands.sizes stands.layout stands.lawful fins.low fins.high;
   }
-
-pub all_b : AllB
-all_b job y words stands = facts job y words stands

@@ -148,7 +148,8 @@ happens_holds s (stop b) h = was_stopped s b (slice_get s.bodies b) refl h
 happens_holds s (back b) h = came_back s b (slice_get s.bodies b) refl h
 
 -- A stale body's step changes no word but its position.
-pub stale_go : (s : Scene) (b : ℕ) (w : Walking) → Holds s → Walks s b w → phase_now w.now ≤ root (layout s) s.words → (a : Word) → IsWord (layout s) a → a ≢ Position w.number → held (layout s) (words_after s.words (ask_of s.job (layout s) w)) a ≡ held (layout s) s.words a
+pub stale_go : (s : Scene) (b : ℕ) (w : Walking) → Holds s → Walks s b w → phase_now w.now ≤ root (layout s) s.words → (a : Word) → IsWord (layout s) a →
+    a ≢ Position w.number → held (layout s) (words_after s.words (ask_of s.job (layout s) w)) a ≡ held (layout s) s.words a
 stale_go s b w h is behind =
     let k = h.known b w is in
     ((all_f s.job (layout s) h.made w s.words h.stands k.1 k.0 h.backed).goes).stale behind

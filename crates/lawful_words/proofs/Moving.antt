@@ -20,22 +20,17 @@ use Rattle.lawful_words.proofs.Moments.{same, backs}
 use Rattle.lawful_words.proofs.Sees.{Sees, chain_of_has}
 use Rattle.lawful_words.proofs.Scripts.{Safe, safe_behind, safe_first}
 
--- what is to be shown of the three scripts
+-- what is to be shown of a turn
 abbrev pub TurnSafe : Type 0
 TurnSafe = (job : JobData) (y : LayoutData) (w n q : ℕ) (history : List (Op × ℕ)) → w < y.workers → 1 ≤ n → n < 2 * y.leaves → 1 ≤ q → q ≤ 3 * job.steps →
     (x : ℕ) → step_at q ≡ suc x → Sees job y history (Floor job y q x) → Safe job y w q (turn_script job y w n q) history
-
-abbrev pub BeginSafe : Type 0
-BeginSafe = (job : JobData) (y : LayoutData) (n : ℕ) (history : List (Op × ℕ)) → Safe job y 0 0 (begin_script job y n) history
-
-abbrev pub BackSafe : Type 0
-BackSafe = (job : JobData) (y : LayoutData) (w : ℕ) (history : List (Op × ℕ)) → Safe job y 0 0 (back_script y w) history
 
 -- and of the script of a worker that fits
 abbrev pub WorkerSafe : Type 0
 WorkerSafe = (job : JobData) (y : LayoutData) (w : Walking) → Fits job y w → Safe job y w.number (phase_now w.now) (script_of job y w) (phase_begun y w.now)
 
-goes_by : (job : JobData) (y : LayoutData) (now : Doing) (script : Script Then) (w : ℕ) (history : List (Op × ℕ)) (words : List ℕ) → Matches now script → Safe job y w (phase_now now) script history → Stands job y words →
+goes_by : (job : JobData) (y : LayoutData) (now : Doing) (script : Script Then) (w : ℕ) (history : List (Op × ℕ)) (words : List ℕ) → Matches now script →
+    Safe job y w (phase_now now) script history → Stands job y words →
     ((op : Op) → Sees job y history (Goes job y w (phase_now now) op) → Goes job y w (phase_now now) op words) → Goes job y w (phase_now now) (next_op now script) words
 goes_by job y doing.Back script w history words goes safe stands apply = subst (λ (o : Option Op). Goes job y w 0 (unwrap_or o (Over ended.Done)) words) (sym goes.1) (apply goes.0 (safe_first job y w 0 script history goes.0 goes.1 safe))
 goes_by job y doing.Begin script w history words goes safe stands apply = subst (λ (o : Option Op). Goes job y w 0 (unwrap_or o (Over ended.Done)) words) (sym goes.1) (apply goes.0 (safe_first job y w 0 script history goes.0 goes.1 safe))

@@ -33,7 +33,8 @@ use Rattle.lawful_words.proofs.Knowing.{root_now, conflict_fin, shown_now, known
 -- ---- what a word of a place holds
 
 -- a word with the stamp of a step that is reached
-pub word_value : (job : JobData) (y : LayoutData) (words : List ℕ) (x p k : ℕ) → Stands job y words → IsWord y (Stored p k) → stamp_at y words p k ≡ x → IsReached job x → payload_of (held y words (Stored p k)) ≡ slice_index (state_after job x) p
+pub word_value : (job : JobData) (y : LayoutData) (words : List ℕ) (x p k : ℕ) → Stands job y words → IsWord y (Stored p k) → stamp_at y words p k ≡ x →
+    IsReached job x → payload_of (held y words (Stored p k)) ≡ slice_index (state_after job x) p
 word_value job y words x p k stands is e reached =
     by (held y words (Stored p k)) e (word_is job y words (finished y words) stands.limits stands.sizes stands.layout stands.lawful (facts job y words stands).b2_low (facts job y words stands).b2_high p k is)
   where
@@ -77,29 +78,34 @@ beside job y words x p a b stands (new_second n e some) h =
     let m = last_most job (finished y words) p in
     (λ late. omega arith, λ late. omega arith)
 
-old_value : (job : JobData) (y : LayoutData) (words : List ℕ) (x p k : ℕ) → Stands job y words → IsWord y (Stored p k) → x ≤ finished y words → stamp_at y words p k ≤ x → last_write job x p ≤ stamp_at y words p k → payload_of (held y words (Stored p k)) ≡ slice_index (state_after job x) p
+old_value : (job : JobData) (y : LayoutData) (words : List ℕ) (x p k : ℕ) → Stands job y words → IsWord y (Stored p k) → x ≤ finished y words →
+    stamp_at y words p k ≤ x → last_write job x p ≤ stamp_at y words p k → payload_of (held y words (Stored p k)) ≡ slice_index (state_after job x) p
 old_value job y words x p k stands is h low last =
     let z = stamp_at y words p k in
     let below = place_below job y words (finished y words) stands.limits stands.sizes stands.layout stands.lawful (facts job y words stands).b2_low (facts job y words stands).b2_high p is.0 in
     word_value job y words z p k stands is refl (reached_down job z (finished y words) (omega arith) stands.lawful.reached) ∙ sym (value_between job z x p stands.limits below low last)
 
 -- the first word is older than the step seen, the second one newer; and the other way
-first_value : (job : JobData) (y : LayoutData) (words : List ℕ) (x p : ℕ) → Stands job y words → p < places_of y → x ≤ finished y words → stamp_at y words p 0 ≤ x → x < stamp_at y words p 1 → payload_of (held y words (Stored p 0)) ≡ slice_index (state_after job x) p
+first_value : (job : JobData) (y : LayoutData) (words : List ℕ) (x p : ℕ) → Stands job y words → p < places_of y → x ≤ finished y words →
+    stamp_at y words p 0 ≤ x → x < stamp_at y words p 1 → payload_of (held y words (Stored p 0)) ≡ slice_index (state_after job x) p
 first_value job y words x p stands place h low high =
     old_value job y words x p 0 stands (place, lit< tt) h low ((beside job y words x p _ _ stands (stands.lawful.stored p place) h).0 high)
 
-second_value : (job : JobData) (y : LayoutData) (words : List ℕ) (x p : ℕ) → Stands job y words → p < places_of y → x ≤ finished y words → stamp_at y words p 1 ≤ x → x < stamp_at y words p 0 → payload_of (held y words (Stored p 1)) ≡ slice_index (state_after job x) p
+second_value : (job : JobData) (y : LayoutData) (words : List ℕ) (x p : ℕ) → Stands job y words → p < places_of y → x ≤ finished y words →
+    stamp_at y words p 1 ≤ x → x < stamp_at y words p 0 → payload_of (held y words (Stored p 1)) ≡ slice_index (state_after job x) p
 second_value job y words x p stands place h low high =
     old_value job y words x p 1 stands (place, lit< tt) h low ((beside job y words x p _ _ stands (stands.lawful.stored p place) h).1 high)
 
 -- The two words of a place that are heard one after the other have no stamp in common, but 0.
-apart_on : (job : JobData) (y : LayoutData) (words later : List ℕ) (p : ℕ) → Stands job y words → p < places_of y → Grows y words later → stamp_at y words p 0 ≡ stamp_at y later p 1 → stamp_at y words p 0 ≡ 0
+apart_on : (job : JobData) (y : LayoutData) (words later : List ℕ) (p : ℕ) → Stands job y words → p < places_of y → Grows y words later →
+    stamp_at y words p 0 ≡ stamp_at y later p 1 → stamp_at y words p 0 ≡ 0
 apart_on job y words later p stands place up e = elim (up (Stored p 1) (place, lit< tt)) [
   | inl f ↦ (let g : stamp_at y words p 1 ≡ stamp_at y later p 1 = ap stamp_of f in (facts job y words stands).b6_apart p place (omega arith))
   | inr more ↦ absurd (let m = more.0 in omega arith)
 ]
 
-apart_back : (job : JobData) (y : LayoutData) (words later : List ℕ) (p : ℕ) → Stands job y words → p < places_of y → Grows y words later → stamp_at y words p 1 ≡ stamp_at y later p 0 → stamp_at y words p 1 ≡ 0
+apart_back : (job : JobData) (y : LayoutData) (words later : List ℕ) (p : ℕ) → Stands job y words → p < places_of y → Grows y words later →
+    stamp_at y words p 1 ≡ stamp_at y later p 0 → stamp_at y words p 1 ≡ 0
 apart_back job y words later p stands place up e = elim (up (Stored p 0) (place, lit< tt)) [
   | inl f ↦ (let g : stamp_at y words p 0 ≡ stamp_at y later p 0 = ap stamp_of f in let z = (facts job y words stands).b6_apart p place (omega arith) in omega arith)
   | inr more ↦ absurd (let m = more.1 in omega arith)
@@ -163,7 +169,8 @@ at_load job y k found P now m = record { words = m.words; stands = m.stands; hea
 heard_newest : (y : LayoutData) (r : Record) (word : Word) (a : ℕ) → Heard y (after r (Load (number_of y word)) a) word a
 heard_newest y r word a = record { op = Load (number_of y word); hears = refl; has = inl (refl, tt) }
 
-pub glanced_root : (job : JobData) (y : LayoutData) (before : Record) (r : ℕ) (words : List ℕ) → r % 3 ≢ 0 → Backed job y (load_root y before r) words → Glanced job y before (load_root y before r) (step_seen r 0)
+pub glanced_root : (job : JobData) (y : LayoutData) (before : Record) (r : ℕ) (words : List ℕ) → r % 3 ≢ 0 → Backed job y (load_root y before r) words →
+    Glanced job y before (load_root y before r) (step_seen r 0)
 glanced_root job y before r words part m =
     let s = step_seen r 0 in
     let f = finished y m.words in
@@ -198,9 +205,6 @@ root_is y limits = let l = limits.leaves in (lit< tt, omega arith)
 module _ (job : JobData) (y : LayoutData) (before : Record) (r u : ℕ) (words : List ℕ) (stands : Stands job y words) (m : Backed job y (load_conflict y (load_root y before r) u) words) where
   first : Moment job y (Load (number_of y (Node 1))) r (Backed job y before) m.words
   first = m.earlier
-
-  s_seen : ℕ
-  s_seen = step_seen r u
 
   is_root : r ≡ root y first.words
   is_root = first.heard
@@ -316,7 +320,8 @@ record Extends (y : LayoutData) (r longer : Record) : Type 0 where
 extends_same : (y : LayoutData) (r : Record) → Extends y r r
 extends_same y r = record { fewer = λ t s. s; more = λ t s. s; heard = λ u h. h }
 
-extends_on : (y : LayoutData) (r longer : Record) (c k found : ℕ) → IsLayout y → IsWord y (Stored c k) → Extends y r longer → Extends y r (after longer (Load (number_of y (Stored c k))) found)
+extends_on : (y : LayoutData) (r longer : Record) (c k found : ℕ) → IsLayout y → IsWord y (Stored c k) → Extends y r longer →
+    Extends y r (after longer (Load (number_of y (Stored c k))) found)
 extends_on y r longer c k found limits is x = record {
   fewer = λ t s. x.fewer t
       (shows_less y longer (number_of y (Stored c k)) found t (words_apart y (Stored c k) (Node 1) limits is (root_is y limits) (λ e. absurd (cc))) (words_apart y (Stored c k) Conflict limits is tt (λ e. absurd (cc))) s);
@@ -325,7 +330,8 @@ extends_on y r longer c k found limits is x = record {
 }
 
 -- the answer is of the step that this read's loads show
-seen_read : (job : JobData) (y : LayoutData) (before r longer : Record) (c s value : ℕ) → Glanced job y before r s → Extends y r longer → IsReached job s → value ≡ slice_index (state_after job s) c → IsLawfulRead job y before longer c s value
+seen_read : (job : JobData) (y : LayoutData) (before r longer : Record) (c s value : ℕ) → Glanced job y before r s → Extends y r longer → IsReached job s →
+    value ≡ slice_index (state_after job s) c → IsLawfulRead job y before longer c s value
 seen_read job y before r longer c s value g x reached is = record {
   reached = reached;
   holds = is;
@@ -336,7 +342,8 @@ seen_read job y before r longer c s value g x reached is = record {
 }
 
 -- It is of the step of a word that was heard, a later one, another word being later still.
-told_read : (job : JobData) (y : LayoutData) (before r longer : Record) (c s kl kg l g : ℕ) (then_words words : List ℕ) → Glanced job y before r s → Extends y r longer → Stands job y words → Backed job y longer words →
+told_read : (job : JobData) (y : LayoutData) (before r longer : Record) (c s kl kg l g : ℕ) (then_words words : List ℕ) → Glanced job y before r s →
+    Extends y r longer → Stands job y words → Backed job y longer words →
     Stands job y then_words → IsWord y (Stored c kl) → l ≡ held y then_words (Stored c kl) → s < stamp_of l → IsWord y (Stored c kg) → Heard y longer (Stored c kg) g → stamp_of l < stamp_of g → IsLawfulRead job y before longer c (stamp_of l) (payload_of l)
 told_read job y before r longer c s kl kg l g then_words words glanced x stands backed stands_then is_l e late is_g heard_g less = by (stamp_of g) refl less
   where
@@ -360,7 +367,9 @@ told_read job y before r longer c s kl kg l g then_words words glanced x stands 
         }
 
 -- of two later words the lesser one is told
-lesser_read : (job : JobData) (y : LayoutData) (before longer : Record) (c a b : ℕ) → (stamp_of a < stamp_of b → IsLawfulRead job y before longer c (stamp_of a) (payload_of a)) → (stamp_of b < stamp_of a → IsLawfulRead job y before longer c (stamp_of b) (payload_of b)) → stamp_of a ≢ stamp_of b →
+lesser_read : (job : JobData) (y : LayoutData) (before longer : Record) (c a b : ℕ) →
+    (stamp_of a < stamp_of b → IsLawfulRead job y before longer c (stamp_of a) (payload_of a)) →
+    (stamp_of b < stamp_of a → IsLawfulRead job y before longer c (stamp_of b) (payload_of b)) → stamp_of a ≢ stamp_of b →
     IsLawfulRead job y before longer c (stamp_of (lesser a b)) (payload_of (lesser a b))
 lesser_read job y before longer c a b first second other = cond_both (nat_le (stamp_of a) (stamp_of b)) a b (λ (l : ℕ). IsLawfulRead job y before longer c (stamp_of l) (payload_of l))
     (λ e. first (less (stamp_of a) (stamp_of b) (leb-true (stamp_of a) (stamp_of b) e) other)) (λ e. second (let h = leb-false (stamp_of a) (stamp_of b) e in omega arith))
@@ -485,11 +494,13 @@ reader_reads job y before c cell = λ root. cond_both (root % 3 == 0) _ _ (λ (t
     (λ e u. cell_reads job y before (load_conflict y (load_root y before root) u) c (step_seen root u) cell (λ words stands backed. glanced_both job y before root u words stands backed))
     (λ e. cell_reads job y before (load_root y before root) c (step_seen root 0) cell (λ words stands backed. glanced_root job y before root words (eqb-false (root % 3) 0 e) backed))
 
-reads_next : (job : JobData) (y : LayoutData) (before r : Record) (c : ℕ) (script : Script Reading) (found : ℕ) (heard : List (Op × ℕ)) → Reads job y before c script (afters r heard) → Reads job y before c (behind script found) (afters r (op_with script found ++ heard))
+reads_next : (job : JobData) (y : LayoutData) (before r : Record) (c : ℕ) (script : Script Reading) (found : ℕ) (heard : List (Op × ℕ)) →
+    Reads job y before c script (afters r heard) → Reads job y before c (behind script found) (afters r (op_with script found ++ heard))
 reads_next job y before r c (asks op next) found heard reads = reads found
 reads_next job y before r c (ends x) found heard reads = reads
 
-reads_behind : (job : JobData) (y : LayoutData) (before r : Record) (c : ℕ) (script : Script Reading) (answers : List ℕ) → Reads job y before c script r → Reads job y before c (rest script answers) (afters r (heard_in script answers))
+reads_behind : (job : JobData) (y : LayoutData) (before r : Record) (c : ℕ) (script : Script Reading) (answers : List ℕ) → Reads job y before c script r →
+    Reads job y before c (rest script answers) (afters r (heard_in script answers))
 reads_behind job y before r c script [] reads = reads
 reads_behind job y before r c script (found ∷ earlier) reads = reads_next job y before r c (rest script earlier) found (heard_in script earlier) (reads_behind job y before r c script earlier reads)
 
@@ -521,7 +532,8 @@ record Left {R : Type 0} (n : ℕ) (script : Script R) (made : List (Op × ℕ))
   few : AtMost more script
   all : length made + more ≤ n
 
-left_next : {R : Type 0} (n more : ℕ) (script : Script R) (found : ℕ) (made : List (Op × ℕ)) → AtMost more script → length made + more ≤ n → Left n (behind script found) (op_with script found ++ made)
+left_next : {R : Type 0} (n more : ℕ) (script : Script R) (found : ℕ) (made : List (Op × ℕ)) → AtMost more script → length made + more ≤ n →
+    Left n (behind script found) (op_with script found ++ made)
 left_next n zero (asks op next) found made few all = absurd few
 left_next n (suc more) (asks op next) found made few all = record { more = more; few = few found; all = omega arith }
 left_next n more (ends r) found made few all = record { more = more; few = tt; all = all }

@@ -23,7 +23,7 @@ use Rattle.walkx.proofs.Boards.{same_cells, same_procs}
 use Rattle.pram_step.specs.Instructions.{request_in, place_part, value_part, HasShape}
 use Rattle.pram_step.proofs.Shapes.{request_shape}
 use Rattle.pram_step.specs.History.{Asks, Wins, last_write, write_before, part_after}
-use Rattle.pram_step.proofs.Past.{last_most, last_least, conflict_above, asks_fits, asks_place, before_most}
+use Rattle.pram_step.proofs.Past.{last_most, last_least, conflict_above, before_most, asks_fit}
 use Rattle.lawful_words.specs.Writes.{PlaceAsHeard, Floor, Does}
 use Rattle.lawful_words.specs.Steps.{phase_written, word_of_step, settled, settled_before}
 use Rattle.lawful_words.specs.Board.{held, root, conflict, leaf, stamp_at, finished, phase_in, IsTree, IsAsked, IsNew, IsPair, newer_first, newer_second, new_first, new_second, IsClaimed, claimed_now, IsNamed, Lawful, Only, Stands, Grows}
@@ -70,15 +70,18 @@ module _ (job : JobData) (y : LayoutData) (words later : List ℕ) (a : Word) (v
     most = λ n is. let a = nodes_same n is in let h = stands.lawful.tree.most n is in omega arith;
   }
 
-  pub asked_if : ((i j : ℕ) → i < y.procs → j < 3 → held y later (Asked i j) ≡ held y words (Asked i j)) → (i j : ℕ) → i < y.procs → j < 3 → IsAsked job (finished y words) i j (held y later (Asked i j))
+  pub asked_if : ((i j : ℕ) → i < y.procs → j < 3 → held y later (Asked i j) ≡ held y words (Asked i j)) → (i j : ℕ) → i < y.procs → j < 3 →
+      IsAsked job (finished y words) i j (held y later (Asked i j))
   asked_if same i j proc part = subst (IsAsked job (finished y words) i j) (sym (same i j proc part)) (stands.lawful.asked i j proc part)
 
-  pub stored_if : ((p k : ℕ) → IsWord y (Stored p k) → held y later (Stored p k) ≡ held y words (Stored p k)) → (p : ℕ) → p < places_of y → IsPair job (finished y words) (root y words) p (held y later (Stored p 0)) (held y later (Stored p 1))
+  pub stored_if : ((p k : ℕ) → IsWord y (Stored p k) → held y later (Stored p k) ≡ held y words (Stored p k)) → (p : ℕ) → p < places_of y →
+      IsPair job (finished y words) (root y words) p (held y later (Stored p 0)) (held y later (Stored p 1))
   stored_if same p place =
       subst (λ (w : ℕ). IsPair job (finished y words) (root y words) p w (held y later (Stored p 1))) (sym (same p 0 (place, lit< tt)))
       (subst (λ (w : ℕ). IsPair job (finished y words) (root y words) p (held y words (Stored p 0)) w) (sym (same p 1 (place, lit< tt))) (stands.lawful.stored p place))
 
-  pub claimed_if : ((c : ℕ) → IsWord y (Claim c) → held y later (Claim c) ≡ held y words (Claim c)) → (c : ℕ) → IsWord y (Claim c) → IsClaimed job (finished y words) (root y words) c (held y later (Claim c))
+  pub claimed_if : ((c : ℕ) → IsWord y (Claim c) → held y later (Claim c) ≡ held y words (Claim c)) → (c : ℕ) → IsWord y (Claim c) →
+      IsClaimed job (finished y words) (root y words) c (held y later (Claim c))
   claimed_if same c is = subst (IsClaimed job (finished y words) (root y words) c) (sym (same c is)) (stands.lawful.claimed c is)
 
   pub named_if : conflict y later ≡ conflict y words → IsNamed job (conflict y later) (root y words)
@@ -109,7 +112,8 @@ module _ (job : JobData) (y : LayoutData) (words later : List ℕ) (a : Word) (v
 
 -- ---- a position
 
-pub store_keeps : (job : JobData) (y : LayoutData) (w n : ℕ) (words : List ℕ) → Stands job y words → w < y.workers → 1 ≤ n → n < 2 * y.leaves → Keeps job y (Store (number_of y (Position w)) n) words
+pub store_keeps : (job : JobData) (y : LayoutData) (w n : ℕ) (words : List ℕ) → Stands job y words → w < y.workers → 1 ≤ n → n < 2 * y.leaves →
+    Keeps job y (Store (number_of y (Position w)) n) words
 store_keeps job y w n words stands worker low high = keeps_store job y w n words stands worker (low, high) (λ later only.
     let up = only_grows y (Position w) n words later stands.sizes worker tt only in
     set_lawful job y words later (Position w) n stands up only (λ m e. absurd (cc))
@@ -216,7 +220,7 @@ written_most job y s p i v is asks =
     let l = w.0 in
     let cells = same_cells job y is in
     let procs = same_procs job y is in
-    let fits = asks_fits job s p i v is.limits asks in
+    let fits = (asks_fit job s p i v is.limits asks).1 in
     elim w.1 [
       | inl e ↦ rw (le-ltb p (counters_of y) (omega arith)) (let n = (shape_of job y s i is (omega arith)).next in let k = counter_value job i p v (request_in job (state_after job s) i) e (writer_is job (state_after job s) p i v asks).1 in omega arith)
       | inr d ↦ rw (lt-ltb p (counters_of y) (elim d [ inl c ↦ omega arith | inr c ↦ (let m = c.1 in omega arith) ])) (omega arith)
@@ -248,7 +252,8 @@ part_most job y s i (suc (suc (suc j))) is proc part = absurd (omega arith)
 
 -- ---- the older of the two words of a place takes a new value
 
-swapped_first : (job : JobData) (f r p a b word : ℕ) → IsJob job → IsPair job f r p a b → stamp_of a ≤ f → stamp_of b ≤ f → IsNew job f r p word → stamp_of a ≤ stamp_of b → IsPair job f r p word b
+swapped_first : (job : JobData) (f r p a b word : ℕ) → IsJob job → IsPair job f r p a b → stamp_of a ≤ f → stamp_of b ≤ f → IsNew job f r p word →
+    stamp_of a ≤ stamp_of b → IsPair job f r p word b
 swapped_first job f r p a b word limits (newer_first e g) la lb n less =
     let s = ap stamp_of e ∙ settled_stamp job f p limits in
     let o = ap stamp_of g ∙ before_stamp job f p limits in
@@ -259,7 +264,8 @@ swapped_first job f r p a b word limits (newer_second e g some) la lb n less = n
 swapped_first job f r p a b word limits (new_first m e) la lb n less = absurd (let s = m.stamp in omega arith)
 swapped_first job f r p a b word limits (new_second m e some) la lb n less = absurd (let s = m.stamp in omega arith)
 
-swapped_second : (job : JobData) (f r p a b word : ℕ) → IsJob job → IsPair job f r p a b → stamp_of a ≤ f → stamp_of b ≤ f → IsNew job f r p word → stamp_of b < stamp_of a → IsPair job f r p a word
+swapped_second : (job : JobData) (f r p a b word : ℕ) → IsJob job → IsPair job f r p a b → stamp_of a ≤ f → stamp_of b ≤ f → IsNew job f r p word →
+    stamp_of b < stamp_of a → IsPair job f r p a word
 swapped_second job f r p a b word limits (newer_first e g) la lb n less = new_second n e (omega arith)
 swapped_second job f r p a b word limits (newer_second e g some) la lb n less =
     absurd (let s = ap stamp_of e ∙ settled_stamp job f p limits in let o = ap stamp_of g ∙ before_stamp job f p limits in let k = before_most job (last_write job f p) p in omega arith)
@@ -280,18 +286,18 @@ module _ (job : JobData) (y : LayoutData) (words : List ℕ) (q x : ℕ) (stands
 
   module _ (p i v : ℕ) (phase : q ≡ phase_written job.rule x) (asks : Asks job x p i v) (wins : Wins job x p i) where
     place : p < places_of y
-    place = let a = asks_place job x p i v stands.limits asks in let c = same_cells job y a_board in let d = same_procs job y a_board in omega arith
+    place = let a = (asks_fit job x p i v stands.limits asks).0 in let c = same_cells job y a_board in let d = same_procs job y a_board in omega arith
 
     value : ℕ
     value = stamped_word (suc x) v
 
     value_stamp : stamp_of value ≡ suc x
     unfolding value
-    value_stamp = let fits = asks_fits job x p i v stands.limits asks in omega arith
+    value_stamp = let fits = (asks_fit job x p i v stands.limits asks).1 in omega arith
 
     value_payload : payload_of value ≡ v
     unfolding value
-    value_payload = let fits = asks_fits job x p i v stands.limits asks in omega arith
+    value_payload = let fits = (asks_fit job x p i v stands.limits asks).1 in omega arith
 
     range : IsStamped job.steps (most_stored y job p) value
     range = let s = value_stamp in let l = value_payload in let m = written_most job y x p i v a_board asks in (omega arith, omega arith)
@@ -358,7 +364,8 @@ module _ (job : JobData) (y : LayoutData) (words : List ℕ) (q x : ℕ) (stands
           (full_if job y words later (Stored p k) value stands grows_stored only (λ m e. absurd (cc)) (only.rest Conflict tt (λ e. absurd (cc))))
 
     -- the first word is the older one
-    first_does : (old : ℕ) → (held y words (Stored p 0) ≡ old → Early × (stamp_at y words p 0 ≤ stamp_at y words p 1)) → Does job y q (Swap (number_of y (Stored p 0)) old value) words
+    first_does : (old : ℕ) → (held y words (Stored p 0) ≡ old → Early × (stamp_at y words p 0 ≤ stamp_at y words p 1)) →
+        Does job y q (Swap (number_of y (Stored p 0)) old value) words
     unfolding Early
     first_does old stays = does_swap job y q (Stored p 0) old value words stands (place, lit< tt) range (λ h e. not_early h (stays e).0) (λ e.
         let s = stays e in
@@ -380,7 +387,8 @@ module _ (job : JobData) (y : LayoutData) (words : List ℕ) (q x : ℕ) (stands
             word_same : (p k r j : ℕ) → Stored p k ≡ Stored r j → k ≡ j
             word_same p k r j e = cc
 
-    second_does : (old : ℕ) → (held y words (Stored p 1) ≡ old → Early × (stamp_at y words p 1 < stamp_at y words p 0)) → Does job y q (Swap (number_of y (Stored p 1)) old value) words
+    second_does : (old : ℕ) → (held y words (Stored p 1) ≡ old → Early × (stamp_at y words p 1 < stamp_at y words p 0)) →
+        Does job y q (Swap (number_of y (Stored p 1)) old value) words
     unfolding Early
     second_does old stays = does_swap job y q (Stored p 1) old value words stands (place, lit< tt) range (λ h e. not_early h (stays e).0) (λ e.
         let s = stays e in

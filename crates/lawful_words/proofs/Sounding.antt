@@ -92,7 +92,8 @@ sound_done job y r w sound well knows is =
       reached = sound_known job y r job.steps sound (inl shows);
     }
 
-pub sound_stopped : (job : JobData) (y : LayoutData) (r : Record) (w : Walking) (u : ℕ) → Sound job y r → Fits job y w → Knows job y r w → w.now ≡ doing.Over (ended.Conflict u) → Heard y r Conflict u × IsConflict job u
+pub sound_stopped : (job : JobData) (y : LayoutData) (r : Record) (w : Walking) (u : ℕ) → Sound job y r → Fits job y w → Knows job y r w →
+    w.now ≡ doing.Over (ended.Conflict u) → Heard y r Conflict u × IsConflict job u
 sound_stopped job y r w u sound well knows is =
     let h = over_heard job y w (ended.Conflict u) well is in
     let has : Has r (heard_both y h.1.0 u) = subst (λ (es : List (Op × ℕ)). Has r es) h.1.1 knows in
@@ -100,12 +101,14 @@ sound_stopped job y r w u sound well knows is =
     (heard, sound_conflict job y r u sound heard h.0)
 
 -- a read
-pub was_read : (job : JobData) (y : LayoutData) (before : Record) (c step value : ℕ) (answers : List ℕ) → c < y.cells → rest (reader_script y c) answers ≡ ends (At step value) → WasBacked job y (afters before (heard_in (reader_script y c) answers)) →
+pub was_read : (job : JobData) (y : LayoutData) (before : Record) (c step value : ℕ) (answers : List ℕ) → c < y.cells →
+    rest (reader_script y c) answers ≡ ends (At step value) → WasBacked job y (afters before (heard_in (reader_script y c) answers)) →
     IsLawfulRead job y before (afters before (heard_in (reader_script y c) answers)) c step value
 was_read job y before c step value answers cell is was = read_is_lawful job y before c step value answers was.words cell is was.stands was.backed
 
 -- progress, the loads of memory and those of fault: a record that ends with a load is sound as a whole
-pub was_progress : (job : JobData) (y : LayoutData) (before : Record) (r u : ℕ) → WasBacked job y (load_conflict y (load_root y before r) u) → ProgressWell job y before (load_conflict y (load_root y before r) u) (step_seen r u) u
+pub was_progress : (job : JobData) (y : LayoutData) (before : Record) (r u : ℕ) → WasBacked job y (load_conflict y (load_root y before r) u) →
+    ProgressWell job y before (load_conflict y (load_root y before r) u) (step_seen r u) u
 was_progress job y before r u was = progress_well job y before r u was.words was.stands was.backed
 
 pub was_place : (job : JobData) (y : LayoutData) (r : Record) (p a b : ℕ) → KnowsStep y r job.steps → p < places_of y →
@@ -125,6 +128,7 @@ sound_heard job y w r (e ∷ es) worker sound has =
     backed_is_heard job y w p.part (e ∷ es) was.words worker was.backed p.has
 
 -- So a known worker that makes these steps and is going has made fewer than the bound.
-pub sound_steps : (job : JobData) (y : LayoutData) (r : Record) (w : Walking) (answers : List ℕ) → IsLayoutOf job y → Fits job y w → Knows job y r w → Sound job y (afters r (steps_of job y w answers)) → IsGoing (told_all job y w answers).now → length answers < most_steps job y
+pub sound_steps : (job : JobData) (y : LayoutData) (r : Record) (w : Walking) (answers : List ℕ) → IsLayoutOf job y → Fits job y w → Knows job y r w →
+    Sound job y (afters r (steps_of job y w answers)) → IsGoing (told_all job y w answers).now → length answers < most_steps job y
 sound_steps job y r w answers is fits knows sound going =
     bound.0 job y w is fits answers going (sound_heard job y w.number (afters r (steps_of job y w answers)) (history_of job y w answers) fits.number sound (history_known job y r w answers knows))

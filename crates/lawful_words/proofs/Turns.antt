@@ -47,7 +47,8 @@ written_in job x q rule is e = sym e ∙ ap (λ (r : Rule). phase_written r x) (
 module _ (job : JobData) (y : LayoutData) (w q x : ℕ) (some : 1 ≤ q) (most : q ≤ 3 * job.steps) (step : step_at q ≡ suc x) (board : IsBoard job y) where
   -- ---- the task of each rule and kind
 
-  pub task_safe : (i : ℕ) → i < y.procs → (rule : Rule) (kind : Kind) → job.rule ≡ rule → phase_in x kind ≡ q → (after : Script Then) → EndSafe job y w q x (λ words. Done rule kind job y x words i) after →
+  pub task_safe : (i : ℕ) → i < y.procs → (rule : Rule) (kind : Kind) → job.rule ≡ rule → phase_in x kind ≡ q → (after : Script Then) →
+      EndSafe job y w q x (λ words. Done rule kind job y x words i) after →
       (history : List (Op × ℕ)) → Sees job y history (Floor job y q x) → Safe {R = Then} job y w q (task_of rule kind job y (suc x) i after) history
   unfolding task_of
   task_safe i proc Common Compute is phase after done history sees = compute_safe job y w q x i some most step board proc phase after done history sees
@@ -66,7 +67,8 @@ module _ (job : JobData) (y : LayoutData) (w q x : ℕ) (some : 1 ≤ q) (most :
   marked : (i n : ℕ) → i < y.procs → y.leaves + i ≡ n → EndSafe job y w q x (λ words. Done job.rule (kind_at q) job y x words i) (marks y n q)
   marked i n proc e longer sees = subst (λ (n : ℕ). Safe {R = Then} job y w q (marks y n q) longer) e (marks_safe job y w q x some most step (Floor job y q x) (floor_lasts job y q x) (λ words f. f) i proc longer sees)
 
-  leaf_safe : (n : ℕ) → y.leaves ≤ n → n < 2 * y.leaves → (history : List (Op × ℕ)) → Sees job y history (Floor job y q x) → Safe {R = Then} job y w q (leaf_script job y n q) history
+  leaf_safe : (n : ℕ) → y.leaves ≤ n → n < 2 * y.leaves → (history : List (Op × ℕ)) → Sees job y history (Floor job y q x) →
+      Safe {R = Then} job y w q (leaf_script job y n q) history
   leaf_safe n low high history sees =
       let procs = same_procs job y board in
       cond_both (nat_le (y.leaves + job.procs) n) (marks y n q) (task_of job.rule (kind_at q) job y (step_at q) (n - y.leaves) (marks y n q)) (λ (s : Script Then). Safe {R = Then} job y w q s history)
@@ -98,7 +100,8 @@ module _ (job : JobData) (y : LayoutData) (w q x : ℕ) (some : 1 ≤ q) (most :
       (heard job y ((Load (number_of y (Node (2 * n))), l) ∷ history) (Moment job y (Load (number_of y (Node (2 * n)))) l (Floor job y q x)) (Load (number_of y (Node (2 * n + 1)))) r (heard job y history (Floor job y q x) (Load (number_of y (Node (2 * n)))) l sees)))
       (λ e. let way = way_inside y w n q l r low high in stands_safe job y w q (way_down y w n q l r) longer worker way.0 way.1)))
 
-  pub turn_safe_on : (n : ℕ) → w < y.workers → 1 ≤ n → n < 2 * y.leaves → (history : List (Op × ℕ)) → Sees job y history (Floor job y q x) → Safe {R = Then} job y w q (turn_script job y w n q) history
+  pub turn_safe_on : (n : ℕ) → w < y.workers → 1 ≤ n → n < 2 * y.leaves → (history : List (Op × ℕ)) → Sees job y history (Floor job y q x) →
+      Safe {R = Then} job y w q (turn_script job y w n q) history
   unfolding turn_script
   turn_safe_on n worker low high history sees =
       let down = asks (Load (number_of y (Node (2 * n)))) (λ l. asks (Load (number_of y (Node (2 * n + 1)))) (λ r. if nat_le q l && nat_le q r then marks y n q else stands_at y w (way_down y w n q l r) q)) in
@@ -114,7 +117,8 @@ turn_safe job y w n q history worker low high some most x step sees = safe_board
 
 -- ---- a worker
 
-doing_safe : (job : JobData) (y : LayoutData) (now : Doing) (w n : ℕ) → w < y.workers → 1 ≤ n → n < 2 * y.leaves → IsPhase job now → Safe {R = Then} job y w (phase_now now) (script_by job y w n now) (phase_begun y now)
+doing_safe : (job : JobData) (y : LayoutData) (now : Doing) (w n : ℕ) → w < y.workers → 1 ≤ n → n < 2 * y.leaves → IsPhase job now →
+    Safe {R = Then} job y w (phase_now now) (script_by job y w n now) (phase_begun y now)
 doing_safe job y doing.Back w n worker low high phase = back_safe job y w w 0 []
 doing_safe job y doing.Begin w n worker low high phase = begin_safe job y n w 0 []
 doing_safe job y (doing.Turn q) w n worker low high phase =

@@ -14,7 +14,7 @@ use Rattle.walkx.specs.Operations.{words_after}
 use Rattle.walkx.specs.Scripts.{Script, asks}
 use Rattle.walkx.specs.Tasks.{is_late, first_is_older, writes_place, older, older_word}
 use Rattle.pram_step.specs.History.{Asks, Wins}
-use Rattle.pram_step.proofs.Past.{asks_place}
+use Rattle.pram_step.proofs.Past.{asks_fit}
 use Rattle.lawful_words.specs.Writes.{PlaceAsHeard, Floor}
 use Rattle.lawful_words.specs.Steps.{phase_written}
 use Rattle.lawful_words.specs.Board.{held, stamp_at, IsLate, Stands, Grows}
@@ -34,7 +34,8 @@ late_later y x p words after place up late = elim late [
 ]
 
 -- a word of a place takes a stamp above x
-set_late : (job : JobData) (y : LayoutData) (x p k w : ℕ) (words : List ℕ) → p < places_of y → k < 2 → Stands job y words → x < stamp_of w → IsLate y x p (slice_set words (number_of y (Stored p k)) w)
+set_late : (job : JobData) (y : LayoutData) (x p k w : ℕ) (words : List ℕ) → p < places_of y → k < 2 → Stands job y words → x < stamp_of w →
+    IsLate y x p (slice_set words (number_of y (Stored p k)) w)
 set_late job y x p zero w words place two stands more =
     let below : number_of y (Stored p 0) < length words = (let n = (numbering y stands.sizes).below (Stored p 0) (place, two) in let l = stands.admitted.len in omega arith) in
     let is : held y (slice_set words (number_of y (Stored p 0)) w) (Stored p 0) ≡ w = get_or-set_same words (number_of y (Stored p 0)) w 0 below in
@@ -53,7 +54,7 @@ module _ (job : JobData) (y : LayoutData) (w q x p i v : ℕ) (some : 1 ≤ q) (
   place_by : (words : List ℕ) → Stands job y words → P words → p < places_of y
   place_by words stands k =
       let is_board : IsBoard job y = record { limits = stands.limits; layout = stands.sizes; is = stands.layout } in
-      let a = asks_place job x p i v stands.limits (asked words k).0 in let b = same_cells job y is_board in let c = same_procs job y is_board in omega arith
+      let a = (asks_fit job x p i v stands.limits (asked words k).0).0 in let b = same_cells job y is_board in let c = same_procs job y is_board in omega arith
 
   Both : ℕ → ℕ → List ℕ → Type 0
   Both a b = Moment job y (Load (number_of y (Stored p 1))) b (Moment job y (Load (number_of y (Stored p 0))) a P)
@@ -93,14 +94,16 @@ module _ (job : JobData) (y : LayoutData) (w q x p i v : ℕ) (some : 1 ≤ q) (
       all_c5 job y x p a b first.words m.words words first.stands m.stands stands first.since m.since place reached (omega arith) first.heard m.heard early
 
   -- behind the swap the place is late, whether it succeeded or not
-  swapped : (a b found : ℕ) (words : List ℕ) → Stands job y words → Moment job y (swap a b) found (λ then_words. P then_words × PlaceAsHeard job y x p a b then_words) words → IsLate y x p words
+  swapped : (a b found : ℕ) (words : List ℕ) → Stands job y words →
+      Moment job y (swap a b) found (λ then_words. P then_words × PlaceAsHeard job y x p a b then_words) words → IsLate y x p words
   unfolding swap
   swapped a b found words stands m = let place = place_by m.words m.stands m.earlier.0 in late_later y x p (words_after m.words (swap a b)) words place m.since (elim (cases_eq (held y m.words (Stored p (older a b))) (older_word a b)) [
     | inl same ↦ rw (eq-eqb (held y m.words (Stored p (older a b))) (older_word a b) same) (set_late job y x p (older a b) (stamped_word (suc x) v) m.words place (older_two a b) m.stands (omega arith))
     | inr other ↦ late_later y x p m.words (words_after m.words (swap a b)) place m.grew (m.earlier.1.written other)
   ])
 
-  pub writes_safe : {R : Type 0} (after : Script R) (history : List (Op × ℕ)) → Sees job y history P → ((longer : List (Op × ℕ)) → Sees job y longer (λ words. P words × IsLate y x p words) → Safe job y w q after longer) →
+  pub writes_safe : {R : Type 0} (after : Script R) (history : List (Op × ℕ)) → Sees job y history P →
+      ((longer : List (Op × ℕ)) → Sees job y longer (λ words. P words × IsLate y x p words) → Safe job y w q after longer) →
       Safe job y w q (writes_place y (suc x) p v after) history
   unfolding Both swap
   writes_safe {R} after history sees next =

@@ -1,7 +1,7 @@
 -- What a worker that a record knows does next, and what a read answers.
 use Rattle.std.specs.Prelude.{◌≡◌, ◌≢◌, ℕ, suc, ◌*◌, ◌≤◌, List, slice_index}
 use Rattle.pram_text.specs.Job.{JobData}
-use Rattle.pram_step.specs.Runs.{IsReached, state_after, IsFirstConflict}
+use Rattle.pram_step.specs.Runs.{IsReached, state_after, IsFault}
 use Rattle.pram_words.specs.declared.words.Word.TheVariants.{Conflict, Node}
 use Rattle.pram_words.specs.Words.{LayoutData}
 use Rattle.walkx.specs.Doing.{Doing}
@@ -46,6 +46,5 @@ pub record DoneWell (job : JobData) (y : LayoutData) (r : Record) : Type 0 where
 -- word 0 was heard as the step of the first conflict, which is one of the job's
 pub record IsConflict (job : JobData) (t : ℕ) : Type 0 where
   pub fault : Fault
-  pub first : IsFirstConflict job fault
+  pub is : IsFault job fault
   pub step : fault.step ≡ t
-  pub within : t ≤ job.steps
