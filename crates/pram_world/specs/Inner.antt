@@ -1,0 +1,2 @@
+-- What a world keeps, for the contracts of its own functions.
+pub mod Holding
