@@ -65,7 +65,7 @@ fewer s made b n h c g =
 abbrev pub lengthened : WorldData → Record → Walking → Record
 lengthened s made w = after made (ask_of s.job s.layout w) (answer s.words (ask_of s.job s.layout w))
 
-get_set_same : {X : Type 0} (xs : List X) (b : ℕ) (x y : X) → slice_get xs b ≡ Some y → slice_get (slice_set xs b x) b ≡ Some x
+pub get_set_same : {X : Type 0} (xs : List X) (b : ℕ) (x y : X) → slice_get xs b ≡ Some y → slice_get (slice_set xs b x) b ≡ Some x
 get_set_same [] b x y e = absurd (cc)
 get_set_same (z ∷ zs) zero x y e = refl
 get_set_same (z ∷ zs) (suc b) x y e = get_set_same zs b x y e

@@ -3,6 +3,7 @@ use Rattle.std.proofs.Common.{◌≡◌, ◌≢◌, ◌⊎◌, ℕ, ◌*◌, ◌
 use Rattle.std.specs.Option.{is_none}
 use Rattle.pram_text.specs.Job.{JobData}
 use Rattle.pram_words.specs.Words.{LayoutData}
+use Rattle.pram_step.specs.declared.answer.RunAnswer.TheVariants.{Unfinished}
 use Rattle.walkx.specs.declared.operation.Ended.{Ended}
 use Rattle.walkx.specs.declared.operation.Ended.TheVariants as ended
 use Rattle.walkx.specs.declared.operation.Op.{Op}
@@ -15,6 +16,7 @@ use Rattle.walkx.specs.Walk.{Walking, ask_of, told, next_op, rest_of, end_of}
 use Rattle.lawful_words.specs.Board.{root, conflict}
 use Rattle.pram_world.specs.declared.event.Event.TheVariants.{Go}
 use Rattle.pram_world.specs.Inner.Holding.{Fitting, Holds}
+use Rattle.pram_world.specs.Outcomes.{IsOutcome}
 use Rattle.pram_world.specs.Worlds.{Body, walks, stopped, WorldData, Walks, goes, going, went, shown, shown_by, effect_of, happens, nothing}
 use Rattle.pram_world.proofs.Answering.{root_most}
 use Rattle.pram_world.proofs.Bodies.{set_same}
@@ -64,8 +66,12 @@ ends_as s made w ended.Done h knows fits is =
 ends_as s made w (ended.Conflict u) h knows fits is = inl (ended_conflict s.job s.layout made w u s.words h.stands h.backed knows fits is)
 
 -- Once a worker is over, word 0 is not 0, or the root shows the last step.
-pub over_tells : (s : WorldData) (made : Record) (b : ℕ) (w : Walking) → Holds s made → Walks s b w → going s b ≡ false → (conflict s.layout s.words ≢ 0) ⊎ (root s.layout s.words ≡ 3 * s.job.steps)
+over_tells : (s : WorldData) (made : Record) (b : ℕ) (w : Walking) → Holds s made → Walks s b w → going s b ≡ false → (conflict s.layout s.words ≢ 0) ⊎ (root s.layout s.words ≡ 3 * s.job.steps)
 over_tells s made b w h at still =
     let e = over_by w.now (sym (ap goes at) ∙ still) in
     let k = h.known b w at in
     ends_as s made w e.0 h k.0 k.1 e.1
+
+-- so the outcome is not that the run is unfinished
+pub over_finished : (s : WorldData) (made : Record) (b : ℕ) (w : Walking) (t : ℕ) → Holds s made → Walks s b w → going s b ≡ false → IsOutcome s (Unfinished t) → ⊥
+over_finished s made b w t h at still outcome = elim (over_tells s made b w h at still) [ inl some ↦ some outcome.0 | inr last ↦ outcome.1 last ]

@@ -4,6 +4,8 @@
 mod event;
 pub mod laws;
 mod outcome;
+#[cfg(test)]
+mod tests;
 mod world;
 
 pub use event::{Effect, Event};
