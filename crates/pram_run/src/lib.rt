@@ -2,6 +2,8 @@
 #![tactic(auto)]
 
 mod schedule;
+#[cfg(test)]
+mod tests;
 mod trace;
 
 pub use schedule::replay;
