@@ -4,7 +4,7 @@ use Rattle.std.proofs.lemmas.Bool.{cond_both, eqb-true, eqb-false}
 use Rattle.pram_text.specs.Job.{JobData}
 use Rattle.pram_text.specs.declared.instr.Rule.{Rule}
 use Rattle.pram_text.specs.declared.instr.Rule.TheVariants.{Common, Priority, Crew}
-use Rattle.pram_step.specs.Runs.{state_after}
+use Rattle.pram_step.specs.Runs.{state_after, requests_after}
 use Rattle.pram_step.specs.Steps.{Counts}
 use Rattle.pram_step.proofs.LawPlaces.{one_writer}
 use Rattle.pram_words.specs.declared.words.Word.TheVariants.{Claim}
@@ -13,14 +13,14 @@ use Rattle.pram_words.specs.Stamps.{stamped_word}
 use Rattle.pram_words.specs.Words.{LayoutData}
 use Rattle.walkx.specs.declared.operation.Op.{Op}
 use Rattle.walkx.specs.Scripts.{Script}
-use Rattle.walkx.specs.Stages.{IsBoard}
 use Rattle.walkx.specs.Tasks.{carries, claims, claim_of, apply_task, crew_apply_task, claim_task}
-use Rattle.walkx.specs.Walk.{Then}
+use Rattle.walkx.specs.Walk.{Then, IsBoard}
 use Rattle.walkx.proofs.Boards.{same_procs}
-use Rattle.lawful_words.specs.Steps.{Asks, Wins, requests_after, phase_written, part_after}
+use Rattle.pram_step.specs.History.{Asks, Wins, part_after}
+use Rattle.pram_step.proofs.Past.{data_write, each_write}
+use Rattle.lawful_words.specs.Writes.{Floor}
+use Rattle.lawful_words.specs.Steps.{phase_written}
 use Rattle.lawful_words.specs.Board.{held, root, Carried, Claimed}
-use Rattle.lawful_words.specs.Statements.{Floor}
-use Rattle.lawful_words.proofs.Requests.{data_write, each_write}
 use Rattle.lawful_words.proofs.Sees.{Sees, Lasts, so}
 use Rattle.lawful_words.proofs.Scripts.{Safe}
 use Rattle.lawful_words.proofs.Carrying.{carries_safe}
@@ -62,13 +62,15 @@ module _ (job : JobData) (y : LayoutData) (w q x i : ℕ) (some : 1 ≤ q) (most
 
   -- ---- apply
 
-  pub carried_safe : q ≡ phase_written job.rule x → ((p v : ℕ) → Asks job x p i v → Wins job x p i) → (after : Script Then) → (P : List ℕ → Type 0) → Lasts job y P → ((words : List ℕ) → P words → Floor job y q x words) →
+  pub carried_safe : q ≡ phase_written job.rule x → ((p v : ℕ) → Asks job x p i v → Wins job x p i) → (after : Script Then) → (P : List ℕ → Type 0) →
+      Lasts job y P → ((words : List ℕ) → P words → Floor job y q x words) →
       (history : List (Op × ℕ)) → Sees job y history P → ((longer : List (Op × ℕ)) → Sees job y longer (λ words. P words × Carried job y x words i) → Safe {R = Then} job y w q after longer) →
       Safe {R = Then} job y w q (carries job y (suc x) i (part_after job x i 0) (part_after job x i 1) (part_after job x i 2) after) history
   carried_safe phase wins after P lasts floor history sees on =
       carries_safe job y w q x i (part_after job x i 0) (part_after job x i 1) (part_after job x i 2) some most step phase proc_job wins P lasts floor (λ words p. (refl, refl, refl)) {R = Then} after history sees on
 
-  pub apply_safe : job.rule ≢ Priority → q ≡ phase_written job.rule x → 3 * x + 2 ≤ q → (after : Script Then) → EndSafe job y w q x (λ words. Carried job y x words i) after → (history : List (Op × ℕ)) → Sees job y history (Floor job y q x) →
+  pub apply_safe : job.rule ≢ Priority → q ≡ phase_written job.rule x → 3 * x + 2 ≤ q → (after : Script Then) →
+      EndSafe job y w q x (λ words. Carried job y x words i) after → (history : List (Op × ℕ)) → Sees job y history (Floor job y q x) →
       Safe {R = Then} job y w q (apply_task job y (suc x) i after) history
   unfolding apply_task
   apply_safe rule phase late after done history sees =
@@ -81,14 +83,16 @@ module _ (job : JobData) (y : LayoutData) (w q x i : ℕ) (some : 1 ≤ q) (most
   no_claim : (words : List ℕ) → part_after job x i 0 ≡ 0 → Claimed job y x words i
   no_claim words none c v asked cell = absurd (let e = cell_written job x c i v asked cell in omega arith)
 
-  claimed_by : (words : List ℕ) → (part_after job x i 0 == 0) ≡ false → (part_after job x i 0 - 1 < job.cells → stamped_word (suc x) (claim_of job i) ≤ held y words (Claim (part_after job x i 0 - 1))) → Claimed job y x words i
+  claimed_by : (words : List ℕ) → (part_after job x i 0 == 0) ≡ false →
+      (part_after job x i 0 - 1 < job.cells → stamped_word (suc x) (claim_of job i) ≤ held y words (Claim (part_after job x i 0 - 1))) → Claimed job y x words i
   claimed_by words e claimed c v asked cell =
       let f = eqb-false (part_after job x i 0) 0 e in
       let is = cell_written job x c i v asked cell in
       let same : part_after job x i 0 - 1 ≡ c = omega arith in
       subst (λ (c : ℕ). stamped_word (suc x) (claim_of job i) ≤ held y words (Claim c)) same (claimed (omega arith))
 
-  pub claim_safe : IsTrue y.claims → 3 * x + 2 ≡ q → (after : Script Then) → EndSafe job y w q x (λ words. Claimed job y x words i) after → (history : List (Op × ℕ)) → Sees job y history (Floor job y q x) →
+  pub claim_safe : IsTrue y.claims → 3 * x + 2 ≡ q → (after : Script Then) → EndSafe job y w q x (λ words. Claimed job y x words i) after →
+      (history : List (Op × ℕ)) → Sees job y history (Floor job y q x) →
       Safe {R = Then} job y w q (claim_task job y (suc x) i after) history
   unfolding claim_task
   claim_safe has phase after done history sees =
@@ -109,7 +113,8 @@ module _ (job : JobData) (y : LayoutData) (w q x i : ℕ) (some : 1 ≤ q) (most
   at_lasts has =
       both_last job y (Floor job y q x) (λ words. part_after job x i 0 - 1 < job.cells → stamped_word (suc x) (claim_of job i) ≤ held y words (Claim (part_after job x i 0 - 1))) (floor_lasts job y q x) (claimed_lasts job y w q x i some most step board proc (part_after job x i 0 - 1) has)
 
-  pub crew_apply_safe : job.rule ≢ Priority → IsTrue y.claims → q ≡ phase_written job.rule x → 3 * x + 2 ≡ q → (after : Script Then) → EndSafe job y w q x (λ words. Carried job y x words i × Claimed job y x words i) after →
+  pub crew_apply_safe : job.rule ≢ Priority → IsTrue y.claims → q ≡ phase_written job.rule x → 3 * x + 2 ≡ q → (after : Script Then) →
+      EndSafe job y w q x (λ words. Carried job y x words i × Claimed job y x words i) after →
       (history : List (Op × ℕ)) → Sees job y history (Floor job y q x) → Safe {R = Then} job y w q (crew_apply_task job y (suc x) i after) history
   unfolding crew_apply_task At
   crew_apply_safe rule has written phase after done history sees =

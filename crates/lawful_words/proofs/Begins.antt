@@ -10,9 +10,9 @@ use Rattle.walkx.specs.declared.operation.Op.{Op}
 use Rattle.walkx.specs.declared.operation.Op.TheVariants.{Load, Store, Max}
 use Rattle.walkx.specs.Walk.{Then, turns, begins, stops, begin_script, back_script, marks, stands_at}
 use Rattle.walkx.specs.Scripts.{Script, asks, ends}
+use Rattle.lawful_words.specs.Writes.{Floor}
 use Rattle.lawful_words.specs.Board.{held, Stands}
 use Rattle.lawful_words.specs.Moments.{Moment, Goes}
-use Rattle.lawful_words.specs.Statements.{Floor}
 use Rattle.lawful_words.proofs.Moments.{goes_of}
 use Rattle.lawful_words.proofs.Sees.{Sees, Lasts, so, always}
 use Rattle.lawful_words.proofs.Scripts.{Safe, load_safe}
@@ -40,7 +40,8 @@ begin_safe job y n w q history = load_safe {R = Then} job y w q (number_of y (No
         (λ e. cond_both (r == 3 * job.steps) (ends (stops ended.Done)) (ends (turns n (r + 1))) (λ (s : Script Then). Safe {R = Then} job y w q s longest) (λ e. tt) (λ e. tt)) (λ e. tt)
 
 -- a worker's position is stored
-pub store_goes : (job : JobData) (y : LayoutData) (w q n : ℕ) (words : List ℕ) → Stands job y words → w < y.workers → 1 ≤ n → n < 2 * y.leaves → Goes job y w q (Store (number_of y (Position w)) n) words
+pub store_goes : (job : JobData) (y : LayoutData) (w q n : ℕ) (words : List ℕ) → Stands job y words → w < y.workers → 1 ≤ n → n < 2 * y.leaves →
+    Goes job y w q (Store (number_of y (Position w)) n) words
 store_goes job y w q n words stands worker low high = record {
   keeps = store_keeps job y w n words stands worker low high;
   stale = λ h a is other. (only_set y (Position w) n words stands.sizes stands.admitted.len worker).rest a is other;
@@ -63,10 +64,10 @@ module _ (job : JobData) (y : LayoutData) (w q x : ℕ) (some : 1 ≤ q) (most :
         let v : held y m.words (Node (2 * n)) ≤ held y words (Node (2 * n)) = m.since (Node (2 * n)) (omega arith, omega arith) in
         let z : held y m.words (Node (2 * n + 1)) ≤ held y words (Node (2 * n + 1)) = m.since (Node (2 * n + 1)) (omega arith, omega arith) in
         let p = lasts m.words words m.stands stands m.since (lasts first.words m.words first.stands m.stands first.since first.earlier) in
-        goes_of job y w q (Max (number_of y (Node n)) q) words ((all_e job y words q x stands some most step (floor words p)).e2 n low high (omega arith) (omega arith))) sees,
+        goes_of job y w q (Max (number_of y (Node n)) q) words ((all_e job y words q x stands some most step (floor words p)).inner n low high (omega arith) (omega arith))) sees,
     λ found ok. tt,
   )
 
   pub padded_safe : (n : ℕ) (history : List (Op × ℕ)) → y.leaves + y.procs ≤ n → n < 2 * y.leaves → Sees job y history P → Safe job y w q (marks y n q) history
   padded_safe n history low high sees =
-      (so job y history P (Goes job y w q (Max (number_of y (Node n)) q)) (λ words stands p. goes_of job y w q (Max (number_of y (Node n)) q) words ((all_e job y words q x stands some most step (floor words p)).e3 n low high)) sees, λ found ok. tt)
+      (so job y history P (Goes job y w q (Max (number_of y (Node n)) q)) (λ words stands p. goes_of job y w q (Max (number_of y (Node n)) q) words ((all_e job y words q x stands some most step (floor words p)).padded n low high)) sees, λ found ok. tt)

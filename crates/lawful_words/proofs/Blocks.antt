@@ -13,10 +13,10 @@ use Rattle.walkx.specs.declared.operation.Op.TheVariants.{Load, Max, Swap}
 use Rattle.walkx.specs.Scripts.{Script}
 use Rattle.walkx.specs.Tasks.{is_late, newer_payload, hears_part, reads_place, reports}
 use Rattle.walkx.specs.Walk.{marks}
-use Rattle.lawful_words.specs.Steps.{part_after}
+use Rattle.pram_step.specs.History.{part_after}
+use Rattle.lawful_words.specs.Writes.{Floor}
 use Rattle.lawful_words.specs.Board.{held, root, stamp_at, Done, Stands, Grows}
 use Rattle.lawful_words.specs.Moments.{Moment, Goes}
-use Rattle.lawful_words.specs.Statements.{Floor}
 use Rattle.lawful_words.proofs.Moments.{onward, goes_of}
 use Rattle.lawful_words.proofs.Sees.{Sees, Lasts, so, heard}
 use Rattle.lawful_words.proofs.Scripts.{Safe, load_safe, both_safe}
@@ -81,7 +81,8 @@ module _ (job : JobData) (y : LayoutData) (w q x : ℕ) (some : 1 ≤ q) (most :
   unfolding Both
   still p a b words stands m = let first = m.earlier in lasts first.words words first.stands stands (onward y first.words m.words words first.since m.since) first.earlier
 
-  stale_stamp : (p k s : ℕ) (words now : List ℕ) → IsWord y (Stored p k) → Stands job y words → Stands job y now → Grows y words now → stamp_at y words p k ≡ s → x < s → q ≤ 3 * x + 1 → q ≤ root y now
+  stale_stamp : (p k s : ℕ) (words now : List ℕ) → IsWord y (Stored p k) → Stands job y words → Stands job y now → Grows y words now →
+      stamp_at y words p k ≡ s → x < s → q ≤ 3 * x + 1 → q ≤ root y now
   stale_stamp p k zero words now is stands after up e h phase = absurd (omega arith)
   stale_stamp p k (suc t) words now is stands after up e h phase =
       let l = ((facts job y words stands).b5_stored t p k is e).2 in
@@ -117,10 +118,12 @@ module _ (job : JobData) (y : LayoutData) (w q x : ℕ) (some : 1 ≤ q) (most :
 
   -- ---- a leaf is marked, and a conflict is reported
 
-  pub marks_safe : (i : ℕ) → i < y.procs → (history : List (Op × ℕ)) → Sees job y history (λ words. P words × (root y words + 1 ≡ q → Done job.rule (kind_at q) job y x words i)) → Safe job y w q (marks y (y.leaves + i) q) history
+  pub marks_safe : (i : ℕ) → i < y.procs → (history : List (Op × ℕ)) →
+      Sees job y history (λ words. P words × (root y words + 1 ≡ q → Done job.rule (kind_at q) job y x words i)) →
+      Safe job y w q (marks y (y.leaves + i) q) history
   marks_safe i proc history sees = (
     so job y history (λ words. P words × (root y words + 1 ≡ q → Done job.rule (kind_at q) job y x words i)) (Goes job y w q (Max (number_of y (Node (y.leaves + i))) q))
-        (λ words stands h. goes_of job y w q (Max (number_of y (Node (y.leaves + i))) q) words ((all_e job y words q x stands some most step (floor words h.0)).e456 i proc h.1)) sees,
+        (λ words stands h. goes_of job y w q (Max (number_of y (Node (y.leaves + i))) q) words ((all_e job y words q x stands some most step (floor words h.0)).leaf i proc h.1)) sees,
     λ found ok. tt,
   )
 
@@ -128,6 +131,6 @@ module _ (job : JobData) (y : LayoutData) (w q x : ℕ) (some : 1 ≤ q) (most :
       ((found : ℕ) → Safe job y w q after ((Swap (number_of y Conflict) 0 (suc x), found) ∷ history)) → Safe job y w q (reports y (suc x) after) history
   reports_safe kind after history sees next = (
     so job y history (λ words. P words × (AgreesAfter job x → ⊥)) (Goes job y w q (Swap (number_of y Conflict) 0 (suc x)))
-        (λ words stands h. goes_of job y w q (Swap (number_of y Conflict) 0 (suc x)) words ((all_e job y words q x stands some most step (floor words h.0)).e8 kind h.1)) sees,
+        (λ words stands h. goes_of job y w q (Swap (number_of y Conflict) 0 (suc x)) words ((all_e job y words q x stands some most step (floor words h.0)).conflict kind h.1)) sees,
     λ found ok. next found,
   )

@@ -7,14 +7,14 @@ use Rattle.pram_words.specs.Phases.{step_at}
 use Rattle.pram_words.specs.Words.{LayoutData, places_of}
 use Rattle.walkx.specs.declared.operation.Op.{Op}
 use Rattle.walkx.specs.Scripts.{Script}
-use Rattle.walkx.specs.Stages.{IsBoard}
+use Rattle.walkx.specs.Walk.{IsBoard}
 use Rattle.walkx.specs.Tasks.{writes_place, carries}
 use Rattle.walkx.proofs.Boards.{same_cells, same_procs}
-use Rattle.lawful_words.specs.Steps.{Asks, Wins, phase_written, part_after}
+use Rattle.pram_step.specs.History.{Asks, Wins, part_after}
+use Rattle.pram_step.proofs.Past.{counter_write, data_write, each_write, asks_fit}
+use Rattle.lawful_words.specs.Writes.{Floor}
+use Rattle.lawful_words.specs.Steps.{phase_written}
 use Rattle.lawful_words.specs.Board.{IsLate, Carried, Stands}
-use Rattle.lawful_words.specs.Statements.{Floor}
-use Rattle.lawful_words.proofs.Keeping.{asks_place}
-use Rattle.lawful_words.proofs.Requests.{counter_write, data_write, each_write}
 use Rattle.lawful_words.proofs.Sees.{Sees, Lasts, so}
 use Rattle.lawful_words.proofs.Scripts.{Safe}
 use Rattle.lawful_words.proofs.Writing.{writes_safe, late_later}
@@ -35,7 +35,7 @@ module _ (job : JobData) (y : LayoutData) (w q x i place value next : ℕ) (some
   place_in : (words : List ℕ) (p v : ℕ) → Stands job y words → Asks job x p i v → p < places_of y
   place_in words p v stands asks =
       let is_board : IsBoard job y = record { limits = stands.limits; layout = stands.sizes; is = stands.layout } in
-      let a = asks_place job x p i v stands.limits asks in let b = same_cells job y is_board in let c = same_procs job y is_board in omega arith
+      let a = (asks_fit job x p i v stands.limits asks).0 in let b = same_cells job y is_board in let c = same_procs job y is_board in omega arith
 
   -- the counter alone
   all_next : (words : List ℕ) → P words → place ≡ 0 → IsLate y x (counter_place job i) words → Carried job y x words i
@@ -60,7 +60,8 @@ module _ (job : JobData) (y : LayoutData) (w q x i place value next : ℕ) (some
   Known : List ℕ → Type 0
   Known words = P words × Stands job y words
 
-  pub carries_safe : {R : Type 0} (after : Script R) (history : List (Op × ℕ)) → Sees job y history P → ((longer : List (Op × ℕ)) → Sees job y longer (λ words. P words × Carried job y x words i) → Safe job y w q after longer) →
+  pub carries_safe : {R : Type 0} (after : Script R) (history : List (Op × ℕ)) → Sees job y history P →
+      ((longer : List (Op × ℕ)) → Sees job y longer (λ words. P words × Carried job y x words i) → Safe job y w q after longer) →
       Safe job y w q (carries job y (suc x) i place value next after) history
   unfolding Data Known
   carries_safe {R} after history sees on =

@@ -1,30 +1,29 @@
 -- The compute task: a processor's operands are read, and its request is raised.
-use Rattle.std.proofs.Common.{◌≡◌, ℕ, zero, suc, ◌+◌, ◌*◌, ◌<◌, ◌≤◌, nat_lt, List, [], ◌∷◌, ◌++◌, map, length, slice_get, slice_index, Option, Some, None, append_assoc, append-nil, refl, sym, subst, inl, inr, lit<, arith}
+use Rattle.std.proofs.Common.{◌≡◌, ℕ, zero, suc, ◌+◌, ◌*◌, ◌<◌, ◌≤◌, List, [], ◌∷◌, ◌++◌, map, length, slice_get, slice_index, Option, Some, None, append_assoc, append-nil, refl, sym, subst, lit<, arith}
 use Rattle.std.specs.List.{AllByRecursion}
-use Rattle.std.proofs.lemmas.Bool.{cases_Bool, ltb-true}
 use Rattle.pram_text.specs.declared.instr.Instr.{Instr}
-use Rattle.pram_text.specs.declared.instr.Instr.TheVariants.{Set, Pid, Add, Sub, Mul, And, Or, Xor, Lt, Eq, Ld, St, Jz, Jmp, Halt}
-use Rattle.pram_text.specs.Job.{JobData, IsInstr}
+use Rattle.pram_text.specs.Job.{JobData}
 use Rattle.pram_step.specs.declared.requests.Request.{Request}
-use Rattle.pram_step.specs.Machine.{State, register, register_place, counter, counter_place, execution, request_of}
+use Rattle.pram_step.specs.Machine.{State, register, register_place, counter, counter_place}
 use Rattle.pram_step.specs.Runs.{state_after}
-use Rattle.pram_step.proofs.LawPlaces.{instr_is}
 use Rattle.pram_words.specs.declared.phases.Kind.TheVariants.{Compute}
 use Rattle.pram_words.specs.declared.words.Word.TheVariants.{Asked}
 use Rattle.pram_words.specs.Phases.{step_at}
 use Rattle.pram_words.specs.Stamps.{stamped_word}
 use Rattle.pram_words.specs.Words.{LayoutData, number_of, places_of}
 use Rattle.walkx.specs.declared.operation.Op.{Op}
-use Rattle.walkx.specs.Requests.{operand_held, cell_held, decided_in}
 use Rattle.walkx.specs.declared.operation.Op.TheVariants.{Max}
 use Rattle.walkx.specs.Scripts.{Script, asks}
-use Rattle.walkx.specs.Stages.{IsBoard}
-use Rattle.walkx.specs.Tasks.{operands_of, cell_read, decided, goes, reads_registers, reads_cell, raises_request, executes, compute_task}
-use Rattle.walkx.specs.Walk.{Then}
+use Rattle.walkx.specs.Tasks.{reads_registers, reads_cell, raises_request, executes, compute_task}
+use Rattle.walkx.specs.Walk.{Then, IsBoard}
 use Rattle.walkx.proofs.Boards.{same_cells, same_procs}
-use Rattle.lawful_words.specs.Steps.{part_after}
+use Rattle.pram_step.specs.Instructions.{request_in, operands_of, cell_read, decided, goes_to, operand_held, decided_in}
+use Rattle.pram_step.proofs.Shapes.{instr_is}
+use Rattle.walkx.proofs.Asking.{operands_fit}
+use Rattle.walkx.proofs.Cells.{cell_is}
+use Rattle.pram_step.specs.History.{part_after}
+use Rattle.lawful_words.specs.Writes.{Floor}
 use Rattle.lawful_words.specs.Board.{held, root, Raised, Grows}
-use Rattle.lawful_words.specs.Statements.{Floor}
 use Rattle.lawful_words.proofs.Raising.{kind_of}
 use Rattle.lawful_words.proofs.Effects.{all_e}
 use Rattle.lawful_words.proofs.Sees.{Sees, Lasts, so}
@@ -34,72 +33,13 @@ use Rattle.lawful_words.proofs.Hearing.{reads}
 
 -- ---- what a worker decides is what the machine does
 
-meets : (job : JobData) (s : State) (i : ℕ) (instr : Instr) → execution job s i instr ≡ decided_in job s i instr
-unfolding execution decided
-meets job s i (Set r k) = refl
-meets job s i (Pid r) = refl
-meets job s i (Add r a b) = refl
-meets job s i (Sub r a b) = refl
-meets job s i (Mul r a b) = refl
-meets job s i (And r a b) = refl
-meets job s i (Or r a b) = refl
-meets job s i (Xor r a b) = refl
-meets job s i (Lt r a b) = refl
-meets job s i (Eq r a b) = refl
-meets job s i (Ld r a) = elim (cases_Bool (nat_lt (register job s i a) job.cells)) [
-  | inl e ↦ rw (e, cell_held, cell_read)
-  | inr e ↦ rw e
-]
-meets job s i (St a b) = refl
-meets job s i (Jz r place) = refl
-meets job s i (Jmp place) = refl
-meets job s i Halt = refl
+stays : (job : JobData) (s : State) (i : ℕ) → slice_get job.code (counter job s i) ≡ None → request_in job s i ≡ goes_to (counter job s i)
+unfolding request_in
+stays job s i e = rw (e, request_in) refl
 
-stays : (job : JobData) (s : State) (i : ℕ) → slice_get job.code (counter job s i) ≡ None → request_of job s i ≡ goes (counter job s i)
-unfolding request_of
-stays job s i e = rw (e, request_of)
-
-asks_for : (job : JobData) (s : State) (i : ℕ) (instr : Instr) → slice_get job.code (counter job s i) ≡ Some instr → request_of job s i ≡ decided_in job s i instr
-unfolding request_of
-asks_for job s i instr e = rw (e, request_of) (meets job s i instr)
-
-operands_fit : (len : ℕ) (instr : Instr) → IsInstr len instr → AllByRecursion (λ r. r < 4) (operands_of instr)
-operands_fit len (Set r k) h = tt
-operands_fit len (Pid r) h = tt
-operands_fit len (Add r a b) h = (h.1, (h.2, tt))
-operands_fit len (Sub r a b) h = (h.1, (h.2, tt))
-operands_fit len (Mul r a b) h = (h.1, (h.2, tt))
-operands_fit len (And r a b) h = (h.1, (h.2, tt))
-operands_fit len (Or r a b) h = (h.1, (h.2, tt))
-operands_fit len (Xor r a b) h = (h.1, (h.2, tt))
-operands_fit len (Lt r a b) h = (h.1, (h.2, tt))
-operands_fit len (Eq r a b) h = (h.1, (h.2, tt))
-operands_fit len (Ld r a) h = (h.1, tt)
-operands_fit len (St a b) h = (h.0, (h.1, tt))
-operands_fit len (Jz r place) h = (h.0, tt)
-operands_fit len (Jmp place) h = tt
-operands_fit len Halt h = tt
-
--- only a load reads a cell
-cell_is : (job : JobData) (instr : Instr) (a c : ℕ) → cell_read job instr a ≡ Some c → c < job.cells
-cell_is job (Set r k) a c e = absurd (cc)
-cell_is job (Pid r) a c e = absurd (cc)
-cell_is job (Add r _ _) a c e = absurd (cc)
-cell_is job (Sub r _ _) a c e = absurd (cc)
-cell_is job (Mul r _ _) a c e = absurd (cc)
-cell_is job (And r _ _) a c e = absurd (cc)
-cell_is job (Or r _ _) a c e = absurd (cc)
-cell_is job (Xor r _ _) a c e = absurd (cc)
-cell_is job (Lt r _ _) a c e = absurd (cc)
-cell_is job (Eq r _ _) a c e = absurd (cc)
-cell_is job (Ld r _) a c e = elim (cases_Bool (nat_lt a job.cells)) [
-  | inl h ↦ (let g : Some a ≡ Some c = rw h at e in let same : a ≡ c = cc in let l = ltb-true a job.cells h in omega arith)
-  | inr h ↦ absurd (let g : None ≡ Some c = rw h at e in cc)
-]
-cell_is job (St _ _) a c e = absurd (cc)
-cell_is job (Jz r _) a c e = absurd (cc)
-cell_is job (Jmp _) a c e = absurd (cc)
-cell_is job Halt a c e = absurd (cc)
+asks_for : (job : JobData) (s : State) (i : ℕ) (instr : Instr) → slice_get job.code (counter job s i) ≡ Some instr → request_in job s i ≡ decided_in job s i instr
+unfolding request_in
+asks_for job s i instr e = rw (e, request_in) refl
 
 module _ (job : JobData) (y : LayoutData) (w q x i : ℕ) (some : 1 ≤ q) (most : q ≤ 3 * job.steps) (step : step_at q ≡ suc x) (board : IsBoard job y) (proc : i < y.procs) (phase : 3 * x + 1 ≡ q)
     (after : Script Then) (done : EndSafe job y w q x (λ words. Raised job y x words i) after) where
@@ -130,7 +70,8 @@ module _ (job : JobData) (y : LayoutData) (w q x i : ℕ) (some : 1 ≤ q) (most
   bound_lasts : (j v : ℕ) → j < 3 → Lasts job y (λ words. v ≤ held y words (Asked i j))
   bound_lasts j v part words later a b up h = let m = asked_up j part words later up in omega arith
 
-  raised_by : (a b c : ℕ) (words : List ℕ) → stamped_word (suc x) a ≤ held y words (Asked i 0) → stamped_word (suc x) b ≤ held y words (Asked i 1) → stamped_word (suc x) c ≤ held y words (Asked i 2) → Raised job y x words i
+  raised_by : (a b c : ℕ) (words : List ℕ) → stamped_word (suc x) a ≤ held y words (Asked i 0) → stamped_word (suc x) b ≤ held y words (Asked i 1) →
+      stamped_word (suc x) c ≤ held y words (Asked i 2) → Raised job y x words i
   raised_by a b c words one two three zero part = omega arith
   raised_by a b c words one two three (suc zero) part = omega arith
   raised_by a b c words one two three (suc (suc zero)) part = omega arith
@@ -157,21 +98,24 @@ module _ (job : JobData) (y : LayoutData) (w q x i : ℕ) (some : 1 ≤ q) (most
   unfolding Second
   second_lasts = both_last job y First (Low 1) first_lasts (low_lasts 1 (lit< tt))
 
-  raises : (history : List (Op × ℕ)) → Sees job y history (Floor job y q x) → Safe {R = Then} job y w q (raises_request y (suc x) i (request_of job (state_after job x) i) after) history
+  raises : (history : List (Op × ℕ)) → Sees job y history (Floor job y q x) →
+      Safe {R = Then} job y w q (raises_request y (suc x) i (request_in job (state_after job x) i) after) history
   unfolding Low First Second
   raises history sees =
       let kind = kind_of x q Compute phase in
-      raises_safe job y w q (Asked i 0) (stamped_word (suc x) (part_after job x i 0)) (Floor job y q x) (floor_lasts job y q x) (proc, lit< tt) (asked_up 0 (lit< tt)) (λ words stands f. (all_e job y words q x stands some most step f).e1 i 0 proc (lit< tt) kind) (asks (Max (number_of y (Asked i 1)) (stamped_word (suc x) (part_after job x i 1))) (λ found. asks (Max (number_of y (Asked i 2)) (stamped_word (suc x) (part_after job x i 2))) (λ found. after))) history sees (λ longer more.
-      raises_safe job y w q (Asked i 1) (stamped_word (suc x) (part_after job x i 1)) First first_lasts (proc, lit< tt) (asked_up 1 (lit< tt)) (λ words stands f. (all_e job y words q x stands some most step f.0).e1 i 1 proc (lit< tt) kind) (asks (Max (number_of y (Asked i 2)) (stamped_word (suc x) (part_after job x i 2))) (λ found. after)) longer more (λ longer more.
-      raises_safe job y w q (Asked i 2) (stamped_word (suc x) (part_after job x i 2)) Second second_lasts (proc, lit< tt) (asked_up 2 (lit< tt)) (λ words stands f. (all_e job y words q x stands some most step f.0.0).e1 i 2 proc (lit< tt) kind) after longer more (λ longer more.
+      raises_safe job y w q (Asked i 0) (stamped_word (suc x) (part_after job x i 0)) (Floor job y q x) (floor_lasts job y q x) (proc, lit< tt) (asked_up 0 (lit< tt)) (λ words stands f. (all_e job y words q x stands some most step f).request i 0 proc (lit< tt) kind) (asks (Max (number_of y (Asked i 1)) (stamped_word (suc x) (part_after job x i 1))) (λ found. asks (Max (number_of y (Asked i 2)) (stamped_word (suc x) (part_after job x i 2))) (λ found. after))) history sees (λ longer more.
+      raises_safe job y w q (Asked i 1) (stamped_word (suc x) (part_after job x i 1)) First first_lasts (proc, lit< tt) (asked_up 1 (lit< tt)) (λ words stands f. (all_e job y words q x stands some most step f.0).request i 1 proc (lit< tt) kind) (asks (Max (number_of y (Asked i 2)) (stamped_word (suc x) (part_after job x i 2))) (λ found. after)) longer more (λ longer more.
+      raises_safe job y w q (Asked i 2) (stamped_word (suc x) (part_after job x i 2)) Second second_lasts (proc, lit< tt) (asked_up 2 (lit< tt)) (λ words stands f. (all_e job y words q x stands some most step f.0.0).request i 2 proc (lit< tt) kind) after longer more (λ longer more.
       done longer (so job y longer (λ words. Second words × (stamped_word (suc x) (part_after job x i 2) ≤ held y words (Asked i 2))) (λ words. Floor job y q x words × (root y words + 1 ≡ q → Raised job y x words i))
       (λ words stands h. (h.0.0.0, λ live. raised_by (part_after job x i 0) (part_after job x i 1) (part_after job x i 2) words h.0.0.1 h.0.1 h.1)) more))))
 
-  raises_it : (r : Request) (history : List (Op × ℕ)) → request_of job (state_after job x) i ≡ r → Sees job y history (Floor job y q x) → Safe {R = Then} job y w q (raises_request y (suc x) i r after) history
+  raises_it : (r : Request) (history : List (Op × ℕ)) → request_in job (state_after job x) i ≡ r → Sees job y history (Floor job y q x) →
+      Safe {R = Then} job y w q (raises_request y (suc x) i r after) history
   raises_it r history e sees = subst (λ (r : Request). Safe {R = Then} job y w q (raises_request y (suc x) i r after) history) e (raises history sees)
 
-  does : (o : Option Instr) → slice_get job.code (counter job (state_after job x) i) ≡ o → (history : List (Op × ℕ)) → Sees job y history (Floor job y q x) → Safe {R = Then} job y w q (executes job y (suc x) i (counter job (state_after job x) i) o after) history
-  does None e history sees = raises_it (goes (counter job (state_after job x) i)) history (stays job (state_after job x) i e) sees
+  does : (o : Option Instr) → slice_get job.code (counter job (state_after job x) i) ≡ o → (history : List (Op × ℕ)) → Sees job y history (Floor job y q x) →
+      Safe {R = Then} job y w q (executes job y (suc x) i (counter job (state_after job x) i) o after) history
+  does None e history sees = raises_it (goes_to (counter job (state_after job x) i)) history (stays job (state_after job x) i e) sees
   does (Some instr) e history sees =
       let s = state_after job x in
       let fits = instr_is job (counter job s i) instr board.limits e in

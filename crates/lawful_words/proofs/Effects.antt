@@ -4,8 +4,8 @@ use Rattle.std.proofs.lemmas.Bool.{cases_eq}
 use Rattle.pram_words.specs.declared.phases.Kind.{Kind}
 use Rattle.pram_words.specs.declared.phases.Kind.TheVariants.{Compute, Apply, Verify}
 use Rattle.pram_words.specs.Phases.{kind_at, step_at}
+use Rattle.lawful_words.specs.Laws.{WritesKeepWordsLawful}
 use Rattle.lawful_words.specs.Board.{phase_in}
-use Rattle.lawful_words.specs.Statements.{AllE}
 use Rattle.lawful_words.proofs.Raising.{kind_of, inner_does, padded_does, leaf_does}
 use Rattle.lawful_words.proofs.Setting.{conflict_does, claim_does, stored_does, asked_does}
 
@@ -28,13 +28,13 @@ same_kind x q kind (phase_is k e) h = subst (λ (k : Kind). phase_in x k ≡ q) 
 pub phase_at : (x q : ℕ) (kind : Kind) → 1 ≤ q → step_at q ≡ suc x → kind_at q ≡ kind → phase_in x kind ≡ q
 phase_at x q kind some step e = same_kind x q kind (phase_of_step x q some step) e
 
-pub all_e : AllE
+pub all_e : WritesKeepWordsLawful
 all_e job y words q x stands some most step floor = record {
-  e1 = λ i j proc part kind. asked_does job y words q x stands some most step floor i j proc part (phase_at x q Compute some step kind);
-  e2 = inner_does job y words q x stands some most step floor;
-  e3 = padded_does job y words q x stands some most step floor;
-  e456 = leaf_does job y words q x stands some most step floor;
-  e7 = λ p i v a b phase asks wins c5. stored_does job y words q x stands some most step floor p i v phase asks wins a b c5;
-  e8 = λ kind not. conflict_does job y words q x stands some most step floor kind not (phase_at x q Verify some step kind);
-  e9 = λ c i v is kind asks. claim_does job y words q x stands some most step floor c i v is (phase_at x q Apply some step kind) asks;
+  request = λ i j proc part kind. asked_does job y words q x stands some most step floor i j proc part (phase_at x q Compute some step kind);
+  inner = inner_does job y words q x stands some most step floor;
+  padded = padded_does job y words q x stands some most step floor;
+  leaf = leaf_does job y words q x stands some most step floor;
+  place = λ p i v a b phase asks wins c5. stored_does job y words q x stands some most step floor p i v phase asks wins a b c5;
+  conflict = λ kind not. conflict_does job y words q x stands some most step floor kind not (phase_at x q Verify some step kind);
+  claim = λ c i v is kind asks. claim_does job y words q x stands some most step floor c i v is (phase_at x q Apply some step kind) asks;
 }

@@ -12,30 +12,32 @@ use Rattle.walkx.specs.declared.operation.Ended.{Ended}
 use Rattle.walkx.specs.declared.operation.Ended.TheVariants as ended
 use Rattle.walkx.specs.declared.operation.Op.{Op}
 use Rattle.walkx.specs.declared.operation.Op.TheVariants.{Load}
-use Rattle.walkx.specs.declared.worker.Doing.{Doing}
-use Rattle.walkx.specs.declared.worker.Doing.TheVariants as doing
+use Rattle.walkx.specs.Doing.{Doing}
+use Rattle.walkx.specs.Doing as doing
 use Rattle.walkx.specs.Reads.{step_seen}
 use Rattle.walkx.specs.Records.{Record, Has, Knows}
 use Rattle.walkx.specs.Scripts.{Script, ends}
-use Rattle.walkx.specs.Walk.{Then, stops, Walking, node_of, rest_of, heard_of}
+use Rattle.walkx.specs.Walk.{Then, stops, Walking, Fits, Matches, node_of, rest_of, heard_of}
+use Rattle.walkx.proofs.Ends.{AllEnds, Brings, BeginEnds, heard_both, worker_ends}
+use Rattle.walkx.proofs.Knowing.{has_earlier, has_newest}
+use Rattle.lawful_words.specs.Laws.{EndsAreTrue}
+use Rattle.lawful_words.specs.Walks.{DoneWell, IsConflict}
 use Rattle.lawful_words.specs.Board.{Stands}
 use Rattle.lawful_words.specs.Moments.{Backed}
 use Rattle.lawful_words.specs.Seen.{Heard, HeardThen, Shows, KnowsStep}
-use Rattle.lawful_words.specs.Told.{HeardEnd, FitsWell}
 use Rattle.lawful_words.proofs.Facts.{facts}
 use Rattle.lawful_words.proofs.Knowing.{conflict_now, conflict_fin, conflict_first, known_now}
-use Rattle.lawful_words.proofs.Telling.{Leads, Brings, BeginEnds, heard_both, worker_leads, has_earlier, has_newest}
 use Rattle.lawful_words.proofs.Reading.{load_root, load_conflict, glanced_both}
 
 -- ---- what a worker that is over heard
 
-over_rest : (d : Doing) (e : Ended) (script : Script Then) → d ≡ doing.Over e → HeardEnd d script → script ≡ ends (stops e)
-over_rest d e script is h = (subst (λ (x : Doing). HeardEnd x script → script ≡ ends (stops e)) (sym is) (λ g. g)) h
+over_rest : (d : Doing) (e : Ended) (script : Script Then) → d ≡ doing.Over e → Matches d script → script ≡ ends (stops e)
+over_rest d e script is h = (subst (λ (x : Doing). Matches x script → script ≡ ends (stops e)) (sym is) (λ g. g)) h
 
-pub over_heard : (job : JobData) (y : LayoutData) (w : Walking) (e : Ended) → FitsWell job y w → w.now ≡ doing.Over e → BeginEnds job y (node_of y w) (stops e) (heard_of job y w)
+pub over_heard : (job : JobData) (y : LayoutData) (w : Walking) (e : Ended) → Fits job y w → w.now ≡ doing.Over e → BeginEnds job y (node_of y w) (stops e) (heard_of job y w)
 over_heard job y w e well is =
     subst (λ (d : Doing). Brings job y w.number (node_of y w) d (stops e) (heard_of job y w)) is
-    (subst (λ (s : Script Then). Leads (Brings job y w.number (node_of y w) w.now) s (heard_of job y w)) (over_rest w.now e (rest_of job y w) is well.ended) (worker_leads job y w))
+    (subst (λ (s : Script Then). AllEnds (Brings job y w.number (node_of y w) w.now) s (heard_of job y w)) (over_rest w.now e (rest_of job y w) is well.matches) (worker_ends job y w))
 
 -- ---- Done
 
@@ -43,13 +45,8 @@ pub both_shows : (y : LayoutData) (r : Record) (t : ℕ) → Has r (heard_both y
 both_shows y r zero has = inr (inr (refl, record { op = Load (number_of y (Node 1)); hears = refl; has = has_earlier r (Load (number_of y Conflict), 0) ((Load (number_of y (Node 1)), 0) ∷ []) has }))
 both_shows y r (suc k) has = inr (inl (0, (λ e. absurd (omega arith)), record { op = Load (number_of y (Node 1)); next = Load (number_of y Conflict); hears = refl; hears_next = refl; has = has }))
 
--- the last step is shown, and word 0 was heard as 0 after the root as 3T
-pub record DoneWell (job : JobData) (y : LayoutData) (r : Record) : Type 0 where
-  pub shows : Shows y r job.steps
-  pub heard : HeardThen y r (Node 1) (3 * job.steps) Conflict 0
-  pub reached : IsReached job job.steps
-
-pub done_well : (job : JobData) (y : LayoutData) (r : Record) (w : Walking) (words : List ℕ) → Stands job y words → Backed job y r words → FitsWell job y w → Knows job y r w → w.now ≡ doing.Over ended.Done → DoneWell job y r
+pub done_well : (job : JobData) (y : LayoutData) (r : Record) (w : Walking) (words : List ℕ) → Stands job y words → Backed job y r words → Fits job y w →
+    Knows job y r w → w.now ≡ doing.Over ended.Done → DoneWell job y r
 done_well job y r w words stands backed well knows is =
     let has : Has r (heard_both y (3 * job.steps) 0) = subst (λ (es : List (Op × ℕ)). Has r es) (over_heard job y w ended.Done well is) knows in
     let shows = both_shows y r job.steps has in
@@ -61,26 +58,20 @@ done_well job y r w words stands backed well knows is =
 
 -- ---- Conflict
 
--- word 0 was heard as the step of the first conflict, which is one of the job's
-pub record IsConflict (job : JobData) (t : ℕ) : Type 0 where
-  pub fault : Fault
-  pub first : IsFirstConflict job fault
-  pub step : fault.step ≡ t
-  pub within : t ≤ job.steps
-
 is_first : (job : JobData) (s : ℕ) → IsReached job s → (AgreesAfter job s → ⊥) → suc s ≤ job.steps → IsConflict job (suc s)
 is_first job s reached not within = elim (reached_or_conflict job (suc s)) [
   | inl all ↦ absurd (not (all s (omega arith)))
   | inr c ↦ (
       let low : c.0.step ≤ suc s = c.2 in
       elim (cases_lt s c.0.step) [
-        | inl k ↦ record { fault = c.0; first = c.1; step = omega arith; within = within }
+        | inl k ↦ record { fault = c.0; is = record { first = c.1; within = omega arith }; step = omega arith }
         | inr k ↦ absurd (conflict_ends job c.0 s c.1 k reached)
       ]
       )
 ]
 
-pub heard_conflict : (job : JobData) (y : LayoutData) (r : Record) (u : ℕ) (words : List ℕ) → Stands job y words → Backed job y r words → Heard y r Conflict u → u ≢ 0 → IsConflict job u
+pub heard_conflict : (job : JobData) (y : LayoutData) (r : Record) (u : ℕ) (words : List ℕ) → Stands job y words → Backed job y r words →
+    Heard y r Conflict u → u ≢ 0 → IsConflict job u
 heard_conflict job y r zero words stands backed heard some = absurd (some refl)
 heard_conflict job y r (suc s) words stands backed heard some =
     let c = conflict_first job y r s words stands backed heard in
@@ -91,12 +82,16 @@ heard_conflict job y r (suc s) words stands backed heard some =
     let low = (facts job y words stands).b2_low in
     is_first job s c.0 c.1 (elim near [ inl e ↦ omega arith | inr e ↦ omega arith ])
 
-pub conflict_well : (job : JobData) (y : LayoutData) (r : Record) (w : Walking) (u : ℕ) (words : List ℕ) → Stands job y words → Backed job y r words → FitsWell job y w → Knows job y r w → w.now ≡ doing.Over (ended.Conflict u) → Heard y r Conflict u × IsConflict job u
+pub conflict_well : (job : JobData) (y : LayoutData) (r : Record) (w : Walking) (u : ℕ) (words : List ℕ) → Stands job y words → Backed job y r words →
+    Fits job y w → Knows job y r w → w.now ≡ doing.Over (ended.Conflict u) → Heard y r Conflict u × IsConflict job u
 conflict_well job y r w u words stands backed well knows is =
     let h = over_heard job y w (ended.Conflict u) well is in
     let has : Has r (heard_both y h.1.0 u) = subst (λ (es : List (Op × ℕ)). Has r es) h.1.1 knows in
     let heard : Heard y r Conflict u = record { op = Load (number_of y Conflict); hears = refl; has = has_newest r (Load (number_of y Conflict), u) ((Load (number_of y (Node 1)), h.1.0) ∷ []) has } in
     (heard, heard_conflict job y r u words stands backed heard h.0)
+
+pub ends_true : EndsAreTrue
+ends_true job y r w words stands backed well knows = (done_well job y r w words stands backed well knows, λ u. conflict_well job y r w u words stands backed well knows)
 
 -- ---- progress
 
@@ -109,7 +104,8 @@ pub record ProgressWell (job : JobData) (y : LayoutData) (before behind : Record
   pub named : (v : ℕ) → v ≢ 0 → Heard y before Conflict v → suc step ≡ v
   pub conflict : u ≢ 0 → IsConflict job u
 
-pub progress_well : (job : JobData) (y : LayoutData) (before : Record) (r u : ℕ) (words : List ℕ) → Stands job y words → Backed job y (load_conflict y (load_root y before r) u) words → ProgressWell job y before (load_conflict y (load_root y before r) u) (step_seen r u) u
+pub progress_well : (job : JobData) (y : LayoutData) (before : Record) (r u : ℕ) (words : List ℕ) → Stands job y words →
+    Backed job y (load_conflict y (load_root y before r) u) words → ProgressWell job y before (load_conflict y (load_root y before r) u) (step_seen r u) u
 progress_well job y before r u words stands backed =
     let g = glanced_both job y before r u words stands backed in
     let behind = load_conflict y (load_root y before r) u in

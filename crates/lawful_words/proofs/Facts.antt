@@ -1,28 +1,59 @@
 -- Lemmas B: what lawful words show.
-use Rattle.std.proofs.Common.{◌≡◌, ◌≢◌, ◌⊎◌, ℕ, zero, suc, ◌+◌, ◌-◌, ◌*◌, ◌<◌, ◌≤◌, ◌^◌, IsTrue, List, slice_index, refl, sym, ap, subst, ◌∙◌, inl, inr, arith}
+use Rattle.std.proofs.Common.{◌≡◌, ◌≢◌, ◌⊎◌, ℕ, zero, suc, ◌+◌, ◌-◌, ◌*◌, ◌<◌, ◌≤◌, ◌^◌, IsTrue, List, slice_index, refl, sym, ap, subst, ◌∙◌, inl, inr, arith, false}
 use Rattle.std.proofs.lemmas.Bool.{cases_eq, cases_lt, cases_order}
 use Rattle.pram_text.specs.Job.{JobData, IsJob}
 use Rattle.pram_text.specs.declared.instr.Rule.{Rule}
 use Rattle.pram_text.specs.declared.instr.Rule.TheVariants.{Common, Priority, Crew}
 use Rattle.pram_step.specs.Machine.{place_count}
 use Rattle.pram_step.specs.Steps.{Counts, Forbids}
-use Rattle.pram_step.specs.Runs.{IsReached, AgreesAfter, state_after}
+use Rattle.pram_step.specs.Runs.{IsReached, AgreesAfter, state_after, requests_after}
 use Rattle.pram_step.proofs.LawWriters.{writer_cases}
 use Rattle.pram_step.proofs.LawPlaces.{writer_is}
 use Rattle.pram_words.specs.declared.phases.Kind.TheVariants.{Compute, Apply, Verify}
-use Rattle.pram_words.specs.declared.words.Word.TheVariants.{Node, Asked, Stored, Claim}
+use Rattle.pram_words.specs.declared.words.Word.TheVariants.{Node, Asked, Stored, Claim, Conflict}
 use Rattle.pram_words.specs.Stamps.{stamp_of, payload_of, stamped_word}
-use Rattle.pram_words.specs.Words.{LayoutData, IsLayout, IsWord, has_claims, places_of}
+use Rattle.pram_words.specs.Words.{LayoutData, IsLayout, IsWord, has_claims, places_of, number_of}
 use Rattle.pram_words.proofs.Halvings.{leaves_least}
-use Rattle.walkx.specs.Tasks.{claim_of, newer_payload}
-use Rattle.walkx.specs.Stages.{IsBoard}
-use Rattle.walkx.specs.Walk.{IsLayoutOf}
+use Rattle.walkx.specs.Tasks.{claim_of, newer_payload, is_late, first_is_older, older, older_word}
+use Rattle.walkx.specs.Walk.{IsLayoutOf, IsBoard}
 use Rattle.walkx.proofs.Boards.{same_cells, same_procs}
-use Rattle.lawful_words.specs.Steps.{Asks, Wins, IsWritten, requests_after, phase_written, last_write, write_before, word_of_step, settled, settled_before}
-use Rattle.lawful_words.specs.Board.{held, root, conflict, leaf, stamp_at, finished, IsLate, HoldsNew, Raised, Claimed, Done, IsNew, IsPair, newer_first, newer_second, new_first, new_second, IsClaimed, claimed_before, claimed_now, LawfulFor, Stands}
-use Rattle.lawful_words.specs.Statements.{B, AllB}
-use Rattle.lawful_words.proofs.Machine.{last_most, last_is, last_least, last_between, value_between, reached_down}
-use Rattle.lawful_words.proofs.Values.{IsFin, fin, conflict_is, fin_reached, phase_low, phase_high, tree_below, stamp_step, payload_step, before_is, before_most, before_less, before_between, WordIs, is_settled, is_before, is_new, first_is, second_is, has_settled, newer_is_first, newer_is_second}
+use Rattle.pram_step.specs.History.{Asks, Wins, IsWritten, last_write, write_before, part_after}
+use Rattle.pram_step.proofs.LawFixed.{reached_down}
+use Rattle.pram_step.proofs.Past.{last_most, last_is, last_least, last_between, value_between, before_most}
+use Rattle.pram_words.specs.Phases.{kind_at, step_at}
+use Rattle.walkx.specs.declared.operation.Op.{Op}
+use Rattle.walkx.specs.declared.operation.Op.TheVariants.{Max, Swap}
+use Rattle.walkx.specs.Operations.{words_after}
+use Rattle.lawful_words.specs.Steps.{phase_written, word_of_step, settled, settled_before}
+use Rattle.lawful_words.specs.Board.{held, root, conflict, leaf, stamp_at, finished, IsLate, HoldsNew, Raised, Claimed, Done, IsNew, IsPair, newer_first, newer_second, new_first, new_second, IsClaimed, claimed_before, claimed_now, LawfulFor, Stands, Grows}
+use Rattle.lawful_words.proofs.Values.{IsFin, fin, conflict_is, fin_reached, phase_low, phase_high, tree_below, stamp_step, payload_step, before_is, before_less, before_between, WordIs, is_settled, is_before, is_new, first_is, second_is, has_settled, newer_is_first, newer_is_second}
+
+-- ---- what holds of words that stand
+
+pub record B (job : JobData) (y : LayoutData) (words : List ℕ) : Type 0 where
+  pub b1 : (n : ℕ) → IsWord y (Node n) → root y words ≤ held y words (Node n)
+  pub b2_low : 3 * finished y words ≤ root y words
+  pub b2_high : root y words ≤ 3 * finished y words + 3
+  pub b2_full : root y words ≡ 3 * finished y words + 3 → conflict y words ≡ suc (finished y words)
+  pub b2_conflict : (conflict y words ≡ 0) ⊎ (conflict y words ≡ suc (finished y words))
+  pub b3 : (t : ℕ) → 3 * t + 1 ≤ root y words → t ≤ finished y words
+  pub b3_reached : (t : ℕ) → 3 * t ≤ root y words → IsReached job t → t ≤ finished y words
+  pub b4 : (k i j : ℕ) → i < y.procs → j < 3 → 3 * k + 1 ≤ root y words → k < stamp_of (held y words (Asked i j))
+  pub b5_stored : (x p k : ℕ) → IsWord y (Stored p k) → stamp_at y words p k ≡ suc x →
+      IsReached job x × IsWritten job x p × (phase_written job.rule x ≤ root y words + 1)
+  pub b5_asked : (x i j : ℕ) → i < y.procs → j < 3 → stamp_of (held y words (Asked i j)) ≡ suc x →
+      IsReached job x × (3 * x ≤ root y words)
+  pub b5_claim : (x c : ℕ) → IsWord y (Claim c) → stamp_of (held y words (Claim c)) ≡ suc x →
+      IsReached job x × IsWritten job x c × (3 * x + 1 ≤ root y words)
+  pub b6 : (t p k : ℕ) → IsWord y (Stored p k) → t ≤ finished y words → stamp_at y words p k ≤ t →
+      (held y words (Stored p k) ≡ settled job t p) ⊎ ((held y words (Stored p k) ≡ settled_before job t p) × (last_write job t p ≤ stamp_at y words p (1 - k)))
+  pub b6_apart : (p : ℕ) → p < places_of y → stamp_at y words p 0 ≡ stamp_at y words p 1 → stamp_at y words p 0 ≡ 0
+  pub b7 : (x p : ℕ) → p < places_of y → phase_written job.rule x ≤ root y words → IsWritten job x p → IsLate y x p words
+  pub b8 : conflict y words ≡ 0 → ((i : ℕ) → i < y.procs → 3 * finished y words + 3 ≤ leaf y words i) → AgreesAfter job (finished y words)
+  pub b9_asked : (i j : ℕ) → i < y.procs → j < 3 → conflict y words ≢ 0 → stamp_of (held y words (Asked i j)) ≡ conflict y words
+  pub b9_final : (p : ℕ) → p < places_of y → root y words ≡ 3 * job.steps → conflict y words ≡ 0 →
+      newer_payload (held y words (Stored p 0)) (held y words (Stored p 1)) ≡ slice_index (state_after job job.steps) p
+  pub b10 : (x c i v : ℕ) → IsWord y (Claim c) → 3 * x + 2 ≤ root y words → Asks job x c i v → stamped_word (suc x) (claim_of job i) ≤ held y words (Claim c)
 
 -- what is done with a kind, by the rule
 pub done_raised : (rule : Rule) (job : JobData) (y : LayoutData) (s : ℕ) (words : List ℕ) (i : ℕ) → Done rule Compute job y s words i → Raised job y s words i
@@ -35,7 +66,8 @@ claims_rule Common h e = absurd (cc)
 claims_rule Priority h e = absurd (cc)
 claims_rule Crew h e = absurd (cc)
 
-pub done_claimed : (rule : Rule) (job : JobData) (y : LayoutData) (s : ℕ) (words : List ℕ) (i : ℕ) → IsTrue (has_claims rule) → Done rule Apply job y s words i → Claimed job y s words i
+pub done_claimed : (rule : Rule) (job : JobData) (y : LayoutData) (s : ℕ) (words : List ℕ) (i : ℕ) → IsTrue (has_claims rule) →
+    Done rule Apply job y s words i → Claimed job y s words i
 done_claimed Common job y s words i h d = absurd (claims_rule Common h refl)
 done_claimed Priority job y s words i h d = d
 done_claimed Crew job y s words i h d = d.1
@@ -102,7 +134,8 @@ module _ (job : JobData) (y : LayoutData) (words : List ℕ) (gone : ℕ) (limit
   pub stamp_before : (t p : ℕ) → stamp_of (settled_before job t p) ≡ write_before job (last_write job t p) p
   stamp_before t p = stamp_step job (write_before job (last_write job t p) p) p limits
 
-  stored_step : (x p word : ℕ) → stamp_of word ≡ suc x → WordIs job (gone) (root y words) p word → IsReached job x × IsWritten job x p × (phase_written job.rule x ≤ root y words + 1)
+  stored_step : (x p word : ℕ) → stamp_of word ≡ suc x → WordIs job (gone) (root y words) p word →
+      IsReached job x × IsWritten job x p × (phase_written job.rule x ≤ root y words + 1)
   stored_step x p word e (is_settled is) =
       let s : last_write job (gone) p ≡ suc x = sym (stamp_settled (gone) p) ∙ sym (ap stamp_of is) ∙ e in
       let m = last_most job (gone) p in
@@ -340,7 +373,8 @@ module _ (job : JobData) (y : LayoutData) (words : List ℕ) (stands : Stands jo
         )
   ]
 
-  final : (p : ℕ) → p < places_of y → root y words ≡ 3 * job.steps → conflict y words ≡ 0 → newer_payload (held y words (Stored p 0)) (held y words (Stored p 1)) ≡ slice_index (state_after job job.steps) p
+  final : (p : ℕ) → p < places_of y → root y words ≡ 3 * job.steps → conflict y words ≡ 0 →
+      newer_payload (held y words (Stored p 0)) (held y words (Stored p 1)) ≡ slice_index (state_after job job.steps) p
   final p place full none =
       let low = fins.low in
       let same : finished y words ≡ job.steps = (elim (cases_lt (root y words) (3 * finished y words + 3)) [ inl c ↦ omega arith | inr c ↦ absurd (let h = fins.high in let u = fins.full (omega arith) in omega arith) ]) in
@@ -369,6 +403,3 @@ module _ (job : JobData) (y : LayoutData) (words : List ℕ) (stands : Stands jo
     b9_final = final;
     b10 = claim_high job y words (finished y words) stands.limits stands.sizes stands.layout stands.lawful fins.low fins.high;
   }
-
-pub all_b : AllB
-all_b job y words stands = facts job y words stands

@@ -9,7 +9,7 @@ use Rattle.pram_words.specs.Words.{LayoutData, IsWord, IsStamped, number_of, pla
 use Rattle.walkx.specs.declared.operation.Op.TheVariants.{Load}
 use Rattle.walkx.specs.Records.{Record, after}
 use Rattle.walkx.specs.Tasks.{newer_payload, is_late}
-use Rattle.lawful_words.specs.Steps.{part_after}
+use Rattle.pram_step.specs.History.{part_after}
 use Rattle.lawful_words.specs.Board.{held, stamp_at, Stands}
 use Rattle.lawful_words.specs.Moments.{Backed}
 use Rattle.lawful_words.specs.Seen.{Heard, KnowsStep}

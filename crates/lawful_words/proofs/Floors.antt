@@ -7,13 +7,13 @@ use Rattle.pram_words.specs.declared.words.Word.TheVariants.{Conflict, Node}
 use Rattle.pram_words.specs.Words.{LayoutData, number_of}
 use Rattle.walkx.specs.declared.operation.Op.{Op}
 use Rattle.walkx.specs.declared.operation.Op.TheVariants.{Load}
-use Rattle.walkx.specs.declared.worker.Doing.TheVariants as doing
+use Rattle.walkx.specs.Doing as doing
 use Rattle.walkx.specs.Walk.{phase_begun}
+use Rattle.pram_step.proofs.LawFixed.{reached_down}
+use Rattle.lawful_words.specs.Writes.{Floor}
 use Rattle.lawful_words.specs.Board.{root, conflict, finished, Stands, Grows}
 use Rattle.lawful_words.specs.Moments.{Moment}
-use Rattle.lawful_words.specs.Statements.{Floor}
 use Rattle.lawful_words.proofs.Facts.{facts}
-use Rattle.lawful_words.proofs.Machine.{reached_down}
 use Rattle.lawful_words.proofs.Sees.{Sees, always, so, heard}
 
 module _ (job : JobData) (y : LayoutData) (q x : ℕ) (some : 1 ≤ q) (step : step_at q ≡ suc x) where

@@ -6,14 +6,14 @@ use Rattle.std.proofs.lemmas.List.{get_or-set_other, set-get_or}
 use Rattle.std.proofs.lemmas.Bool.{cases_eq, cases_lt, eq-eqb, ne_eqb}
 use Rattle.pram_text.specs.Job.{JobData}
 use Rattle.pram_words.specs.declared.words.Word.{Word}
-use Rattle.pram_words.specs.declared.words.Word.TheVariants.{Conflict, Node, Asked, Position, Stored, Claim}
+use Rattle.pram_words.specs.declared.words.Word.TheVariants.{Conflict, Node, Asked, Position, Stored, Claim, Spare}
 use Rattle.pram_words.specs.Words.{LayoutData, IsLayout, IsWord, IsAdmitted, IsInRange, number_of, length_of}
 use Rattle.pram_words.proofs.Numbering.{numbering}
 use Rattle.walkx.specs.declared.operation.Op.TheVariants.{Max, Store, Swap}
 use Rattle.walkx.specs.Operations.{words_after}
+use Rattle.lawful_words.specs.Writes.{Does}
 use Rattle.lawful_words.specs.Board.{held, root, Up, Grows, Only, Stands, Lawful}
 use Rattle.lawful_words.specs.Moments.{Keeps}
-use Rattle.lawful_words.specs.Statements.{Does}
 use Rattle.lawful_words.proofs.Moments.{same}
 
 -- one word is set
@@ -31,7 +31,8 @@ same_or_other y a b limits is is_b = elim (cases_eq (number_of y b) (number_of y
   | inr n ↦ inr (λ e. n (ap (number_of y) e))
 ]
 
-pub only_admitted : (job : JobData) (y : LayoutData) (a : Word) (v : ℕ) (words later : List ℕ) → IsLayout y → IsAdmitted y job words → IsWord y a → IsInRange y job a v → Only y a v words later → IsAdmitted y job later
+pub only_admitted : (job : JobData) (y : LayoutData) (a : Word) (v : ℕ) (words later : List ℕ) → IsLayout y → IsAdmitted y job words → IsWord y a →
+    IsInRange y job a v → Only y a v words later → IsAdmitted y job later
 only_admitted job y a v words later limits admitted is range only = record {
   len = only.len ∙ admitted.len;
   in_range = λ b is_b. elim (same_or_other y a b limits is is_b) [
@@ -48,8 +49,10 @@ up_same y words (Asked i j) n = le_refl _
 up_same y words (Position w) n = tt
 up_same y words (Stored p k) n = inl refl
 up_same y words (Claim c) n = le_refl _
+up_same y words (Spare k) n = refl
 
-pub only_grows : (y : LayoutData) (a : Word) (v : ℕ) (words later : List ℕ) → IsLayout y → IsWord y a → Up y words a (held y words a) v → Only y a v words later → Grows y words later
+pub only_grows : (y : LayoutData) (a : Word) (v : ℕ) (words later : List ℕ) → IsLayout y → IsWord y a → Up y words a (held y words a) v →
+    Only y a v words later → Grows y words later
 only_grows y a v words later limits is up only = λ b is_b. elim (same_or_other y a b limits is is_b) [
   | inl e ↦ subst (λ (c : Word). Up y words c (held y words c) (held y later c)) (sym e) (subst (Up y words a (held y words a)) (sym only.at) up)
   | inr n ↦ subst (Up y words b (held y words b)) (sym (only.rest b is_b n)) (up_same y words b (held y words b))
@@ -89,7 +92,8 @@ keeps_only job y a v words stands is range up lawful =
 keeps_still : (job : JobData) (y : LayoutData) (words later : List ℕ) → Stands job y words → later ≡ words → Stands job y later × Grows y words later
 keeps_still job y words later stands e = subst (λ (l : List ℕ). Stands job y l × Grows y words l) (sym e) (stands, same y words)
 
-pub does_max : (job : JobData) (y : LayoutData) (q : ℕ) (a : Word) (v : ℕ) (words : List ℕ) → Stands job y words → IsWord y a → IsInRange y job a v → (q ≤ root y words → v ≤ held y words a) →
+pub does_max : (job : JobData) (y : LayoutData) (q : ℕ) (a : Word) (v : ℕ) (words : List ℕ) → Stands job y words → IsWord y a → IsInRange y job a v →
+    (q ≤ root y words → v ≤ held y words a) →
     (held y words a < v → Up y words a (held y words a) v × ((later : List ℕ) → Only y a v words later → Lawful job y later)) → Does job y q (Max (number_of y a) v) words
 does_max job y q a v words stands is range stale raised =
     let both : Stands job y (words_after words (Max (number_of y a) v)) × Grows y words (words_after words (Max (number_of y a) v)) = elim (cases_lt (held y words a) v) [
@@ -98,7 +102,8 @@ does_max job y q a v words stands is range stale raised =
     ] in
     record { keeps = record { stands = both.0; grows = both.1 }; still = λ h. max_less words (number_of y a) v (stale h) }
 
-pub does_swap : (job : JobData) (y : LayoutData) (q : ℕ) (a : Word) (old v : ℕ) (words : List ℕ) → Stands job y words → IsWord y a → IsInRange y job a v → (q ≤ root y words → held y words a ≢ old) →
+pub does_swap : (job : JobData) (y : LayoutData) (q : ℕ) (a : Word) (old v : ℕ) (words : List ℕ) → Stands job y words → IsWord y a → IsInRange y job a v →
+    (q ≤ root y words → held y words a ≢ old) →
     (held y words a ≡ old → Up y words a (held y words a) v × ((later : List ℕ) → Only y a v words later → Lawful job y later)) → Does job y q (Swap (number_of y a) old v) words
 does_swap job y q a old v words stands is range stale swapped =
     let both : Stands job y (words_after words (Swap (number_of y a) old v)) × Grows y words (words_after words (Swap (number_of y a) old v)) = elim (cases_eq (held y words a) old) [

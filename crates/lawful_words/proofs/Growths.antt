@@ -1,25 +1,52 @@
 -- Lemmas C: lawful words that have grown, and the two words of a place heard at two moments.
-use Rattle.std.proofs.Common.{◌≡◌, ◌≢◌, ◌⊎◌, ℕ, zero, suc, ◌+◌, ◌*◌, ◌<◌, ◌≤◌, nat_le, true, false, List, slice_index, refl, sym, ap, subst, ◌∙◌, inl, inr, lit<, arith}
+use Rattle.std.proofs.Common.{◌≡◌, ◌≢◌, ◌⊎◌, ℕ, zero, suc, ◌+◌, ◌*◌, ◌<◌, ◌≤◌, nat_le, true, false, List, slice_index, refl, sym, ap, subst, ◌∙◌, inl, inr, lit<, arith, ◌-◌}
 use Rattle.std.proofs.lemmas.Bool.{cases_eq, cases_lt, cases_Bool, leb-false, le-leb, lt-leb}
 use Rattle.pram_text.specs.Job.{JobData}
-use Rattle.pram_step.specs.Runs.{IsReached, state_after}
-use Rattle.pram_words.specs.declared.words.Word.TheVariants.{Node, Asked, Stored}
-use Rattle.pram_words.specs.Stamps.{stamp_of, payload_of}
-use Rattle.pram_words.specs.Words.{LayoutData, IsWord, places_of}
-use Rattle.walkx.specs.Tasks.{is_late, first_is_older, newer_payload}
-use Rattle.lawful_words.specs.Steps.{last_write, write_before, word_of_step, settled, settled_before}
-use Rattle.lawful_words.specs.Board.{held, root, stamp_at, finished, IsLate, IsPair, newer_first, newer_second, new_first, new_second, Stands, Grows}
-use Rattle.lawful_words.specs.Statements.{C, AllC, C5, AllC5, older, older_word}
-use Rattle.lawful_words.proofs.Machine.{last_most, last_least, last_rises, value_between}
-use Rattle.lawful_words.proofs.Values.{payload_step, before_less, before_most, before_rises, has_settled, newer_is_first, newer_is_second}
+use Rattle.pram_step.specs.Runs.{IsReached, state_after, AgreesAfter}
+use Rattle.pram_words.specs.declared.words.Word.TheVariants.{Node, Asked, Stored, Conflict, Claim}
+use Rattle.pram_words.specs.Stamps.{stamp_of, payload_of, stamped_word}
+use Rattle.pram_words.specs.Words.{LayoutData, IsWord, places_of, number_of}
+use Rattle.walkx.specs.Tasks.{is_late, first_is_older, newer_payload, older, older_word, claim_of}
+use Rattle.pram_step.specs.History.{last_write, write_before, Asks, Wins, IsWritten, part_after}
+use Rattle.pram_step.proofs.Past.{last_most, last_least, last_rises, value_between, before_most}
+use Rattle.pram_words.specs.declared.phases.Kind.TheVariants.{Compute, Apply, Verify}
+use Rattle.pram_words.specs.Phases.{kind_at, step_at}
+use Rattle.walkx.specs.declared.operation.Op.{Op}
+use Rattle.walkx.specs.declared.operation.Op.TheVariants.{Max, Swap}
+use Rattle.walkx.specs.Operations.{words_after}
+use Rattle.lawful_words.specs.Writes.{PlaceAsHeard}
+use Rattle.lawful_words.specs.Steps.{word_of_step, settled, settled_before, phase_written}
+use Rattle.lawful_words.specs.Board.{held, root, stamp_at, finished, IsLate, IsPair, newer_first, newer_second, new_first, new_second, Stands, Grows, conflict, leaf, Done}
+use Rattle.lawful_words.proofs.Values.{payload_step, before_less, before_rises, has_settled, newer_is_first, newer_is_second}
 use Rattle.lawful_words.proofs.Moments.{onward, stamps_rise}
 use Rattle.lawful_words.proofs.Facts.{facts, place_below, stamp_settled, stamp_before}
+
+-- ---- what holds of words and later ones
+
+pub record C (job : JobData) (y : LayoutData) (words later : List ℕ) : Type 0 where
+  pub c1 : finished y words ≤ finished y later
+  pub c2 : (i j : ℕ) → i < y.procs → j < 3 → 1 ≤ stamp_of (held y words (Asked i j)) →
+      stamp_of (held y words (Asked i j)) ≡ stamp_of (held y later (Asked i j)) → held y words (Asked i j) ≡ held y later (Asked i j)
+  pub c3 : (x q : ℕ) → IsReached job x → 3 * x < q → q ≤ 3 * x + 3 → q ≤ root y words + 1 → root y later + 1 ≡ q →
+      (root y words + 1 ≡ q) × (finished y words ≡ x) × (finished y later ≡ x)
+  pub c4 : (p k : ℕ) → IsWord y (Stored p k) → finished y words ≡ finished y later →
+      stamp_at y later p 0 ≤ finished y later → stamp_at y later p 1 ≤ finished y later → held y words (Stored p k) ≡ held y later (Stored p k)
+
+abbrev pub AllC : Type 0
+AllC = (job : JobData) (y : LayoutData) (words later : List ℕ) → Stands job y words → Stands job y later → Grows y words later → C job y words later
+
+abbrev pub AllC5 : Type 0
+AllC5 = (job : JobData) (y : LayoutData) (x p a b : ℕ) (first second now : List ℕ) → Stands job y first → Stands job y second → Stands job y now →
+    Grows y first second → Grows y second now →
+    p < places_of y → IsReached job x → 3 * x ≤ root y first → a ≡ held y first (Stored p 0) →
+    b ≡ held y second (Stored p 1) → is_late (suc x) a b ≡ false → PlaceAsHeard job y x p a b now
 
 pub root_up : (job : JobData) (y : LayoutData) (words later : List ℕ) → Stands job y words → Grows y words later → root y words ≤ root y later
 root_up job y words later stands up = up (Node 1) (lit< tt, let l = stands.sizes.leaves in omega arith)
 
 -- one of the stamps of a place is at least the last write of any finished step
-top_low : (job : JobData) (y : LayoutData) (words : List ℕ) (x p : ℕ) → Stands job y words → p < places_of y → x ≤ finished y words → (last_write job x p ≤ stamp_at y words p 0) ⊎ (last_write job x p ≤ stamp_at y words p 1)
+top_low : (job : JobData) (y : LayoutData) (words : List ℕ) (x p : ℕ) → Stands job y words → p < places_of y → x ≤ finished y words →
+    (last_write job x p ≤ stamp_at y words p 0) ⊎ (last_write job x p ≤ stamp_at y words p 1)
 top_low job y words x p stands place h =
     let r = last_rises job x (finished y words) p h in
     elim (has_settled job _ _ p _ _ (stands.lawful.stored p place)) [
@@ -28,7 +55,8 @@ top_low job y words x p stands place h =
     ]
 
 -- a word of a place that has changed since has a stamp above each finished step of then
-pub changed : (job : JobData) (y : LayoutData) (words later : List ℕ) (x p k : ℕ) → Stands job y words → Stands job y later → Grows y words later → IsWord y (Stored p k) → x ≤ finished y words → held y later (Stored p k) ≢ held y words (Stored p k) → x < stamp_at y later p k
+pub changed : (job : JobData) (y : LayoutData) (words later : List ℕ) (x p k : ℕ) → Stands job y words → Stands job y later → Grows y words later →
+    IsWord y (Stored p k) → x ≤ finished y words → held y later (Stored p k) ≢ held y words (Stored p k) → x < stamp_at y later p k
 changed job y words later x p k stands after up is h other = elim (up (Stored p k) is) [
   | inl e ↦ absurd (other (sym e))
   | inr more ↦ elim (cases_lt x (stamp_at y later p k)) [
@@ -48,17 +76,20 @@ module _ (job : JobData) (y : LayoutData) (words later : List ℕ) (stands : Sta
   fin_up : finished y words ≤ finished y later
   fin_up = let r = root_up job y words later stands up in let l = (facts job y words stands).b2_low in (facts job y later after).b3_reached (finished y words) (omega arith) stands.lawful.reached
 
-  asked_same : (i j s : ℕ) → i < y.procs → j < 3 → stamp_of (held y words (Asked i j)) ≡ suc s → stamp_of (held y later (Asked i j)) ≡ suc s → held y words (Asked i j) ≡ held y later (Asked i j)
+  asked_same : (i j s : ℕ) → i < y.procs → j < 3 → stamp_of (held y words (Asked i j)) ≡ suc s → stamp_of (held y later (Asked i j)) ≡ suc s →
+      held y words (Asked i j) ≡ held y later (Asked i j)
   asked_same i j s proc part e g =
       let a = ((stands.lawful.asked i j proc part).part s e).1 in
       let b = ((after.lawful.asked i j proc part).part s g).1 in
       omega arith
 
-  asked_by : (i j s : ℕ) → i < y.procs → j < 3 → 1 ≤ s → stamp_of (held y words (Asked i j)) ≡ s → stamp_of (held y later (Asked i j)) ≡ s → held y words (Asked i j) ≡ held y later (Asked i j)
+  asked_by : (i j s : ℕ) → i < y.procs → j < 3 → 1 ≤ s → stamp_of (held y words (Asked i j)) ≡ s → stamp_of (held y later (Asked i j)) ≡ s →
+      held y words (Asked i j) ≡ held y later (Asked i j)
   asked_by i j zero proc part some e g = absurd (omega arith)
   asked_by i j (suc s) proc part some e g = asked_same i j s proc part e g
 
-  live : (x q : ℕ) → IsReached job x → 3 * x < q → q ≤ 3 * x + 3 → q ≤ root y words + 1 → root y later + 1 ≡ q → (root y words + 1 ≡ q) × (finished y words ≡ x) × (finished y later ≡ x)
+  live : (x q : ℕ) → IsReached job x → 3 * x < q → q ≤ 3 * x + 3 → q ≤ root y words + 1 → root y later + 1 ≡ q →
+      (root y words + 1 ≡ q) × (finished y words ≡ x) × (finished y later ≡ x)
   live x q reached low high floor now =
       let r = root_up job y words later stands up in
       let a = (facts job y words stands).b3_reached x (omega arith) reached in
@@ -67,13 +98,15 @@ module _ (job : JobData) (y : LayoutData) (words later : List ℕ) (stands : Sta
       let d = (facts job y later after).b2_low in
       (omega arith, omega arith, omega arith)
 
-  unwritten : (p k : ℕ) → IsWord y (Stored p k) → finished y words ≡ finished y later → stamp_at y later p k ≤ finished y later → held y words (Stored p k) ≡ held y later (Stored p k)
+  unwritten : (p k : ℕ) → IsWord y (Stored p k) → finished y words ≡ finished y later → stamp_at y later p k ≤ finished y later →
+      held y words (Stored p k) ≡ held y later (Stored p k)
   unwritten p k is same low = elim (cases_eq (held y words (Stored p k)) (held y later (Stored p k))) [
     | inl e ↦ e
     | inr n ↦ absurd (let c = changed job y words later (finished y words) p k stands after up is (omega arith) (λ e. n (sym e)) in omega arith)
   ]
 
-  unwritten_each : (p k : ℕ) → IsWord y (Stored p k) → finished y words ≡ finished y later → stamp_at y later p 0 ≤ finished y later → stamp_at y later p 1 ≤ finished y later → held y words (Stored p k) ≡ held y later (Stored p k)
+  unwritten_each : (p k : ℕ) → IsWord y (Stored p k) → finished y words ≡ finished y later → stamp_at y later p 0 ≤ finished y later →
+      stamp_at y later p 1 ≤ finished y later → held y words (Stored p k) ≡ held y later (Stored p k)
   unwritten_each p zero is same a b = unwritten p zero is same a
   unwritten_each p (suc zero) is same a b = unwritten p (suc zero) is same b
   unwritten_each p (suc (suc k)) is same a b = absurd (let h = is.1 in omega arith)
@@ -84,7 +117,7 @@ module _ (job : JobData) (y : LayoutData) (words later : List ℕ) (stands : Sta
 pub all_c : AllC
 all_c job y words later stands after up = grown job y words later stands after up
 
--- ---- C5
+-- ---- PlaceAsHeard
 
 -- a word beside one with a stamp above x is of the last write up to x, at least
 beside : (job : JobData) (y : LayoutData) (words : List ℕ) (x p a b : ℕ) → Stands job y words → IsPair job (finished y words) (root y words) p a b → x ≤ finished y words →
@@ -113,7 +146,8 @@ beside job y words x p a b stands (new_second n e some) h =
     (λ late. omega arith, λ late. omega arith)
 
 -- the second word is written only when the first one was
-first_some : (job : JobData) (y : LayoutData) (words : List ℕ) (p a b : ℕ) → Stands job y words → IsPair job (finished y words) (root y words) p a b → 1 ≤ stamp_of b → 1 ≤ stamp_of a
+first_some : (job : JobData) (y : LayoutData) (words : List ℕ) (p a b : ℕ) → Stands job y words → IsPair job (finished y words) (root y words) p a b →
+    1 ≤ stamp_of b → 1 ≤ stamp_of a
 first_some job y words p a b stands (newer_first e g) h =
     let s : stamp_of a ≡ last_write job (finished y words) p = ap stamp_of e ∙ stamp_settled job y words (finished y words) stands.limits stands.sizes stands.layout stands.lawful (facts job y words stands).b2_low (facts job y words stands).b2_high (finished y words) p in
     let o : stamp_of b ≡ write_before job (last_write job (finished y words) p) p = ap stamp_of g ∙ stamp_before job y words (finished y words) stands.limits stands.sizes stands.layout stands.lawful (facts job y words stands).b2_low (facts job y words stands).b2_high (finished y words) p in
@@ -266,7 +300,8 @@ module _ (job : JobData) (y : LayoutData) (x p a b : ℕ) (first second now : Li
         | inl c ↦ absurd (let top = (beside job y now x p _ _ s3 (s3.lawful.stored p place) fin_now).1 c in let ma = most_a in omega arith)
       ]
 
-  stands_of : held y now (Stored p (older a b)) ≡ older_word a b → (stamp_at y now p 0 ≤ x) × (stamp_at y now p 1 ≤ x) × (first_is_older (held y now (Stored p 0)) (held y now (Stored p 1)) ≡ first_is_older a b)
+  stands_of : held y now (Stored p (older a b)) ≡ older_word a b →
+      (stamp_at y now p 0 ≤ x) × (stamp_at y now p 1 ≤ x) × (first_is_older (held y now (Stored p 0)) (held y now (Stored p 1)) ≡ first_is_older a b)
   stands_of = elim (cases_lt (stamp_of b) (stamp_of a)) [
     | inl c ↦ rw (lt-leb (stamp_of a) (stamp_of b) c) (λ still. let h = second_stands c still in (h.0, h.1, (let s : stamp_at y now p 1 ≡ stamp_of b = ap stamp_of still in let r = rise_a in lt-leb (stamp_at y now p 0) (stamp_at y now p 1) (omega arith))))
     | inr c ↦ rw (le-leb (stamp_of a) (stamp_of b) c) (λ still. let h = first_stands c still in (h.0, h.1, (let s : stamp_at y now p 0 ≡ stamp_of a = ap stamp_of still in let r = rise_b in le-leb (stamp_at y now p 0) (stamp_at y now p 1) (omega arith))))
@@ -278,7 +313,7 @@ module _ (job : JobData) (y : LayoutData) (x p a b : ℕ) (first second now : Li
     | inr c ↦ rw (le-leb (stamp_of a) (stamp_of b) c) (λ other. inl (changed job y first now x p 0 s1 s3 (onward y first second now up on) (place, lit< tt) fin_first (λ e. other (e ∙ sym is_a))))
   ]
 
-  two_moments : C5 job y x p a b now
+  two_moments : PlaceAsHeard job y x p a b now
   two_moments = record { value = value_of; stands = stands_of; written = written_of }
 
 early_both : (x a b : ℕ) → is_late (suc x) a b ≡ false → (stamp_of a ≤ x) × (stamp_of b ≤ x)

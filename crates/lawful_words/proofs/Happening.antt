@@ -9,17 +9,17 @@ use Rattle.pram_words.specs.Words.{LayoutData, IsWord, IsInRange, Admits, layout
 use Rattle.walkx.specs.declared.operation.Op.{Op}
 use Rattle.walkx.specs.declared.operation.Op.TheVariants.{Load, Store, Max, Swap, Over}
 use Rattle.walkx.specs.Operations.{words_after, answer}
-use Rattle.walkx.specs.Records.{Record, empty, after, Knows}
-use Rattle.walkx.specs.Stages.{IsBoard}
-use Rattle.walkx.specs.Walk.{Walking, Fits, IsAdmitted, AsksAdmitted, ask_of, told, started, come_back, heard_of}
+use Rattle.walkx.specs.Records.{empty, after, Knows}
+use Rattle.walkx.specs.Walk.{Walking, Fits, IsBoard, HearsAdmitted, AsksAdmitted, ask_of, told, started, come_back, heard_of}
+use Rattle.walkx.proofs.Asking.{all_ask}
+use Rattle.walkx.proofs.Fitting.{fits_told, new_workers_fit}
+use Rattle.walkx.proofs.Knowing.{has_more, knows_next}
+use Rattle.pram_words.specs.declared.layout.Form.{Form}
+use Rattle.lawful_words.specs.Laws.{EveryRunHolds}
 use Rattle.lawful_words.specs.Board.{Stands, held, root}
-use Rattle.lawful_words.specs.Moments.{Backed}
-use Rattle.lawful_words.specs.Told.{FitsWell}
 use Rattle.lawful_words.specs.Walks.{phase_now}
 use Rattle.lawful_words.specs.Worlds.{Body, walks, stopped, number, Event, go, stop, back, Scene, layout, went_by, replaced, happens, run, start, Walks, Holds}
-use Rattle.lawful_words.proofs.Moments.{has_more}
 use Rattle.lawful_words.proofs.Starting.{starts_stand}
-use Rattle.lawful_words.proofs.Telling.{knows_next, fits_told, started_fits}
 use Rattle.lawful_words.proofs.Turns.{all_f}
 
 -- ---- words are admitted at their numbers
@@ -30,19 +30,7 @@ word_admitted job y words k stands below =
     let range : IsInRange y job (word_at y k) (slice_index words (number_of y (word_at y k))) = stands.admitted.in_range (word_at y k) w.0 in
     (below, subst (λ (n : ℕ). IsInRange y job (word_at y k) (slice_index words n)) w.1 range)
 
--- a load is of a word of the board
-abbrev pub LoadsOnBoard : LayoutData → Op → Type 0
-LoadsOnBoard y (Load k) = k < length_of y
-LoadsOnBoard y _ = Unit {0}
-
-pub loads_of : (job : JobData) (y : LayoutData) (op : Op) → AsksAdmitted job y op → LoadsOnBoard y op
-loads_of job y (Load k) below = below
-loads_of job y (Store k v) below = tt
-loads_of job y (Max k v) below = tt
-loads_of job y (Swap k old new) below = tt
-loads_of job y (Over e) below = tt
-
-answer_admitted : (job : JobData) (y : LayoutData) (words : List ℕ) (op : Op) → Stands job y words → LoadsOnBoard y op → IsAdmitted job y op (answer words op)
+answer_admitted : (job : JobData) (y : LayoutData) (words : List ℕ) (op : Op) → Stands job y words → AsksAdmitted job y op → HearsAdmitted job y op (answer words op)
 answer_admitted job y words (Load k) stands below = word_admitted job y words k stands below
 answer_admitted job y words (Store k v) stands below = tt
 answer_admitted job y words (Max k v) stands below = tt
@@ -77,64 +65,49 @@ starts_at low (suc n) (suc at) body e = let s = starts_at (low + 1) n at body e 
 
 -- ---- what holds of a world
 
--- Each worker fits well, and each body, stopped ones too, has the number of a worker.
-pub record HoldsWell (s : Scene) : Type 0 where
-  pub stands : Stands s.job (layout s) s.words
-  pub made : Record
-  pub backed : Backed s.job (layout s) made s.words
-  pub known : (b : ℕ) (w : Walking) → Walks s b w → Knows s.job (layout s) made w × FitsWell s.job (layout s) w
-  pub numbers : (b : ℕ) (body : Body) → slice_get s.bodies b ≡ Some body → number body < s.workers
-
-pub holds : (s : Scene) → HoldsWell s → Holds s
-holds s h = record { stands = h.stands; made = h.made; backed = h.backed; known = λ b w is. ((h.known b w is).0, ((h.known b w is).1).fits) }
-
--- what the walk's `ask` promises of each worker, and more
-abbrev pub BodiesAsk : Scene → Type 0
-BodiesAsk s = (b : ℕ) (w : Walking) → Walks s b w → LoadsOnBoard (layout s) (ask_of s.job (layout s) w)
-
-pub holds_start : (job : JobData) (workers : ℕ) → IsJob job → 1 ≤ workers → workers ≤ 64 → HoldsWell (start job workers)
-holds_start job workers limits some most = record {
-  stands = starts_stand job workers limits some most;
+pub holds_start : (job : JobData) (form : Form) (workers : ℕ) → IsJob job → 1 ≤ workers → workers ≤ 64 → Holds (start job form workers)
+holds_start job form workers limits some most = record {
+  stands = starts_stand job form workers limits some most;
   made = empty;
   backed = tt;
   known = λ b w is.
       let s = starts_at 0 workers b (walks w) is in
       let e : w ≡ started s.worker = same_walking w (started s.worker) s.is in
       let below = s.below in
-      (subst (λ (v : Walking). Knows job (layout_of job workers) empty v) (sym e) tt, subst (FitsWell job (layout_of job workers)) (sym e) (started_fits job (layout_of job workers) s.worker (omega arith)).0);
+      (subst (λ (v : Walking). Knows job (layout_of job form workers) empty v) (sym e) tt, subst (Fits job (layout_of job form workers)) (sym e) (new_workers_fit job (layout_of job form workers) s.worker (omega arith)).0);
   numbers = λ b body is. let s = starts_at 0 workers b body is in let below = s.below in subst (λ (x : Body). number x < workers) (sym s.is) (omega arith);
 }
 
-went : (s : Scene) (b : ℕ) (o : Option Body) → slice_get s.bodies b ≡ o → BodiesAsk s → HoldsWell s → HoldsWell (went_by s b o)
-went s b None is asks h = h
-went s b (Some (stopped n)) is asks h = h
-went s b (Some (walks w)) is asks h =
+went : (s : Scene) (b : ℕ) (o : Option Body) → slice_get s.bodies b ≡ o → Holds s → Holds (went_by s b o)
+went s b None is h = h
+went s b (Some (stopped n)) is h = h
+went s b (Some (walks w)) is h =
     let job = s.job in
     let y = layout s in
     let k = h.known b w is in
     let op = ask_of s.job (layout s) w in
     let found = answer s.words (ask_of s.job (layout s) w) in
-    let m = all_f s.job (layout s) h.made w s.words h.stands ((k.1).fits) k.0 h.backed in
+    let m = all_f s.job (layout s) h.made w s.words h.stands k.1 k.0 h.backed in
     let keeps = (m.goes).keeps in
     let new = told s.job (layout s) w (answer s.words (ask_of s.job (layout s) w)) in
-    let knows = knows_next s.job (layout s) h.made w found ((k.1).fits) k.0 in
+    let knows = knows_next s.job (layout s) h.made w found k.1 k.0 in
     let board : IsBoard s.job (layout s) = record { limits = h.stands.limits; layout = h.stands.sizes; is = h.stands.layout } in
-    let well = fits_told s.job (layout s) w found board k.1 (answer_admitted s.job (layout s) s.words op h.stands (asks b w is)) in
+    let well = fits_told s.job (layout s) w found board k.1 (answer_admitted s.job (layout s) s.words op h.stands (all_ask job y w board k.1)) in
     record {
       stands = keeps.stands;
       made = after h.made op found;
       backed = m.backed;
       known = λ at v e. elim (get_set s.bodies b at (walks new) (walks v) e) [
-        | inl same ↦ (let f : v ≡ new = same_walking v new same in (subst (λ (x : Walking). Knows job y (after h.made op found) x) (sym f) knows, subst (FitsWell job y) (sym f) well))
+        | inl same ↦ (let f : v ≡ new = same_walking v new same in (subst (λ (x : Walking). Knows job y (after h.made op found) x) (sym f) knows, subst (Fits job y) (sym f) well))
         | inr old ↦ (let g = h.known at v old in (has_more h.made op found (heard_of job y v) g.0, g.1))
       ];
       numbers = λ at body e. elim (get_set s.bodies b at (walks new) body e) [
-        | inl same ↦ subst (λ (x : Body). number x < s.workers) (sym same) (well.fits).number
+        | inl same ↦ subst (λ (x : Body). number x < s.workers) (sym same) well.number
         | inr old ↦ h.numbers at body old
       ];
     }
 
-was_stopped : (s : Scene) (b : ℕ) (o : Option Body) → slice_get s.bodies b ≡ o → HoldsWell s → HoldsWell (replaced s b stopped o)
+was_stopped : (s : Scene) (b : ℕ) (o : Option Body) → slice_get s.bodies b ≡ o → Holds s → Holds (replaced s b stopped o)
 was_stopped s b None is h = h
 was_stopped s b (Some body) is h = record {
   stands = h.stands;
@@ -150,7 +123,7 @@ was_stopped s b (Some body) is h = record {
   ];
 }
 
-came_back : (s : Scene) (b : ℕ) (o : Option Body) → slice_get s.bodies b ≡ o → HoldsWell s → HoldsWell (replaced s b (λ n. walks (come_back n)) o)
+came_back : (s : Scene) (b : ℕ) (o : Option Body) → slice_get s.bodies b ≡ o → Holds s → Holds (replaced s b (λ n. walks (come_back n)) o)
 came_back s b None is h = h
 came_back s b (Some body) is h = record {
   stands = h.stands;
@@ -159,7 +132,7 @@ came_back s b (Some body) is h = record {
   known = λ at v e. elim (get_set s.bodies b at (walks (come_back (number body))) (walks v) e) [
     | inl same ↦ (
         let f : v ≡ come_back (number body) = same_walking v (come_back (number body)) same in
-        (subst (λ (x : Walking). Knows s.job (layout s) h.made x) (sym f) tt, subst (FitsWell s.job (layout s)) (sym f) (started_fits s.job (layout s) (number body) (h.numbers b body is)).1)
+        (subst (λ (x : Walking). Knows s.job (layout s) h.made x) (sym f) tt, subst (Fits s.job (layout s)) (sym f) (new_workers_fit s.job (layout s) (number body) (h.numbers b body is)).1)
         )
     | inr old ↦ h.known at v old
   ];
@@ -169,30 +142,24 @@ came_back s b (Some body) is h = record {
   ];
 }
 
-pub happens_holds : (s : Scene) (e : Event) → BodiesAsk s → HoldsWell s → HoldsWell (happens s e)
-happens_holds s (go b) asks h = went s b (slice_get s.bodies b) refl asks h
-happens_holds s (stop b) asks h = was_stopped s b (slice_get s.bodies b) refl h
-happens_holds s (back b) asks h = came_back s b (slice_get s.bodies b) refl h
+pub happens_holds : (s : Scene) (e : Event) → Holds s → Holds (happens s e)
+happens_holds s (go b) h = went s b (slice_get s.bodies b) refl h
+happens_holds s (stop b) h = was_stopped s b (slice_get s.bodies b) refl h
+happens_holds s (back b) h = came_back s b (slice_get s.bodies b) refl h
 
 -- A stale body's step changes no word but its position.
-pub stale_go : (s : Scene) (b : ℕ) (w : Walking) → HoldsWell s → Walks s b w → phase_now w.now ≤ root (layout s) s.words → (a : Word) → IsWord (layout s) a → a ≢ Position w.number → held (layout s) (words_after s.words (ask_of s.job (layout s) w)) a ≡ held (layout s) s.words a
+pub stale_go : (s : Scene) (b : ℕ) (w : Walking) → Holds s → Walks s b w → phase_now w.now ≤ root (layout s) s.words → (a : Word) → IsWord (layout s) a →
+    a ≢ Position w.number → held (layout s) (words_after s.words (ask_of s.job (layout s) w)) a ≡ held (layout s) s.words a
 stale_go s b w h is behind =
     let k = h.known b w is in
-    ((all_f s.job (layout s) h.made w s.words h.stands ((k.1).fits) k.0 h.backed).goes).stale behind
+    ((all_f s.job (layout s) h.made w s.words h.stands k.1 k.0 h.backed).goes).stale behind
 
 -- ---- every run
 
--- what the walk promises of each worker that fits
-abbrev pub AllAsk : Type 0
-AllAsk = (job : JobData) (y : LayoutData) (w : Walking) → IsBoard job y → Fits job y w → LoadsOnBoard y (ask_of job y w)
+pub run_holds : (events : List Event) (s : Scene) → Holds s → Holds (run s events)
+run_holds [] s h = h
+run_holds (e ∷ es) s h = run_holds es (happens s e) (happens_holds s e h)
 
-bodies_ask : AllAsk → (s : Scene) → HoldsWell s → BodiesAsk s
-bodies_ask all s h b w is = all s.job (layout s) w (record { limits = h.stands.limits; layout = h.stands.sizes; is = h.stands.layout }) (((h.known b w is).1).fits)
-
-pub run_holds : AllAsk → (events : List Event) (s : Scene) → HoldsWell s → HoldsWell (run s events)
-run_holds all [] s h = h
-run_holds all (e ∷ es) s h = run_holds all es (happens s e) (happens_holds s e (bodies_ask all s h) h)
-
--- whatever happens, in any order
-pub world_holds : AllAsk → (job : JobData) (workers : ℕ) (events : List Event) → IsJob job → 1 ≤ workers → workers ≤ 64 → HoldsWell (run (start job workers) events)
-world_holds all job workers events limits some most = run_holds all events (start job workers) (holds_start job workers limits some most)
+-- Whatever happens in a world, in any order: its words are lawful, and bear out a record of all steps that knows each worker.
+pub every_run_holds : EveryRunHolds
+every_run_holds job form workers events limits some most = run_holds events (start job form workers) (holds_start job form workers limits some most)

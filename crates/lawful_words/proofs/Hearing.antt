@@ -14,14 +14,13 @@ use Rattle.walkx.specs.declared.operation.Op.{Op}
 use Rattle.walkx.specs.declared.operation.Op.TheVariants.{Max, Swap}
 use Rattle.walkx.specs.Operations.{words_after}
 use Rattle.walkx.specs.Scripts.{Script, asks}
-use Rattle.walkx.specs.Stages.{IsBoard}
 use Rattle.walkx.specs.Tasks.{hears_part, reads_place, reports, claims, claim_of}
-use Rattle.walkx.specs.Walk.{Then}
+use Rattle.walkx.specs.Walk.{Then, IsBoard}
 use Rattle.walkx.proofs.Boards.{same_cells}
-use Rattle.lawful_words.specs.Steps.{Asks, part_after}
+use Rattle.pram_step.specs.History.{Asks, part_after}
+use Rattle.lawful_words.specs.Writes.{Floor}
 use Rattle.lawful_words.specs.Board.{held, root, conflict, Stands}
 use Rattle.lawful_words.specs.Moments.{Moment}
-use Rattle.lawful_words.specs.Statements.{Floor}
 use Rattle.lawful_words.proofs.Moments.{onward}
 use Rattle.lawful_words.proofs.Frames.{swap_same, swap_other}
 use Rattle.lawful_words.proofs.Facts.{facts}
@@ -35,14 +34,16 @@ use Rattle.lawful_words.proofs.Known.{safe_known, floor_lasts, StaleSafe, raises
 module _ (job : JobData) (y : LayoutData) (w q x i : ℕ) (some : 1 ≤ q) (most : q ≤ 3 * job.steps) (step : step_at q ≡ suc x) (board : IsBoard job y) (proc : i < y.procs) where
   -- ---- one part of the request, or all three
 
-  pub hears : (j : ℕ) → j < 3 → 3 * x + 2 ≤ q → (after : Script Then) (next : ℕ → Script Then) (history : List (Op × ℕ)) → StaleSafe job y w q x after → Sees job y history (Floor job y q x) →
+  pub hears : (j : ℕ) → j < 3 → 3 * x + 2 ≤ q → (after : Script Then) (next : ℕ → Script Then) (history : List (Op × ℕ)) → StaleSafe job y w q x after →
+      Sees job y history (Floor job y q x) →
       ((longer : List (Op × ℕ)) → Sees job y longer (Floor job y q x) → Safe {R = Then} job y w q (next (part_after job x i j)) longer) → Safe {R = Then} job y w q (hears_part y (suc x) i j after next) history
   hears j part phase after next history stale sees on =
       hears_safe job y w q x some most step (Floor job y q x) (floor_lasts job y q x) (λ words f. f) {R = Then} i j proc part phase after next history sees stale (λ v longer more.
       safe_known {R = Then} job y w q (next v) longer (v ≡ part_after job x i j) (so job y longer (λ words. Floor job y q x words × (v ≡ part_after job x i j)) (λ words. v ≡ part_after job x i j) (λ words stands h. h.1) more) (λ e.
       subst (λ (v : ℕ). Safe {R = Then} job y w q (next v) longer) (sym e) (on longer (so job y longer (λ words. Floor job y q x words × (v ≡ part_after job x i j)) (Floor job y q x) (λ words stands h. h.0) more))))
 
-  pub hears_all : 3 * x + 2 ≤ q → (after : Script Then) (next : ℕ → ℕ → ℕ → Script Then) (history : List (Op × ℕ)) → StaleSafe job y w q x after → Sees job y history (Floor job y q x) →
+  pub hears_all : 3 * x + 2 ≤ q → (after : Script Then) (next : ℕ → ℕ → ℕ → Script Then) (history : List (Op × ℕ)) → StaleSafe job y w q x after →
+      Sees job y history (Floor job y q x) →
       ((longer : List (Op × ℕ)) → Sees job y longer (Floor job y q x) → Safe {R = Then} job y w q (next (part_after job x i 0) (part_after job x i 1) (part_after job x i 2)) longer) →
       Safe {R = Then} job y w q (hears_part y (suc x) i 0 after (λ a. hears_part y (suc x) i 1 after (λ b. hears_part y (suc x) i 2 after (λ c. next a b c)))) history
   hears_all phase after next history stale sees on =
@@ -52,7 +53,8 @@ module _ (job : JobData) (y : LayoutData) (w q x i : ℕ) (some : 1 ≤ q) (most
 
   -- ---- a place, in the first pass
 
-  pub reads : (p : ℕ) → p < places_of y → q ≡ 3 * x + 1 → (after : Script Then) (next : ℕ → Script Then) (history : List (Op × ℕ)) → StaleSafe job y w q x after → Sees job y history (Floor job y q x) →
+  pub reads : (p : ℕ) → p < places_of y → q ≡ 3 * x + 1 → (after : Script Then) (next : ℕ → Script Then) (history : List (Op × ℕ)) →
+      StaleSafe job y w q x after → Sees job y history (Floor job y q x) →
       ((longer : List (Op × ℕ)) → Sees job y longer (Floor job y q x) → Safe {R = Then} job y w q (next (slice_index (state_after job x) p)) longer) → Safe {R = Then} job y w q (reads_place y (suc x) p after next) history
   reads p place phase after next history stale sees on =
       reads_safe job y w q x some most step (Floor job y q x) (floor_lasts job y q x) (λ words f. f) {R = Then} p place phase after next history sees stale (λ v longer more.
@@ -104,6 +106,6 @@ module _ (job : JobData) (y : LayoutData) (w q x i : ℕ) (some : 1 ≤ q) (most
       (λ e.
       let cell : p < y.cells = (let l = ltb-true p job.cells e in let c = same_cells job y board in omega arith) in
       raises_safe job y w q (Claim p) (stamped_word (suc x) (claim_of job i)) (Floor job y q x) (floor_lasts job y q x) (has, cell) (λ words later up. up (Claim p) (has, cell))
-      (λ words stands f. (all_e job y words q x stands some most step f).e9 p i v (has, cell) (kind_of x q Apply phase) asked) after history sees (λ longer more.
+      (λ words stands f. (all_e job y words q x stands some most step f).claim p i v (has, cell) (kind_of x q Apply phase) asked) after history sees (λ longer more.
       on longer (so job y longer (λ words. Floor job y q x words × (stamped_word (suc x) (claim_of job i) ≤ held y words (Claim p))) (λ words. Floor job y q x words × (p < job.cells → stamped_word (suc x) (claim_of job i) ≤ held y words (Claim p))) (λ words stands h. (h.0, λ c. h.1)) more)))
       (λ e. on history (so job y history (Floor job y q x) (λ words. Floor job y q x words × (p < job.cells → stamped_word (suc x) (claim_of job i) ≤ held y words (Claim p))) (λ words stands f. (f, λ c. absurd (let l = ltb-false p job.cells e in omega arith))) sees))

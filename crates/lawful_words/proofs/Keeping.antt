@@ -4,30 +4,23 @@ use Rattle.std.proofs.lemmas.Bool.{cases_eq}
 use Rattle.pram_text.specs.Job.{JobData, IsJob}
 use Rattle.pram_text.specs.declared.instr.Rule.{Rule}
 use Rattle.pram_text.specs.declared.instr.Rule.TheVariants.{Common, Priority, Crew}
-use Rattle.pram_step.specs.Machine.{place_count}
 use Rattle.pram_step.specs.Runs.{AgreesAfter, state_after}
-use Rattle.pram_step.proofs.LawPlaces.{writes_place}
 use Rattle.pram_words.specs.declared.phases.Kind.{Kind}
 use Rattle.pram_words.specs.declared.phases.Kind.TheVariants.{Compute, Apply, Verify}
 use Rattle.pram_words.specs.declared.words.Word.TheVariants.{Conflict, Asked, Stored, Claim}
 use Rattle.pram_words.specs.Stamps.{stamp_of, payload_of, stamped_word}
 use Rattle.pram_words.specs.Words.{LayoutData, IsLayout, IsWord, has_claims, places_of}
 use Rattle.walkx.specs.Tasks.{claim_of}
-use Rattle.walkx.specs.Walk.{IsLayoutOf}
-use Rattle.walkx.specs.Stages.{IsBoard}
+use Rattle.walkx.specs.Walk.{IsLayoutOf, IsBoard}
 use Rattle.walkx.proofs.Boards.{same_cells, same_procs}
-use Rattle.lawful_words.specs.Steps.{Asks, IsWritten, last_write, write_before, word_of_step, settled, settled_before}
+use Rattle.pram_step.specs.History.{Asks, IsWritten, last_write, write_before}
+use Rattle.pram_step.proofs.LawFixed.{reached_more}
+use Rattle.pram_step.proofs.Past.{last_most, last_new, write_cases, Left, Set, written_value, before_most, asks_fit}
+use Rattle.lawful_words.specs.Steps.{word_of_step, settled, settled_before}
 use Rattle.lawful_words.specs.Board.{held, root, conflict, leaf, stamp_at, finished, IsLate, HoldsNew, Raised, Carried, CarriedWon, Claimed, Stays, ClaimStays, Done, phase_in, IsNew, IsPair, newer_first, newer_second, new_first, new_second, ClaimsFor, IsClaimed, claimed_before, claimed_now, LawfulFor, Lawful, Grows}
-use Rattle.lawful_words.proofs.Machine.{last_most, last_new, write_cases, Left, Set, written_value, reached_more}
-use Rattle.lawful_words.proofs.Values.{fin, phase_high, stamp_step, before_most}
+use Rattle.lawful_words.proofs.Values.{fin, phase_high, stamp_step}
 use Rattle.lawful_words.proofs.Moments.{stamps_rise}
 use Rattle.lawful_words.proofs.Facts.{place_below, low_leaf, raised, late, claim_fits, agrees_by, claim_high}
-
-pub asks_place : (job : JobData) (s p i v : ℕ) → IsJob job → Asks job s p i v → p < place_count job
-asks_place job s p i v limits asks =
-    let w = writes_place job (state_after job s) p i v limits asks in
-    let l = w.0 in
-    elim w.1 [ inl e ↦ omega arith | inr d ↦ elim d [ inl c ↦ omega arith | inr c ↦ (let m = c.1 in omega arith) ] ]
 
 has_claim_words : (rule : Rule) → rule ≢ Common → IsTrue (has_claims rule)
 has_claim_words Common other = absurd (other refl)
@@ -42,7 +35,7 @@ module _ (job : JobData) (y : LayoutData) (words later : List ℕ) (s : ℕ) (li
   is_board = record { limits = limits; layout = sizes; is = layout }
 
   place_of : (p i v : ℕ) → Asks job s p i v → p < places_of y
-  place_of p i v asks = let a = asks_place job s p i v limits asks in let b = same_cells job y is_board in let c = same_procs job y is_board in omega arith
+  place_of p i v asks = let a = (asks_fit job s p i v limits asks).0 in let b = same_cells job y is_board in let c = same_procs job y is_board in omega arith
 
   raised_later : (i : ℕ) → i < y.procs → Raised job y s words i → Raised job y s later i
   raised_later i proc r j part = let h = r j part in let u = up (Asked i j) (proc, part) in omega arith
@@ -59,7 +52,8 @@ module _ (job : JobData) (y : LayoutData) (words later : List ℕ) (s : ℕ) (li
       let u = up (Claim c) (is, omega arith) in
       omega arith
 
-  holds_at : (p v k : ℕ) → p < places_of y → k < 2 → stamp_at y words p k ≡ suc s → payload_of (held y words (Stored p k)) ≡ v → (held y words (Stored p k) ≡ held y later (Stored p k)) → HoldsNew y later p (suc s) v
+  holds_at : (p v k : ℕ) → p < places_of y → k < 2 → stamp_at y words p k ≡ suc s → payload_of (held y words (Stored p k)) ≡ v →
+      (held y words (Stored p k) ≡ held y later (Stored p k)) → HoldsNew y later p (suc s) v
   holds_at p v k place two e g same = (k, two, ap stamp_of (sym same) ∙ e, ap payload_of (sym same) ∙ g)
 
   new_later : (p v : ℕ) → p < places_of y → HoldsNew y words p (suc s) v → HoldsNew y later p (suc s) v
@@ -80,7 +74,8 @@ module _ (job : JobData) (y : LayoutData) (words later : List ℕ) (s : ℕ) (li
   stays_later i (inl e) = inl (conflict_later e)
   stays_later i (inr h) = inr (λ p v data_write. new_later p v (place_of p i v data_write.0) (h p v data_write))
 
-  claim_stays_later : (rule : Rule) → job.rule ≡ rule → rule ≢ Common → ((c : ℕ) → IsWord y (Claim c) → held y later (Claim c) ≡ held y words (Claim c)) → (i : ℕ) → ClaimStays job y s words i → ClaimStays job y s later i
+  claim_stays_later : (rule : Rule) → job.rule ≡ rule → rule ≢ Common → ((c : ℕ) → IsWord y (Claim c) → held y later (Claim c) ≡ held y words (Claim c)) →
+      (i : ℕ) → ClaimStays job y s words i → ClaimStays job y s later i
   claim_stays_later rule e other still i (inl u) = inl (conflict_later u)
   claim_stays_later rule e other still i (inr h) = inr (λ c v asks cell.
       let is : IsTrue y.claims = subst IsTrue (sym (ap (λ (z : LayoutData). z.claims) layout ∙ ap has_claims e)) (has_claim_words rule other) in
@@ -93,7 +88,8 @@ module _ (job : JobData) (y : LayoutData) (words later : List ℕ) (s : ℕ) (li
   carried_later : (i : ℕ) → Carried job y s words i → Carried job y s later i
   carried_later i h p v asks = late_later p (place_of p i v asks) (h p v asks)
 
-  done_by : (rule : Rule) (kind : Kind) → job.rule ≡ rule → (kind ≡ Verify → (c : ℕ) → IsWord y (Claim c) → held y later (Claim c) ≡ held y words (Claim c)) → (i : ℕ) → i < y.procs → Done rule kind job y s words i → Done rule kind job y s later i
+  done_by : (rule : Rule) (kind : Kind) → job.rule ≡ rule → (kind ≡ Verify → (c : ℕ) → IsWord y (Claim c) → held y later (Claim c) ≡ held y words (Claim c)) →
+      (i : ℕ) → i < y.procs → Done rule kind job y s words i → Done rule kind job y s later i
   done_by Common Compute e still i proc d = raised_later i proc d
   done_by Common Apply e still i proc d = carried_later i d
   done_by Common Verify e still i proc d = stays_later i d
@@ -104,7 +100,8 @@ module _ (job : JobData) (y : LayoutData) (words later : List ℕ) (s : ℕ) (li
   done_by Crew Apply e still i proc d = (carried_later i d.0, claim_later Crew e (λ r. absurd (cc)) i d.1)
   done_by Crew Verify e still i proc d = claim_stays_later Crew e (λ r. absurd (cc)) (still refl) i d
 
-  pub done_later : (kind : Kind) → (kind ≡ Verify → (c : ℕ) → IsWord y (Claim c) → held y later (Claim c) ≡ held y words (Claim c)) → (i : ℕ) → i < y.procs → Done job.rule kind job y s words i → Done job.rule kind job y s later i
+  pub done_later : (kind : Kind) → (kind ≡ Verify → (c : ℕ) → IsWord y (Claim c) → held y later (Claim c) ≡ held y words (Claim c)) → (i : ℕ) → i < y.procs →
+      Done job.rule kind job y s words i → Done job.rule kind job y s later i
   done_later kind still i proc d = done_by job.rule kind refl still i proc d
 
 -- ---- a higher root
@@ -144,7 +141,8 @@ module _ (job : JobData) (y : LayoutData) (words : List ℕ) (f : ℕ) (limits :
       let here : word ≡ word_of_step job (suc f) p = omega arith in
       here ∙ ap (λ (n : ℕ). word_of_step job n p) (sym last)
 
-  next_pair : (p a b : ℕ) → p < places_of y → (IsWritten job f p → IsLate y f p words) → a ≡ held y words (Stored p 0) → b ≡ held y words (Stored p 1) → IsPair job f (root y words) p a b → IsPair job (suc f) (root y words) p a b
+  next_pair : (p a b : ℕ) → p < places_of y → (IsWritten job f p → IsLate y f p words) → a ≡ held y words (Stored p 0) → b ≡ held y words (Stored p 1) →
+      IsPair job f (root y words) p a b → IsPair job (suc f) (root y words) p a b
   next_pair p a b place late ea eb pair = elim (write_cases job f p) [
     | inl l ↦ next_left p a b l pair
     | inr w ↦ next_set p a b place w (elim (late w.written) [ inl h ↦ (let g = ap stamp_of ea in inl (omega arith)) | inr h ↦ (let g = ap stamp_of eb in inr (omega arith)) ]) pair
@@ -176,7 +174,8 @@ module _ (job : JobData) (y : LayoutData) (words : List ℕ) (f : ℕ) (limits :
       next_set p a b place w late (new_first n e) = newer_first (new_settled p a place n) (before_now p b w e)
       next_set p a b place w late (new_second n e some) = newer_second (new_settled p b place n) (before_now p a w e) some
 
-  next_claim : (c word : ℕ) → ((i v : ℕ) → Asks job f c i v → stamped_word (suc f) (claim_of job i) ≤ word) → IsClaimed job f (root y words) c word → IsClaimed job (suc f) (root y words) c word
+  next_claim : (c word : ℕ) → ((i v : ℕ) → Asks job f c i v → stamped_word (suc f) (claim_of job i) ≤ word) → IsClaimed job f (root y words) c word →
+      IsClaimed job (suc f) (root y words) c word
   next_claim c word high_claims (claimed_before e g) = elim (write_cases job f c) [
     | inl l ↦ claimed_before (e ∙ sym l.last) g
     | inr w ↦ absurd (let h = high_claims w.written.writer w.written.value w.written.asks in let m = last_most job f c in omega arith)
@@ -204,7 +203,8 @@ module _ (job : JobData) (y : LayoutData) (words : List ℕ) (f : ℕ) (limits :
       none_done i Verify proc h = let l = flat i proc in omega arith
 
 -- words that are lawful for some number of finished steps are lawful for the one they show
-pub settle : (job : JobData) (y : LayoutData) (words : List ℕ) (f : ℕ) → IsJob job → IsLayout y → IsLayoutOf job y → LawfulFor job y f words → 3 * f ≤ root y words → root y words ≤ 3 * f + 3 →
+pub settle : (job : JobData) (y : LayoutData) (words : List ℕ) (f : ℕ) → IsJob job → IsLayout y → IsLayoutOf job y → LawfulFor job y f words →
+    3 * f ≤ root y words → root y words ≤ 3 * f + 3 →
     (root y words ≡ 3 * f + 3 → conflict y words ≡ 0 → (i : ℕ) → i < y.procs → leaf y words i ≤ 3 * f + 3) → Lawful job y words
 settle job y words f limits sizes layout lawful low high flat =
     let is = fin (root y words) (conflict y words) in

@@ -11,12 +11,13 @@ use Rattle.walkx.specs.declared.operation.Op.{Op}
 use Rattle.walkx.specs.declared.operation.Op.TheVariants.{Load, Store, Max, Swap, Over}
 use Rattle.walkx.specs.Operations.{words_after, answer}
 use Rattle.walkx.specs.Records.{Record, after, Has}
+use Rattle.walkx.proofs.Knowing.{has_more}
+use Rattle.pram_step.proofs.LawFixed.{reached_down}
 use Rattle.lawful_words.specs.Board.{held, root, conflict, stamp_at, finished, Stands, Grows}
 use Rattle.lawful_words.specs.Moments.{Backed}
 use Rattle.lawful_words.specs.Seen.{Hears, Heard, HeardThen, Shows, KnowsStep}
-use Rattle.lawful_words.proofs.Machine.{reached_down}
 use Rattle.lawful_words.proofs.Values.{phase_low}
-use Rattle.lawful_words.proofs.Moments.{onward, backed_later, find, has_more}
+use Rattle.lawful_words.proofs.Moments.{onward, backed_later, find}
 use Rattle.lawful_words.proofs.Facts.{facts}
 use Rattle.lawful_words.proofs.Growths.{root_up, all_c}
 
@@ -39,7 +40,8 @@ pub record HeldThen (job : JobData) (y : LayoutData) (es : List (Op × ℕ)) (wo
   pub has : Has rest es
   pub backed : Backed job y rest words
 
-pub held_then : (job : JobData) (y : LayoutData) (r : Record) (op : Op) (word : Word) (a : ℕ) (es : List (Op × ℕ)) (now : List ℕ) → Backed job y r now → Hears op (number_of y word) → Has r ((op, a) ∷ es) → HeldThen job y es word a now
+pub held_then : (job : JobData) (y : LayoutData) (r : Record) (op : Op) (word : Word) (a : ℕ) (es : List (Op × ℕ)) (now : List ℕ) → Backed job y r now →
+    Hears op (number_of y word) → Has r ((op, a) ∷ es) → HeldThen job y es word a now
 held_then job y r op word a es now backed hears has =
     let f = find job y now r op a es backed has in
     let m = f.moment in
@@ -61,7 +63,8 @@ heard_then job y r word a now backed heard = held_then job y r heard.op word a [
 pub heard_too : (y : LayoutData) (r : Record) (op : Op) (found : ℕ) (word : Word) (a : ℕ) → Heard y r word a → Heard y (after r op found) word a
 heard_too y r op found word a h = record { op = h.op; hears = h.hears; has = has_more r op found ((h.op, a) ∷ []) h.has }
 
-then_too : (y : LayoutData) (r : Record) (op : Op) (found : ℕ) (word : Word) (a : ℕ) (other : Word) (b : ℕ) → HeardThen y r word a other b → HeardThen y (after r op found) word a other b
+then_too : (y : LayoutData) (r : Record) (op : Op) (found : ℕ) (word : Word) (a : ℕ) (other : Word) (b : ℕ) → HeardThen y r word a other b →
+    HeardThen y (after r op found) word a other b
 then_too y r op found word a other b h = record { op = h.op; next = h.next; hears = h.hears; hears_next = h.hears_next; has = has_more r op found ((h.next, b) ∷ (h.op, a) ∷ []) h.has }
 
 pub shows_too : (y : LayoutData) (r : Record) (op : Op) (found t : ℕ) → Shows y r t → Shows y (after r op found) t
@@ -90,13 +93,15 @@ conflict_now job y r u now backed heard some =
     sym (is ∙ same)
 
 -- word 0 that was heard as not 0 names the step behind the finished ones, from then on
-pub conflict_fin : (job : JobData) (y : LayoutData) (r : Record) (u : ℕ) (now : List ℕ) → Stands job y now → Backed job y r now → Heard y r Conflict u → u ≢ 0 → u ≡ suc (finished y now)
+pub conflict_fin : (job : JobData) (y : LayoutData) (r : Record) (u : ℕ) (now : List ℕ) → Stands job y now → Backed job y r now → Heard y r Conflict u →
+    u ≢ 0 → u ≡ suc (finished y now)
 conflict_fin job y r u now stands backed heard some =
     let e = conflict_now job y r u now backed heard some in
     elim (facts job y now stands).b2_conflict [ inl none ↦ absurd (some (sym e ∙ none)) | inr is ↦ sym e ∙ is ]
 
 -- it is the first conflict
-pub conflict_first : (job : JobData) (y : LayoutData) (r : Record) (s : ℕ) (now : List ℕ) → Stands job y now → Backed job y r now → Heard y r Conflict (suc s) → IsReached job s × (AgreesAfter job s → ⊥)
+pub conflict_first : (job : JobData) (y : LayoutData) (r : Record) (s : ℕ) (now : List ℕ) → Stands job y now → Backed job y r now →
+    Heard y r Conflict (suc s) → IsReached job s × (AgreesAfter job s → ⊥)
 conflict_first job y r s now stands backed heard = stands.lawful.named.first s (conflict_now job y r (suc s) now backed heard (λ e. absurd (omega arith)))
 
 -- ---- a step that is shown or known
@@ -131,7 +136,8 @@ stamp_known job y p k t now stands is e =
     (facts job y now stands).b3 t (omega arith)
 
 -- Known steps are reached, and finished: now, and so whenever the words bear the record out.
-pub known_now : (job : JobData) (y : LayoutData) (r : Record) (t : ℕ) (now : List ℕ) → Stands job y now → Backed job y r now → KnowsStep y r t → IsReached job t × (t ≤ finished y now)
+pub known_now : (job : JobData) (y : LayoutData) (r : Record) (t : ℕ) (now : List ℕ) → Stands job y now → Backed job y r now → KnowsStep y r t →
+    IsReached job t × (t ≤ finished y now)
 known_now job y r t now stands backed knows =
     let f : t ≤ finished y now = by knows in
     (reached_down job t (finished y now) f stands.lawful.reached, f)
@@ -143,5 +149,6 @@ known_now job y r t now stands backed knows =
         let e : stamp_at y m.words s.0 s.1 ≡ suc t = sym (ap stamp_of m.is) ∙ s.4 in
         fin_then job y m.words now t m.stands stands m.since (stamp_known job y s.0 s.1 t m.words m.stands s.3 e)
 
-pub known_later : (job : JobData) (y : LayoutData) (r : Record) (t : ℕ) (words later : List ℕ) → Stands job y later → Backed job y r words → Grows y words later → KnowsStep y r t → IsReached job t × (t ≤ finished y later)
+pub known_later : (job : JobData) (y : LayoutData) (r : Record) (t : ℕ) (words later : List ℕ) → Stands job y later → Backed job y r words →
+    Grows y words later → KnowsStep y r t → IsReached job t × (t ≤ finished y later)
 known_later job y r t words later stands backed up knows = known_now job y r t later stands (backed_later job y r words later backed up) knows

@@ -8,18 +8,18 @@ use Rattle.walkx.specs.declared.operation.Op.{Op}
 use Rattle.walkx.specs.declared.operation.Op.TheVariants.{Max}
 use Rattle.walkx.specs.Operations.{words_after}
 use Rattle.walkx.specs.Scripts.{Script, asks, ends}
-use Rattle.walkx.specs.Stages.{IsBoard}
-use Rattle.walkx.specs.Walk.{Then}
+use Rattle.walkx.specs.Walk.{Then, IsBoard}
+use Rattle.lawful_words.specs.Writes.{Floor, Does}
 use Rattle.lawful_words.specs.Board.{held, root, Stands, Grows}
 use Rattle.lawful_words.specs.Moments.{Moment, Goes}
-use Rattle.lawful_words.specs.Statements.{Floor, Does}
 use Rattle.lawful_words.proofs.Moments.{onward, goes_of}
 use Rattle.lawful_words.proofs.Growths.{root_up}
 use Rattle.lawful_words.proofs.Sees.{Sees, Lasts, always, so, heard, later}
 use Rattle.lawful_words.proofs.Scripts.{Safe}
 
 -- a fact in which no words stand, once seen, is a premise
-pub safe_known : {R : Type 0} (job : JobData) (y : LayoutData) (w q : ℕ) (script : Script R) (history : List (Op × ℕ)) (K : Type 0) → Sees job y history (λ words. K) → (K → Safe job y w q script history) → Safe job y w q script history
+pub safe_known : {R : Type 0} (job : JobData) (y : LayoutData) (w q : ℕ) (script : Script R) (history : List (Op × ℕ)) (K : Type 0) →
+    Sees job y history (λ words. K) → (K → Safe job y w q script history) → Safe job y w q script history
 safe_known job y w q (asks op next) history K sees each = (
   λ words stands chain. (each (sees words stands chain)).0 words stands chain,
   λ found ok. safe_known job y w q (next found) ((op, found) ∷ history) K (later job y history (λ words. K) op found (λ a b c d e k. k) sees) (λ k. (each k).1 found ok),
@@ -29,7 +29,8 @@ safe_known job y w q (ends r) history K sees each = tt
 pub board_of : (job : JobData) (y : LayoutData) (words : List ℕ) → Stands job y words → IsBoard job y
 board_of job y words stands = record { limits = stands.limits; layout = stands.sizes; is = stands.layout }
 
-pub safe_board : {R : Type 0} (job : JobData) (y : LayoutData) (w q : ℕ) (script : Script R) (history : List (Op × ℕ)) → (IsBoard job y → Safe job y w q script history) → Safe job y w q script history
+pub safe_board : {R : Type 0} (job : JobData) (y : LayoutData) (w q : ℕ) (script : Script R) (history : List (Op × ℕ)) →
+    (IsBoard job y → Safe job y w q script history) → Safe job y w q script history
 safe_board job y w q script history each = safe_known job y w q script history (IsBoard job y) (always job y history (λ words. IsBoard job y) (board_of job y)) each
 
 -- ---- what lasts
@@ -59,7 +60,8 @@ max_held job y a v words is stands =
     let e : held y (words_after words (Max (number_of y a) v)) a ≡ max (held y words a) v = get_or-set_same words (number_of y a) (max (held y words a) v) 0 below in
     omega arith
 
-pub raises_safe : (job : JobData) (y : LayoutData) (w q : ℕ) (a : Word) (v : ℕ) (P : List ℕ → Type 0) → Lasts job y P → IsWord y a → ((words later : List ℕ) → Grows y words later → held y words a ≤ held y later a) →
+pub raises_safe : (job : JobData) (y : LayoutData) (w q : ℕ) (a : Word) (v : ℕ) (P : List ℕ → Type 0) → Lasts job y P → IsWord y a →
+    ((words later : List ℕ) → Grows y words later → held y words a ≤ held y later a) →
     ((words : List ℕ) → Stands job y words → P words → Does job y q (Max (number_of y a) v) words) → (after : Script Then) (history : List (Op × ℕ)) → Sees job y history P →
     ((longer : List (Op × ℕ)) → Sees job y longer (λ words. P words × (v ≤ held y words a)) → Safe {R = Then} job y w q after longer) → Safe {R = Then} job y w q (asks (Max (number_of y a) v) (λ found. after)) history
 raises_safe job y w q a v P lasts is up does after history sees on = (

@@ -6,7 +6,7 @@ use Rattle.pram_step.specs.Runs.{IsReached, state_after}
 use Rattle.pram_words.specs.declared.words.Word.{Word}
 use Rattle.pram_words.specs.declared.words.Word.TheVariants.{Conflict, Node, Stored}
 use Rattle.pram_words.specs.Stamps.{stamp_of, payload_of}
-use Rattle.pram_words.specs.Words.{LayoutData, IsWord, number_of, places_of}
+use Rattle.pram_words.specs.Words.{LayoutData, IsWord, number_of, places_of, IsLayout}
 use Rattle.walkx.specs.declared.operation.Op.{Op}
 use Rattle.walkx.specs.declared.operation.Op.TheVariants.{Load, Store, Max, Swap, Over}
 use Rattle.walkx.specs.declared.operation.Reading.{Reading}
@@ -15,15 +15,17 @@ use Rattle.walkx.specs.Scripts.{Script, asks, ends, behind, rest, op_with, heard
 use Rattle.walkx.specs.Reads.{step_seen, lesser, told_at, read_script, reader_script}
 use Rattle.walkx.specs.Records.{Record, after}
 use Rattle.walkx.specs.Tasks.{newer_payload, is_late}
-use Rattle.lawful_words.specs.Steps.{last_write, write_before}
+use Rattle.pram_words.proofs.Numbering.{numbering}
+use Rattle.pram_step.specs.History.{last_write, write_before}
+use Rattle.pram_step.proofs.LawFixed.{reached_down}
+use Rattle.pram_step.proofs.Past.{last_most, last_rises, value_between, written_value}
+use Rattle.lawful_words.specs.Laws.{ReadsAreLawful}
 use Rattle.lawful_words.specs.Board.{held, root, conflict, stamp_at, finished, IsPair, newer_first, newer_second, new_first, new_second, Stands, Grows}
-use Rattle.lawful_words.specs.Moments.{Moment, Backed}
+use Rattle.lawful_words.specs.Moments.{Moment, Backed, afters}
 use Rattle.lawful_words.specs.Seen.{Hears, Heard, Shows, KnowsStep}
 use Rattle.lawful_words.specs.Walks.{IsLawfulRead}
-use Rattle.lawful_words.proofs.Machine.{reached_down, last_most, last_rises, value_between, written_value}
 use Rattle.lawful_words.proofs.Values.{fin, WordIs, is_settled, is_before, is_new, stamp_step, payload_step, before_rises}
 use Rattle.lawful_words.proofs.Moments.{same, onward, stamps_rise, backed_later}
-use Rattle.lawful_words.proofs.Sees.{afters}
 use Rattle.lawful_words.proofs.Facts.{facts, place_below, word_is}
 use Rattle.lawful_words.proofs.Growths.{all_c, changed, all_c5}
 use Rattle.lawful_words.proofs.Knowing.{root_now, conflict_fin, shown_now, known_now, heard_too, shows_too, fin_then}
@@ -31,7 +33,8 @@ use Rattle.lawful_words.proofs.Knowing.{root_now, conflict_fin, shown_now, known
 -- ---- what a word of a place holds
 
 -- a word with the stamp of a step that is reached
-pub word_value : (job : JobData) (y : LayoutData) (words : List ℕ) (x p k : ℕ) → Stands job y words → IsWord y (Stored p k) → stamp_at y words p k ≡ x → IsReached job x → payload_of (held y words (Stored p k)) ≡ slice_index (state_after job x) p
+pub word_value : (job : JobData) (y : LayoutData) (words : List ℕ) (x p k : ℕ) → Stands job y words → IsWord y (Stored p k) → stamp_at y words p k ≡ x →
+    IsReached job x → payload_of (held y words (Stored p k)) ≡ slice_index (state_after job x) p
 word_value job y words x p k stands is e reached =
     by (held y words (Stored p k)) e (word_is job y words (finished y words) stands.limits stands.sizes stands.layout stands.lawful (facts job y words stands).b2_low (facts job y words stands).b2_high p k is)
   where
@@ -75,29 +78,34 @@ beside job y words x p a b stands (new_second n e some) h =
     let m = last_most job (finished y words) p in
     (λ late. omega arith, λ late. omega arith)
 
-old_value : (job : JobData) (y : LayoutData) (words : List ℕ) (x p k : ℕ) → Stands job y words → IsWord y (Stored p k) → x ≤ finished y words → stamp_at y words p k ≤ x → last_write job x p ≤ stamp_at y words p k → payload_of (held y words (Stored p k)) ≡ slice_index (state_after job x) p
+old_value : (job : JobData) (y : LayoutData) (words : List ℕ) (x p k : ℕ) → Stands job y words → IsWord y (Stored p k) → x ≤ finished y words →
+    stamp_at y words p k ≤ x → last_write job x p ≤ stamp_at y words p k → payload_of (held y words (Stored p k)) ≡ slice_index (state_after job x) p
 old_value job y words x p k stands is h low last =
     let z = stamp_at y words p k in
     let below = place_below job y words (finished y words) stands.limits stands.sizes stands.layout stands.lawful (facts job y words stands).b2_low (facts job y words stands).b2_high p is.0 in
     word_value job y words z p k stands is refl (reached_down job z (finished y words) (omega arith) stands.lawful.reached) ∙ sym (value_between job z x p stands.limits below low last)
 
 -- the first word is older than the step seen, the second one newer; and the other way
-first_value : (job : JobData) (y : LayoutData) (words : List ℕ) (x p : ℕ) → Stands job y words → p < places_of y → x ≤ finished y words → stamp_at y words p 0 ≤ x → x < stamp_at y words p 1 → payload_of (held y words (Stored p 0)) ≡ slice_index (state_after job x) p
+first_value : (job : JobData) (y : LayoutData) (words : List ℕ) (x p : ℕ) → Stands job y words → p < places_of y → x ≤ finished y words →
+    stamp_at y words p 0 ≤ x → x < stamp_at y words p 1 → payload_of (held y words (Stored p 0)) ≡ slice_index (state_after job x) p
 first_value job y words x p stands place h low high =
     old_value job y words x p 0 stands (place, lit< tt) h low ((beside job y words x p _ _ stands (stands.lawful.stored p place) h).0 high)
 
-second_value : (job : JobData) (y : LayoutData) (words : List ℕ) (x p : ℕ) → Stands job y words → p < places_of y → x ≤ finished y words → stamp_at y words p 1 ≤ x → x < stamp_at y words p 0 → payload_of (held y words (Stored p 1)) ≡ slice_index (state_after job x) p
+second_value : (job : JobData) (y : LayoutData) (words : List ℕ) (x p : ℕ) → Stands job y words → p < places_of y → x ≤ finished y words →
+    stamp_at y words p 1 ≤ x → x < stamp_at y words p 0 → payload_of (held y words (Stored p 1)) ≡ slice_index (state_after job x) p
 second_value job y words x p stands place h low high =
     old_value job y words x p 1 stands (place, lit< tt) h low ((beside job y words x p _ _ stands (stands.lawful.stored p place) h).1 high)
 
 -- The two words of a place that are heard one after the other have no stamp in common, but 0.
-apart_on : (job : JobData) (y : LayoutData) (words later : List ℕ) (p : ℕ) → Stands job y words → p < places_of y → Grows y words later → stamp_at y words p 0 ≡ stamp_at y later p 1 → stamp_at y words p 0 ≡ 0
+apart_on : (job : JobData) (y : LayoutData) (words later : List ℕ) (p : ℕ) → Stands job y words → p < places_of y → Grows y words later →
+    stamp_at y words p 0 ≡ stamp_at y later p 1 → stamp_at y words p 0 ≡ 0
 apart_on job y words later p stands place up e = elim (up (Stored p 1) (place, lit< tt)) [
   | inl f ↦ (let g : stamp_at y words p 1 ≡ stamp_at y later p 1 = ap stamp_of f in (facts job y words stands).b6_apart p place (omega arith))
   | inr more ↦ absurd (let m = more.0 in omega arith)
 ]
 
-apart_back : (job : JobData) (y : LayoutData) (words later : List ℕ) (p : ℕ) → Stands job y words → p < places_of y → Grows y words later → stamp_at y words p 1 ≡ stamp_at y later p 0 → stamp_at y words p 1 ≡ 0
+apart_back : (job : JobData) (y : LayoutData) (words later : List ℕ) (p : ℕ) → Stands job y words → p < places_of y → Grows y words later →
+    stamp_at y words p 1 ≡ stamp_at y later p 0 → stamp_at y words p 1 ≡ 0
 apart_back job y words later p stands place up e = elim (up (Stored p 0) (place, lit< tt)) [
   | inl f ↦ (let g : stamp_at y words p 0 ≡ stamp_at y later p 0 = ap stamp_of f in let z = (facts job y words stands).b6_apart p place (omega arith) in omega arith)
   | inr more ↦ absurd (let m = more.1 in omega arith)
@@ -161,7 +169,8 @@ at_load job y k found P now m = record { words = m.words; stands = m.stands; hea
 heard_newest : (y : LayoutData) (r : Record) (word : Word) (a : ℕ) → Heard y (after r (Load (number_of y word)) a) word a
 heard_newest y r word a = record { op = Load (number_of y word); hears = refl; has = inl (refl, tt) }
 
-pub glanced_root : (job : JobData) (y : LayoutData) (before : Record) (r : ℕ) (words : List ℕ) → r % 3 ≢ 0 → Backed job y (load_root y before r) words → Glanced job y before (load_root y before r) (step_seen r 0)
+pub glanced_root : (job : JobData) (y : LayoutData) (before : Record) (r : ℕ) (words : List ℕ) → r % 3 ≢ 0 → Backed job y (load_root y before r) words →
+    Glanced job y before (load_root y before r) (step_seen r 0)
 glanced_root job y before r words part m =
     let s = step_seen r 0 in
     let f = finished y m.words in
@@ -186,12 +195,16 @@ glanced_root job y before r words part m =
     more : (s : ℕ) → 3 * s ≤ r → 3 * s + 1 ≤ r
     more s h = elim (cases_lt (3 * s) r) [ inl c ↦ omega arith | inr c ↦ absurd (part (omega arith)) ]
 
+-- words that are not the same have other numbers
+words_apart : (y : LayoutData) (a b : Word) → IsLayout y → IsWord y a → IsWord y b → a ≢ b → number_of y a ≢ number_of y b
+words_apart y a b limits is is_b other = λ e. other ((numbering y limits).apart a b is is_b e)
+
+root_is : (y : LayoutData) → IsLayout y → IsWord y (Node 1)
+root_is y limits = let l = limits.leaves in (lit< tt, omega arith)
+
 module _ (job : JobData) (y : LayoutData) (before : Record) (r u : ℕ) (words : List ℕ) (stands : Stands job y words) (m : Backed job y (load_conflict y (load_root y before r) u) words) where
   first : Moment job y (Load (number_of y (Node 1))) r (Backed job y before) m.words
   first = m.earlier
-
-  s_seen : ℕ
-  s_seen = step_seen r u
 
   is_root : r ≡ root y first.words
   is_root = first.heard
@@ -245,8 +258,7 @@ module _ (job : JobData) (y : LayoutData) (before : Record) (r u : ℕ) (words :
   fin_high = shown_now job y (load_conflict y (load_root y before r) u) (step_seen r u) m.words m.stands (at_load job y (number_of y Conflict) u (Backed job y (load_root y before r)) words m) shows_seen
 
   not_root : number_of y Conflict ≢ number_of y (Node 1)
-  unfolding number_of
-  not_root = λ e. absurd (omega arith)
+  not_root = words_apart y Conflict (Node 1) m.stands.sizes tt (root_is y m.stands.sizes) (λ e. absurd (cc))
 
   shown_low : (t : ℕ) → Shows y (load_conflict y (load_root y before r) u) t → t ≤ step_seen r u
   shown_low t (inl s) = elim (s.2).has [
@@ -305,22 +317,21 @@ record Extends (y : LayoutData) (r longer : Record) : Type 0 where
   more : (t : ℕ) → Shows y r t → Shows y longer t
   heard : (u : ℕ) → Heard y r Conflict u → Heard y longer Conflict u
 
-place_is_none : (y : LayoutData) (c k : ℕ) → 1 ≤ y.leaves → (number_of y (Stored c k) ≢ number_of y (Node 1)) × (number_of y (Stored c k) ≢ number_of y Conflict)
-unfolding number_of
-place_is_none y c k some = (λ e. absurd (omega arith), λ e. absurd (omega arith))
-
 extends_same : (y : LayoutData) (r : Record) → Extends y r r
 extends_same y r = record { fewer = λ t s. s; more = λ t s. s; heard = λ u h. h }
 
-extends_on : (y : LayoutData) (r longer : Record) (c k found : ℕ) → 1 ≤ y.leaves → Extends y r longer → Extends y r (after longer (Load (number_of y (Stored c k))) found)
-extends_on y r longer c k found some x = record {
-  fewer = λ t s. x.fewer t (let n = place_is_none y c k some in shows_less y longer (number_of y (Stored c k)) found t n.0 n.1 s);
+extends_on : (y : LayoutData) (r longer : Record) (c k found : ℕ) → IsLayout y → IsWord y (Stored c k) → Extends y r longer →
+    Extends y r (after longer (Load (number_of y (Stored c k))) found)
+extends_on y r longer c k found limits is x = record {
+  fewer = λ t s. x.fewer t
+      (shows_less y longer (number_of y (Stored c k)) found t (words_apart y (Stored c k) (Node 1) limits is (root_is y limits) (λ e. absurd (cc))) (words_apart y (Stored c k) Conflict limits is tt (λ e. absurd (cc))) s);
   more = λ t s. shows_too y longer (Load (number_of y (Stored c k))) found t (x.more t s);
   heard = λ u h. heard_too y longer (Load (number_of y (Stored c k))) found Conflict u (x.heard u h);
 }
 
 -- the answer is of the step that this read's loads show
-seen_read : (job : JobData) (y : LayoutData) (before r longer : Record) (c s value : ℕ) → Glanced job y before r s → Extends y r longer → IsReached job s → value ≡ slice_index (state_after job s) c → IsLawfulRead job y before longer c s value
+seen_read : (job : JobData) (y : LayoutData) (before r longer : Record) (c s value : ℕ) → Glanced job y before r s → Extends y r longer → IsReached job s →
+    value ≡ slice_index (state_after job s) c → IsLawfulRead job y before longer c s value
 seen_read job y before r longer c s value g x reached is = record {
   reached = reached;
   holds = is;
@@ -331,7 +342,8 @@ seen_read job y before r longer c s value g x reached is = record {
 }
 
 -- It is of the step of a word that was heard, a later one, another word being later still.
-told_read : (job : JobData) (y : LayoutData) (before r longer : Record) (c s kl kg l g : ℕ) (then_words words : List ℕ) → Glanced job y before r s → Extends y r longer → Stands job y words → Backed job y longer words →
+told_read : (job : JobData) (y : LayoutData) (before r longer : Record) (c s kl kg l g : ℕ) (then_words words : List ℕ) → Glanced job y before r s →
+    Extends y r longer → Stands job y words → Backed job y longer words →
     Stands job y then_words → IsWord y (Stored c kl) → l ≡ held y then_words (Stored c kl) → s < stamp_of l → IsWord y (Stored c kg) → Heard y longer (Stored c kg) g → stamp_of l < stamp_of g → IsLawfulRead job y before longer c (stamp_of l) (payload_of l)
 told_read job y before r longer c s kl kg l g then_words words glanced x stands backed stands_then is_l e late is_g heard_g less = by (stamp_of g) refl less
   where
@@ -355,7 +367,9 @@ told_read job y before r longer c s kl kg l g then_words words glanced x stands 
         }
 
 -- of two later words the lesser one is told
-lesser_read : (job : JobData) (y : LayoutData) (before longer : Record) (c a b : ℕ) → (stamp_of a < stamp_of b → IsLawfulRead job y before longer c (stamp_of a) (payload_of a)) → (stamp_of b < stamp_of a → IsLawfulRead job y before longer c (stamp_of b) (payload_of b)) → stamp_of a ≢ stamp_of b →
+lesser_read : (job : JobData) (y : LayoutData) (before longer : Record) (c a b : ℕ) →
+    (stamp_of a < stamp_of b → IsLawfulRead job y before longer c (stamp_of a) (payload_of a)) →
+    (stamp_of b < stamp_of a → IsLawfulRead job y before longer c (stamp_of b) (payload_of b)) → stamp_of a ≢ stamp_of b →
     IsLawfulRead job y before longer c (stamp_of (lesser a b)) (payload_of (lesser a b))
 lesser_read job y before longer c a b first second other = cond_both (nat_le (stamp_of a) (stamp_of b)) a b (λ (l : ℕ). IsLawfulRead job y before longer c (stamp_of l) (payload_of l))
     (λ e. first (less (stamp_of a) (stamp_of b) (leb-true (stamp_of a) (stamp_of b) e) other)) (λ e. second (let h = leb-false (stamp_of a) (stamp_of b) e in omega arith))
@@ -382,8 +396,8 @@ module _ (job : JobData) (y : LayoutData) (before r : Record) (c s : ℕ) (cell 
   heard_second : (a b : ℕ) → Heard y (Two a b) (Stored c 1) b
   heard_second a b = heard_newest y (One a) (Stored c 1) b
 
-  extends_two : (a b : ℕ) → 1 ≤ y.leaves → Extends y r (Two a b)
-  extends_two a b some = extends_on y r (One a) c 1 b some (extends_on y r r c 0 a some (extends_same y r))
+  extends_two : (a b : ℕ) → IsLayout y → Extends y r (Two a b)
+  extends_two a b limits = extends_on y r (One a) c 1 b limits (place, lit< tt) (extends_on y r r c 0 a limits (place, lit< tt) (extends_same y r))
 
   -- the step seen at the moment of the first load, and reached
   fin_of : (words : List ℕ) → Stands job y words → Backed job y r words → IsReached job s × (s ≤ finished y words)
@@ -396,7 +410,7 @@ module _ (job : JobData) (y : LayoutData) (before r : Record) (c s : ℕ) (cell 
       let low = (facts job y first.words first.stands).b2_low in
       let leaves = stands.sizes.leaves in
       let early : is_late (suc s) a b ≡ false = or_from (nat_le (suc s) (stamp_of a)) (nat_le (suc s) (stamp_of b)) (lt-leb (suc s) (stamp_of a) (omega arith)) (lt-leb (suc s) (stamp_of b) (omega arith)) in
-      seen_read job y before r (Two a b) c s (newer_payload a b) (glance first.words first.stands first.earlier) (extends_two a b (omega arith)) f.0
+      seen_read job y before r (Two a b) c s (newer_payload a b) (glance first.words first.stands first.earlier) (extends_two a b stands.sizes) f.0
       (all_c5 job y s c a b first.words m.words words first.stands m.stands stands first.since m.since place f.0 (let g = f.1 in omega arith) first.heard m.heard early).value
 
   second_old : (a b : ℕ) → s < stamp_of a → stamp_of b ≤ s → Reads job y before c (ends (At s (payload_of b))) (Two a b)
@@ -408,7 +422,7 @@ module _ (job : JobData) (y : LayoutData) (before r : Record) (c s : ℕ) (cell 
       let eb : stamp_of b ≡ stamp_at y m.words c 1 = ap stamp_of m.heard in
       let up = stamps_rise y first.words m.words c 0 (place, lit< tt) first.since in
       let fin_m = fin_then job y first.words m.words s first.stands m.stands first.since f.1 in
-      seen_read job y before r (Two a b) c s (payload_of b) (glance first.words first.stands first.earlier) (extends_two a b (omega arith)) f.0
+      seen_read job y before r (Two a b) c s (payload_of b) (glance first.words first.stands first.earlier) (extends_two a b stands.sizes) f.0
       (ap payload_of m.heard ∙ second_value job y m.words s c m.stands place fin_m (omega arith) (omega arith))
 
   both_new : (a b : ℕ) → s < stamp_of a → s < stamp_of b → Reads job y before c (told_at (lesser a b)) (Two a b)
@@ -416,7 +430,7 @@ module _ (job : JobData) (y : LayoutData) (before r : Record) (c s : ℕ) (cell 
       let first = m.earlier in
       let g = glance first.words first.stands first.earlier in
       let leaves = stands.sizes.leaves in
-      let x = extends_two a b (omega arith) in
+      let x = extends_two a b stands.sizes in
       let ea : stamp_of a ≡ stamp_at y first.words c 0 = ap stamp_of first.heard in
       let eb : stamp_of b ≡ stamp_at y m.words c 1 = ap stamp_of m.heard in
       lesser_read job y before (Two a b) c a b
@@ -439,7 +453,7 @@ module _ (job : JobData) (y : LayoutData) (before r : Record) (c s : ℕ) (cell 
       let up = stamps_rise y m.words last.words c 0 (place, lit< tt) m.since in
       let still : held y first.words (Stored c 0) ≡ held y m.words (Stored c 0) = elim (first.since (Stored c 0) (place, lit< tt)) [ inl g ↦ g | inr more ↦ absurd (let h = more.0 in omega arith) ] in
       let sm : stamp_of a ≡ stamp_at y m.words c 0 = ap stamp_of (ea ∙ still) in
-      seen_read job y before r (Three a b again) c s (payload_of a) (glance first.words first.stands first.earlier) (extends_on y r (Two a b) c 0 again (omega arith) (extends_two a b (omega arith))) f.0
+      seen_read job y before r (Three a b again) c s (payload_of a) (glance first.words first.stands first.earlier) (extends_on y r (Two a b) c 0 again stands.sizes (place, lit< tt) (extends_two a b stands.sizes)) f.0
       (ap payload_of (ea ∙ still) ∙ first_value job y m.words s c m.stands place fin_m (omega arith) (omega arith))
 
   other_again : (a b again : ℕ) → s < stamp_of b → again ≢ a → Reads job y before c (told_at (lesser again b)) (Three a b again)
@@ -449,7 +463,7 @@ module _ (job : JobData) (y : LayoutData) (before r : Record) (c s : ℕ) (cell 
       let f = fin_of first.words first.stands first.earlier in
       let g = glance first.words first.stands first.earlier in
       let leaves = stands.sizes.leaves in
-      let x = extends_on y r (Two a b) c 0 again (omega arith) (extends_two a b (omega arith)) in
+      let x = extends_on y r (Two a b) c 0 again stands.sizes (place, lit< tt) (extends_two a b stands.sizes) in
       let ea : a ≡ held y first.words (Stored c 0) = first.heard in
       let el : again ≡ held y last.words (Stored c 0) = last.heard in
       let eb : stamp_of b ≡ stamp_at y m.words c 1 = ap stamp_of m.heard in
@@ -480,17 +494,18 @@ reader_reads job y before c cell = λ root. cond_both (root % 3 == 0) _ _ (λ (t
     (λ e u. cell_reads job y before (load_conflict y (load_root y before root) u) c (step_seen root u) cell (λ words stands backed. glanced_both job y before root u words stands backed))
     (λ e. cell_reads job y before (load_root y before root) c (step_seen root 0) cell (λ words stands backed. glanced_root job y before root words (eqb-false (root % 3) 0 e) backed))
 
-reads_next : (job : JobData) (y : LayoutData) (before r : Record) (c : ℕ) (script : Script Reading) (found : ℕ) (heard : List (Op × ℕ)) → Reads job y before c script (afters r heard) → Reads job y before c (behind script found) (afters r (op_with script found ++ heard))
+reads_next : (job : JobData) (y : LayoutData) (before r : Record) (c : ℕ) (script : Script Reading) (found : ℕ) (heard : List (Op × ℕ)) →
+    Reads job y before c script (afters r heard) → Reads job y before c (behind script found) (afters r (op_with script found ++ heard))
 reads_next job y before r c (asks op next) found heard reads = reads found
 reads_next job y before r c (ends x) found heard reads = reads
 
-reads_behind : (job : JobData) (y : LayoutData) (before r : Record) (c : ℕ) (script : Script Reading) (answers : List ℕ) → Reads job y before c script r → Reads job y before c (rest script answers) (afters r (heard_in script answers))
+reads_behind : (job : JobData) (y : LayoutData) (before r : Record) (c : ℕ) (script : Script Reading) (answers : List ℕ) → Reads job y before c script r →
+    Reads job y before c (rest script answers) (afters r (heard_in script answers))
 reads_behind job y before r c script [] reads = reads
 reads_behind job y before r c script (found ∷ earlier) reads = reads_next job y before r c (rest script earlier) found (heard_in script earlier) (reads_behind job y before r c script earlier reads)
 
 -- A reader's answer is a lawful read, whatever it heard, if the words bear out the record that its loads lengthened.
-pub read_is_lawful : (job : JobData) (y : LayoutData) (before : Record) (c step value : ℕ) (answers words : List ℕ) → c < y.cells → rest (reader_script y c) answers ≡ ends (At step value) → Stands job y words → Backed job y (afters before (heard_in (reader_script y c) answers)) words →
-    IsLawfulRead job y before (afters before (heard_in (reader_script y c) answers)) c step value
+pub read_is_lawful : ReadsAreLawful
 read_is_lawful job y before c step value answers words cell is stands backed =
     subst (λ (t : Script Reading). Reads job y before c t (afters before (heard_in (reader_script y c) answers))) is (reads_behind job y before before c (reader_script y c) answers (reader_reads job y before c cell)) words stands backed
 
@@ -517,7 +532,8 @@ record Left {R : Type 0} (n : ℕ) (script : Script R) (made : List (Op × ℕ))
   few : AtMost more script
   all : length made + more ≤ n
 
-left_next : {R : Type 0} (n more : ℕ) (script : Script R) (found : ℕ) (made : List (Op × ℕ)) → AtMost more script → length made + more ≤ n → Left n (behind script found) (op_with script found ++ made)
+left_next : {R : Type 0} (n more : ℕ) (script : Script R) (found : ℕ) (made : List (Op × ℕ)) → AtMost more script → length made + more ≤ n →
+    Left n (behind script found) (op_with script found ++ made)
 left_next n zero (asks op next) found made few all = absurd few
 left_next n (suc more) (asks op next) found made few all = record { more = more; few = few found; all = omega arith }
 left_next n more (ends r) found made few all = record { more = more; few = tt; all = all }

@@ -6,47 +6,43 @@ use Rattle.pram_words.specs.declared.words.Word.TheVariants.{Stored}
 use Rattle.walkx.specs.declared.operation.Op.{Op}
 use Rattle.walkx.specs.declared.operation.Op.TheVariants.{Load}
 use Rattle.walkx.specs.Scripts.{Script, asks, ends, behind, rest, first_op, op_with, heard_in}
-use Rattle.walkx.specs.Walk.{IsAdmitted}
+use Rattle.walkx.specs.Walk.{HearsAdmitted, AllAdmitted}
 use Rattle.walkx.specs.Tasks.{loads_both}
+use Rattle.walkx.proofs.Asking.{admitted_earlier}
 use Rattle.lawful_words.specs.Moments.{Moment, Goes}
 use Rattle.lawful_words.proofs.Moments.{load_goes}
 use Rattle.lawful_words.proofs.Sees.{Sees, always, heard}
 
 -- behind this history each operation of the script goes well, whatever admitted answers it hears: the script is worker w's in phase q
 abbrev pub Safe : {R : Type 0} → JobData → LayoutData → ℕ → ℕ → Script R → List (Op × ℕ) → Type 0
-Safe job y w q (asks op next) history = Sees job y history (Goes job y w q op) × ((found : ℕ) → IsAdmitted job y op found → Safe job y w q (next found) ((op, found) ∷ history))
+Safe job y w q (asks op next) history = Sees job y history (Goes job y w q op) × ((found : ℕ) → HearsAdmitted job y op found → Safe job y w q (next found) ((op, found) ∷ history))
 Safe job y w q (ends r) history = Unit {0}
 
--- the answers so far were admitted
-abbrev pub AllAdmitted : JobData → LayoutData → List (Op × ℕ) → Type 0
-AllAdmitted job y [] = Unit {0}
-AllAdmitted job y (e ∷ es) = IsAdmitted job y e.0 e.1 × AllAdmitted job y es
-
-safe_next : {R : Type 0} (job : JobData) (y : LayoutData) (w q : ℕ) (script : Script R) (history heard : List (Op × ℕ)) (found : ℕ) → AllAdmitted job y (op_with script found ++ heard) → Safe job y w q script (heard ++ history) →
+safe_next : {R : Type 0} (job : JobData) (y : LayoutData) (w q : ℕ) (script : Script R) (history heard : List (Op × ℕ)) (found : ℕ) →
+    AllAdmitted job y (op_with script found ++ heard) → Safe job y w q script (heard ++ history) →
     Safe job y w q (behind script found) ((op_with script found ++ heard) ++ history)
 safe_next job y w q (asks op next) history heard found ok safe = safe.1 found ok.0
 safe_next job y w q (ends r) history heard found ok safe = tt
 
-admitted_earlier : {R : Type 0} (job : JobData) (y : LayoutData) (w q : ℕ) (script : Script R) (found : ℕ) (heard : List (Op × ℕ)) → AllAdmitted job y (op_with script found ++ heard) → AllAdmitted job y heard
-admitted_earlier job y w q (asks op next) found heard ok = ok.1
-admitted_earlier job y w q (ends r) found heard ok = ok
-
 -- so it is in the midst of it
-pub safe_behind : {R : Type 0} (job : JobData) (y : LayoutData) (w q : ℕ) (script : Script R) (history : List (Op × ℕ)) (answers : List ℕ) → AllAdmitted job y (heard_in script answers) → Safe job y w q script history →
+pub safe_behind : {R : Type 0} (job : JobData) (y : LayoutData) (w q : ℕ) (script : Script R) (history : List (Op × ℕ)) (answers : List ℕ) →
+    AllAdmitted job y (heard_in script answers) → Safe job y w q script history →
     Safe job y w q (rest script answers) (heard_in script answers ++ history)
 safe_behind job y w q script history [] ok safe = safe
 safe_behind job y w q script history (found ∷ earlier) ok safe =
     safe_next job y w q (rest script earlier) history (heard_in script earlier) found ok
-    (safe_behind job y w q script history earlier (admitted_earlier job y w q (rest script earlier) found (heard_in script earlier) ok) safe)
+    (safe_behind job y w q script history earlier (admitted_earlier job y (rest script earlier) found (heard_in script earlier) ok) safe)
 
 -- the first operation of a safe script
-pub safe_first : {R : Type 0} (job : JobData) (y : LayoutData) (w q : ℕ) (script : Script R) (history : List (Op × ℕ)) (op : Op) → first_op script ≡ Some op → Safe job y w q script history → Sees job y history (Goes job y w q op)
+pub safe_first : {R : Type 0} (job : JobData) (y : LayoutData) (w q : ℕ) (script : Script R) (history : List (Op × ℕ)) (op : Op) → first_op script ≡ Some op →
+    Safe job y w q script history → Sees job y history (Goes job y w q op)
 safe_first job y w q (asks o next) history op e safe = let same : o ≡ op = cc in subst (λ (x : Op). Sees job y history (Goes job y w q x)) same safe.0
 safe_first job y w q (ends r) history op e safe = absurd (cc)
 
 -- ---- blocks: a load is always safe
 
-pub load_safe : {R : Type 0} (job : JobData) (y : LayoutData) (w q : ℕ) (k : ℕ) (next : ℕ → Script R) (history : List (Op × ℕ)) → ((found : ℕ) → IsAdmitted job y (Load k) found → Safe job y w q (next found) ((Load k, found) ∷ history)) → Safe job y w q (asks (Load k) next) history
+pub load_safe : {R : Type 0} (job : JobData) (y : LayoutData) (w q : ℕ) (k : ℕ) (next : ℕ → Script R) (history : List (Op × ℕ)) →
+    ((found : ℕ) → HearsAdmitted job y (Load k) found → Safe job y w q (next found) ((Load k, found) ∷ history)) → Safe job y w q (asks (Load k) next) history
 load_safe job y w q k next history each = (always job y history (Goes job y w q (Load k)) (load_goes job y w q k), each)
 
 -- both words of a place, each heard at a moment of its own

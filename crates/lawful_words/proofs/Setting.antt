@@ -3,12 +3,12 @@ use Rattle.std.proofs.Common.{◌≡◌, ◌≢◌, ◌⊎◌, ℕ, zero, suc, �
 use Rattle.std.proofs.lemmas.Bool.{cases_eq, cases_lt, cases_Bool, eq-eqb, leb-true, leb-false, lt-ltb, le-ltb}
 use Rattle.pram_text.specs.Job.{JobData, IsJob}
 use Rattle.pram_step.specs.declared.requests.Request.{Request}
-use Rattle.pram_step.specs.Machine.{counter_place, request_of}
+use Rattle.pram_step.specs.Machine.{counter_place}
 use Rattle.pram_step.specs.Steps.{written}
 use Rattle.pram_step.specs.Runs.{IsReached, AgreesAfter, state_after}
-use Rattle.pram_step.proofs.LawFits.{RequestFits, request_fits, state_fits}
-use Rattle.pram_step.proofs.LawCounters.{request_within, counter_within}
-use Rattle.pram_step.proofs.LawPlaces.{request_well, writes_place, writer_is}
+use Rattle.pram_step.proofs.LawFits.{state_fits}
+use Rattle.pram_step.proofs.LawCounters.{counter_within}
+use Rattle.pram_step.proofs.LawPlaces.{writes_place, writer_is}
 use Rattle.pram_words.specs.declared.phases.Kind.{Kind}
 use Rattle.pram_words.specs.declared.phases.Kind.TheVariants.{Verify}
 use Rattle.pram_words.specs.declared.words.Word.{Word}
@@ -16,19 +16,22 @@ use Rattle.pram_words.specs.declared.words.Word.TheVariants.{Conflict, Node, Ask
 use Rattle.pram_words.specs.Stamps.{stamp_of, payload_of, stamped_word}
 use Rattle.pram_words.specs.Phases.{kind_at, step_at}
 use Rattle.pram_words.specs.Words.{LayoutData, IsWord, IsStamped, number_of, places_of, counters_of, most_asked, most_stored}
-use Rattle.walkx.specs.Stages.{IsBoard}
-use Rattle.walkx.specs.Tasks.{claim_of, first_is_older, place_part, value_part}
+use Rattle.walkx.specs.Walk.{IsBoard}
+use Rattle.walkx.specs.Tasks.{claim_of, first_is_older, older, older_word}
 use Rattle.walkx.specs.declared.operation.Op.TheVariants.{Max, Store, Swap}
 use Rattle.walkx.proofs.Boards.{same_cells, same_procs}
-use Rattle.lawful_words.specs.Steps.{Asks, Wins, phase_written, last_write, write_before, word_of_step, settled, settled_before, part_after}
+use Rattle.pram_step.specs.Instructions.{request_in, place_part, value_part, HasShape}
+use Rattle.pram_step.proofs.Shapes.{request_shape}
+use Rattle.pram_step.specs.History.{Asks, Wins, last_write, write_before, part_after}
+use Rattle.pram_step.proofs.Past.{last_most, last_least, conflict_above, before_most, asks_fit}
+use Rattle.lawful_words.specs.Writes.{PlaceAsHeard, Floor, Does}
+use Rattle.lawful_words.specs.Steps.{phase_written, word_of_step, settled, settled_before}
 use Rattle.lawful_words.specs.Board.{held, root, conflict, leaf, stamp_at, finished, phase_in, IsTree, IsAsked, IsNew, IsPair, newer_first, newer_second, new_first, new_second, IsClaimed, claimed_now, IsNamed, Lawful, Only, Stands, Grows}
 use Rattle.lawful_words.specs.Moments.{Keeps}
-use Rattle.lawful_words.specs.Statements.{B, C5, older, older_word, Floor, Does}
-use Rattle.lawful_words.proofs.Machine.{last_most, last_least, conflict_above, asks_fits}
-use Rattle.lawful_words.proofs.Values.{before_most, before_less, stamp_step}
+use Rattle.lawful_words.proofs.Values.{before_less, stamp_step}
 use Rattle.lawful_words.proofs.Frames.{only_grows, does_max, does_swap, keeps_store, same_or_other}
-use Rattle.lawful_words.proofs.Facts.{facts, board, procs_fit, late_of, claim_fits}
-use Rattle.lawful_words.proofs.Keeping.{done_later, settle, asks_place}
+use Rattle.lawful_words.proofs.Facts.{facts, board, procs_fit, late_of, claim_fits, B}
+use Rattle.lawful_words.proofs.Keeping.{done_later, settle}
 use Rattle.lawful_words.proofs.Raising.{behind, alive}
 
 settled_stamp : (job : JobData) (t p : ℕ) → IsJob job → stamp_of (settled job t p) ≡ last_write job t p
@@ -67,15 +70,18 @@ module _ (job : JobData) (y : LayoutData) (words later : List ℕ) (a : Word) (v
     most = λ n is. let a = nodes_same n is in let h = stands.lawful.tree.most n is in omega arith;
   }
 
-  pub asked_if : ((i j : ℕ) → i < y.procs → j < 3 → held y later (Asked i j) ≡ held y words (Asked i j)) → (i j : ℕ) → i < y.procs → j < 3 → IsAsked job (finished y words) i j (held y later (Asked i j))
+  pub asked_if : ((i j : ℕ) → i < y.procs → j < 3 → held y later (Asked i j) ≡ held y words (Asked i j)) → (i j : ℕ) → i < y.procs → j < 3 →
+      IsAsked job (finished y words) i j (held y later (Asked i j))
   asked_if same i j proc part = subst (IsAsked job (finished y words) i j) (sym (same i j proc part)) (stands.lawful.asked i j proc part)
 
-  pub stored_if : ((p k : ℕ) → IsWord y (Stored p k) → held y later (Stored p k) ≡ held y words (Stored p k)) → (p : ℕ) → p < places_of y → IsPair job (finished y words) (root y words) p (held y later (Stored p 0)) (held y later (Stored p 1))
+  pub stored_if : ((p k : ℕ) → IsWord y (Stored p k) → held y later (Stored p k) ≡ held y words (Stored p k)) → (p : ℕ) → p < places_of y →
+      IsPair job (finished y words) (root y words) p (held y later (Stored p 0)) (held y later (Stored p 1))
   stored_if same p place =
       subst (λ (w : ℕ). IsPair job (finished y words) (root y words) p w (held y later (Stored p 1))) (sym (same p 0 (place, lit< tt)))
       (subst (λ (w : ℕ). IsPair job (finished y words) (root y words) p (held y words (Stored p 0)) w) (sym (same p 1 (place, lit< tt))) (stands.lawful.stored p place))
 
-  pub claimed_if : ((c : ℕ) → IsWord y (Claim c) → held y later (Claim c) ≡ held y words (Claim c)) → (c : ℕ) → IsWord y (Claim c) → IsClaimed job (finished y words) (root y words) c (held y later (Claim c))
+  pub claimed_if : ((c : ℕ) → IsWord y (Claim c) → held y later (Claim c) ≡ held y words (Claim c)) → (c : ℕ) → IsWord y (Claim c) →
+      IsClaimed job (finished y words) (root y words) c (held y later (Claim c))
   claimed_if same c is = subst (IsClaimed job (finished y words) (root y words) c) (sym (same c is)) (stands.lawful.claimed c is)
 
   pub named_if : conflict y later ≡ conflict y words → IsNamed job (conflict y later) (root y words)
@@ -106,7 +112,8 @@ module _ (job : JobData) (y : LayoutData) (words later : List ℕ) (a : Word) (v
 
 -- ---- a position
 
-pub store_keeps : (job : JobData) (y : LayoutData) (w n : ℕ) (words : List ℕ) → Stands job y words → w < y.workers → 1 ≤ n → n < 2 * y.leaves → Keeps job y (Store (number_of y (Position w)) n) words
+pub store_keeps : (job : JobData) (y : LayoutData) (w n : ℕ) (words : List ℕ) → Stands job y words → w < y.workers → 1 ≤ n → n < 2 * y.leaves →
+    Keeps job y (Store (number_of y (Position w)) n) words
 store_keeps job y w n words stands worker low high = keeps_store job y w n words stands worker (low, high) (λ later only.
     let up = only_grows y (Position w) n words later stands.sizes worker tt only in
     set_lawful job y words later (Position w) n stands up only (λ m e. absurd (cc))
@@ -200,25 +207,32 @@ same_some a b e = cc
 counter_value : (job : JobData) (i p v : ℕ) (r : Request) → p ≡ counter_place job i → written job p i r ≡ Some v → r.next ≡ v
 counter_value job i p v r e h = same_some r.next v (rw (eq-eqb p (counter_place job i) e) at h)
 
+-- a request that the machine makes has its shape
+shape_of : (job : JobData) (y : LayoutData) (s i : ℕ) → IsBoard job y → i < y.procs → HasShape job i (request_in job (state_after job s) i)
+shape_of job y s i is proc =
+    let procs = same_procs job y is in
+    let below : i < job.procs = omega arith in
+    request_shape job (state_after job s) i is.limits (state_fits job s is.limits) below (counter_within job s i is.limits below)
+
 written_most : (job : JobData) (y : LayoutData) (s p i v : ℕ) → IsBoard job y → Asks job s p i v → v ≤ most_stored y job p
 written_most job y s p i v is asks =
     let w = writes_place job (state_after job s) p i v is.limits asks in
     let l = w.0 in
     let cells = same_cells job y is in
     let procs = same_procs job y is in
-    let fits = asks_fits job s p i v is.limits asks in
+    let fits = (asks_fit job s p i v is.limits asks).1 in
     elim w.1 [
-      | inl e ↦ rw (le-ltb p (counters_of y) (omega arith)) (let n = request_within job (state_after job s) i is.limits (counter_within job s i is.limits l) in let k = counter_value job i p v (request_of job (state_after job s) i) e (writer_is job (state_after job s) p i v asks).1 in omega arith)
+      | inl e ↦ rw (le-ltb p (counters_of y) (omega arith)) (let n = (shape_of job y s i is (omega arith)).next in let k = counter_value job i p v (request_in job (state_after job s) i) e (writer_is job (state_after job s) p i v asks).1 in omega arith)
       | inr d ↦ rw (lt-ltb p (counters_of y) (elim d [ inl c ↦ omega arith | inr c ↦ (let m = c.1 in omega arith) ])) (omega arith)
     ]
 
-place_most : (most : ℕ) (o : Option (ℕ × ℕ)) → ((w : ℕ × ℕ) → o ≡ Some w → w.0 < most) → elim o [ None ↦ 0 | Some w ↦ w.0 + 1 ] ≤ most
+place_most : (most : ℕ) (o : Option (ℕ × ℕ)) → ((p v : ℕ) → o ≡ Some (p, v) → p < most) → elim o [ None ↦ 0 | Some w ↦ w.0 + 1 ] ≤ most
 place_most most None h = omega arith
-place_most most (Some w) h = let l = h w refl in omega arith
+place_most most (Some (p, v)) h = let l = h p v refl in omega arith
 
-value_most : (most : ℕ) (o : Option (ℕ × ℕ)) → 0 < most → ((w : ℕ × ℕ) → o ≡ Some w → w.1 < most) → elim o [ None ↦ 0 | Some w ↦ w.1 ] < most
+value_most : (most : ℕ) (o : Option (ℕ × ℕ)) → 0 < most → ((p v : ℕ) → o ≡ Some (p, v) → v < most) → elim o [ None ↦ 0 | Some w ↦ w.1 ] < most
 value_most most None some h = some
-value_most most (Some w) some h = h w refl
+value_most most (Some (p, v)) some h = h p v refl
 
 part_most : (job : JobData) (y : LayoutData) (s i j : ℕ) → IsBoard job y → i < y.procs → j < 3 → (part_after job s i j ≤ most_asked y job j) × (part_after job s i j < 2 ^ 32)
 part_most job y s i zero is proc part =
@@ -226,21 +240,20 @@ part_most job y s i zero is proc part =
     let procs = same_procs job y is in
     let c = is.limits.cells.1 in
     let n = is.limits.procs.1 in
-    let h : place_part (request_of job (state_after job s) i) ≤ counters_of y = place_most (counters_of y) (request_of job (state_after job s) i).put (λ w e. elim (request_well job (state_after job s) i w is.limits e) [ inl l ↦ omega arith | inr l ↦ (let m = l.1 in omega arith) ]) in
+    let shape = shape_of job y s i is proc in
+    let h : place_part (request_in job (state_after job s) i) ≤ counters_of y = place_most (counters_of y) (request_in job (state_after job s) i).put (λ p v e. elim (shape.data_place p v e) [ inl l ↦ omega arith | inr l ↦ (let m = l.1 in omega arith) ]) in
     (h, omega arith)
 part_most job y s i (suc zero) is proc part =
-    let fits : RequestFits (request_of job (state_after job s) i) = request_fits job (state_after job s) i is.limits (state_fits job s is.limits) (let procs = same_procs job y is in omega arith) in
-    let h : value_part (request_of job (state_after job s) i) < 2 ^ 32 = value_most (2 ^ 32) (request_of job (state_after job s) i).put (lit< tt) (λ w e. fits.value w e) in
+    let shape = shape_of job y s i is proc in
+    let h : value_part (request_in job (state_after job s) i) < 2 ^ 32 = value_most (2 ^ 32) (request_in job (state_after job s) i).put (lit< tt) (λ p v e. shape.data_value p v e) in
     (omega arith, h)
-part_most job y s i (suc (suc zero)) is proc part =
-    let h = request_within job (state_after job s) i is.limits (counter_within job s i is.limits (let procs = same_procs job y is in omega arith)) in
-    let c = is.limits.code_len.1 in
-    (h, omega arith)
+part_most job y s i (suc (suc zero)) is proc part = let h = (shape_of job y s i is proc).next in let c = is.limits.code_len.1 in (h, omega arith)
 part_most job y s i (suc (suc (suc j))) is proc part = absurd (omega arith)
 
 -- ---- the older of the two words of a place takes a new value
 
-swapped_first : (job : JobData) (f r p a b word : ℕ) → IsJob job → IsPair job f r p a b → stamp_of a ≤ f → stamp_of b ≤ f → IsNew job f r p word → stamp_of a ≤ stamp_of b → IsPair job f r p word b
+swapped_first : (job : JobData) (f r p a b word : ℕ) → IsJob job → IsPair job f r p a b → stamp_of a ≤ f → stamp_of b ≤ f → IsNew job f r p word →
+    stamp_of a ≤ stamp_of b → IsPair job f r p word b
 swapped_first job f r p a b word limits (newer_first e g) la lb n less =
     let s = ap stamp_of e ∙ settled_stamp job f p limits in
     let o = ap stamp_of g ∙ before_stamp job f p limits in
@@ -251,7 +264,8 @@ swapped_first job f r p a b word limits (newer_second e g some) la lb n less = n
 swapped_first job f r p a b word limits (new_first m e) la lb n less = absurd (let s = m.stamp in omega arith)
 swapped_first job f r p a b word limits (new_second m e some) la lb n less = absurd (let s = m.stamp in omega arith)
 
-swapped_second : (job : JobData) (f r p a b word : ℕ) → IsJob job → IsPair job f r p a b → stamp_of a ≤ f → stamp_of b ≤ f → IsNew job f r p word → stamp_of b < stamp_of a → IsPair job f r p a word
+swapped_second : (job : JobData) (f r p a b word : ℕ) → IsJob job → IsPair job f r p a b → stamp_of a ≤ f → stamp_of b ≤ f → IsNew job f r p word →
+    stamp_of b < stamp_of a → IsPair job f r p a word
 swapped_second job f r p a b word limits (newer_first e g) la lb n less = new_second n e (omega arith)
 swapped_second job f r p a b word limits (newer_second e g some) la lb n less =
     absurd (let s = ap stamp_of e ∙ settled_stamp job f p limits in let o = ap stamp_of g ∙ before_stamp job f p limits in let k = before_most job (last_write job f p) p in omega arith)
@@ -272,18 +286,18 @@ module _ (job : JobData) (y : LayoutData) (words : List ℕ) (q x : ℕ) (stands
 
   module _ (p i v : ℕ) (phase : q ≡ phase_written job.rule x) (asks : Asks job x p i v) (wins : Wins job x p i) where
     place : p < places_of y
-    place = let a = asks_place job x p i v stands.limits asks in let c = same_cells job y a_board in let d = same_procs job y a_board in omega arith
+    place = let a = (asks_fit job x p i v stands.limits asks).0 in let c = same_cells job y a_board in let d = same_procs job y a_board in omega arith
 
     value : ℕ
     value = stamped_word (suc x) v
 
     value_stamp : stamp_of value ≡ suc x
     unfolding value
-    value_stamp = let fits = asks_fits job x p i v stands.limits asks in omega arith
+    value_stamp = let fits = (asks_fit job x p i v stands.limits asks).1 in omega arith
 
     value_payload : payload_of value ≡ v
     unfolding value
-    value_payload = let fits = asks_fits job x p i v stands.limits asks in omega arith
+    value_payload = let fits = (asks_fit job x p i v stands.limits asks).1 in omega arith
 
     range : IsStamped job.steps (most_stored y job p) value
     range = let s = value_stamp in let l = value_payload in let m = written_most job y x p i v a_board asks in (omega arith, omega arith)
@@ -350,7 +364,8 @@ module _ (job : JobData) (y : LayoutData) (words : List ℕ) (q x : ℕ) (stands
           (full_if job y words later (Stored p k) value stands grows_stored only (λ m e. absurd (cc)) (only.rest Conflict tt (λ e. absurd (cc))))
 
     -- the first word is the older one
-    first_does : (old : ℕ) → (held y words (Stored p 0) ≡ old → Early × (stamp_at y words p 0 ≤ stamp_at y words p 1)) → Does job y q (Swap (number_of y (Stored p 0)) old value) words
+    first_does : (old : ℕ) → (held y words (Stored p 0) ≡ old → Early × (stamp_at y words p 0 ≤ stamp_at y words p 1)) →
+        Does job y q (Swap (number_of y (Stored p 0)) old value) words
     unfolding Early
     first_does old stays = does_swap job y q (Stored p 0) old value words stands (place, lit< tt) range (λ h e. not_early h (stays e).0) (λ e.
         let s = stays e in
@@ -372,7 +387,8 @@ module _ (job : JobData) (y : LayoutData) (words : List ℕ) (q x : ℕ) (stands
             word_same : (p k r j : ℕ) → Stored p k ≡ Stored r j → k ≡ j
             word_same p k r j e = cc
 
-    second_does : (old : ℕ) → (held y words (Stored p 1) ≡ old → Early × (stamp_at y words p 1 < stamp_at y words p 0)) → Does job y q (Swap (number_of y (Stored p 1)) old value) words
+    second_does : (old : ℕ) → (held y words (Stored p 1) ≡ old → Early × (stamp_at y words p 1 < stamp_at y words p 0)) →
+        Does job y q (Swap (number_of y (Stored p 1)) old value) words
     unfolding Early
     second_does old stays = does_swap job y q (Stored p 1) old value words stands (place, lit< tt) range (λ h e. not_early h (stays e).0) (λ e.
         let s = stays e in
@@ -394,7 +410,7 @@ module _ (job : JobData) (y : LayoutData) (words : List ℕ) (q x : ℕ) (stands
             word_same : (p k r j : ℕ) → Stored p k ≡ Stored r j → k ≡ j
             word_same p k r j e = cc
 
-    pub stored_does : (a b : ℕ) → C5 job y x p a b words → Does job y q (Swap (number_of y (Stored p (older a b))) (older_word a b) (stamped_word (suc x) v)) words
+    pub stored_does : (a b : ℕ) → PlaceAsHeard job y x p a b words → Does job y q (Swap (number_of y (Stored p (older a b))) (older_word a b) (stamped_word (suc x) v)) words
     unfolding value Early
     stored_does a b c5 = elim (cases_Bool (first_is_older a b)) [
       | inl e ↦ (let stays = c5.stands in rw e (first_does a (λ h. let s = (rw e at stays) h in ((s.0, s.1), leb-true _ _ s.2))))

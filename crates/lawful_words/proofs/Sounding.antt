@@ -9,26 +9,26 @@ use Rattle.walkx.specs.declared.operation.Ended.TheVariants as ended
 use Rattle.walkx.specs.declared.operation.Op.{Op}
 use Rattle.walkx.specs.declared.operation.Op.TheVariants.{Load}
 use Rattle.walkx.specs.declared.operation.Reading.TheVariants.{At}
-use Rattle.walkx.specs.declared.worker.Doing.TheVariants as doing
-use Rattle.walkx.specs.Bound.{told_all, history_of, IsHeard, IsGoing, StepsAreBounded, most_steps}
+use Rattle.walkx.specs.Doing as doing
+use Rattle.walkx.specs.Bound.{told_all, history_of, IsHeard, most_steps}
 use Rattle.walkx.specs.Reads.{step_seen, reader_script}
 use Rattle.walkx.specs.Records.{Record, empty, after, both, Has, Knows}
 use Rattle.walkx.specs.Scripts.{ends, rest, heard_in}
-use Rattle.walkx.specs.Walk.{Walking}
+use Rattle.walkx.specs.Walk.{Walking, Fits, IsGoing, IsLayoutOf}
+use Rattle.walkx.proofs.BoundSteps.{own_steps as bound}
+use Rattle.walkx.proofs.Ends.{heard_root, heard_both}
+use Rattle.walkx.proofs.Knowing.{has_newest}
 use Rattle.walkx.specs.Tasks.{newer_payload}
+use Rattle.pram_step.specs.History.{part_after}
 use Rattle.lawful_words.specs.Board.{Stands}
-use Rattle.lawful_words.specs.Steps.{part_after}
-use Rattle.lawful_words.specs.Moments.{Backed, WasBacked, Sound}
+use Rattle.lawful_words.specs.Moments.{Backed, WasBacked, Sound, afters}
 use Rattle.lawful_words.specs.Seen.{Heard, KnowsStep}
-use Rattle.lawful_words.specs.Told.{FitsWell}
-use Rattle.lawful_words.specs.Walks.{IsLawfulRead}
-use Rattle.lawful_words.proofs.Sees.{afters}
+use Rattle.lawful_words.specs.Walks.{IsLawfulRead, DoneWell, IsConflict}
 use Rattle.lawful_words.proofs.Knowing.{known_now}
 use Rattle.lawful_words.proofs.Reading.{load_root, load_conflict, read_is_lawful}
 use Rattle.lawful_words.proofs.Bounding.{backed_is_heard, steps_of, history_known}
 use Rattle.lawful_words.proofs.Finals.{final_place, final_part}
-use Rattle.lawful_words.proofs.Ending.{DoneWell, IsConflict, ProgressWell, progress_well, over_heard, both_shows, heard_conflict}
-use Rattle.lawful_words.proofs.Telling.{heard_root, heard_both, has_newest}
+use Rattle.lawful_words.proofs.Ending.{ProgressWell, progress_well, over_heard, both_shows, heard_conflict}
 
 -- a record that the words bear out is sound
 pub sound_of : (job : JobData) (y : LayoutData) (r : Record) (words : List ℕ) → Stands job y words → Backed job y r words → Sound job y r
@@ -82,7 +82,7 @@ sound_conflict job y r u sound h some =
     heard_conflict job y p.part u w.words w.stands w.backed (record { op = h.op; hears = h.hears; has = p.has }) some
 
 -- a worker that is over
-pub sound_done : (job : JobData) (y : LayoutData) (r : Record) (w : Walking) → Sound job y r → FitsWell job y w → Knows job y r w → w.now ≡ doing.Over ended.Done → DoneWell job y r
+pub sound_done : (job : JobData) (y : LayoutData) (r : Record) (w : Walking) → Sound job y r → Fits job y w → Knows job y r w → w.now ≡ doing.Over ended.Done → DoneWell job y r
 sound_done job y r w sound well knows is =
     let has : Has r (heard_both y (3 * job.steps) 0) = subst (λ (es : List (Op × ℕ)). Has r es) (over_heard job y w ended.Done well is) knows in
     let shows = both_shows y r job.steps has in
@@ -92,7 +92,8 @@ sound_done job y r w sound well knows is =
       reached = sound_known job y r job.steps sound (inl shows);
     }
 
-pub sound_stopped : (job : JobData) (y : LayoutData) (r : Record) (w : Walking) (u : ℕ) → Sound job y r → FitsWell job y w → Knows job y r w → w.now ≡ doing.Over (ended.Conflict u) → Heard y r Conflict u × IsConflict job u
+pub sound_stopped : (job : JobData) (y : LayoutData) (r : Record) (w : Walking) (u : ℕ) → Sound job y r → Fits job y w → Knows job y r w →
+    w.now ≡ doing.Over (ended.Conflict u) → Heard y r Conflict u × IsConflict job u
 sound_stopped job y r w u sound well knows is =
     let h = over_heard job y w (ended.Conflict u) well is in
     let has : Has r (heard_both y h.1.0 u) = subst (λ (es : List (Op × ℕ)). Has r es) h.1.1 knows in
@@ -100,12 +101,14 @@ sound_stopped job y r w u sound well knows is =
     (heard, sound_conflict job y r u sound heard h.0)
 
 -- a read
-pub was_read : (job : JobData) (y : LayoutData) (before : Record) (c step value : ℕ) (answers : List ℕ) → c < y.cells → rest (reader_script y c) answers ≡ ends (At step value) → WasBacked job y (afters before (heard_in (reader_script y c) answers)) →
+pub was_read : (job : JobData) (y : LayoutData) (before : Record) (c step value : ℕ) (answers : List ℕ) → c < y.cells →
+    rest (reader_script y c) answers ≡ ends (At step value) → WasBacked job y (afters before (heard_in (reader_script y c) answers)) →
     IsLawfulRead job y before (afters before (heard_in (reader_script y c) answers)) c step value
 was_read job y before c step value answers cell is was = read_is_lawful job y before c step value answers was.words cell is was.stands was.backed
 
 -- progress, the loads of memory and those of fault: a record that ends with a load is sound as a whole
-pub was_progress : (job : JobData) (y : LayoutData) (before : Record) (r u : ℕ) → WasBacked job y (load_conflict y (load_root y before r) u) → ProgressWell job y before (load_conflict y (load_root y before r) u) (step_seen r u) u
+pub was_progress : (job : JobData) (y : LayoutData) (before : Record) (r u : ℕ) → WasBacked job y (load_conflict y (load_root y before r) u) →
+    ProgressWell job y before (load_conflict y (load_root y before r) u) (step_seen r u) u
 was_progress job y before r u was = progress_well job y before r u was.words was.stands was.backed
 
 pub was_place : (job : JobData) (y : LayoutData) (r : Record) (p a b : ℕ) → KnowsStep y r job.steps → p < places_of y →
@@ -125,6 +128,7 @@ sound_heard job y w r (e ∷ es) worker sound has =
     backed_is_heard job y w p.part (e ∷ es) was.words worker was.backed p.has
 
 -- So a known worker that makes these steps and is going has made fewer than the bound.
-pub sound_steps : (job : JobData) (y : LayoutData) (r : Record) (w : Walking) (answers : List ℕ) → StepsAreBounded job y w → w.number < y.workers → Knows job y r w → Sound job y (afters r (steps_of job y w answers)) → IsGoing (told_all job y w answers) → length answers < most_steps job y
-sound_steps job y r w answers bounded worker knows sound going =
-    bounded.bound answers going (sound_heard job y w.number (afters r (steps_of job y w answers)) (history_of job y w answers) worker sound (history_known job y r w answers knows))
+pub sound_steps : (job : JobData) (y : LayoutData) (r : Record) (w : Walking) (answers : List ℕ) → IsLayoutOf job y → Fits job y w → Knows job y r w →
+    Sound job y (afters r (steps_of job y w answers)) → IsGoing (told_all job y w answers).now → length answers < most_steps job y
+sound_steps job y r w answers is fits knows sound going =
+    bound.0 job y w is fits answers going (sound_heard job y w.number (afters r (steps_of job y w answers)) (history_of job y w answers) fits.number sound (history_known job y r w answers knows))

@@ -16,9 +16,11 @@ use Rattle.pram_words.specs.Start.{start_of, start_words, StartsAdmitted}
 use Rattle.pram_words.specs.Words.{LayoutData, IsLayout, IsWord, layout_of, places_of}
 use Rattle.pram_words.proofs.Halvings.{leaves_least}
 use Rattle.pram_words.proofs.Starts.{starts_admitted, layout_of_limits}
-use Rattle.lawful_words.specs.Steps.{last_write, settled}
+use Rattle.pram_words.specs.declared.layout.Form.{Form}
+use Rattle.pram_step.specs.History.{last_write}
+use Rattle.pram_step.proofs.Past.{last_most}
+use Rattle.lawful_words.specs.Steps.{settled}
 use Rattle.lawful_words.specs.Board.{held, root, leaf, phase_in, LawfulFor, newer_first, claimed_before, Stands}
-use Rattle.lawful_words.proofs.Machine.{last_most}
 use Rattle.lawful_words.proofs.Keeping.{settle}
 
 -- what a place holds before all steps
@@ -29,20 +31,20 @@ start_value job p limits below = let len = limits.init_len in elim (cases_lt p (
   | inr c ↦ get_or-append_right job.init (replicate (5 * job.procs) 0) p 0 c ∙ get_or-replicate (5 * job.procs) (p - length job.init) 0 0 (omega arith) ∙ sym (get_or_past job.init p 0 c)
 ]
 
-module _ (job : JobData) (workers : ℕ) (limits : IsJob job) (some : 1 ≤ workers) (high : workers ≤ 64) where
+module _ (job : JobData) (form : Form) (workers : ℕ) (limits : IsJob job) (some : 1 ≤ workers) (high : workers ≤ 64) where
   y : LayoutData
-  y = layout_of job workers
+  y = layout_of job form workers
 
   words : List ℕ
-  words = start_words (layout_of job workers) job
+  words = start_words (layout_of job form workers) job
 
   sizes : IsLayout y
   unfolding y
-  sizes = layout_of_limits job workers limits some high
+  sizes = layout_of_limits job form workers limits some high
 
   starts : StartsAdmitted y job
   unfolding y
-  starts = starts_admitted job workers limits some high
+  starts = starts_admitted job form workers limits some high
 
   value : (a : Word) → IsWord y a → held y words a ≡ start_of y job a
   unfolding y words
@@ -82,7 +84,7 @@ module _ (job : JobData) (workers : ℕ) (limits : IsJob job) (some : 1 ≤ work
     named = (let u = value Conflict tt in record { first = λ s e. absurd (omega arith); near = λ s e. absurd (omega arith) });
   }
 
-  pub starts_stand : Stands job (layout_of job workers) (start_words (layout_of job workers) job)
+  pub starts_stand : Stands job (layout_of job form workers) (start_words (layout_of job form workers) job)
   unfolding y words
   starts_stand = record {
     limits = limits;

@@ -1,5 +1,5 @@
 -- The task of a phase, the leaf, the turn, and the scripts of a worker: they are safe.
-use Rattle.std.proofs.Common.{◌≡◌, ℕ, suc, ◌+◌, ◌-◌, ◌*◌, ◌/◌, ◌%◌, ◌<◌, ◌≤◌, ◌==◌, ◌&&◌, nat_le, if◌then◌else◌, true, List, [], ◌∷◌, Option, Some, None, IsTrue, IfSome, unwrap_or, mod-lt, refl, sym, ap, subst, ◌∙◌, inl, inr, arith}
+use Rattle.std.proofs.Common.{◌≡◌, ℕ, suc, ◌+◌, ◌-◌, ◌*◌, ◌/◌, ◌<◌, ◌≤◌, ◌==◌, ◌&&◌, nat_le, if◌then◌else◌, true, List, [], ◌∷◌, IsTrue, refl, sym, ap, subst, ◌∙◌, inl, inr, arith}
 use Rattle.std.proofs.lemmas.Bool.{cond_both, cases_Bool, eqb-false, leb-true, leb-false}
 use Rattle.pram_text.specs.Job.{JobData}
 use Rattle.pram_text.specs.declared.instr.Rule.{Rule}
@@ -8,22 +8,23 @@ use Rattle.pram_words.specs.declared.phases.Kind.{Kind}
 use Rattle.pram_words.specs.declared.phases.Kind.TheVariants.{Compute, Apply, Verify}
 use Rattle.pram_words.specs.declared.words.Word.TheVariants.{Node}
 use Rattle.pram_words.specs.Phases.{kind_at, step_at}
-use Rattle.pram_words.specs.Tree.{first_leaf_of}
 use Rattle.pram_words.specs.Words.{LayoutData, has_claims, number_of}
 use Rattle.walkx.specs.declared.operation.Op.{Op}
 use Rattle.walkx.specs.declared.operation.Op.TheVariants.{Load}
-use Rattle.walkx.specs.declared.worker.Doing.{Doing}
-use Rattle.walkx.specs.declared.worker.Doing.TheVariants as doing
+use Rattle.walkx.specs.Doing.{Doing}
+use Rattle.walkx.specs.Doing as doing
 use Rattle.walkx.specs.Scripts.{Script, asks, ends}
-use Rattle.walkx.specs.Stages.{IsBoard}
 use Rattle.walkx.specs.Tasks.{task_of}
-use Rattle.walkx.specs.Walk.{Then, begins, IsPhase, node_of, script_by, phase_begun, turn_script, leaf_script, marks, stands_at, way_down}
+use Rattle.walkx.specs.Walk.{Then, begins, IsPhase, node_of, script_by, phase_begun, turn_script, leaf_script, marks, stands_at, way_down, IsBoard}
 use Rattle.walkx.proofs.Boards.{same_procs}
+use Rattle.walkx.proofs.Ends.{way_inside}
+use Rattle.walkx.proofs.Fitting.{node_range}
+use Rattle.lawful_words.specs.Laws.{WorkersKeepWordsLawful}
+use Rattle.lawful_words.specs.Writes.{Floor}
 use Rattle.lawful_words.specs.Steps.{phase_written}
 use Rattle.lawful_words.specs.Board.{Done, phase_in}
 use Rattle.lawful_words.specs.Moments.{Moment}
-use Rattle.lawful_words.specs.Statements.{Floor}
-use Rattle.lawful_words.specs.Walks.{phase_now, AllF}
+use Rattle.lawful_words.specs.Walks.{phase_now}
 use Rattle.lawful_words.proofs.Effects.{phase_at}
 use Rattle.lawful_words.proofs.Sees.{Sees, heard, later}
 use Rattle.lawful_words.proofs.Scripts.{Safe, load_safe}
@@ -46,7 +47,8 @@ written_in job x q rule is e = sym e ∙ ap (λ (r : Rule). phase_written r x) (
 module _ (job : JobData) (y : LayoutData) (w q x : ℕ) (some : 1 ≤ q) (most : q ≤ 3 * job.steps) (step : step_at q ≡ suc x) (board : IsBoard job y) where
   -- ---- the task of each rule and kind
 
-  pub task_safe : (i : ℕ) → i < y.procs → (rule : Rule) (kind : Kind) → job.rule ≡ rule → phase_in x kind ≡ q → (after : Script Then) → EndSafe job y w q x (λ words. Done rule kind job y x words i) after →
+  pub task_safe : (i : ℕ) → i < y.procs → (rule : Rule) (kind : Kind) → job.rule ≡ rule → phase_in x kind ≡ q → (after : Script Then) →
+      EndSafe job y w q x (λ words. Done rule kind job y x words i) after →
       (history : List (Op × ℕ)) → Sees job y history (Floor job y q x) → Safe {R = Then} job y w q (task_of rule kind job y (suc x) i after) history
   unfolding task_of
   task_safe i proc Common Compute is phase after done history sees = compute_safe job y w q x i some most step board proc phase after done history sees
@@ -65,7 +67,8 @@ module _ (job : JobData) (y : LayoutData) (w q x : ℕ) (some : 1 ≤ q) (most :
   marked : (i n : ℕ) → i < y.procs → y.leaves + i ≡ n → EndSafe job y w q x (λ words. Done job.rule (kind_at q) job y x words i) (marks y n q)
   marked i n proc e longer sees = subst (λ (n : ℕ). Safe {R = Then} job y w q (marks y n q) longer) e (marks_safe job y w q x some most step (Floor job y q x) (floor_lasts job y q x) (λ words f. f) i proc longer sees)
 
-  leaf_safe : (n : ℕ) → y.leaves ≤ n → n < 2 * y.leaves → (history : List (Op × ℕ)) → Sees job y history (Floor job y q x) → Safe {R = Then} job y w q (leaf_script job y n q) history
+  leaf_safe : (n : ℕ) → y.leaves ≤ n → n < 2 * y.leaves → (history : List (Op × ℕ)) → Sees job y history (Floor job y q x) →
+      Safe {R = Then} job y w q (leaf_script job y n q) history
   leaf_safe n low high history sees =
       let procs = same_procs job y board in
       cond_both (nat_le (y.leaves + job.procs) n) (marks y n q) (task_of job.rule (kind_at q) job y (step_at q) (n - y.leaves) (marks y n q)) (λ (s : Script Then). Safe {R = Then} job y w q s history)
@@ -84,10 +87,6 @@ module _ (job : JobData) (y : LayoutData) (w q x : ℕ) (some : 1 ≤ q) (most :
     | inr a ↦ absurd (let b = rw a at e in cc)
   ]
 
-  way_in : (n l r : ℕ) → 1 ≤ n → n < y.leaves → (1 ≤ way_down y w n q l r) × (way_down y w n q l r < 2 * y.leaves)
-  way_in n l r low high = cond_both (nat_le q l) (2 * n + 1) _ (λ (m : ℕ). (1 ≤ m) × (m < 2 * y.leaves)) (λ e. (omega arith, omega arith))
-      (λ e. cond_both (nat_le q r) (2 * n) _ (λ (m : ℕ). (1 ≤ m) × (m < 2 * y.leaves)) (λ e. (omega arith, omega arith)) (λ e. cond_both _ (2 * n + 1) (2 * n) (λ (m : ℕ). (1 ≤ m) × (m < 2 * y.leaves)) (λ e. (omega arith, omega arith)) (λ e. (omega arith, omega arith))))
-
   down_safe : (n : ℕ) → w < y.workers → 1 ≤ n → n < y.leaves → (history : List (Op × ℕ)) → Sees job y history (Floor job y q x) →
       Safe {R = Then} job y w q (asks (Load (number_of y (Node (2 * n)))) (λ l. asks (Load (number_of y (Node (2 * n + 1)))) (λ r. if nat_le q l && nat_le q r then marks y n q else stands_at y w (way_down y w n q l r) q))) history
   down_safe n worker low high history sees =
@@ -99,9 +98,10 @@ module _ (job : JobData) (y : LayoutData) (w q x : ℕ) (some : 1 ≤ q) (most :
       let h = both_true l r e in
       inner_safe job y w q x some most step (Floor job y q x) (floor_lasts job y q x) (λ words f. f) n l r longer low high h.0 h.1
       (heard job y ((Load (number_of y (Node (2 * n))), l) ∷ history) (Moment job y (Load (number_of y (Node (2 * n)))) l (Floor job y q x)) (Load (number_of y (Node (2 * n + 1)))) r (heard job y history (Floor job y q x) (Load (number_of y (Node (2 * n)))) l sees)))
-      (λ e. let way = way_in n l r low high in stands_safe job y w q (way_down y w n q l r) longer worker way.0 way.1)))
+      (λ e. let way = way_inside y w n q l r low high in stands_safe job y w q (way_down y w n q l r) longer worker way.0 way.1)))
 
-  pub turn_safe_on : (n : ℕ) → w < y.workers → 1 ≤ n → n < 2 * y.leaves → (history : List (Op × ℕ)) → Sees job y history (Floor job y q x) → Safe {R = Then} job y w q (turn_script job y w n q) history
+  pub turn_safe_on : (n : ℕ) → w < y.workers → 1 ≤ n → n < 2 * y.leaves → (history : List (Op × ℕ)) → Sees job y history (Floor job y q x) →
+      Safe {R = Then} job y w q (turn_script job y w n q) history
   unfolding turn_script
   turn_safe_on n worker low high history sees =
       let down = asks (Load (number_of y (Node (2 * n)))) (λ l. asks (Load (number_of y (Node (2 * n + 1)))) (λ r. if nat_le q l && nat_le q r then marks y n q else stands_at y w (way_down y w n q l r) q)) in
@@ -117,11 +117,8 @@ turn_safe job y w n q history worker low high some most x step sees = safe_board
 
 -- ---- a worker
 
-node_in : (l number : ℕ) (node : Option ℕ) → 1 ≤ l → IfSome node (λ n. (1 ≤ n) × (n < 2 * l)) → (1 ≤ unwrap_or node (first_leaf_of l number)) × (unwrap_or node (first_leaf_of l number) < 2 * l)
-node_in l number None some is = let m : number % l < l = mod-lt number (omega arith) in (omega arith, omega arith)
-node_in l number (Some n) some is = is
-
-doing_safe : (job : JobData) (y : LayoutData) (now : Doing) (w n : ℕ) → w < y.workers → 1 ≤ n → n < 2 * y.leaves → IsPhase job now → Safe {R = Then} job y w (phase_now now) (script_by job y w n now) (phase_begun y now)
+doing_safe : (job : JobData) (y : LayoutData) (now : Doing) (w n : ℕ) → w < y.workers → 1 ≤ n → n < 2 * y.leaves → IsPhase job now →
+    Safe {R = Then} job y w (phase_now now) (script_by job y w n now) (phase_begun y now)
 doing_safe job y doing.Back w n worker low high phase = back_safe job y w w 0 []
 doing_safe job y doing.Begin w n worker low high phase = begin_safe job y n w 0 []
 doing_safe job y (doing.Turn q) w n worker low high phase =
@@ -133,9 +130,9 @@ doing_safe job y (doing.Over e) w n worker low high phase = begin_safe job y n w
 pub worker_safe : WorkerSafe
 worker_safe job y w fits = safe_board {R = Then} job y w.number (phase_now w.now) (script_by job y w.number (node_of y w) w.now) (phase_begun y w.now) (λ board.
     let leaves = board.layout.leaves in
-    let is = node_in y.leaves w.number w.node leaves.0 fits.node in
+    let is = node_range job y w leaves.0 fits in
     doing_safe job y w.now w.number (node_of y w) fits.number is.0 is.1 fits.phase)
 
 -- the worker's lemma
-pub all_f : AllF
+pub all_f : WorkersKeepWordsLawful
 all_f = moves worker_safe

@@ -10,9 +10,10 @@ use Rattle.pram_words.specs.declared.words.Word.TheVariants.{Node}
 use Rattle.pram_words.specs.Words.{LayoutData, IsWord}
 use Rattle.walkx.specs.Reads.{step_seen}
 use Rattle.walkx.specs.Tasks.{newer_payload}
-use Rattle.lawful_words.specs.Steps.{IsWritten, phase_written, last_write, write_before, word_of_step, settled, settled_before}
+use Rattle.pram_step.specs.History.{IsWritten, last_write, write_before}
+use Rattle.pram_step.proofs.Past.{last_most, last_is, last_rises, last_between, value_fits}
+use Rattle.lawful_words.specs.Steps.{phase_written, word_of_step, settled, settled_before}
 use Rattle.lawful_words.specs.Board.{held, root, IsTree, IsNew, IsPair, newer_first, newer_second, new_first, new_second, IsNamed}
-use Rattle.lawful_words.proofs.Machine.{last_most, last_is, last_rises, last_between, value_fits}
 
 -- ---- *Fin* of a root and a word 0
 
@@ -91,10 +92,6 @@ payload_step job x p is = let v = value_fits job x p is in omega arith
 pub before_is : (job : JobData) (t p x : ℕ) → write_before job t p ≡ suc x → IsWritten job x p × (suc x < t)
 before_is job zero p x e = absurd (omega arith)
 before_is job (suc s) p x e = (last_is job s p x e, let h = last_most job s p in omega arith)
-
-pub before_most : (job : JobData) (t p : ℕ) → write_before job t p ≤ t
-before_most job zero p = omega arith
-before_most job (suc s) p = let h = last_most job s p in omega arith
 
 pub before_less : (job : JobData) (t p : ℕ) → 1 ≤ t → write_before job t p < t
 before_less job zero p some = absurd (omega arith)

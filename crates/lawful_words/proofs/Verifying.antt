@@ -4,7 +4,7 @@ use Rattle.std.proofs.lemmas.Bool.{cond_both, cases_eq, cases_Bool, eq-eqb, ne_e
 use Rattle.pram_text.specs.Job.{JobData}
 use Rattle.pram_text.specs.declared.instr.Rule.{Rule}
 use Rattle.pram_text.specs.declared.instr.Rule.TheVariants.{Common, Priority, Crew}
-use Rattle.pram_step.specs.Runs.{AgreesAfter, state_after}
+use Rattle.pram_step.specs.Runs.{AgreesAfter, state_after, requests_after}
 use Rattle.pram_step.proofs.LawNext.{crew_writer}
 use Rattle.pram_words.specs.declared.words.Word.TheVariants.{Stored, Claim}
 use Rattle.pram_words.specs.Phases.{step_at}
@@ -13,22 +13,20 @@ use Rattle.pram_words.specs.Words.{LayoutData, IsWord, number_of, places_of}
 use Rattle.walkx.specs.declared.operation.Op.{Op}
 use Rattle.walkx.specs.declared.operation.Op.TheVariants.{Load}
 use Rattle.walkx.specs.Scripts.{Script, asks}
-use Rattle.walkx.specs.Stages.{IsBoard}
 use Rattle.walkx.specs.Tasks.{claim_of, differs, reports, hears_part, loads_both, verify_task, crew_verify_task}
-use Rattle.walkx.specs.Walk.{Then}
+use Rattle.walkx.specs.Walk.{Then, IsBoard}
 use Rattle.walkx.proofs.Boards.{same_cells, same_procs}
-use Rattle.lawful_words.specs.Steps.{Asks, Wins, requests_after, phase_written, last_write, write_before, word_of_step, part_after}
+use Rattle.pram_step.specs.History.{Asks, Wins, last_write, write_before, part_after}
+use Rattle.pram_step.proofs.Past.{written_value, each_write, asks_fit}
+use Rattle.lawful_words.specs.Writes.{Floor}
+use Rattle.lawful_words.specs.Steps.{phase_written, word_of_step}
 use Rattle.lawful_words.specs.Board.{held, root, conflict, stamp_at, finished, HoldsNew, Stays, ClaimStays, Stands, Grows}
 use Rattle.lawful_words.specs.Moments.{Moment}
-use Rattle.lawful_words.specs.Statements.{Floor}
 use Rattle.lawful_words.proofs.Moments.{onward, stamps_rise}
-use Rattle.lawful_words.proofs.Machine.{written_value}
 use Rattle.lawful_words.proofs.Values.{stamp_step, payload_step, WordIs, is_settled, is_before, is_new}
 use Rattle.lawful_words.proofs.Facts.{facts, word_is}
 use Rattle.lawful_words.proofs.Growths.{all_c}
-use Rattle.lawful_words.proofs.Keeping.{asks_place}
 use Rattle.lawful_words.proofs.Raising.{stamps_most}
-use Rattle.lawful_words.proofs.Requests.{each_write}
 use Rattle.lawful_words.proofs.Sees.{Sees, so, heard, later}
 use Rattle.lawful_words.proofs.Scripts.{Safe, load_safe, both_safe}
 use Rattle.lawful_words.proofs.Known.{safe_known, floor_lasts, StaleSafe, EndSafe, stale_end}
@@ -57,7 +55,7 @@ differs_not t v a h e = elim (cases_eq (payload_of a) v) [
 
 module _ (job : JobData) (x p i v : ℕ) (y : LayoutData) (board : IsBoard job y) (agrees : AgreesAfter job x) (asked : Asks job x p i v) (wins : (j : ℕ) → Wins job x p j) where
   step_value : slice_index (state_after job (suc x)) p ≡ v
-  step_value = written_value job x p i v board.limits (asks_place job x p i v board.limits asked) agrees asked (wins i)
+  step_value = written_value job x p i v board.limits ((asks_fit job x p i v board.limits asked).0) agrees asked (wins i)
 
   by_step : (t word : ℕ) → word ≡ word_of_step job t p → stamp_of word ≡ suc x → payload_of word ≡ v
   by_step t word e s =
@@ -67,7 +65,7 @@ module _ (job : JobData) (x p i v : ℕ) (y : LayoutData) (board : IsBoard job y
   by_new : (f word j : ℕ) → f ≡ x → Asks job f p j (payload_of word) → payload_of word ≡ v
   by_new f word j e a =
       let a_here : Asks job x p j (payload_of word) = subst (λ (s : ℕ). Asks job s p j (payload_of word)) e a in
-      sym (written_value job x p j (payload_of word) board.limits (asks_place job x p j (payload_of word) board.limits a_here) agrees a_here (wins j)) ∙ step_value
+      sym (written_value job x p j (payload_of word) board.limits ((asks_fit job x p j (payload_of word) board.limits a_here).0) agrees a_here (wins j)) ∙ step_value
 
   agreed : (f root word : ℕ) → WordIs job f root p word → stamp_of word ≡ suc x → payload_of word ≡ v
   agreed f root word (is_settled e) s = by_step (last_write job f p) word e s
@@ -81,13 +79,15 @@ module _ (job : JobData) (x p i v : ℕ) (y : LayoutData) (board : IsBoard job y
 
 module _ (job : JobData) (y : LayoutData) (w q x i : ℕ) (some : 1 ≤ q) (most : q ≤ 3 * job.steps) (step : step_at q ≡ suc x) (board : IsBoard job y) (proc : i < y.procs) (phase : 3 * x + 3 ≡ q) where
   -- while the phase is not behind, the root and the finished step have been the same
-  live : (words later : List ℕ) → Stands job y words → Stands job y later → Grows y words later → Floor job y q x words → root y later + 1 ≡ q → (root y words + 1 ≡ q) × (finished y words ≡ x) × (finished y later ≡ x)
+  live : (words later : List ℕ) → Stands job y words → Stands job y later → Grows y words later → Floor job y q x words → root y later + 1 ≡ q →
+      (root y words + 1 ≡ q) × (finished y words ≡ x) × (finished y later ≡ x)
   live words later stands after up floor now = (all_c job y words later stands after up).c3 x q floor.reached (omega arith) (omega arith) floor.root now
 
   -- ---- common
 
   -- a word of the step stays, as long as the step isn't finished
-  stays_so : (p k : ℕ) (words later : List ℕ) → IsWord y (Stored p k) → Stands job y later → Grows y words later → finished y later ≡ x → x < stamp_at y words p k → (held y words (Stored p k) ≡ held y later (Stored p k)) × (stamp_at y words p k ≡ suc x)
+  stays_so : (p k : ℕ) (words later : List ℕ) → IsWord y (Stored p k) → Stands job y later → Grows y words later → finished y later ≡ x →
+      x < stamp_at y words p k → (held y words (Stored p k) ≡ held y later (Stored p k)) × (stamp_at y words p k ≡ suc x)
   stays_so p zero words later is after up gone late =
       let high = stamps_most job y later after p 0 is in
       let rise = stamps_rise y words later p 0 is up in
@@ -115,7 +115,7 @@ module _ (job : JobData) (y : LayoutData) (w q x i : ℕ) (some : 1 ≤ q) (most
   both_floor p a b words stands m = let first = m.earlier in floor_lasts job y q x first.words words first.stands stands (onward y first.words m.words words first.since m.since) first.earlier
 
   place_in : (p v : ℕ) → Asks job x p i v → p < places_of y
-  place_in p v asked = let a = asks_place job x p i v board.limits asked in let b = same_cells job y board in let c = same_procs job y board in omega arith
+  place_in p v asked = let a = (asks_fit job x p i v board.limits asked).0 in let b = same_cells job y board in let c = same_procs job y board in omega arith
 
   -- a word of the step with another value: the step doesn't agree
   disagrees : (p v a b : ℕ) (words : List ℕ) → job.rule ≡ Common → Asks job x p i v → Both p a b words → (differs (suc x) v a || differs (suc x) v b) ≡ true → AgreesAfter job x → ⊥
@@ -130,7 +130,8 @@ module _ (job : JobData) (y : LayoutData) (w q x i : ℕ) (some : 1 ≤ q) (most
       ]
 
   -- neither word differs: the value stands
-  holds_new : (p v a b : ℕ) (words : List ℕ) → job.rule ≡ Common → Asks job x p i v → Stands job y words → Both p a b words → (differs (suc x) v a || differs (suc x) v b) ≡ false → root y words + 1 ≡ q → HoldsNew y words p (suc x) v
+  holds_new : (p v a b : ℕ) (words : List ℕ) → job.rule ≡ Common → Asks job x p i v → Stands job y words → Both p a b words →
+      (differs (suc x) v a || differs (suc x) v b) ≡ false → root y words + 1 ≡ q → HoldsNew y words p (suc x) v
   unfolding Both
   holds_new p v a b words rule asked stands m h now =
       let first = m.earlier in
@@ -155,7 +156,8 @@ module _ (job : JobData) (y : LayoutData) (w q x i : ℕ) (some : 1 ≤ q) (most
             )
       ]
 
-  pub verify_safe : job.rule ≡ Common → (after : Script Then) → EndSafe job y w q x (λ words. Stays job y x words i) after → (history : List (Op × ℕ)) → Sees job y history (Floor job y q x) → Safe {R = Then} job y w q (verify_task job y (suc x) i after) history
+  pub verify_safe : job.rule ≡ Common → (after : Script Then) → EndSafe job y w q x (λ words. Stays job y x words i) after → (history : List (Op × ℕ)) →
+      Sees job y history (Floor job y q x) → Safe {R = Then} job y w q (verify_task job y (suc x) i after) history
   unfolding verify_task Both
   verify_safe rule after done history sees =
       let stale : StaleSafe job y w q x after = stale_end job y w q x (λ words. Stays job y x words i) after done in
@@ -183,7 +185,8 @@ module _ (job : JobData) (y : LayoutData) (w q x i : ℕ) (some : 1 ≤ q) (most
   no_claims words none = inr (λ c v asked cell. absurd (none c v asked cell))
 
   -- another claim of the step: the step doesn't agree
-  other_claims : (p v found : ℕ) (words : List ℕ) → job.rule ≡ Crew → IsTrue y.claims → p < job.cells → Asks job x p i v → Moment job y (Load (number_of y (Claim p))) found (Floor job y q x) words → differs (suc x) (claim_of job i) found ≡ true → AgreesAfter job x → ⊥
+  other_claims : (p v found : ℕ) (words : List ℕ) → job.rule ≡ Crew → IsTrue y.claims → p < job.cells → Asks job x p i v →
+      Moment job y (Load (number_of y (Claim p))) found (Floor job y q x) words → differs (suc x) (claim_of job i) found ≡ true → AgreesAfter job x → ⊥
   other_claims p v found words rule has cell asked m h agrees =
       let is : IsWord y (Claim p) = (has, let c = same_cells job y board in omega arith) in
       let d = differs_is (suc x) (claim_of job i) found h in
@@ -192,7 +195,8 @@ module _ (job : JobData) (y : LayoutData) (w q x i : ℕ) (some : 1 ≤ q) (most
       d.1 (ap payload_of m.heard ∙ c.is ∙ ap (claim_of job) (sym same))
 
   -- the claim that was heard is the processor's: it still is
-  claim_now : (p v found : ℕ) (words : List ℕ) → IsTrue y.claims → p < job.cells → Asks job x p i v → Stands job y words → Moment job y (Load (number_of y (Claim p))) found (Floor job y q x) words → differs (suc x) (claim_of job i) found ≡ false → root y words + 1 ≡ q →
+  claim_now : (p v found : ℕ) (words : List ℕ) → IsTrue y.claims → p < job.cells → Asks job x p i v → Stands job y words →
+      Moment job y (Load (number_of y (Claim p))) found (Floor job y q x) words → differs (suc x) (claim_of job i) found ≡ false → root y words + 1 ≡ q →
       payload_of (held y words (Claim p)) ≡ claim_of job i
   claim_now p v found words has cell asked stands m h now =
       let is : IsWord y (Claim p) = (has, let c = same_cells job y board in omega arith) in
@@ -210,7 +214,8 @@ module _ (job : JobData) (y : LayoutData) (w q x i : ℕ) (some : 1 ≤ q) (most
       let is_his = c.is in
       omega arith
     where
-      stamp_is : (words : List ℕ) → Stands job y words → IsWord y (Claim p) → root y words ≤ 3 * x + 2 → suc x ≤ stamp_of (held y words (Claim p)) → stamp_of (held y words (Claim p)) ≡ suc x
+      stamp_is : (words : List ℕ) → Stands job y words → IsWord y (Claim p) → root y words ≤ 3 * x + 2 → suc x ≤ stamp_of (held y words (Claim p)) →
+          stamp_of (held y words (Claim p)) ≡ suc x
       stamp_is words stands is low more = by_stamp (stamp_of (held y words (Claim p))) refl more
         where
           by_stamp : (s : ℕ) → stamp_of (held y words (Claim p)) ≡ s → suc x ≤ s → stamp_of (held y words (Claim p)) ≡ suc x
@@ -224,7 +229,8 @@ module _ (job : JobData) (y : LayoutData) (w q x i : ℕ) (some : 1 ≤ q) (most
       let same : part_after job x i 0 - 1 ≡ c = omega arith in
       subst (λ (c : ℕ). payload_of (held y words (Claim c)) ≡ claim_of job i) same here)
 
-  pub crew_verify_safe : job.rule ≡ Crew → IsTrue y.claims → (after : Script Then) → EndSafe job y w q x (λ words. ClaimStays job y x words i) after → (history : List (Op × ℕ)) → Sees job y history (Floor job y q x) → Safe {R = Then} job y w q (crew_verify_task job y (suc x) i after) history
+  pub crew_verify_safe : job.rule ≡ Crew → IsTrue y.claims → (after : Script Then) → EndSafe job y w q x (λ words. ClaimStays job y x words i) after →
+      (history : List (Op × ℕ)) → Sees job y history (Floor job y q x) → Safe {R = Then} job y w q (crew_verify_task job y (suc x) i after) history
   unfolding crew_verify_task
   crew_verify_safe rule has after done history sees =
       let stale : StaleSafe job y w q x after = stale_end job y w q x (λ words. ClaimStays job y x words i) after done in

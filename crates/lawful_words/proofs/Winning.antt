@@ -11,17 +11,17 @@ use Rattle.pram_words.specs.Words.{LayoutData, IsWord, number_of}
 use Rattle.walkx.specs.declared.operation.Op.{Op}
 use Rattle.walkx.specs.declared.operation.Op.TheVariants.{Load}
 use Rattle.walkx.specs.Scripts.{Script, asks}
-use Rattle.walkx.specs.Stages.{IsBoard}
 use Rattle.walkx.specs.Tasks.{carries, claim_of, priority_apply_task}
-use Rattle.walkx.specs.Walk.{Then}
+use Rattle.walkx.specs.Walk.{Then, IsBoard}
 use Rattle.walkx.proofs.Boards.{same_cells}
-use Rattle.lawful_words.specs.Steps.{Asks, Wins, phase_written, part_after}
+use Rattle.pram_step.specs.History.{Asks, Wins, part_after}
+use Rattle.pram_step.proofs.Past.{counter_write, each_write}
+use Rattle.lawful_words.specs.Writes.{Floor}
+use Rattle.lawful_words.specs.Steps.{phase_written}
 use Rattle.lawful_words.specs.Board.{held, root, finished, IsLate, Carried, CarriedWon, ClaimsFor, IsClaimed, claimed_before, claimed_now, Stands}
 use Rattle.lawful_words.specs.Moments.{Moment}
-use Rattle.lawful_words.specs.Statements.{Floor}
 use Rattle.lawful_words.proofs.Facts.{facts}
 use Rattle.lawful_words.proofs.Growths.{root_up}
-use Rattle.lawful_words.proofs.Requests.{counter_write, each_write}
 use Rattle.lawful_words.proofs.Sees.{Sees, so, heard, later}
 use Rattle.lawful_words.proofs.Scripts.{Safe, load_safe}
 use Rattle.lawful_words.proofs.Writing.{writes_safe}
@@ -50,7 +50,8 @@ module _ (job : JobData) (y : LayoutData) (w q x i : ℕ) (some : 1 ≤ q) (most
     | inr e ↦ absurd (let g = e.0 in let same : p ≡ part_after job x i 0 - 1 = omega arith in lost (subst (λ (p : ℕ). Wins job x p i) same wins))
   ]
 
-  judged : (p v found : ℕ) (words : List ℕ) → p < job.cells → Asks job x p i v → stamp_of found ≤ suc x → Moment job y (Load (number_of y (Claim p))) found (Floor job y q x) words → Judged job x i p found
+  judged : (p v found : ℕ) (words : List ℕ) → p < job.cells → Asks job x p i v → stamp_of found ≤ suc x →
+      Moment job y (Load (number_of y (Claim p))) found (Floor job y q x) words → Judged job x i p found
   judged p v found words cell asked high m =
       let is : IsWord y (Claim p) = (has, let c = same_cells job y board in omega arith) in
       let b = facts job y m.words m.stands in
@@ -70,7 +71,8 @@ module _ (job : JobData) (y : LayoutData) (w q x i : ℕ) (some : 1 ≤ q) (most
             n (omega arith);
       }
 
-  late_claim : (p found : ℕ) (words : List ℕ) → p < job.cells → Stands job y words → suc x < stamp_of found → Moment job y (Load (number_of y (Claim p))) found (Floor job y q x) words → Floor job y q x words × (q ≤ root y words)
+  late_claim : (p found : ℕ) (words : List ℕ) → p < job.cells → Stands job y words → suc x < stamp_of found →
+      Moment job y (Load (number_of y (Claim p))) found (Floor job y q x) words → Floor job y q x words × (q ≤ root y words)
   late_claim p found words cell stands late m = (floor_lasts job y q x m.words words m.stands stands m.since m.earlier, stale_by (stamp_of found) refl late)
     where
       stale_by : (s : ℕ) → stamp_of found ≡ s → suc x < s → q ≤ root y words
@@ -87,13 +89,15 @@ module _ (job : JobData) (y : LayoutData) (w q x i : ℕ) (some : 1 ≤ q) (most
     | inr more ↦ wins_own job y x p i v board more asked
   ]
 
-  whole_safe : ((p v : ℕ) → Asks job x p i v → p < job.cells → Wins job x p i) → (after : Script Then) → EndSafe job y w q x (λ words. CarriedWon job y x words i) after → (history : List (Op × ℕ)) → Sees job y history (Floor job y q x) →
+  whole_safe : ((p v : ℕ) → Asks job x p i v → p < job.cells → Wins job x p i) → (after : Script Then) →
+      EndSafe job y w q x (λ words. CarriedWon job y x words i) after → (history : List (Op × ℕ)) → Sees job y history (Floor job y q x) →
       Safe {R = Then} job y w q (carries job y (suc x) i (part_after job x i 0) (part_after job x i 1) (part_after job x i 2) after) history
   whole_safe each after done history sees =
       carried_safe job y w q x i some most step board proc written (wins_if each) after (Floor job y q x) (floor_lasts job y q x) (λ words f. f) history sees (λ longer more.
       done longer (so job y longer (λ words. Floor job y q x words × Carried job y x words i) (λ words. Floor job y q x words × (root y words + 1 ≡ q → CarriedWon job y x words i)) (λ words stands h. (h.0, λ live. won words h.1)) more))
 
-  counter_safe : (Wins job x (part_after job x i 0 - 1) i → ⊥) → (after : Script Then) → EndSafe job y w q x (λ words. CarriedWon job y x words i) after → (history : List (Op × ℕ)) → Sees job y history (Floor job y q x) →
+  counter_safe : (Wins job x (part_after job x i 0 - 1) i → ⊥) → (after : Script Then) → EndSafe job y w q x (λ words. CarriedWon job y x words i) after →
+      (history : List (Op × ℕ)) → Sees job y history (Floor job y q x) →
       Safe {R = Then} job y w q (carries job y (suc x) i 0 (part_after job x i 1) (part_after job x i 2) after) history
   counter_safe lost after done history sees =
       let asked = counter_write job x i (proc_job job y w q x i some most step board proc) in
@@ -107,7 +111,8 @@ module _ (job : JobData) (y : LayoutData) (w q x i : ℕ) (some : 1 ≤ q) (most
       let same : part_after job x i 0 - 1 ≡ p = omega arith in
       subst (λ (p : ℕ). Wins job x p i) same wins
 
-  heard_safe : (found : ℕ) → (part_after job x i 0 == 0) ≡ false → part_after job x i 0 - 1 < job.cells → (after : Script Then) → EndSafe job y w q x (λ words. CarriedWon job y x words i) after → (history : List (Op × ℕ)) →
+  heard_safe : (found : ℕ) → (part_after job x i 0 == 0) ≡ false → part_after job x i 0 - 1 < job.cells → (after : Script Then) →
+      EndSafe job y w q x (λ words. CarriedWon job y x words i) after → (history : List (Op × ℕ)) →
       Sees job y history (Moment job y (Load (number_of y (Claim (part_after job x i 0 - 1)))) found (Floor job y q x)) → Sees job y history (Floor job y q x) →
       Safe {R = Then} job y w q (if nat_lt (suc x) (stamp_of found) then after else carries job y (suc x) i (if payload_of found == claim_of job i then part_after job x i 0 else 0) (part_after job x i 1) (part_after job x i 2) after) history
   heard_safe found some_data cell after done history moment sees =
@@ -123,7 +128,8 @@ module _ (job : JobData) (y : LayoutData) (w q x i : ℕ) (some : 1 ≤ q) (most
       (λ g. whole_safe (cell_win some_data (judge.won (eqb-true (payload_of found) (claim_of job i) g))) after done history sees)
       (λ g. counter_safe (judge.lost (eqb-false (payload_of found) (claim_of job i) g)) after done history sees)))
 
-  pub priority_apply_safe : (after : Script Then) → EndSafe job y w q x (λ words. CarriedWon job y x words i) after → (history : List (Op × ℕ)) → Sees job y history (Floor job y q x) → Safe {R = Then} job y w q (priority_apply_task job y (suc x) i after) history
+  pub priority_apply_safe : (after : Script Then) → EndSafe job y w q x (λ words. CarriedWon job y x words i) after → (history : List (Op × ℕ)) →
+      Sees job y history (Floor job y q x) → Safe {R = Then} job y w q (priority_apply_task job y (suc x) i after) history
   unfolding priority_apply_task
   priority_apply_safe after done history sees =
       let all = λ (place value next : ℕ). carries job y (suc x) i place value next after in

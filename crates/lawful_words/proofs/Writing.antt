@@ -12,15 +12,16 @@ use Rattle.walkx.specs.declared.operation.Op.{Op}
 use Rattle.walkx.specs.declared.operation.Op.TheVariants.{Load, Swap}
 use Rattle.walkx.specs.Operations.{words_after}
 use Rattle.walkx.specs.Scripts.{Script, asks}
-use Rattle.walkx.specs.Tasks.{is_late, first_is_older, writes_place}
-use Rattle.lawful_words.specs.Steps.{Asks, Wins, phase_written}
+use Rattle.walkx.specs.Tasks.{is_late, first_is_older, writes_place, older, older_word}
+use Rattle.pram_step.specs.History.{Asks, Wins}
+use Rattle.pram_step.proofs.Past.{asks_fit}
+use Rattle.lawful_words.specs.Writes.{PlaceAsHeard, Floor}
+use Rattle.lawful_words.specs.Steps.{phase_written}
 use Rattle.lawful_words.specs.Board.{held, stamp_at, IsLate, Stands, Grows}
 use Rattle.lawful_words.specs.Moments.{Moment, Goes}
-use Rattle.lawful_words.specs.Statements.{older, older_word, C5, Floor}
 use Rattle.lawful_words.proofs.Moments.{onward, stamps_rise, goes_of}
-use Rattle.walkx.specs.Stages.{IsBoard}
+use Rattle.walkx.specs.Walk.{IsBoard}
 use Rattle.walkx.proofs.Boards.{same_cells, same_procs}
-use Rattle.lawful_words.proofs.Keeping.{asks_place}
 use Rattle.lawful_words.proofs.Growths.{all_c5}
 use Rattle.lawful_words.proofs.Effects.{all_e}
 use Rattle.lawful_words.proofs.Sees.{Sees, Lasts, so, heard}
@@ -33,7 +34,8 @@ late_later y x p words after place up late = elim late [
 ]
 
 -- a word of a place takes a stamp above x
-set_late : (job : JobData) (y : LayoutData) (x p k w : ℕ) (words : List ℕ) → p < places_of y → k < 2 → Stands job y words → x < stamp_of w → IsLate y x p (slice_set words (number_of y (Stored p k)) w)
+set_late : (job : JobData) (y : LayoutData) (x p k w : ℕ) (words : List ℕ) → p < places_of y → k < 2 → Stands job y words → x < stamp_of w →
+    IsLate y x p (slice_set words (number_of y (Stored p k)) w)
 set_late job y x p zero w words place two stands more =
     let below : number_of y (Stored p 0) < length words = (let n = (numbering y stands.sizes).below (Stored p 0) (place, two) in let l = stands.admitted.len in omega arith) in
     let is : held y (slice_set words (number_of y (Stored p 0)) w) (Stored p 0) ≡ w = get_or-set_same words (number_of y (Stored p 0)) w 0 below in
@@ -52,7 +54,7 @@ module _ (job : JobData) (y : LayoutData) (w q x p i v : ℕ) (some : 1 ≤ q) (
   place_by : (words : List ℕ) → Stands job y words → P words → p < places_of y
   place_by words stands k =
       let is_board : IsBoard job y = record { limits = stands.limits; layout = stands.sizes; is = stands.layout } in
-      let a = asks_place job x p i v stands.limits (asked words k).0 in let b = same_cells job y is_board in let c = same_procs job y is_board in omega arith
+      let a = (asks_fit job x p i v stands.limits (asked words k).0).0 in let b = same_cells job y is_board in let c = same_procs job y is_board in omega arith
 
   Both : ℕ → ℕ → List ℕ → Type 0
   Both a b = Moment job y (Load (number_of y (Stored p 1))) b (Moment job y (Load (number_of y (Stored p 0))) a P)
@@ -82,7 +84,7 @@ module _ (job : JobData) (y : LayoutData) (w q x p i v : ℕ) (some : 1 ≤ q) (
         | inr h ↦ (let l : nat_le (suc x) (stamp_of b) ≡ true = rw h at late in let k = leb-true (suc x) (stamp_of b) l in inr (omega arith))
       ]
 
-  heard_early : (a b : ℕ) (words : List ℕ) → Stands job y words → Both a b words → is_late (suc x) a b ≡ false → C5 job y x p a b words
+  heard_early : (a b : ℕ) (words : List ℕ) → Stands job y words → Both a b words → is_late (suc x) a b ≡ false → PlaceAsHeard job y x p a b words
   unfolding Both
   heard_early a b words stands m early =
       let first = m.earlier in
@@ -92,14 +94,16 @@ module _ (job : JobData) (y : LayoutData) (w q x p i v : ℕ) (some : 1 ≤ q) (
       all_c5 job y x p a b first.words m.words words first.stands m.stands stands first.since m.since place reached (omega arith) first.heard m.heard early
 
   -- behind the swap the place is late, whether it succeeded or not
-  swapped : (a b found : ℕ) (words : List ℕ) → Stands job y words → Moment job y (swap a b) found (λ then_words. P then_words × C5 job y x p a b then_words) words → IsLate y x p words
+  swapped : (a b found : ℕ) (words : List ℕ) → Stands job y words →
+      Moment job y (swap a b) found (λ then_words. P then_words × PlaceAsHeard job y x p a b then_words) words → IsLate y x p words
   unfolding swap
   swapped a b found words stands m = let place = place_by m.words m.stands m.earlier.0 in late_later y x p (words_after m.words (swap a b)) words place m.since (elim (cases_eq (held y m.words (Stored p (older a b))) (older_word a b)) [
     | inl same ↦ rw (eq-eqb (held y m.words (Stored p (older a b))) (older_word a b) same) (set_late job y x p (older a b) (stamped_word (suc x) v) m.words place (older_two a b) m.stands (omega arith))
     | inr other ↦ late_later y x p m.words (words_after m.words (swap a b)) place m.grew (m.earlier.1.written other)
   ])
 
-  pub writes_safe : {R : Type 0} (after : Script R) (history : List (Op × ℕ)) → Sees job y history P → ((longer : List (Op × ℕ)) → Sees job y longer (λ words. P words × IsLate y x p words) → Safe job y w q after longer) →
+  pub writes_safe : {R : Type 0} (after : Script R) (history : List (Op × ℕ)) → Sees job y history P →
+      ((longer : List (Op × ℕ)) → Sees job y longer (λ words. P words × IsLate y x p words) → Safe job y w q after longer) →
       Safe job y w q (writes_place y (suc x) p v after) history
   unfolding Both swap
   writes_safe {R} after history sees next =
@@ -107,10 +111,10 @@ module _ (job : JobData) (y : LayoutData) (w q x p i v : ℕ) (some : 1 ≤ q) (
       cond_both (is_late (suc x) a b) after (asks (swap a b) (λ found. after)) (λ s. Safe job y w q s longer)
       (λ late. next longer (so job y longer (Both a b) (λ words. P words × IsLate y x p words) (λ words stands m. (still a b words stands m, heard_late a b words stands m late)) known))
       (λ early.
-      let pair : Sees job y longer (λ words. P words × C5 job y x p a b words) = so job y longer (Both a b) (λ words. P words × C5 job y x p a b words) (λ words stands m. (still a b words stands m, heard_early a b words stands m early)) known in (
-        so job y longer (λ words. P words × C5 job y x p a b words) (Goes job y w q (swap a b)) (λ words stands h. goes_of job y w q (swap a b) words ((all_e job y words q x stands some most step (floor words h.0)).e7 p i v a b phase (asked words h.0).0 (asked words h.0).1 h.1)) pair,
+      let pair : Sees job y longer (λ words. P words × PlaceAsHeard job y x p a b words) = so job y longer (Both a b) (λ words. P words × PlaceAsHeard job y x p a b words) (λ words stands m. (still a b words stands m, heard_early a b words stands m early)) known in (
+        so job y longer (λ words. P words × PlaceAsHeard job y x p a b words) (Goes job y w q (swap a b)) (λ words stands h. goes_of job y w q (swap a b) words ((all_e job y words q x stands some most step (floor words h.0)).place p i v a b phase (asked words h.0).0 (asked words h.0).1 h.1)) pair,
         λ found ok. next ((swap a b, found) ∷ longer)
-            (so job y ((swap a b, found) ∷ longer) (Moment job y (swap a b) found (λ words. P words × C5 job y x p a b words)) (λ words. P words × IsLate y x p words)
+            (so job y ((swap a b, found) ∷ longer) (Moment job y (swap a b) found (λ words. P words × PlaceAsHeard job y x p a b words)) (λ words. P words × IsLate y x p words)
             (λ words stands m. (lasts m.words words m.stands stands (onward y m.words (words_after m.words (swap a b)) words m.grew m.since) m.earlier.0, swapped a b found words stands m))
-            (heard job y longer (λ words. P words × C5 job y x p a b words) (swap a b) found pair)),
+            (heard job y longer (λ words. P words × PlaceAsHeard job y x p a b words) (swap a b) found pair)),
       )))

@@ -8,13 +8,14 @@ use Rattle.pram_step.specs.Runs.{IsReached, AgreesAfter}
 use Rattle.pram_words.specs.declared.phases.Kind.{Kind}
 use Rattle.pram_words.specs.declared.phases.Kind.TheVariants.{Compute, Apply, Verify}
 use Rattle.pram_words.specs.declared.words.Word.{Word}
-use Rattle.pram_words.specs.declared.words.Word.TheVariants.{Conflict, Node, Asked, Position, Stored, Claim}
+use Rattle.pram_words.specs.declared.words.Word.TheVariants.{Conflict, Node, Asked, Position, Stored, Claim, Spare}
 use Rattle.pram_words.specs.Stamps.{stamp_of, payload_of, stamped_word}
 use Rattle.pram_words.specs.Words.{LayoutData, IsLayout, IsWord, IsAdmitted, number_of, places_of}
 use Rattle.walkx.specs.Tasks.{claim_of}
 use Rattle.walkx.specs.Walk.{IsLayoutOf}
 use Rattle.walkx.specs.Reads.{step_seen}
-use Rattle.lawful_words.specs.Steps.{Asks, Wins, phase_written, last_write, settled, settled_before, part_after}
+use Rattle.pram_step.specs.History.{Asks, Wins, last_write, part_after}
+use Rattle.lawful_words.specs.Steps.{phase_written, settled, settled_before}
 
 -- what a word of the board holds
 abbrev pub held : LayoutData → List ℕ → Word → ℕ
@@ -172,6 +173,7 @@ Up y words (Asked i j) a b = a ≤ b
 Up y words (Position w) a b = Unit {0}
 Up y words (Stored p k) a b = (a ≡ b) ⊎ ((stamp_at y words p 0 < stamp_of b) × (stamp_at y words p 1 < stamp_of b))
 Up y words (Claim c) a b = a ≤ b
+Up y words (Spare k) a b = a ≡ b
 
 abbrev pub Grows : LayoutData → List ℕ → List ℕ → Type 0
 Grows y words later = (a : Word) → IsWord y a → Up y words a (held y words a) (held y later a)

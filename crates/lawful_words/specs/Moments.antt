@@ -1,5 +1,5 @@
 -- Which records the words bear out.
-use Rattle.std.specs.Prelude.{◌≡◌, ◌≢◌, ℕ, ◌≤◌, List}
+use Rattle.std.specs.Prelude.{◌≡◌, ◌≢◌, ℕ, ◌≤◌, List, [], ◌∷◌}
 use Rattle.pram_text.specs.Job.{JobData}
 use Rattle.pram_words.specs.Words.{LayoutData, IsWord}
 use Rattle.pram_words.specs.declared.words.Word.{Word}
@@ -34,6 +34,11 @@ abbrev pub Sound : JobData → LayoutData → Record → Type 0
 Sound job y empty = Unit {0}
 Sound job y (after r op found) = WasBacked job y (after r op found)
 Sound job y (both r s) = Sound job y r × Sound job y s
+
+-- a record lengthened by steps, the newest first
+abbrev pub afters : Record → List (Op × ℕ) → Record
+afters r [] = r
+afters r (e ∷ es) = after (afters r es) e.0 e.1
 
 -- a step that leaves standing words which have grown
 pub record Keeps (job : JobData) (y : LayoutData) (op : Op) (words : List ℕ) : Type 0 where

@@ -1,37 +1,30 @@
--- Lemmas F and G as statements: a worker that a record knows, and reads.
-use Rattle.std.specs.Prelude.{◌≡◌, ◌≢◌, ℕ, suc, ◌≤◌, List, slice_index}
+-- What a worker that a record knows does next, and what a read answers.
+use Rattle.std.specs.Prelude.{◌≡◌, ◌≢◌, ℕ, suc, ◌*◌, ◌≤◌, List, slice_index}
 use Rattle.pram_text.specs.Job.{JobData}
-use Rattle.pram_step.specs.Runs.{IsReached, state_after}
-use Rattle.pram_words.specs.declared.words.Word.TheVariants.{Conflict}
+use Rattle.pram_step.specs.Runs.{IsReached, state_after, IsFault}
+use Rattle.pram_words.specs.declared.words.Word.TheVariants.{Conflict, Node}
 use Rattle.pram_words.specs.Words.{LayoutData}
-use Rattle.walkx.specs.declared.worker.Doing.{Doing}
-use Rattle.walkx.specs.declared.worker.Doing.TheVariants as doing
+use Rattle.walkx.specs.Doing.{Doing}
+use Rattle.walkx.specs.Doing as doing
 use Rattle.walkx.specs.Operations.{words_after, answer}
-use Rattle.walkx.specs.Walk.{Walking, Fits, ask_of, told}
+use Rattle.walkx.specs.Walk.{Walking, Fits, ask_of}
 use Rattle.walkx.specs.Records.{Record, after, Knows}
+use Rattle.pram_step.specs.declared.answer.Fault.{Fault}
 use Rattle.lawful_words.specs.Board.{Stands}
 use Rattle.lawful_words.specs.Moments.{Backed, Goes}
-use Rattle.lawful_words.specs.Seen.{Heard, Shows, KnowsStep}
-
--- ---- F: a worker that a backed record knows
+use Rattle.lawful_words.specs.Seen.{Heard, Shows, KnowsStep, HeardThen}
 
 -- the phase that it is in, or 0, which is behind all words
 abbrev pub phase_now : Doing → ℕ
 phase_now (doing.Turn q) = q
 phase_now _ = 0
 
+-- Its next operation goes well, and the words that it leaves bear out the record with it.
 pub record Moves (job : JobData) (y : LayoutData) (r : Record) (w : Walking) (words : List ℕ) : Type 0 where
   pub goes : Goes job y w.number (phase_now w.now) (ask_of job y w) words
   pub backed : Backed job y (after r (ask_of job y w) (answer words (ask_of job y w))) (words_after words (ask_of job y w))
 
-abbrev pub AllF : Type 0
-AllF = (job : JobData) (y : LayoutData) (r : Record) (w : Walking) (words : List ℕ) → Stands job y words → Fits job y w → Knows job y r w → Backed job y r words → Moves job y r w words
-
--- what is known and fits is known and fits with one answer more
-abbrev pub KnowsNext : Type 0
-KnowsNext = (job : JobData) (y : LayoutData) (r : Record) (w : Walking) (found : ℕ) → Fits job y w → Knows job y r w → Knows job y (after r (ask_of job y w) found) (told job y w found)
-
--- ---- G: a reply, the record before the read and the one behind it being these
+-- an answer of a read, the record before the read and the one behind it being these
 
 pub record IsLawfulRead (job : JobData) (y : LayoutData) (before behind : Record) (c step value : ℕ) : Type 0 where
   pub reached : IsReached job step
@@ -41,3 +34,17 @@ pub record IsLawfulRead (job : JobData) (y : LayoutData) (before behind : Record
   pub seen : (t : ℕ) → Shows y behind t → t ≤ step
   pub known : (t : ℕ) × KnowsStep y behind t × (step ≤ t)
   pub named : (u : ℕ) → u ≢ 0 → Heard y before Conflict u → suc step ≡ u
+
+-- ---- what a worker that is over has heard
+
+-- the last step is shown, and word 0 was heard as 0 after the root as 3T
+pub record DoneWell (job : JobData) (y : LayoutData) (r : Record) : Type 0 where
+  pub shows : Shows y r job.steps
+  pub heard : HeardThen y r (Node 1) (3 * job.steps) Conflict 0
+  pub reached : IsReached job job.steps
+
+-- word 0 was heard as the step of the first conflict, which is one of the job's
+pub record IsConflict (job : JobData) (t : ℕ) : Type 0 where
+  pub fault : Fault
+  pub is : IsFault job fault
+  pub step : fault.step ≡ t

@@ -1,7 +1,8 @@
 -- The world: words, bodies, events.
-use Rattle.std.specs.Prelude.{◌≡◌, ℕ, List, [], ◌∷◌, map, slice_get, slice_index, slice_set, Option, Some, None}
+use Rattle.std.specs.Prelude.{◌≡◌, ℕ, ◌<◌, List, [], ◌∷◌, map, slice_get, slice_index, slice_set, Option, Some, None}
 use Rattle.std.specs.List.{range_with_len}
 use Rattle.pram_text.specs.Job.{JobData}
+use Rattle.pram_words.specs.declared.layout.Form.{Form}
 use Rattle.pram_words.specs.Words.{LayoutData, layout_of}
 use Rattle.pram_words.specs.Start.{start_words}
 use Rattle.walkx.specs.declared.operation.Op.{Op}
@@ -29,12 +30,13 @@ pub data Event : Type 0 where
 
 pub record Scene : Type 0 where
   pub job : JobData
+  pub form : Form
   pub workers : ℕ
   pub words : List ℕ
   pub bodies : List Body
 
 abbrev pub layout : Scene → LayoutData
-layout s = layout_of s.job s.workers
+layout s = layout_of s.job s.form s.workers
 
 -- the word that an operation is on
 abbrev pub word_of : Op → ℕ
@@ -97,16 +99,24 @@ abbrev pub run : Scene → List Event → Scene
 run s [] = s
 run s (e ∷ es) = run (happens s e) es
 
-abbrev pub start : JobData → ℕ → Scene
-start job workers = record { job = job; workers = workers; words = start_words (layout_of job workers) job; bodies = map (λ w. walks (started w)) (range_with_len 0 workers) }
+abbrev pub start : JobData → Form → ℕ → Scene
+start job form workers = record {
+  job = job;
+  form = form;
+  workers = workers;
+  words = start_words (layout_of job form workers) job;
+  bodies = map (λ w. walks (started w)) (range_with_len 0 workers);
+}
 
 -- the worker that a body is, if it is one
 abbrev pub Walks : Scene → ℕ → Walking → Type 0
 Walks s b w = slice_get s.bodies b ≡ Some (walks w)
 
--- one record of all steps, which the words bear out and which knows every worker
+-- One record of all steps, which the words bear out, and which knows every worker. Each worker fits, and each body, stopped ones
+-- too, has the number of a worker.
 pub record Holds (s : Scene) : Type 0 where
   pub stands : Stands s.job (layout s) s.words
   pub made : Record
   pub backed : Backed s.job (layout s) made s.words
   pub known : (b : ℕ) (w : Walking) → Walks s b w → Knows s.job (layout s) made w × Fits s.job (layout s) w
+  pub numbers : (b : ℕ) (body : Body) → slice_get s.bodies b ≡ Some body → number body < s.workers

@@ -2,16 +2,17 @@
 use Rattle.std.proofs.Common.{◌≡◌, ◌≢◌, ℕ, zero, suc, ◌+◌, ◌*◌, ◌<◌, ◌≤◌, ◌⊎◌, List, [], ◌∷◌, ◌++◌, length, take, get_or, set, Option, Some, None, refl, sym, ap, ap₂, ◌∙◌, inl, inr, subst, arith, add-zero, length-take-le, length-set, get_or-set_same, get_or-set_other}
 use Rattle.std.specs.Prelude.{slice_get, unwrap_or}
 use Rattle.std.specs.Option.{option_or}
-use Rattle.std.proofs.lemmas.Bool.{cases_eq, eq-eqb, ne_eqb}
+use Rattle.std.proofs.lemmas.Bool.{cases_eq, eq-eqb}
 use Rattle.std.proofs.lemmas.List.{ext_get_or, take_more}
-use Rattle.std.proofs.lemmas.List.FromFn.{length-map-range_with_len, get_or-map-range_with_len}
 use Rattle.std.proofs.lemmas.Option.{none-some, same_Some, slice_get-get_or, slice_get_within, some_pair_parts}
 use Rattle.pram_text.specs.Job.{JobData}
 use Rattle.pram_step.specs.declared.requests.Request.{Request}
 use Rattle.pram_step.specs.Machine.{State, place_count, counter_place}
 use Rattle.pram_step.specs.Steps.{written, first_written, after_requests}
-use Rattle.pram_step.specs.Marks.{Puts, AreMarked, AreOwn}
-use Rattle.pram_step.proofs.RequestList.{slice_get-take, written_cases}
+use Rattle.pram_step.specs.Inner.Marks.{Puts, AreMarked, AreOwn}
+use Rattle.pram_step.proofs.RequestList.{slice_get-take, written_of_put, written_cases}
+use Rattle.pram_step.proofs.LawFixed.{length-after}
+use Rattle.pram_step.proofs.LawNext.{after_at}
 use Rattle.pram_step.proofs.Passing.{request_at}
 
 -- ---- options
@@ -38,12 +39,9 @@ module _ (job : JobData) where
   written_counter : (p i : ℕ) (r : Request) → p ≡ counter_place job i → written job p i r ≡ Some r.next
   written_counter p i r e = rw (eq-eqb p (counter_place job i) e)
 
-  written_data : (p i v : ℕ) (r : Request) → p ≢ counter_place job i → r.put ≡ Some (p, v) → written job p i r ≡ Some v
-  written_data p i v r away puts = rw (ne_eqb p (counter_place job i) away, puts, eq-eqb p p refl)
-
   written_elsewhere : (p i : ℕ) (r : Request) → p ≢ counter_place job i → ((v : ℕ) → r.put ≡ Some (p, v) → ⊥) → written job p i r ≡ None
   written_elsewhere p i r away none =
-      none_unless (written job p i r) (λ v h. elim (written_cases job p i v r h) [ inl counter ↦ away counter | inr puts ↦ none v puts ])
+      none_unless (written job p i r) (λ v h. elim (written_cases job p i v r h) [ inl counter ↦ away counter.0 | inr puts ↦ none v puts ])
 
   -- ---- what the first of several writes
 
@@ -73,16 +71,8 @@ module _ (job : JobData) where
 
   -- ---- the state after some requests
 
-  pub length-after_requests : (requests : List Request) (s : State) → length (after_requests job requests s) ≡ length s
-  unfolding after_requests
-  length-after_requests requests s = length-map-range_with_len _ 0 (length s)
-
-  pub get_or-after_requests : (requests : List Request) (s : State) (p : ℕ) → p < length s → get_or (after_requests job requests s) p 0 ≡ unwrap_or (first_written job p 0 requests) (get_or s p 0)
-  unfolding after_requests
-  get_or-after_requests requests s p low = get_or-map-range_with_len _ 0 (length s) p p 0 low (omega arith)
-
   pub after_requests-nil : (s : State) → after_requests job [] s ≡ s
-  after_requests-nil s = ext_get_or 0 (after_requests job [] s) s (length-after_requests [] s) (λ p low. get_or-after_requests [] s p (subst (λ n. p < n) (length-after_requests [] s) low))
+  after_requests-nil s = ext_get_or 0 (after_requests job [] s) s (length-after job [] s) (λ p low. after_at job [] s p (subst (λ n. p < n) (length-after job [] s) low))
 
 -- ---- processor i's request is obeyed after those before it
 
@@ -111,7 +101,7 @@ module _ (job : JobData) (requests : List Request) (i : ℕ) (inside : i < lengt
   own_below : (j p v : ℕ) → Puts requests p j v → p < job.cells + 4 * job.procs
   own_below j p v puts =
       let below = slice_get_within requests j puts.request puts.asked in
-      elim (own j p v puts) [ inl cell ↦ omega arith | inr register ↦ omega (arith, register.1) ]
+      elim (own.own j p v puts) [ inl cell ↦ omega arith | inr register ↦ omega (arith, register.1) ]
 
   mine : (p v : ℕ) → (request_at requests i).put ≡ Some (p, v) → Puts requests p i v
   mine p v puts = record { request = request_at requests i; asked = slice_get-get_or requests i (record { put = None; next = 0 }) inside; puts = puts }
@@ -140,7 +130,7 @@ module _ (job : JobData) (requests : List Request) (i : ℕ) (inside : i < lengt
   some_to_place p j v low below puts =
       let n : 0 + j ≡ j = omega arith in
       first_written_some job p 0 (take i requests) j v puts.request (slice_get-take i requests j below ∙ puts.asked)
-      (subst (λ m. written job p m puts.request ≡ Some v) (sym n) (written_data job p j v puts.request (λ same. omega arith) puts.puts))
+      (subst (λ m. written job p m puts.request ≡ Some v) (sym n) (written_of_put job p j v puts.request (λ same. omega arith) puts.puts))
 
   module _ (s : State) (places : length s ≡ place_count job) where
     -- the state after the requests before i, and after that of i
@@ -168,9 +158,9 @@ module _ (job : JobData) (requests : List Request) (i : ℕ) (inside : i < lengt
         → new ≡ after_requests job (take (i + 1) requests) s
     unfolding leaves first_at mine_at
     by_places new len counter others =
-        ext_get_or 0 new (after_requests job (take (i + 1) requests) s) (len ∙ sym (length-after_requests job (take (i + 1) requests) s)) (λ p low.
+        ext_get_or 0 new (after_requests job (take (i + 1) requests) s) (len ∙ sym (length-after job (take (i + 1) requests) s)) (λ p low.
         let inside_s : p < length s = omega arith in
-        at p inside_s ∙ ap (λ o. unwrap_or o (get_or s p 0)) (sym (first_written_next p)) ∙ sym (get_or-after_requests job (take (i + 1) requests) s p inside_s))
+        at p inside_s ∙ ap (λ o. unwrap_or o (get_or s p 0)) (sym (first_written_next p)) ∙ sym (after_at job (take (i + 1) requests) s p inside_s))
       where
         at : (p : ℕ) → p < length s → get_or new p 0 ≡ leaves p (first_at p) (mine_at p)
         at p low = elim (cases_eq p (counter_place job i)) [
@@ -185,20 +175,20 @@ module _ (job : JobData) (requests : List Request) (i : ℕ) (inside : i < lengt
     kept : (p : ℕ) → p < length s → (mine_at p ≡ None) ⊎ ((w : ℕ) × (first_at p ≡ Some w)) → get_or after p 0 ≡ leaves p (first_at p) (mine_at p)
     unfolding after leaves first_at mine_at
     kept p low (inl none) =
-        get_or-after_requests job (take i requests) s p low ∙ ap (λ o. unwrap_or o (get_or s p 0)) (sym (ap (option_or (first_at p)) none ∙ option_or-None (first_at p)))
+        after_at job (take i requests) s p low ∙ ap (λ o. unwrap_or o (get_or s p 0)) (sym (ap (option_or (first_at p)) none ∙ option_or-None (first_at p)))
     kept p low (inr some) =
-        get_or-after_requests job (take i requests) s p low ∙ ap (λ o. unwrap_or o (get_or s p 0)) (some.1 ∙ sym (ap (λ o. option_or o (mine_at p)) some.1))
+        after_at job (take i requests) s p low ∙ ap (λ o. unwrap_or o (get_or s p 0)) (some.1 ∙ sym (ap (λ o. option_or o (mine_at p)) some.1))
 
-    length-after : length after ≡ length s
+    after_len : length after ≡ length s
     unfolding after
-    length-after = length-after_requests job (take i requests) s
+    after_len = length-after job (take i requests) s
 
     -- ---- the three ways to obey
 
     pub obeyed_no_data : (request_at requests i).put ≡ None → set (after_requests job (take i requests) s) (counter_place job i) (request_at requests i).next ≡ after_requests job (take (i + 1) requests) s
     unfolding after mine_at
-    obeyed_no_data puts = by_places _ (length-set after (counter_place job i) (request_at requests i).next ∙ length-after)
-        (get_or-set_same after (counter_place job i) (request_at requests i).next 0 (subst (λ n. counter_place job i < n) (sym length-after) counter_inside))
+    obeyed_no_data puts = by_places _ (length-set after (counter_place job i) (request_at requests i).next ∙ after_len)
+        (get_or-set_same after (counter_place job i) (request_at requests i).next 0 (subst (λ n. counter_place job i < n) (sym after_len) counter_inside))
         (λ p low away.
         get_or-set_other after (counter_place job i) p (request_at requests i).next 0 away
         ∙ kept p low (inl (written_elsewhere job p i (request_at requests i) away (λ v h. none-some (p, v) (sym puts ∙ h)))))
@@ -209,8 +199,8 @@ module _ (job : JobData) (requests : List Request) (i : ℕ) (inside : i < lengt
 
       pub obeyed_lost : (w : ℕ) → first_written job p 0 (take i requests) ≡ Some w → set (after_requests job (take i requests) s) (counter_place job i) (request_at requests i).next ≡ after_requests job (take (i + 1) requests) s
       unfolding after mine_at first_at
-      obeyed_lost w earlier_write = by_places _ (length-set after (counter_place job i) (request_at requests i).next ∙ length-after)
-          (get_or-set_same after (counter_place job i) (request_at requests i).next 0 (subst (λ n. counter_place job i < n) (sym length-after) counter_inside))
+      obeyed_lost w earlier_write = by_places _ (length-set after (counter_place job i) (request_at requests i).next ∙ after_len)
+          (get_or-set_same after (counter_place job i) (request_at requests i).next 0 (subst (λ n. counter_place job i < n) (sym after_len) counter_inside))
           (λ q inside_s away.
           get_or-set_other after (counter_place job i) q (request_at requests i).next 0 away
           ∙ elim (cases_eq q p) [
@@ -224,16 +214,16 @@ module _ (job : JobData) (requests : List Request) (i : ℕ) (inside : i < lengt
       unfolding after mine_at first_at leaves
       obeyed_first none =
           let moved = set after (counter_place job i) (request_at requests i).next in
-          let len : length moved ≡ length s = length-set after (counter_place job i) (request_at requests i).next ∙ length-after in
+          let len : length moved ≡ length s = length-set after (counter_place job i) (request_at requests i).next ∙ after_len in
           let counter_apart : counter_place job i ≢ p = λ same. omega arith in
           let place_apart : p ≢ counter_place job i = λ same. omega arith in
           by_places _ (length-set moved p v ∙ len)
-          (get_or-set_other moved p (counter_place job i) v 0 counter_apart ∙ get_or-set_same after (counter_place job i) (request_at requests i).next 0 (subst (λ n. counter_place job i < n) (sym length-after) counter_inside))
+          (get_or-set_other moved p (counter_place job i) v 0 counter_apart ∙ get_or-set_same after (counter_place job i) (request_at requests i).next 0 (subst (λ n. counter_place job i < n) (sym after_len) counter_inside))
           (λ q inside_s away.
           elim (cases_eq q p) [
             | inl here ↦
                 let first : first_written job q 0 (take i requests) ≡ None = subst (λ k. first_written job k 0 (take i requests) ≡ None) (sym here) none in
-                let mine : written job q i (request_at requests i) ≡ Some v = subst (λ k. written job k i (request_at requests i) ≡ Some v) (sym here) (written_data job p i v (request_at requests i) place_apart puts) in
+                let mine : written job q i (request_at requests i) ≡ Some v = subst (λ k. written job k i (request_at requests i) ≡ Some v) (sym here) (written_of_put job p i v (request_at requests i) place_apart puts) in
                 ap (λ k. get_or (set moved p v) k 0) here ∙ get_or-set_same moved p v 0 (omega arith) ∙ sym (ap₂ (λ a b. unwrap_or (option_or a b) (get_or s q 0)) first mine)
             | inr apart ↦
                 get_or-set_other moved p q v 0 apart ∙ get_or-set_other after (counter_place job i) q (request_at requests i).next 0 away ∙ kept q inside_s (inl (other_place q apart away))
@@ -271,7 +261,7 @@ module _ (job : JobData) (requests : List Request) (i : ℕ) (inside : i < lengt
 
     pub obeys_register : job.cells ≤ p → (new : State) → new ≡ set moved p v → new ≡ after_requests job (take (i + 1) requests) start
     obeys_register high = obeys_first (none_to_place job requests i inside all own p low (λ j u below data'.
-        elim (own j p u data') [
+        elim (own.own j p u data') [
           | inl cell ↦ omega arith
-          | inr theirs ↦ elim (own i p v asked) [ inl cell ↦ omega arith | inr ours ↦ omega (arith, theirs.0, theirs.1, ours.0, ours.1) ]
+          | inr theirs ↦ elim (own.own i p v asked) [ inl cell ↦ omega arith | inr ours ↦ omega (arith, theirs.0, theirs.1, ours.0, ours.1) ]
         ]))

@@ -7,7 +7,8 @@ use Rattle.pram_text.specs.declared.instr.Rule.TheVariants.{Common, Priority, Cr
 use Rattle.pram_step.specs.declared.answer.Dispute.{Dispute}
 use Rattle.pram_step.specs.declared.requests.Request.{Request}
 use Rattle.pram_step.specs.Steps.{written, Writes, Forbids, Clashes, IsDispute}
-use Rattle.pram_step.specs.Marks.{Puts, IsVerdict}
+use Rattle.pram_step.specs.Inner.Marks.{Puts}
+use Rattle.pram_step.specs.Steps.{IsVerdict}
 use Rattle.pram_step.proofs.RequestList.{slice_get-append_left, slice_get-push, slice_get_of_push, Puts-from_Writes, Writes-from_Puts, put_of_written, written_of_put}
 
 -- ---- what the rules forbid
@@ -197,7 +198,7 @@ module _ (job : JobData) (before : List Request) (r : Request) where
         other = v;
         is_cell = is_cell;
         writes = Writes_more cell first w first_writes;
-        writes_too = Writes_last cell v (written_of_put job cell (length before) v r is_cell puts);
+        writes_too = Writes_last cell v (written_of_put job cell (length before) v r (λ same. omega arith) puts);
         forbidden = forbidden;
       };
       least_cell = λ cell' i j c.

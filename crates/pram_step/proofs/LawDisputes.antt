@@ -1,5 +1,5 @@
 -- A step agrees or has a dispute, and so each job has an answer.
-use Rattle.std.proofs.Common.{◌≡◌, ℕ, zero, suc, ◌+◌, ◌<◌, ◌≤◌, ◌⊎◌, List, length, take, refl, sym, subst, ◌∙◌, inl, inr, ⊎_elim, arith}
+use Rattle.std.proofs.Common.{◌≡◌, ℕ, zero, suc, ◌+◌, ◌<◌, ◌≤◌, ◌⊎◌, ◌↔◌, List, length, take, refl, sym, subst, ◌∙◌, inl, inr, ⊎_elim, arith}
 use Rattle.std.proofs.lemmas.Bool.{cases_lt, cases_eq}
 use Rattle.std.proofs.lemmas.Option.{slice_get_within}
 use Rattle.pram_text.specs.declared.instr.Rule.{Rule}
@@ -10,11 +10,11 @@ use Rattle.pram_step.specs.declared.answer.Fault.{Fault}
 use Rattle.pram_step.specs.declared.answer.RunAnswer.{RunAnswer}
 use Rattle.pram_step.specs.declared.answer.RunAnswer.TheVariants.{Final, Conflict}
 use Rattle.pram_step.specs.declared.requests.Request.{Request}
-use Rattle.pram_step.specs.Machine.{requests_of}
 use Rattle.pram_step.specs.Steps.{Writes, Forbids, Clashes, Agrees, IsDispute}
 use Rattle.pram_step.specs.Orders.{written_by}
-use Rattle.pram_step.specs.Runs.{state_after, AgreesAfter, IsReached, IsFirstConflict, IsAnswer}
+use Rattle.pram_step.specs.Runs.{state_after, requests_after, IsReached, IsFirstConflict, IsAnswer}
 use Rattle.pram_step.proofs.LawWriters.{written_once, option_cases, HasFirst, HasNone, writer_cases}
+use Rattle.pram_step.proofs.LawFixed.{reached_more}
 use Rattle.pram_step.proofs.LawOrders.{writes_from_by, not_by}
 
 -- ---- the least number below n of which P holds
@@ -152,14 +152,7 @@ agrees_or_dispute job requests =
 
 -- ---- whether there is a state after t steps
 
-reached_next : (job : JobData) (t : ℕ) → IsReached job t → AgreesAfter job t → IsReached job (suc t)
-reached_next job t reached agrees s lt =
-    ⊎_elim
-    (λ before. reached s before)
-    (λ past. let here : t ≡ s = omega arith in subst (AgreesAfter job) here agrees)
-    (cases_lt s t)
-
-first_conflict : (job : JobData) (t : ℕ) (d : Dispute) → IsReached job t → IsDispute job (requests_of job (state_after job t)) d → (fault : Fault) × IsFirstConflict job fault × (fault.step ≤ suc t)
+first_conflict : (job : JobData) (t : ℕ) (d : Dispute) → IsReached job t → IsDispute job (requests_after job t) d → (fault : Fault) × IsFirstConflict job fault × (fault.step ≤ suc t)
 first_conflict job t d reached is =
     let conflict : IsFirstConflict job (record { step = t + 1; cell = d.cell; first = d.first; second = d.second }) = record { before = t; step = refl; reached = reached; dispute = is } in
     let le : t + 1 ≤ suc t = omega arith in
@@ -170,15 +163,21 @@ reached_or_conflict job zero = inl (λ s lt. absurd (omega arith))
 reached_or_conflict job (suc t) =
     ⊎_elim
     (λ reached. ⊎_elim
-    (λ agrees. inl (reached_next job t reached agrees))
+    (λ agrees. inl (reached_more job t reached agrees))
     (λ d. inr (first_conflict job t d.0 reached d.1))
-    (agrees_or_dispute job (requests_of job (state_after job t))))
+    (agrees_or_dispute job (requests_after job t)))
     (λ c. let le : c.0.step ≤ suc t = omega (arith, c.2) in inr (c.0, c.1, le))
     (reached_or_conflict job t)
 
 pub has_answer : (job : JobData) → (answer : RunAnswer) × IsAnswer job answer
-has_answer job =
-    ⊎_elim
-    (λ reached. (Final (take job.cells (state_after job job.steps)), (reached, refl)))
-    (λ c. (Conflict c.0, (c.1, c.2)))
-    (reached_or_conflict job job.steps)
+has_answer job = elim (reached_or_conflict job job.steps) [
+  | inl reached ↦ (Final (take job.cells (state_after job job.steps)), (state_after job job.steps, record { reached = reached; state = refl }, refl))
+  | inr c ↦ (Conflict c.0, record { first = c.1; within = c.2 })
+]
+
+-- there is one exactly where no step up to t has a dispute
+pub reached_where : (job : JobData) (t : ℕ) → IsReached job t ↔ ((s : ℕ) (d : Dispute) → s < t → IsDispute job (requests_after job s) d → ⊥)
+reached_where job t = (
+  λ reached s d below is. reached s below d.cell d.first d.second is.clash,
+  λ none s below. elim (agrees_or_dispute job (requests_after job s)) [ inl agrees ↦ agrees | inr d ↦ absurd (none s d.0 below d.1) ],
+)

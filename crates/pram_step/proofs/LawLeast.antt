@@ -7,7 +7,8 @@ use Rattle.std.proofs.lemmas.Bool.{leb-true, leb-false}
 use Rattle.std.proofs.lemmas.Option.{none-some, same_Some}
 use Rattle.pram_text.specs.Job.{JobData}
 use Rattle.pram_step.specs.declared.requests.Request.{Request}
-use Rattle.pram_step.specs.Machine.{State, requests_of}
+use Rattle.pram_step.specs.Machine.{State}
+use Rattle.pram_step.specs.Instructions.{requests_in}
 use Rattle.pram_step.specs.Steps.{Writes, first_written, after_requests, next_state}
 use Rattle.pram_step.specs.Orders.{HasAll, written_by, lesser, least_found, after_least_found}
 use Rattle.pram_step.proofs.LawWriters.{written_once, option_cases, HasFirst, HasNone, writer_cases}
@@ -118,28 +119,28 @@ least_found_none job requests p order n =
     (λ e. e)
     (λ w e. absurd (n.none w.0 w.1 (writes_from_by job requests p w.0 w.1 (least_writes job requests p order w e))))
 
-least_found_some : (job : JobData) (s : State) (p : ℕ) (order : List ℕ) → HasAll job order → (f : HasFirst job (requests_of job s) p) → option_map (λ w. w.1) (least_found job (requests_of job s) p order) ≡ Some f.value
+least_found_some : (job : JobData) (s : State) (p : ℕ) (order : List ℕ) → HasAll job order → (f : HasFirst job (requests_in job s) p) → option_map (λ w. w.1) (least_found job (requests_in job s) p order) ≡ Some f.value
 least_found_some job s p order all f =
     let below : f.writer < job.procs = (writer_is job s p f.writer f.value f.first.writes).0 in
     let there : Contains order f.writer = all f.writer below in
-    option_cases (least_found job (requests_of job s) p order)
-    (λ e. absurd (not_by job (requests_of job s) p f.writer f.value f.first.writes (least_none_at job (requests_of job s) p f.writer there.0 order e there.1 there.2)))
+    option_cases (least_found job (requests_in job s) p order)
+    (λ e. absurd (not_by job (requests_in job s) p f.writer f.value f.first.writes (least_none_at job (requests_in job s) p f.writer there.0 order e there.1 there.2)))
     (λ w e.
-    let is : Writes job (requests_of job s) p w.0 w.1 = writes_from_by job (requests_of job s) p w.0 w.1 (least_writes job (requests_of job s) p order w e) in
-    let le : w.0 ≤ f.writer = least_at job (requests_of job s) p f.writer f.value there.0 order w e there.1 there.2 (by_from_writes job (requests_of job s) p f.writer f.value f.first.writes) in
+    let is : Writes job (requests_in job s) p w.0 w.1 = writes_from_by job (requests_in job s) p w.0 w.1 (least_writes job (requests_in job s) p order w e) in
+    let le : w.0 ≤ f.writer = least_at job (requests_in job s) p f.writer f.value there.0 order w e there.1 there.2 (by_from_writes job (requests_in job s) p f.writer f.value f.first.writes) in
     let ge : f.writer ≤ w.0 = f.first.least w.0 w.1 is in
     let same : w.0 ≡ f.writer = omega arith in
-    let value : w.1 ≡ f.value = written_once job (requests_of job s) p f.writer w.1 f.value (subst (λ (j : ℕ). Writes job (requests_of job s) p j w.1) same is) f.first.writes in
+    let value : w.1 ≡ f.value = written_once job (requests_in job s) p f.writer w.1 f.value (subst (λ (j : ℕ). Writes job (requests_in job s) p j w.1) same is) f.first.writes in
     ap (option_map (λ (x : ℕ × ℕ). x.1)) e ∙ ap Some value)
 
-least_found_is : (job : JobData) (s : State) (p : ℕ) (order : List ℕ) → HasAll job order → option_map (λ w. w.1) (least_found job (requests_of job s) p order) ≡ first_written job p 0 (requests_of job s)
+least_found_is : (job : JobData) (s : State) (p : ℕ) (order : List ℕ) → HasAll job order → option_map (λ w. w.1) (least_found job (requests_in job s) p order) ≡ first_written job p 0 (requests_in job s)
 least_found_is job s p order all =
     ⊎_elim
-    (λ (n : HasNone job (requests_of job s) p). ap (option_map (λ (x : ℕ × ℕ). x.1)) (least_found_none job (requests_of job s) p order n) ∙ sym n.found)
-    (λ (f : HasFirst job (requests_of job s) p). least_found_some job s p order all f ∙ sym f.found)
-    (writer_cases job (requests_of job s) p)
+    (λ (n : HasNone job (requests_in job s) p). ap (option_map (λ (x : ℕ × ℕ). x.1)) (least_found_none job (requests_in job s) p order n) ∙ sym n.found)
+    (λ (f : HasFirst job (requests_in job s) p). least_found_some job s p order all f ∙ sym f.found)
+    (writer_cases job (requests_in job s) p)
 
-pub least_is_found : (job : JobData) (s : State) (order : List ℕ) → HasAll job order → after_least_found job (requests_of job s) order s ≡ next_state job s
+pub least_is_found : (job : JobData) (s : State) (order : List ℕ) → HasAll job order → after_least_found job (requests_in job s) order s ≡ next_state job s
 unfolding after_least_found after_requests
 least_is_found job s order all =
     ap (λ (f : ℕ → Option ℕ). map (λ p. unwrap_or (f p) (slice_index s p)) (range_with_len 0 (length s))) (λ k p. least_found_is job s p order all k)

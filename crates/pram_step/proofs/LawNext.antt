@@ -4,21 +4,19 @@ use Rattle.std.specs.Prelude.{slice_index}
 use Rattle.std.specs.Option.{unwrap_or}
 use Rattle.std.proofs.lemmas.Bool.{cases_lt, cases_eq}
 use Rattle.std.proofs.lemmas.List.{ext_get_or}
-use Rattle.std.proofs.lemmas.List.FromFn.{length-map-range_with_len, get_or-map-range_with_len}
+use Rattle.std.proofs.lemmas.List.FromFn.{get_or-map-range_with_len}
 use Rattle.pram_text.specs.declared.instr.Rule.{Rule}
 use Rattle.pram_text.specs.declared.instr.Rule.TheVariants.{Common, Priority, Crew}
 use Rattle.pram_text.specs.Job.{JobData, IsJob}
 use Rattle.pram_step.specs.declared.requests.Request.{Request}
-use Rattle.pram_step.specs.Machine.{State, requests_of}
+use Rattle.pram_step.specs.Machine.{State}
+use Rattle.pram_step.specs.Instructions.{requests_in}
 use Rattle.pram_step.specs.Steps.{Writes, Forbids, Agrees, Counts, IsNext, first_written, after_requests, next_state}
 use Rattle.pram_step.proofs.LawWriters.{written_once, IsFirstWriter, HasFirst, HasNone, writer_cases}
 use Rattle.pram_step.proofs.LawPlaces.{one_writer_value}
+use Rattle.pram_step.proofs.LawFixed.{length-after}
 
 -- ---- the next state, place by place
-
-pub length-after : (job : JobData) (requests : List Request) (s : State) → length (after_requests job requests s) ≡ length s
-unfolding after_requests
-length-after job requests s = length-map-range_with_len _ 0 (length s)
 
 pub after_at : (job : JobData) (requests : List Request) (s : State) (p : ℕ) → p < length s → slice_index (after_requests job requests s) p ≡ unwrap_or (first_written job p 0 requests) (slice_index s p)
 unfolding after_requests
@@ -76,25 +74,25 @@ priority_value job requests p i v w f j b counts =
 
 -- ---- where the step agrees, what the first writer writes is what each write that counts writes
 
-first_counts : (job : JobData) (s : State) (p i j v w : ℕ) (rule : Rule) → job.rule ≡ rule → IsJob job → Agrees job (requests_of job s) → IsFirstWriter job (requests_of job s) p i v → Writes job (requests_of job s) p j w → Counts rule job (requests_of job s) p j → v ≡ w
+first_counts : (job : JobData) (s : State) (p i j v w : ℕ) (rule : Rule) → job.rule ≡ rule → IsJob job → Agrees job (requests_in job s) → IsFirstWriter job (requests_in job s) p i v → Writes job (requests_in job s) p j w → Counts rule job (requests_in job s) p j → v ≡ w
 first_counts job s p i j v w Common rule is_job agrees f b counts =
     ⊎_elim
-    (λ cell. common_value job (requests_of job s) p i j v w rule agrees cell f.writes b)
+    (λ cell. common_value job (requests_in job s) p i j v w rule agrees cell f.writes b)
     (λ no_cell. one_writer_value job s p i j v w is_job no_cell f.writes b)
     (cases_lt p job.cells)
-first_counts job s p i j v w Priority rule is_job agrees f b counts = priority_value job (requests_of job s) p i v w f j b counts
+first_counts job s p i j v w Priority rule is_job agrees f b counts = priority_value job (requests_in job s) p i v w f j b counts
 first_counts job s p i j v w Crew rule is_job agrees f b counts =
     ⊎_elim
-    (λ cell. crew_value job (requests_of job s) p i j v w rule agrees cell f.writes b)
+    (λ cell. crew_value job (requests_in job s) p i j v w rule agrees cell f.writes b)
     (λ no_cell. one_writer_value job s p i j v w is_job no_cell f.writes b)
     (cases_lt p job.cells)
 
-next_written_to : (job : JobData) (s : State) → IsJob job → Agrees job (requests_of job s) → (p i v : ℕ) → p < length s → Writes job (requests_of job s) p i v → Counts job.rule job (requests_of job s) p i → slice_index (next_state job s) p ≡ v
+next_written_to : (job : JobData) (s : State) → IsJob job → Agrees job (requests_in job s) → (p i v : ℕ) → p < length s → Writes job (requests_in job s) p i v → Counts job.rule job (requests_in job s) p i → slice_index (next_state job s) p ≡ v
 next_written_to job s is_job agrees p i v lt w counts =
     ⊎_elim
-    (λ (n : HasNone job (requests_of job s) p). absurd (n.none i v w))
-    (λ (f : HasFirst job (requests_of job s) p). after_first job (requests_of job s) s p f.value lt f.found ∙ first_counts job s p f.writer i f.value v job.rule refl is_job agrees f.first w counts)
-    (writer_cases job (requests_of job s) p)
+    (λ (n : HasNone job (requests_in job s) p). absurd (n.none i v w))
+    (λ (f : HasFirst job (requests_in job s) p). after_first job (requests_in job s) s p f.value lt f.found ∙ first_counts job s p f.writer i f.value v job.rule refl is_job agrees f.first w counts)
+    (writer_cases job (requests_in job s) p)
 
 after_kept : (job : JobData) (requests : List Request) (s : State) (p : ℕ) → p < length s → ((i v : ℕ) → Writes job requests p i v → ⊥) → slice_index (after_requests job requests s) p ≡ slice_index s p
 after_kept job requests s p lt none =
@@ -103,11 +101,11 @@ after_kept job requests s p lt none =
     (λ (f : HasFirst job requests p). absurd (none f.writer f.value f.first.writes))
     (writer_cases job requests p)
 
-pub next_is_next : (job : JobData) (s : State) → IsJob job → Agrees job (requests_of job s) → IsNext job (requests_of job s) s (next_state job s)
+pub next_is_next : (job : JobData) (s : State) → IsJob job → Agrees job (requests_in job s) → IsNext job (requests_in job s) s (next_state job s)
 next_is_next job s is_job agrees = record {
-  len = length-after job (requests_of job s) s;
+  len = length-after job (requests_in job s) s;
   written_to = next_written_to job s is_job agrees;
-  kept = after_kept job (requests_of job s) s;
+  kept = after_kept job (requests_in job s) s;
 }
 
 -- ---- a next state is this one

@@ -9,7 +9,8 @@ use Rattle.pram_text.specs.declared.instr.Rule.{Rule}
 use Rattle.pram_text.specs.declared.instr.Rule.TheVariants.{Common, Priority, Crew}
 use Rattle.pram_text.specs.Job.{JobData, IsJob}
 use Rattle.pram_step.specs.declared.requests.Request.{Request}
-use Rattle.pram_step.specs.Machine.{State, requests_of}
+use Rattle.pram_step.specs.Machine.{State}
+use Rattle.pram_step.specs.Instructions.{requests_in}
 use Rattle.pram_step.specs.Steps.{Writes, Agrees, written, first_written, after_requests, next_state}
 use Rattle.pram_step.specs.Orders.{HasAll, written_by, first_found, after_first_found}
 use Rattle.pram_step.proofs.LawWriters.{option_cases, or_none, or_some, HasFirst, HasNone, writer_cases}
@@ -57,16 +58,16 @@ found_none : (job : JobData) (requests : List Request) (p i : ℕ) (order : List
 found_none job requests p i order e there = found_none_at job requests p i there.0 order e there.1 there.2
 
 -- where the step agrees with a rule other than priority, all writers of a place write one value
-pub one_value : (job : JobData) (s : State) (p i j v w : ℕ) (rule : Rule) → job.rule ≡ rule → rule ≢ Priority → IsJob job → Agrees job (requests_of job s) → Writes job (requests_of job s) p i v → Writes job (requests_of job s) p j w → v ≡ w
+pub one_value : (job : JobData) (s : State) (p i j v w : ℕ) (rule : Rule) → job.rule ≡ rule → rule ≢ Priority → IsJob job → Agrees job (requests_in job s) → Writes job (requests_in job s) p i v → Writes job (requests_in job s) p j w → v ≡ w
 one_value job s p i j v w Common rule other is_job agrees a b =
     ⊎_elim
-    (λ cell. common_value job (requests_of job s) p i j v w rule agrees cell a b)
+    (λ cell. common_value job (requests_in job s) p i j v w rule agrees cell a b)
     (λ no_cell. one_writer_value job s p i j v w is_job no_cell a b)
     (cases_lt p job.cells)
 one_value job s p i j v w Priority rule other is_job agrees a b = absurd (other refl)
 one_value job s p i j v w Crew rule other is_job agrees a b =
     ⊎_elim
-    (λ cell. crew_value job (requests_of job s) p i j v w rule agrees cell a b)
+    (λ cell. crew_value job (requests_in job s) p i j v w rule agrees cell a b)
     (λ no_cell. one_writer_value job s p i j v w is_job no_cell a b)
     (cases_lt p job.cells)
 
@@ -78,24 +79,24 @@ first_found_none job requests p order n =
     let f : Found job requests p v = found_some job requests p v order e in
     absurd (n.none f.writer v f.writes))
 
-first_found_some : (job : JobData) (s : State) (p : ℕ) (order : List ℕ) → IsJob job → job.rule ≢ Priority → Agrees job (requests_of job s) → HasAll job order → (f : HasFirst job (requests_of job s) p) → first_found job (requests_of job s) p order ≡ Some f.value
+first_found_some : (job : JobData) (s : State) (p : ℕ) (order : List ℕ) → IsJob job → job.rule ≢ Priority → Agrees job (requests_in job s) → HasAll job order → (f : HasFirst job (requests_in job s) p) → first_found job (requests_in job s) p order ≡ Some f.value
 first_found_some job s p order is_job rule agrees all f =
-    option_cases (first_found job (requests_of job s) p order)
+    option_cases (first_found job (requests_in job s) p order)
     (λ e.
     let i : f.writer < job.procs = (writer_is job s p f.writer f.value f.first.writes).0 in
-    absurd (not_by job (requests_of job s) p f.writer f.value f.first.writes (found_none job (requests_of job s) p f.writer order e (all f.writer i))))
+    absurd (not_by job (requests_in job s) p f.writer f.value f.first.writes (found_none job (requests_in job s) p f.writer order e (all f.writer i))))
     (λ v e.
-    let g : Found job (requests_of job s) p v = found_some job (requests_of job s) p v order e in
+    let g : Found job (requests_in job s) p v = found_some job (requests_in job s) p v order e in
     e ∙ ap Some (one_value job s p g.writer f.writer v f.value job.rule refl rule is_job agrees g.writes f.first.writes))
 
-pub first_found_is : (job : JobData) (s : State) (p : ℕ) (order : List ℕ) → IsJob job → job.rule ≢ Priority → Agrees job (requests_of job s) → HasAll job order → first_found job (requests_of job s) p order ≡ first_written job p 0 (requests_of job s)
+pub first_found_is : (job : JobData) (s : State) (p : ℕ) (order : List ℕ) → IsJob job → job.rule ≢ Priority → Agrees job (requests_in job s) → HasAll job order → first_found job (requests_in job s) p order ≡ first_written job p 0 (requests_in job s)
 first_found_is job s p order is_job rule agrees all =
     ⊎_elim
-    (λ (n : HasNone job (requests_of job s) p). first_found_none job (requests_of job s) p order n ∙ sym n.found)
-    (λ (f : HasFirst job (requests_of job s) p). first_found_some job s p order is_job rule agrees all f ∙ sym f.found)
-    (writer_cases job (requests_of job s) p)
+    (λ (n : HasNone job (requests_in job s) p). first_found_none job (requests_in job s) p order n ∙ sym n.found)
+    (λ (f : HasFirst job (requests_in job s) p). first_found_some job s p order is_job rule agrees all f ∙ sym f.found)
+    (writer_cases job (requests_in job s) p)
 
-pub order_is_free : (job : JobData) (s : State) (order : List ℕ) → IsJob job → job.rule ≢ Priority → Agrees job (requests_of job s) → HasAll job order → after_first_found job (requests_of job s) order s ≡ next_state job s
+pub order_is_free : (job : JobData) (s : State) (order : List ℕ) → IsJob job → job.rule ≢ Priority → Agrees job (requests_in job s) → HasAll job order → after_first_found job (requests_in job s) order s ≡ next_state job s
 unfolding after_first_found after_requests
 order_is_free job s order is_job rule agrees all =
     ap (λ (f : ℕ → Option ℕ). map (λ p. unwrap_or (f p) (slice_index s p)) (range_with_len 0 (length s))) (λ k p. first_found_is job s p order is_job rule agrees all k)

@@ -7,10 +7,12 @@ use Rattle.std.proofs.lemmas.List.FromFn.{length-map-range_with_len, get_or-map-
 use Rattle.pram_text.specs.declared.instr.Rule.TheVariants.{Priority}
 use Rattle.pram_text.specs.Job.{JobData, IsJob}
 use Rattle.pram_step.specs.declared.requests.Request.{Request}
-use Rattle.pram_step.specs.Machine.{State, requests_of}
+use Rattle.pram_step.specs.Machine.{State}
+use Rattle.pram_step.specs.Instructions.{requests_in}
 use Rattle.pram_step.specs.Steps.{Writes, Agrees, next_state}
 use Rattle.pram_step.specs.Orders.{HasAll, written_by, first_found, after_writes_of, after_in_turn}
-use Rattle.pram_step.proofs.LawNext.{length-after, after_at}
+use Rattle.pram_step.proofs.LawNext.{after_at}
+use Rattle.pram_step.proofs.LawFixed.{length-after}
 use Rattle.pram_step.proofs.LawOrders.{Found, found_some, writes_from_by, one_value, first_found_is}
 
 length-writes_of : (job : JobData) (requests : List Request) (i : ℕ) (s : State) → length (after_writes_of job requests i s) ≡ length s
@@ -46,14 +48,14 @@ in_turn_at job requests p one (i ∷ order) s lt =
     let f : Found job requests p w = found_some job requests p w order there in
     one f.writer i w v f.writes (writes_from_by job requests p i v here))
 
-in_turn_is : (job : JobData) (s : State) (order : List ℕ) → IsJob job → job.rule ≢ Priority → Agrees job (requests_of job s) → HasAll job order → (p : ℕ) → p < length s → slice_index (after_in_turn job (requests_of job s) order s) p ≡ slice_index (next_state job s) p
+in_turn_is : (job : JobData) (s : State) (order : List ℕ) → IsJob job → job.rule ≢ Priority → Agrees job (requests_in job s) → HasAll job order → (p : ℕ) → p < length s → slice_index (after_in_turn job (requests_in job s) order s) p ≡ slice_index (next_state job s) p
 in_turn_is job s order is_job rule agrees all p lt =
-    in_turn_at job (requests_of job s) p (λ i j v w a b. one_value job s p i j v w job.rule refl rule is_job agrees a b) order s lt
+    in_turn_at job (requests_in job s) p (λ i j v w a b. one_value job s p i j v w job.rule refl rule is_job agrees a b) order s lt
     ∙ ap (λ (o : Option ℕ). unwrap_or o (slice_index s p)) (first_found_is job s p order is_job rule agrees all)
-    ∙ sym (after_at job (requests_of job s) s p lt)
+    ∙ sym (after_at job (requests_in job s) s p lt)
 
-pub turns_are_free : (job : JobData) (s : State) (order : List ℕ) → IsJob job → job.rule ≢ Priority → Agrees job (requests_of job s) → HasAll job order → after_in_turn job (requests_of job s) order s ≡ next_state job s
+pub turns_are_free : (job : JobData) (s : State) (order : List ℕ) → IsJob job → job.rule ≢ Priority → Agrees job (requests_in job s) → HasAll job order → after_in_turn job (requests_in job s) order s ≡ next_state job s
 turns_are_free job s order is_job rule agrees all =
-    ext_get_or 0 (after_in_turn job (requests_of job s) order s) (next_state job s)
-    (length-in_turn job (requests_of job s) order s ∙ sym (length-after job (requests_of job s) s))
-    (λ p lt. in_turn_is job s order is_job rule agrees all p (omega (arith, length-in_turn job (requests_of job s) order s)))
+    ext_get_or 0 (after_in_turn job (requests_in job s) order s) (next_state job s)
+    (length-in_turn job (requests_in job s) order s ∙ sym (length-after job (requests_in job s) s))
+    (λ p lt. in_turn_is job s order is_job rule agrees all p (omega (arith, length-in_turn job (requests_in job s) order s)))

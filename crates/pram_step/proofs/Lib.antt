@@ -3,14 +3,12 @@ pub mod Judging
 pub mod Marking
 pub mod Passing
 pub mod Applying
-pub mod Requesting
-pub mod Running
-pub mod Following
+pub mod Shapes
 pub mod LawFixed
 pub mod LawWriters
 pub mod LawPlaces
 pub mod LawNext
-pub mod LawHalted
+pub mod LawStopped
 pub mod LawAnswer
 pub mod LawRules
 pub mod LawAnswers
@@ -19,5 +17,6 @@ pub mod LawLeast
 pub mod LawCounters
 pub mod LawFits
 pub mod LawFrames
+pub mod Past
 pub mod LawDisputes
 pub mod LawTurns

@@ -2,14 +2,8 @@
 use Rattle.std.proofs.Common.{◌≡◌, ◌≢◌, ℕ, ◌<◌, ◌⊎◌, List, [], ◌∷◌, ◌++◌, length, get_or, set, Some, sym, ◌∙◌, inl, inr, subst, arith, get_or-set_same, get_or-set_other}
 use Rattle.std.proofs.lemmas.Option.{slice_get_within, some_pair_parts}
 use Rattle.pram_step.specs.declared.requests.Request.{Request}
-use Rattle.pram_step.specs.Marks.{Puts, PutsNone, AreMarked}
-use Rattle.pram_step.proofs.RequestList.{slice_get-append_left, slice_get-push, slice_get_of_push, slice_get_nil}
-
-pub AreMarked_nil : (cells : ℕ) (marks : List ℕ) → AreMarked cells [] marks
-AreMarked_nil cells marks = record {
-  writes = λ cell i v low p. absurd (slice_get_nil i p.request p.asked);
-  least = λ cell i v low p. absurd (slice_get_nil i p.request p.asked);
-}
+use Rattle.pram_step.specs.Inner.Marks.{Puts, PutsNone, AreMarked}
+use Rattle.pram_step.proofs.RequestList.{slice_get-append_left, slice_get-push, slice_get_of_push}
 
 module _ (before : List Request) (r : Request) where
   pub Puts_more : (place i v : ℕ) → Puts before place i v → Puts (before ++ r ∷ []) place i v

@@ -6,7 +6,8 @@ use Rattle.pram_text.specs.Job.{JobData}
 use Rattle.pram_step.specs.declared.answer.Dispute.{Dispute}
 use Rattle.pram_step.specs.declared.requests.Request.{Request}
 use Rattle.pram_step.specs.Steps.{Forbids}
-use Rattle.pram_step.specs.Marks.{Puts, PutsFirst, PutsNone, AreMarked, IsVerdict}
+use Rattle.pram_step.specs.Inner.Marks.{Puts, PutsFirst, PutsNone, AreMarked}
+use Rattle.pram_step.specs.Steps.{IsVerdict}
 use Rattle.pram_step.proofs.RequestList.{slice_get-take}
 use Rattle.pram_step.proofs.Judging.{IsVerdict_no_cell, IsVerdict_first, IsVerdict_allowed, IsVerdict_later, IsVerdict_new}
 use Rattle.pram_step.proofs.Marking.{AreMarked_no_cell, AreMarked_lost, AreMarked_first}

@@ -1,5 +1,5 @@
 -- Lists of requests, and their writers.
-use Rattle.std.proofs.Common.{◌≡◌, ℕ, zero, suc, ◌<◌, ◌⊎◌, true, false, eqb, cond, List, [], ◌∷◌, ◌++◌, length, take, Option, Some, None, refl, ap, ap₂, inl, inr, arith}
+use Rattle.std.proofs.Common.{◌≡◌, ◌≢◌, ℕ, zero, suc, ◌<◌, ◌⊎◌, eqb, cond, List, [], ◌∷◌, ◌++◌, length, take, Option, Some, None, refl, sym, ap, ap₂, inl, inr, arith}
 use Rattle.std.specs.Prelude.{slice_get}
 use Rattle.std.proofs.lemmas.Bool.{eq-eqb, ne_eqb, eqb-true, cases_Bool}
 use Rattle.std.proofs.lemmas.Option.{none-some, same_Some}
@@ -7,7 +7,7 @@ use Rattle.pram_text.specs.Job.{JobData}
 use Rattle.pram_step.specs.declared.requests.Request.{Request}
 use Rattle.pram_step.specs.Machine.{counter_place}
 use Rattle.pram_step.specs.Steps.{written, Writes}
-use Rattle.pram_step.specs.Marks.{Puts}
+use Rattle.pram_step.specs.Inner.Marks.{Puts}
 
 -- ---- the elements of a list that got one more
 
@@ -19,9 +19,6 @@ slice_get-append_left (y ∷ xs) ys (suc i) x h = slice_get-append_left xs ys i 
 pub slice_get-push : {X : Type 0} (xs : List X) (x : X) → slice_get (xs ++ x ∷ []) (length xs) ≡ Some x
 slice_get-push [] x = refl
 slice_get-push (y ∷ xs) x = slice_get-push xs x
-
-pub slice_get_nil : {X : Type 0} (i : ℕ) (x : X) → slice_get [] i ≡ Some x → ⊥
-slice_get_nil i x h = none-some x h
 
 -- an element of the longer list is one of the shorter, or the new one
 pub slice_get_of_push : {X : Type 0} (xs : List X) (x : X) (i : ℕ) (y : X) → slice_get (xs ++ x ∷ []) i ≡ Some y → (slice_get xs i ≡ Some y) ⊎ ((i ≡ length xs) × (x ≡ y))
@@ -38,11 +35,8 @@ slice_get-take (suc n) (x ∷ xs) (suc i) h = slice_get-take n xs i (omega arith
 
 -- ---- writes to cells are data
 
-pub written_of_put : (job : JobData) (cell i v : ℕ) (r : Request) → cell < job.cells → r.put ≡ Some (cell, v) → written job cell i r ≡ Some v
-written_of_put job cell i v r low puts =
-    let away : eqb cell (counter_place job i) ≡ false = ne_eqb cell (counter_place job i) (λ same. omega arith) in
-    let here : eqb cell cell ≡ true = eq-eqb cell cell refl in
-    rw (away, puts, here)
+pub written_of_put : (job : JobData) (p i v : ℕ) (r : Request) → p ≢ counter_place job i → r.put ≡ Some (p, v) → written job p i r ≡ Some v
+written_of_put job p i v r away puts = rw (ne_eqb p (counter_place job i) away, puts, eq-eqb p p refl)
 
 -- a write to a place is the processor's next counter or its data
 put_of_data : (p v : ℕ) (o : Option (ℕ × ℕ)) → (elim o [ None ↦ None | Some w ↦ cond (eqb w.0 p) (Some w.1) None ]) ≡ Some v → o ≡ Some (p, v)
@@ -53,19 +47,19 @@ put_of_data p v (Some w) h =
       | inr other ↦ let h' = rw other at h in absurd (none-some v h')
     ]
 
-pub written_cases : (job : JobData) (p i v : ℕ) (r : Request) → written job p i r ≡ Some v → (p ≡ counter_place job i) ⊎ (r.put ≡ Some (p, v))
+pub written_cases : (job : JobData) (p i v : ℕ) (r : Request) → written job p i r ≡ Some v → ((p ≡ counter_place job i) × (v ≡ r.next)) ⊎ (r.put ≡ Some (p, v))
 written_cases job p i v r writes =
     elim (cases_Bool (eqb p (counter_place job i))) [
-      | inl same ↦ inl (eqb-true p (counter_place job i) same)
+      | inl same ↦ (let h = rw same at writes in inl (eqb-true p (counter_place job i) same, sym (same_Some r.next v h)))
       | inr away ↦ let h = rw away at writes in inr (put_of_data p v r.put h)
     ]
 
 pub put_of_written : (job : JobData) (cell i v : ℕ) (r : Request) → cell < job.cells → written job cell i r ≡ Some v → r.put ≡ Some (cell, v)
-put_of_written job cell i v r low writes = elim (written_cases job cell i v r writes) [ inl counter ↦ absurd (omega arith) | inr puts ↦ puts ]
+put_of_written job cell i v r low writes = elim (written_cases job cell i v r writes) [ inl counter ↦ absurd (let c = counter.0 in omega arith) | inr puts ↦ puts ]
 
 -- each processor's write to a cell is its data
 pub Puts-from_Writes : (job : JobData) (requests : List Request) (cell i v : ℕ) → cell < job.cells → Writes job requests cell i v → Puts requests cell i v
 Puts-from_Writes job requests cell i v low w = record { request = w.request; asked = w.asked; puts = put_of_written job cell i v w.request low w.writes }
 
 pub Writes-from_Puts : (job : JobData) (requests : List Request) (cell i v : ℕ) → cell < job.cells → Puts requests cell i v → Writes job requests cell i v
-Writes-from_Puts job requests cell i v low p = record { request = p.request; asked = p.asked; writes = written_of_put job cell i v p.request low p.puts }
+Writes-from_Puts job requests cell i v low p = record { request = p.request; asked = p.asked; writes = written_of_put job cell i v p.request (λ same. omega arith) p.puts }

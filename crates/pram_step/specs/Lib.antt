@@ -1,8 +1,8 @@
 pub mod Machine
+pub mod Instructions
 pub mod Steps
 pub mod Runs
-pub mod Marks
-pub mod Faults
-pub mod Outcomes
-pub mod Laws
+pub mod History
 pub mod Orders
+pub mod Laws
+pub mod Inner

@@ -1,11 +1,11 @@
 -- A step whose processors are looked at in an order of one's own.
-use Rattle.std.specs.Prelude.{ℕ, ◌<◌, List, [], ◌∷◌, length, map, slice_get, slice_index, Option, Some, None, nat_le, if◌then◌else◌}
-use Rattle.std.specs.List.{range_with_len, Contains}
-use Rattle.std.specs.Option.{option_or, option_map, unwrap_or}
+use Rattle.std.specs.Prelude.{ℕ, ◌<◌, List, [], ◌∷◌, slice_get, Option, Some, None, nat_le, if◌then◌else◌}
+use Rattle.std.specs.List.{Contains}
+use Rattle.std.specs.Option.{option_or, option_map}
 use Rattle.pram_text.specs.Job.{JobData}
 use Rattle.pram_step.specs.declared.requests.Request.{Request}
 use Rattle.pram_step.specs.Machine.{State}
-use Rattle.pram_step.specs.Steps.{written}
+use Rattle.pram_step.specs.Steps.{written, given}
 
 -- each processor stands in the order, at least once
 abbrev pub HasAll : JobData → List ℕ → Type 0
@@ -23,7 +23,7 @@ first_found job requests p (i ∷ order) = option_or (written_by job requests p 
 
 -- each place takes what the first writer that is found gives it
 unfoldable pub after_first_found : JobData → List Request → List ℕ → State → State
-after_first_found job requests order s = map (λ p. unwrap_or (first_found job requests p order) (slice_index s p)) (range_with_len 0 (length s))
+after_first_found job requests order s = given (λ p. first_found job requests p order) s
 
 -- ---- the least writer that is found
 
@@ -39,13 +39,13 @@ least_found job requests p (i ∷ order) = lesser (option_map (λ v. (i, v)) (wr
 
 -- each place takes what the least writer that is found gives it
 unfoldable pub after_least_found : JobData → List Request → List ℕ → State → State
-after_least_found job requests order s = map (λ p. unwrap_or (option_map (λ w. w.1) (least_found job requests p order)) (slice_index s p)) (range_with_len 0 (length s))
+after_least_found job requests order s = given (λ p. option_map (λ w. w.1) (least_found job requests p order)) s
 
 -- ---- one processor after another
 
 -- processor i has written what it asked for
 unfoldable pub after_writes_of : JobData → List Request → ℕ → State → State
-after_writes_of job requests i s = map (λ p. unwrap_or (written_by job requests p i) (slice_index s p)) (range_with_len 0 (length s))
+after_writes_of job requests i s = given (λ p. written_by job requests p i) s
 
 -- the processors of the order have written one after another, each what it asked for before all of them
 unfoldable pub after_in_turn : JobData → List Request → List ℕ → State → State

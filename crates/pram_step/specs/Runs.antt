@@ -1,10 +1,15 @@
--- The state after t steps, the first conflict, and the answer of a job.
-use Rattle.std.specs.Prelude.{◌≡◌, ℕ, zero, suc, ◌+◌, ◌<◌, ◌≤◌, take}
+-- The state after t steps, the first conflict, and what a job ends with.
+use Rattle.std.specs.Prelude.{◌≡◌, ℕ, zero, suc, ◌+◌, ◌<◌, ◌≤◌, List, take}
 use Rattle.pram_text.specs.Job.{JobData}
+use Rattle.pram_step.specs.declared.answer.Dispute.{Dispute}
 use Rattle.pram_step.specs.declared.answer.Fault.{Fault}
 use Rattle.pram_step.specs.declared.answer.RunAnswer.{RunAnswer}
-use Rattle.pram_step.specs.declared.answer.RunAnswer.TheVariants.{Final, Conflict, Unfinished}
-use Rattle.pram_step.specs.Machine.{State, start, requests_of}
+use Rattle.pram_step.specs.declared.answer.RunAnswer.TheVariants as answer
+use Rattle.pram_step.specs.declared.requests.Request.{Request}
+use Rattle.pram_step.specs.declared.run.Outcome.{Outcome}
+use Rattle.pram_step.specs.declared.run.Outcome.TheVariants as outcome
+use Rattle.pram_step.specs.Machine.{State, start}
+use Rattle.pram_step.specs.Instructions.{requests_in}
 use Rattle.pram_step.specs.Steps.{Agrees, IsDispute, next_state}
 
 -- the state after t steps, as far as they agree
@@ -12,23 +17,47 @@ unfoldable pub state_after : JobData → ℕ → State
 state_after job zero = start job
 state_after job (suc t) = next_state job (state_after job t)
 
--- step t + 1, from the state after t steps, agrees
+-- the requests of the step behind t steps
+abbrev pub requests_after : JobData → ℕ → List Request
+requests_after job t = requests_in job (state_after job t)
+
+-- that step agrees
 abbrev pub AgreesAfter : JobData → ℕ → Type 0
-AgreesAfter job t = Agrees job (requests_of job (state_after job t))
+AgreesAfter job t = Agrees job (requests_after job t)
 
 -- there is a state after t steps: the steps up to t agree
 abbrev pub IsReached : JobData → ℕ → Type 0
 IsReached job t = (s : ℕ) → s < t → AgreesAfter job s
 
--- the first step that doesn't agree, with its details
+-- and it is this one
+pub record IsStateAfter (job : JobData) (t : ℕ) (s : State) : Type 0 where
+  pub reached : IsReached job t
+  pub state : s ≡ state_after job t
+
+-- the dispute of the step that a fault names
+abbrev pub dispute_of : Fault → Dispute
+dispute_of fault = record { cell = fault.cell; first = fault.first; second = fault.second }
+
+-- the first step that doesn't agree, with its dispute
 pub record IsFirstConflict (job : JobData) (fault : Fault) : Type 0 where
   pub before : ℕ
   pub step : fault.step ≡ before + 1
   pub reached : IsReached job before
-  pub dispute : IsDispute job (requests_of job (state_after job before)) (record { cell = fault.cell; first = fault.first; second = fault.second })
+  pub dispute : IsDispute job (requests_after job before) (dispute_of fault)
 
--- The cells after the last step, or the first conflict up to it.
+-- and it is one of the job's steps
+pub record IsFault (job : JobData) (fault : Fault) : Type 0 where
+  pub first : IsFirstConflict job fault
+  pub within : fault.step ≤ job.steps
+
+-- The state after the job's last step, or its first conflict.
+abbrev pub IsOutcome : JobData → Outcome → Type 0
+IsOutcome job (outcome.Final s) = IsStateAfter job job.steps s
+IsOutcome job (outcome.Conflict step cell first second) =
+    IsFault job (record { step = step; cell = cell; first = first; second = second })
+
+-- The same, of the state its cells alone.
 abbrev pub IsAnswer : JobData → RunAnswer → Type 0
-IsAnswer job (Final cells) = IsReached job job.steps × (cells ≡ take job.cells (state_after job job.steps))
-IsAnswer job (Conflict fault) = IsFirstConflict job fault × (fault.step ≤ job.steps)
-IsAnswer job (Unfinished step) = ⊥
+IsAnswer job (answer.Final cells) = (s : State) × IsStateAfter job job.steps s × (cells ≡ take job.cells s)
+IsAnswer job (answer.Conflict fault) = IsFault job fault
+IsAnswer job (answer.Unfinished step) = ⊥

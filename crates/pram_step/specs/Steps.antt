@@ -1,5 +1,5 @@
 -- What a step does, and when it is against the rule. All is said of the list of requests, one of each processor.
-use Rattle.std.specs.Prelude.{◌≡◌, ◌≢◌, ℕ, ◌+◌, ◌<◌, ◌≤◌, ◌==◌, if◌then◌else◌, List, [], ◌∷◌, length, map, slice_get, slice_index, Option, Some, None, unwrap_or}
+use Rattle.std.specs.Prelude.{◌≡◌, ◌≢◌, ℕ, ◌+◌, ◌<◌, ◌≤◌, ◌==◌, if◌then◌else◌, List, [], ◌∷◌, length, map, slice_get, slice_index, Option, Some, None, unwrap_or, MatchOption}
 use Rattle.std.specs.List.{range_with_len}
 use Rattle.std.specs.Option.{option_or}
 use Rattle.pram_text.specs.declared.instr.Rule.{Rule}
@@ -7,7 +7,10 @@ use Rattle.pram_text.specs.declared.instr.Rule.TheVariants.{Common, Priority, Cr
 use Rattle.pram_text.specs.Job.{JobData}
 use Rattle.pram_step.specs.declared.answer.Dispute.{Dispute}
 use Rattle.pram_step.specs.declared.requests.Request.{Request}
-use Rattle.pram_step.specs.Machine.{State, counter_place, requests_of}
+use Rattle.pram_step.specs.declared.state.StepFault.{StepFault}
+use Rattle.pram_step.specs.declared.state.StepFault.TheVariants.{Conflict, Memory}
+use Rattle.pram_step.specs.Machine.{State, counter_place}
+use Rattle.pram_step.specs.Instructions.{requests_in}
 
 -- what processor i writes to a place; its next counter is a write to its counter's place
 abbrev pub written : JobData → ℕ → ℕ → Request → Option ℕ
@@ -40,12 +43,22 @@ pub record Clashes (job : JobData) (requests : List Request) (cell i j : ℕ) : 
 abbrev pub Agrees : JobData → List Request → Type 0
 Agrees job requests = (cell i j : ℕ) → Clashes job requests cell i j → ⊥
 
--- The least disputed cell, its least writer, and the least writer that clashes with that one.
+-- The dispute of a step that does not agree: the least cell in which two clash, its least writer, and the least that clashes with that one.
 pub record IsDispute (job : JobData) (requests : List Request) (d : Dispute) : Type 0 where
   pub clash : Clashes job requests d.cell d.first d.second
   pub least_cell : (cell i j : ℕ) → Clashes job requests cell i j → d.cell ≤ cell
   pub least_first : (i v : ℕ) → Writes job requests d.cell i v → d.first ≤ i
   pub least_second : (j : ℕ) → Clashes job requests d.cell d.first j → d.second ≤ j
+
+-- they agree, or this is their dispute
+abbrev pub IsVerdict : JobData → List Request → Option Dispute → Type 0
+IsVerdict job requests found = MatchOption found (Agrees job requests) (IsDispute job requests)
+
+-- A step that is refused is in conflict, by its dispute. Want of memory says nothing of the requests.
+abbrev pub IsStepFault : JobData → List Request → StepFault → Type 0
+IsStepFault job requests (Conflict cell first second) =
+    IsDispute job requests (record { cell = cell; first = first; second = second })
+IsStepFault job requests Memory = Unit {0}
 
 -- ---- the next state
 
@@ -66,9 +79,13 @@ abbrev pub first_written : JobData → ℕ → ℕ → List Request → Option �
 first_written job p i [] = None
 first_written job p i (r ∷ rs) = option_or (written job p i r) (first_written job p (i + 1) rs)
 
+-- each place holds what it is given, or else what it held
+abbrev pub given : (ℕ → Option ℕ) → State → State
+given values s = map (λ p. unwrap_or (values p) (slice_index s p)) (range_with_len 0 (length s))
+
 -- The one next state where the step agrees, as a function of all states.
 unfoldable pub after_requests : JobData → List Request → State → State
-after_requests job requests s = map (λ p. unwrap_or (first_written job p 0 requests) (slice_index s p)) (range_with_len 0 (length s))
+after_requests job requests s = given (λ p. first_written job p 0 requests) s
 
 abbrev pub next_state : JobData → State → State
-next_state job s = after_requests job (requests_of job s) s
+next_state job s = after_requests job (requests_in job s) s

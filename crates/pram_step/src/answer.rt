@@ -1,5 +1,6 @@
 //! What a run answers.
-ghost use Rattle.std.specs.Prelude.{◌≡◌, ℕ, List};
+ghost use Rattle.std.specs.Prelude.{◌≡◌};
+ghost use Rattle.pram_step.specs.Runs.{dispute_of};
 
 use std::marker::Model;
 
@@ -11,13 +12,34 @@ pub struct Dispute {
     pub second: u32,
 }
 
-/// The first step that is against the rule, counted from 1, the least cell that is disputed in it, and its two processors.
+/// The first step that is against the rule, counted from 1, the least cell that is disputed in it,
+/// and its two processors.
 #[derive(Clone, Copy, Debug, PartialEq, Eq)]
 pub struct Fault {
     pub step: u32,
     pub cell: u32,
     pub first: u32,
     pub second: u32,
+}
+
+impl Dispute {
+    /// The fault of the step that has this dispute.
+    pub(crate) fn in_step(self, step: u32) -> Fault
+        ensures dispute { dispute_of result ≡ self }
+        ensures step { result.step ≡ step }
+    {
+        let Dispute {
+            cell,
+            first,
+            second,
+        } = self;
+        Fault {
+            step,
+            cell,
+            first,
+            second,
+        }
+    }
 }
 
 /// What the cells hold, cell 0 first.
@@ -27,6 +49,8 @@ pub struct Cells {
 }
 
 impl Model for Cells {
+    ghost use Rattle.std.specs.Prelude.{List, ℕ};
+
     ghost Value = { List ℕ };
 
     ghost view = { λ c. c.values.items };

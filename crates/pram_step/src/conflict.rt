@@ -1,22 +1,26 @@
 //! Which step is against the rule, and who disputes what in it.
-ghost use Rattle.std.specs.Prelude.{◌≡◌, ◌≢◌, ℕ, ◌+◌, ◌<◌, ◌≤◌, length, take, IfOk, MatchOption, MatchBool};
-ghost use Rattle.pram_step.specs.Steps.{Forbids, Agrees, IsDispute};
-ghost use Rattle.pram_step.specs.Marks.{PutsFirst, PutsNone, AreMarked, IsVerdict};
+ghost use Rattle.std.specs.Prelude.{◌≡◌, ◌≢◌, ℕ, ◌+◌, ◌<◌, ◌≤◌, length, take};
+ghost use Rattle.std.specs.Prelude.{IfOk, MatchOption, MatchBool};
+ghost use Rattle.pram_step.specs.Steps.{Forbids};
+ghost use Rattle.pram_step.specs.Inner.Marks.{PutsFirst, PutsNone, AreMarked};
+ghost use Rattle.pram_step.specs.Steps.{IsVerdict};
 
 use crate::answer::Dispute;
 use crate::requests::Request;
 use pram_text::{Job, Rule};
 use std::alloc::{AllocError, Global};
 
-/// What two of these requests dispute, one request being of each processor, in their order: the least disputed cell, its
-/// least writer, and the least writer that may not write beside that one. With rule priority there is none.
+/// What two of these requests dispute, one request being of each processor, in their order: the
+/// least disputed cell, its least writer, and the least writer that may not write beside that one.
+/// With rule priority there is none. It costs time in the number of processors, and memory for a
+/// mark of each cell.
 pub fn dispute(
     alloc: Global,
     job: &Job,
     requests: &[Request],
 ) -> Result<Option<Dispute>, AllocError>
     requires { length requests.now ≡ job.now.procs }
-    ensures { IfOk result (λ found. MatchOption found (Agrees job.now requests.now) (IsDispute job.now requests.now)) }
+    ensures { IfOk result (IsVerdict job.now requests.now) }
 {
     let mut marks = vec![in alloc; 0; job.cells() as usize]?;
     let mut found = None;
@@ -26,8 +30,8 @@ pub fn dispute(
     Ok(found)
 }
 
-/// The dispute so far, this processor's request being looked at too. The marks are those of the requests before it, and
-/// then of this one too.
+/// The dispute so far, this processor's request being looked at too. The marks are those of the
+/// requests before it, and then of this one too.
 pub(crate) fn judge(
     job: &Job,
     requests: &[Request],
@@ -66,8 +70,8 @@ pub(crate) fn judge(
     }
 }
 
-/// The least of the processors before this one that writes to the cell, and its value. A mark of a step before says
-/// nothing, and is told by what the processor that it names asks for now.
+/// The least of the processors before this one that writes to the cell, and its value. A mark of a
+/// step before says nothing, and is told by what the processor that it names asks for now.
 fn earlier_writer(
     requests: &[Request],
     marks: &[u32],
@@ -77,7 +81,8 @@ fn earlier_writer(
     requires processor { processor ≤ length requests.now }
     requires cell { cell < length marks.now }
     requires marked { AreMarked (length marks.now) (take processor requests.now) marks.now }
-    ensures { MatchOption result (PutsNone (take processor requests.now) cell) (λ w. PutsFirst (take processor requests.now) cell w.0 w.1) }
+    ensures { MatchOption result (PutsNone (take processor requests.now) cell)
+        (λ w. PutsFirst (take processor requests.now) cell w.0 w.1) }
 {
     let first = marks[cell as usize];
     if first >= processor {
@@ -94,7 +99,8 @@ fn earlier_writer(
 
 /// Whether the rule forbids that two processors write these values to one cell.
 fn is_forbidden(rule: Rule, first: u32, second: u32) -> bool
-    ensures { MatchBool result ((i j : ℕ) → i ≢ j → Forbids rule i first j second) ((i j : ℕ) → i ≢ j → Forbids rule i first j second → ⊥) }
+    ensures { MatchBool result ((i j : ℕ) → i ≢ j → Forbids rule i first j second)
+        ((i j : ℕ) → i ≢ j → Forbids rule i first j second → ⊥) }
 {
     match rule {
         Rule::Common => first != second,

@@ -3,6 +3,7 @@
 
 mod answer;
 mod conflict;
+mod instructions;
 pub mod laws;
 mod pass;
 mod requests;
@@ -13,6 +14,7 @@ mod tests;
 
 pub use answer::{Cells, Dispute, Fault, RunAnswer};
 pub use conflict::dispute;
-pub use requests::Request;
+pub use instructions::{Operands, cell_read, decided, goes_to, operands_of};
+pub use requests::{Request, place_part, value_part};
 pub use run::{Outcome, plain_answer, run_plain};
 pub use state::{State, StepFault, request, step};

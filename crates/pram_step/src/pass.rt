@@ -1,18 +1,21 @@
 //! The two passes of a step over the processors: what they ask for, and what of it is done.
-ghost use Rattle.std.specs.Prelude.{◌≡◌, ℕ, ◌+◌, ◌<◌, List, length, take, slice_set, IfOk, IfErr, OnOk, OnErr};
+ghost use Rattle.std.specs.Prelude.{◌≡◌, ℕ, ◌+◌, ◌<◌, List, length, take, slice_set};
+ghost use Rattle.std.specs.Prelude.{IfOk, IfErr, OnOk, OnErr};
 ghost use Rattle.std.specs.Bool.{OnFalse};
-ghost use Rattle.pram_step.specs.Machine.{place_count, start, requests_of};
-ghost use Rattle.pram_step.specs.Steps.{Agrees, IsDispute, IsNext, after_requests, next_state};
-ghost use Rattle.pram_step.specs.Faults.{IsRun};
-ghost use Rattle.pram_step.specs.Marks.{AreMarked, AreOwn, IsVerdict};
+ghost use Rattle.pram_step.specs.Machine.{place_count, start};
+ghost use Rattle.pram_step.specs.Instructions.{requests_in};
+ghost use Rattle.pram_step.specs.Steps.{Agrees, IsDispute, IsNext, next_state};
+ghost use Rattle.pram_step.specs.Inner.Marks.{AreMarked, AreOwn, IsRun, ObeysNext, BringsNext};
+ghost use Rattle.pram_step.specs.Steps.{IsVerdict};
 
 use crate::answer::{Dispute, Fault};
 use crate::conflict::judge;
 use crate::requests::{Request, request_in};
 use pram_text::Job;
 
-/// Makes all steps of the job from its start, or those up to the first that is against the rule, which it answers. After a
-/// step that changes nothing the later ones change nothing either, so they are left out.
+/// Makes all steps of the job from its start, or those up to the first that is against the rule,
+/// which it answers. After a step that changes nothing the later ones change nothing either, so
+/// they are left out.
 pub(crate) fn make_steps(
     job: &Job,
     places: &mut [u32],
@@ -28,21 +31,14 @@ pub(crate) fn make_steps(
         match advance(job, places, requests, marks) {
             Ok(true) => {}
             Ok(false) => return None,
-            Err(dispute) => {
-                return Some(Fault {
-                    step: done + 1,
-                    cell: dispute.cell,
-                    first: dispute.first,
-                    second: dispute.second,
-                });
-            }
+            Err(dispute) => return Some(dispute.in_step(done + 1)),
         }
     }
     None
 }
 
-/// Makes a step where it agrees, and otherwise answers the dispute. `Ok(false)` comes only where nothing changed. The old
-/// requests and marks may be anything.
+/// Makes a step where it agrees, and otherwise answers the dispute. `Ok(false)` comes only where
+/// nothing changed. The old requests and marks may be anything.
 pub(crate) fn advance(
     job: &Job,
     places: &mut [u32],
@@ -52,11 +48,12 @@ pub(crate) fn advance(
     requires places { length places.old ≡ place_count job.now }
     requires requests { length requests.old ≡ job.now.procs }
     requires marks { length marks.old ≡ job.now.cells }
-    ensures agrees { OnOk result (Agrees job.now (requests_of job.now places.old)) }
+    ensures agrees { OnOk result (Agrees job.now (requests_in job.now places.old)) }
     ensures next { OnOk result (places.new ≡ next_state job.now places.old) }
-    ensures written { OnOk result (IsNext job.now (requests_of job.now places.old) places.old places.new) }
+    ensures written { OnOk result
+        (IsNext job.now (requests_in job.now places.old) places.old places.new) }
     ensures idle { IfOk result (λ changed. OnFalse changed (places.new ≡ places.old)) }
-    ensures dispute { IfErr result (λ dispute. IsDispute job.now (requests_of job.now places.old) dispute) }
+    ensures dispute { IfErr result (IsDispute job.now (requests_in job.now places.old)) }
     ensures unchanged { OnErr result (places.new ≡ places.old) }
 {
     match ask(job, places, requests, marks) {
@@ -75,10 +72,9 @@ pub(crate) fn ask(
     requires places { length places.now ≡ place_count job.now }
     requires requests { length requests.old ≡ job.now.procs }
     requires marks { length marks.old ≡ job.now.cells }
-    ensures requests { requests.new ≡ requests_of job.now places.now }
-    ensures own { AreOwn job.now requests.new }
+    ensures requests { requests.new ≡ requests_in job.now places.now }
     ensures marked { AreMarked job.now.cells requests.new marks.new }
-    ensures found { IsVerdict job.now requests.new result }
+    ensures found { IsVerdict job.now (requests_in job.now places.now) result }
 {
     let mut found = None;
     for processor in 0..job.procs() {
@@ -88,14 +84,14 @@ pub(crate) fn ask(
     found
 }
 
-/// Does what the processors ask for, where the step agrees. The answer is false only if nothing changed.
+/// Does what the processors ask for. The answer is false only if nothing changed.
 pub(crate) fn apply(job: &Job, places: &mut [u32], requests: &[Request], marks: &[u32]) -> bool
     requires places { length places.old ≡ place_count job.now }
-    requires requests { length requests.now ≡ job.now.procs }
-    requires own { AreOwn job.now requests.now }
+    requires requests { requests.now ≡ requests_in job.now places.old }
     requires marks { length marks.now ≡ job.now.cells }
     requires marked { AreMarked job.now.cells requests.now marks.now }
-    ensures next { places.new ≡ after_requests job.now requests.now places.old }
+    ensures next { places.new ≡ next_state job.now places.old }
+    ensures written { BringsNext job.now places.old places.new }
     ensures idle { OnFalse result (places.new ≡ places.old) }
 {
     let mut changed = false;
@@ -105,7 +101,8 @@ pub(crate) fn apply(job: &Job, places: &mut [u32], requests: &[Request], marks: 
     changed
 }
 
-/// Does what one processor asks for: of several that write to a cell, only the least one's data goes there.
+/// Does what one processor asks for: of several that write to a cell, only the least one's data
+/// goes there.
 fn obey(job: &Job, places: &mut [u32], requests: &[Request], marks: &[u32], processor: u32) -> bool
     requires processor { processor < job.now.procs }
     requires places { length places.old ≡ place_count job.now }
@@ -113,7 +110,7 @@ fn obey(job: &Job, places: &mut [u32], requests: &[Request], marks: &[u32], proc
     requires own { AreOwn job.now requests.now }
     requires marks { length marks.now ≡ job.now.cells }
     requires marked { AreMarked job.now.cells requests.now marks.now }
-    ensures next { (start : List ℕ) → length start ≡ place_count job.now → places.old ≡ after_requests job.now (take processor requests.now) start → places.new ≡ after_requests job.now (take (processor + 1) requests.now) start }
+    ensures next { ObeysNext job.now requests.now processor places.old places.new }
     ensures idle { OnFalse result (places.new ≡ places.old) }
 {
     let request = requests[processor as usize];

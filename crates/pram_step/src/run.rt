@@ -1,7 +1,7 @@
 //! A whole run, and its answer.
 ghost use Rattle.std.specs.Prelude.{◌≡◌, IfOk};
-ghost use Rattle.pram_step.specs.Runs.{IsAnswer};
-ghost use Rattle.pram_step.specs.Outcomes.{IsOutcome, answer_of};
+ghost use Rattle.pram_step.specs.Runs.{IsOutcome, IsAnswer};
+ghost use Rattle.pram_step.specs.declared.run.Outcome.TheVariants.{Conflict};
 
 use crate::answer::{Fault, RunAnswer};
 use crate::state::State;
@@ -13,7 +13,8 @@ use std::alloc::{AllocError, Global};
 pub enum Outcome {
     /// All steps were made, and lead to this state.
     Final(State),
-    /// This step, counted from 1, is the first that is against the rule. Its least disputed cell, and two processors.
+    /// This step, counted from 1, is the first that is against the rule. Its least disputed cell,
+    /// and two processors.
     Conflict {
         step: u32,
         cell: u32,
@@ -22,51 +23,41 @@ pub enum Outcome {
     },
 }
 
-impl Outcome {
-    /// The answer that this is: of a state only the cells are shown. Takes no memory.
-    pub fn into_answer(self, job: &Job) -> RunAnswer
-        ensures { result ≡ answer_of job.now self }
-    {
-        match self {
-            Outcome::Final(state) => RunAnswer::Final(state.into_cells(job)),
-            Outcome::Conflict {
-                step,
-                cell,
-                first,
-                second,
-            } => RunAnswer::Conflict(Fault {
-                step,
-                cell,
-                first,
-                second,
-            }),
+impl From<Fault> for Outcome {
+    ghost from_gives = { λ f outcome. outcome ≡ Conflict f.step f.cell f.first f.second };
+
+    fn from(fault: Fault) -> Self {
+        Outcome::Conflict {
+            step: fault.step,
+            cell: fault.cell,
+            first: fault.first,
+            second: fault.second,
         }
     }
 }
 
 /// Runs the job on the plain machine, processor after processor and step after step.
 ///
-/// It takes memory once. A step costs time in the number of processors, and once one changes nothing the outcome is
-/// there at once, whatever number of steps is left.
+/// It takes memory once. A step costs time in the number of processors, and once one changes
+/// nothing the outcome is there at once, whatever number of steps is left.
 pub fn run_plain(alloc: Global, job: &Job) -> Result<Outcome, AllocError>
     ensures { IfOk result (IsOutcome job.now) }
 {
     let mut state = State::start(alloc, job)?;
     match state.run(alloc, job)? {
         None => Ok(Outcome::Final(state)),
-        Some(fault) => Ok(Outcome::Conflict {
-            step: fault.step,
-            cell: fault.cell,
-            first: fault.first,
-            second: fault.second,
-        }),
+        Some(fault) => Ok(Outcome::from(fault)),
     }
 }
 
-/// The answer of the job: the cells after its last step, or its first conflict.
+/// The answer of the job: the cells after its last step, or its first conflict. It costs what
+/// `run_plain` does.
 pub fn plain_answer(alloc: Global, job: &Job) -> Result<RunAnswer, AllocError>
     ensures { IfOk result (IsAnswer job.now) }
 {
-    let outcome = run_plain(alloc, job)?;
-    Ok(outcome.into_answer(job))
+    let mut state = State::start(alloc, job)?;
+    match state.run(alloc, job)? {
+        None => Ok(RunAnswer::Final(state.into_cells(job))),
+        Some(fault) => Ok(RunAnswer::Conflict(fault)),
+    }
 }

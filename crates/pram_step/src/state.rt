@@ -1,9 +1,11 @@
 //! The places of the machine, and a step.
-ghost use Rattle.std.specs.Prelude.{◌≡◌, ◌<◌, length, take, slice_index, vec_len, IfOk, OnOk, OnErr, IfErr};
-ghost use Rattle.pram_step.specs.Machine.{place_count, start, request_of, requests_of};
-ghost use Rattle.pram_step.specs.Faults.{IsStepFault, IsRun};
+ghost use Rattle.std.specs.Prelude.{◌≡◌, ◌<◌, length, take, slice_index, vec_len};
+ghost use Rattle.std.specs.Prelude.{IfOk, OnOk, OnErr, IfErr};
+ghost use Rattle.pram_step.specs.Machine.{place_count, start};
+ghost use Rattle.pram_step.specs.Instructions.{request_in, requests_in};
 ghost use Rattle.pram_step.specs.declared.state.StepFault.TheVariants.{Conflict, Memory};
-ghost use Rattle.pram_step.specs.Steps.{Agrees, next_state, IsNext};
+ghost use Rattle.pram_step.specs.Steps.{Agrees, IsStepFault, next_state, IsNext};
+ghost use Rattle.pram_step.specs.Inner.Marks.{IsRun};
 
 use crate::answer::{Cells, Dispute, Fault};
 use crate::pass::{advance, make_steps};
@@ -12,9 +14,11 @@ use pram_text::Job;
 use std::alloc::{AllocError, Global};
 use std::marker::Model;
 
-/// What each place of the machine holds: the cells, then four registers of each processor, then the counter of each.
+/// What each place of the machine holds: the cells, then four registers of each processor, then the
+/// counter of each.
 ///
-/// Contracts see it as this list. It keeps room for the requests of a step, which its first step takes.
+/// Contracts see it as this list. It keeps room for the requests of a step and for a mark of each
+/// cell, which its first step takes.
 #[derive(Debug, Drop)]
 pub struct State {
     places: Vec<u32>,
@@ -69,7 +73,8 @@ impl State {
         Cells::new(places)
     }
 
-    /// Makes all steps of the job from its start, or those up to the first that is against the rule, which it answers.
+    /// Makes all steps of the job from its start, or those up to the first that is against the
+    /// rule, which it answers.
     pub(crate) fn run(&mut self, alloc: Global, job: &Job) -> Result<Option<Fault>, AllocError>
         requires { self.old ≡ start job.now }
         ensures { IfOk result (IsRun job.now self.new) }
@@ -83,7 +88,7 @@ impl State {
 pub fn request(job: &Job, state: &State, processor: u32) -> Request
     requires processor { processor < job.now.procs }
     requires places { length state.now ≡ place_count job.now }
-    ensures { result ≡ request_of job.now state.now processor }
+    ensures { result ≡ request_in job.now state.now processor }
 {
     request_in(job, &state.places, processor)
 }
@@ -99,15 +104,17 @@ pub enum StepFault {
 
 /// Makes a step of the machine. After a fault the state is as before.
 ///
-/// It costs time in the number of processors, whatever the number of cells is. The first step of a state takes memory for
-/// the requests and for a mark of each cell, later ones of the same job take none.
+/// It costs time in the number of processors, whatever the number of cells is. The first step of a
+/// state takes memory for the requests and for a mark of each cell, later ones of the same job take
+/// none.
 pub fn step(alloc: Global, job: &Job, state: &mut State) -> Result<(), StepFault>
     requires { length state.old ≡ place_count job.now }
-    ensures agrees { OnOk result (Agrees job.now (requests_of job.now state.old)) }
+    ensures agrees { OnOk result (Agrees job.now (requests_in job.now state.old)) }
     ensures next { OnOk result (state.new ≡ next_state job.now state.old) }
-    ensures written { OnOk result (IsNext job.now (requests_of job.now state.old) state.old state.new) }
+    ensures written { OnOk result
+        (IsNext job.now (requests_in job.now state.old) state.old state.new) }
     ensures len { length state.new ≡ length state.old }
-    ensures conflict { IfErr result (IsStepFault job.now (requests_of job.now state.old)) }
+    ensures conflict { IfErr result (IsStepFault job.now (requests_in job.now state.old)) }
     ensures unchanged { OnErr result (state.new ≡ state.old) }
 {
     make_room(alloc, job, &mut state.requests, &mut state.marks)?;

@@ -1,94 +1,260 @@
 use super::*;
-use pram_text::read_job;
+use pram_text::{Job, read_job};
+use std::process::Abort;
 use std::test::Fail;
 
-// What the job that a text spells ends with.
-fn end(rt: &impl AllocGlobal, text: &str) -> Result<RunAnswer, Fail> {
-    let job = read_job(rt.alloc(), text.as_bytes())?;
-    Ok(plain_answer(rt.alloc(), &job)?)
+fn job<R: AllocGlobal>(rt: &R, text: &str) -> Result<Job, Fail> {
+    Ok(read_job(rt.alloc(), text.as_bytes())?)
 }
 
-#[test]
-fn jobs_with_final_cells(rt: HostRuntime) -> Result<(), Fail> {
-    let jobs: [(&str, &[u32]); 6] = [
-        (
-            "pram 1\ncells 1\nprocs 1\nsteps 0\ninit 0 5\ncode\nhalt\n",
-            &[5],
-        ),
-        (
-            "pram 1\ncells 2\nprocs 2\nsteps 5\ninit 0 7\ninit 1 9\ncode\npid r0\nset r1 1\nsub r1 r1 r0\nld r2 r1\nst r0 r2\n",
-            &[9, 7],
-        ),
-        (
-            "pram 1\ncells 1\nprocs 1\nsteps 3\ncode\nset r1 1\nsub r2 r0 r1\nst r0 r2\n",
-            &[4294967295],
-        ),
-        (
-            "pram 1\ncells 2\nprocs 2\nsteps 5\ninit 0 5\ninit 1 9\ncode\npid r0\nset r1 1\nadd r2 r0 r1\nld r3 r2\nst r0 r3\n",
-            &[9, 9],
-        ),
-        (
-            "pram 1\ncells 1\nprocs 1\nsteps 6\ncode\nset r1 1\nl: add r2 r2 r1\nst r0 r2\njmp l\n",
-            &[2],
-        ),
-        (
-            "pram 1\ncells 2\nprocs 3\nsteps 4294967295\ncode\npid r0\nhalt\n",
-            &[0, 0],
-        ),
-    ];
-    for (text, cells) in jobs {
-        match end(&rt, text)? {
-            RunAnswer::Final(found) => assert_eq!(rt; found.as_slice(), cells, "{text}"),
-            _ => panic!(rt; "{text}"),
+// Checks that the job ends with these cells.
+fn ends<R: AllocGlobal + Abort>(rt: &R, text: &str, cells: &[u32]) -> Result<(), Fail> {
+    let job = job(rt, text)?;
+    match plain_answer(rt.alloc(), &job)? {
+        RunAnswer::Final(found) => assert_eq!(rt; found.as_slice(), cells),
+        _ => panic!(rt; "{text}"),
+    }
+    match run_plain(rt.alloc(), &job)? {
+        Outcome::Final(state) => {
+            assert_eq!(rt; state.into_cells(&job).into_vec().as_slice(), cells);
         }
+        _ => panic!(rt; "{text}"),
     }
     Ok(())
 }
 
-// Processors 1 and 3 write to cell 4 in step 5.
-#[test]
-fn one_cell_under_each_rule(rt: HostRuntime) -> Result<(), Fail> {
-    let jobs = [
-        ("common", "r1", None),
-        ("common", "r0", Some((1, 3))),
-        ("priority", "r0", None),
-        ("crew", "r1", Some((1, 3))),
-    ];
-    for (rule, value, disputed) in jobs {
-        let text = format!(in rt.alloc();
-            "pram 2\ncells 5\nprocs 4\nsteps 5\nrule {rule}\ninit 1 1\ninit 3 1\ncode\npid r0\nld r1 r0\njz r1 end\nset r2 4\nst r2 {value}\nend: halt\n"
-        )?;
-        match (end(&rt, text.as_str())?, disputed) {
-            (RunAnswer::Final(cells), None) => {
-                assert_eq!(rt;
-                    cells.into_vec().as_slice(),
-                    [0, 1, 0, 1, 1].as_slice(),
-                    "{rule}"
-                );
-            }
-            (RunAnswer::Conflict(fault), Some((first, second))) => {
-                assert_eq!(rt;
-                    fault,
-                    Fault {
-                        step: 5,
-                        cell: 4,
-                        first,
-                        second
-                    },
-                    "{rule}"
-                );
-            }
-            _ => panic!(rt; "{rule}"),
+// Checks that the job ends with this first conflict.
+fn conflicts<R: AllocGlobal + Abort>(rt: &R, text: &str, fault: Fault) -> Result<(), Fail> {
+    let job = job(rt, text)?;
+    match plain_answer(rt.alloc(), &job)? {
+        RunAnswer::Conflict(found) => assert_eq!(rt; found, fault),
+        _ => panic!(rt; "{text}"),
+    }
+    match run_plain(rt.alloc(), &job)? {
+        Outcome::Conflict {
+            step,
+            cell,
+            first,
+            second,
+        } => {
+            let found = Fault {
+                step,
+                cell,
+                first,
+                second,
+            };
+            assert_eq!(rt; found, fault);
         }
+        _ => panic!(rt; "{text}"),
     }
     Ok(())
 }
 
 #[test]
-fn steps_one_by_one(rt: HostRuntime) -> Result<(), Fail> {
-    let text =
-        "pram 1\ncells 2\nprocs 4\nsteps 4\ncode\npid r0\nset r1 1\nand r2 r0 r1\nst r2 r0\n";
-    let job = read_job(rt.alloc(), text.as_bytes())?;
+fn no_steps_leave_the_start(rt: HostRuntime) -> Result<(), Fail> {
+    let text = "pram 1\ncells 1\nprocs 1\nsteps 0\ninit 0 5\ncode\n\
+        halt\n";
+    ends(&rt, text, &[5])
+}
+
+#[test]
+fn registers_are_no_cells(rt: HostRuntime) -> Result<(), Fail> {
+    let text = "pram 1\ncells 1\nprocs 1\nsteps 1\ncode\n\
+        set r0 7\n";
+    ends(&rt, text, &[0])
+}
+
+#[test]
+fn loads_come_before_stores(rt: HostRuntime) -> Result<(), Fail> {
+    let text = "pram 1\ncells 2\nprocs 2\nsteps 5\ninit 0 7\ninit 1 9\ncode\n\
+        pid r0\nset r1 1\nsub r1 r1 r0\nld r2 r1\nst r0 r2\n";
+    ends(&rt, text, &[9, 7])
+}
+
+#[test]
+fn two_writers_of_equal_values(rt: HostRuntime) -> Result<(), Fail> {
+    let text = "pram 1\ncells 5\nprocs 4\nsteps 5\ninit 1 1\ninit 3 1\ncode\n\
+        pid r0\nld r1 r0\njz r1 end\nset r2 4\nst r2 r1\nend: halt\n";
+    ends(&rt, text, &[0, 1, 0, 1, 1])
+}
+
+#[test]
+fn two_writers_of_different_values(rt: HostRuntime) -> Result<(), Fail> {
+    let text = "pram 1\ncells 5\nprocs 4\nsteps 5\ninit 1 1\ninit 3 1\ncode\n\
+        pid r0\nld r1 r0\njz r1 end\nset r2 4\nst r2 r0\nend: halt\n";
+    let fault = Fault {
+        step: 5,
+        cell: 4,
+        first: 1,
+        second: 3,
+    };
+    conflicts(&rt, text, fault)
+}
+
+#[test]
+fn least_of_two_disputed_cells(rt: HostRuntime) -> Result<(), Fail> {
+    let text = "pram 1\ncells 2\nprocs 4\nsteps 4\ncode\n\
+        pid r0\nset r1 1\nand r2 r0 r1\nst r2 r0\n";
+    let fault = Fault {
+        step: 4,
+        cell: 0,
+        first: 0,
+        second: 2,
+    };
+    conflicts(&rt, text, fault)
+}
+
+#[test]
+fn sub_goes_below_zero(rt: HostRuntime) -> Result<(), Fail> {
+    let text = "pram 1\ncells 1\nprocs 1\nsteps 3\ncode\n\
+        set r1 1\nsub r2 r0 r1\nst r0 r2\n";
+    ends(&rt, text, &[4294967295])
+}
+
+#[test]
+fn load_out_of_range(rt: HostRuntime) -> Result<(), Fail> {
+    let text = "pram 1\ncells 2\nprocs 2\nsteps 5\ninit 0 5\ninit 1 9\ncode\n\
+        pid r0\nset r1 1\nadd r2 r0 r1\nld r3 r2\nst r0 r3\n";
+    ends(&rt, text, &[9, 9])
+}
+
+#[test]
+fn three_processors_write_apart(rt: HostRuntime) -> Result<(), Fail> {
+    let text = "pram 1\ncells 3\nprocs 3\nsteps 4\ncode\n\
+        pid r0\nset r1 10\nadd r1 r0 r1\nst r0 r1\n";
+    ends(&rt, text, &[10, 11, 12])
+}
+
+#[test]
+fn cells_that_nobody_writes(rt: HostRuntime) -> Result<(), Fail> {
+    let text = "pram 1\ncells 3\nprocs 2\nsteps 3\ninit 2 8\ncode\n\
+        pid r0\nset r1 6\nst r0 r1\n";
+    ends(&rt, text, &[6, 6, 8])
+}
+
+#[test]
+fn least_of_three_writers(rt: HostRuntime) -> Result<(), Fail> {
+    let text = "pram 1\ncells 1\nprocs 3\nsteps 2\ncode\n\
+        pid r0\nst r1 r0\n";
+    let fault = Fault {
+        step: 2,
+        cell: 0,
+        first: 0,
+        second: 1,
+    };
+    conflicts(&rt, text, fault)
+}
+
+#[test]
+fn store_out_of_range(rt: HostRuntime) -> Result<(), Fail> {
+    let text = "pram 1\ncells 1\nprocs 2\nsteps 2\ncode\n\
+        pid r0\nst r0 r0\n";
+    ends(&rt, text, &[0])
+}
+
+#[test]
+fn mul_goes_past_the_greatest_number(rt: HostRuntime) -> Result<(), Fail> {
+    let text = "pram 1\ncells 1\nprocs 1\nsteps 4\ncode\n\
+        set r1 4294967295\nmul r2 r1 r1\nlt r3 r2 r1\nst r0 r3\n";
+    ends(&rt, text, &[1])
+}
+
+#[test]
+fn a_loop_counts(rt: HostRuntime) -> Result<(), Fail> {
+    let text = "pram 1\ncells 1\nprocs 1\nsteps 6\ncode\n\
+        set r1 1\nl: add r2 r2 r1\nst r0 r2\njmp l\n";
+    ends(&rt, text, &[2])
+}
+
+#[test]
+fn halted_machine_ends_at_once(rt: HostRuntime) -> Result<(), Fail> {
+    let text = "pram 1\ncells 2\nprocs 3\nsteps 4294967295\ncode\n\
+        pid r0\nhalt\n";
+    ends(&rt, text, &[0, 0])
+}
+
+#[test]
+fn common_takes_equal_values(rt: HostRuntime) -> Result<(), Fail> {
+    let text = "pram 2\ncells 5\nprocs 4\nsteps 5\nrule common\ninit 1 1\ninit 3 1\ncode\n\
+        pid r0\nld r1 r0\njz r1 end\nset r2 4\nst r2 r1\nend: halt\n";
+    ends(&rt, text, &[0, 1, 0, 1, 1])
+}
+
+#[test]
+fn priority_takes_the_least_writer(rt: HostRuntime) -> Result<(), Fail> {
+    let text = "pram 2\ncells 5\nprocs 4\nsteps 5\nrule priority\ninit 1 1\ninit 3 1\ncode\n\
+        pid r0\nld r1 r0\njz r1 end\nset r2 4\nst r2 r0\nend: halt\n";
+    ends(&rt, text, &[0, 1, 0, 1, 1])
+}
+
+#[test]
+fn priority_takes_the_least_writer_of_each_cell(rt: HostRuntime) -> Result<(), Fail> {
+    let text = "pram 2\ncells 2\nprocs 4\nsteps 4\nrule priority\ncode\n\
+        pid r0\nset r1 1\nand r2 r0 r1\nst r2 r0\n";
+    ends(&rt, text, &[0, 1])
+}
+
+#[test]
+fn crew_refuses_equal_values(rt: HostRuntime) -> Result<(), Fail> {
+    let text = "pram 2\ncells 5\nprocs 4\nsteps 5\nrule crew\ninit 1 1\ninit 3 1\ncode\n\
+        pid r0\nld r1 r0\njz r1 end\nset r2 4\nst r2 r1\nend: halt\n";
+    let fault = Fault {
+        step: 5,
+        cell: 4,
+        first: 1,
+        second: 3,
+    };
+    conflicts(&rt, text, fault)
+}
+
+#[test]
+fn crew_names_the_two_least_writers(rt: HostRuntime) -> Result<(), Fail> {
+    let text = "pram 2\ncells 1\nprocs 3\nsteps 1\nrule crew\ncode\n\
+        st r0 r1\n";
+    let fault = Fault {
+        step: 1,
+        cell: 0,
+        first: 0,
+        second: 1,
+    };
+    conflicts(&rt, text, fault)
+}
+
+#[test]
+fn load_out_of_range_stops_the_processor(rt: HostRuntime) -> Result<(), Fail> {
+    let text = "pram 1\ncells 2\nprocs 2\nsteps 5\ninit 0 5\ninit 1 9\ncode\n\
+        pid r0\nset r1 1\nadd r2 r0 r1\nld r3 r2\nst r0 r3\n";
+    let job = job(&rt, text)?;
+    assert_eq!(rt; job.cells(), 2);
+    assert_eq!(rt; job.procs(), 2);
+    let mut state = State::start(rt.alloc(), &job)?;
+    step(rt.alloc(), &job, &mut state)?;
+    step(rt.alloc(), &job, &mut state)?;
+    step(rt.alloc(), &job, &mut state)?;
+    assert_eq!(rt; state.get(11), 3);
+    step(rt.alloc(), &job, &mut state)?;
+    assert_eq!(rt; state.get(11), 6);
+    Ok(())
+}
+
+#[test]
+fn store_out_of_range_stops_the_processor(rt: HostRuntime) -> Result<(), Fail> {
+    let text = "pram 1\ncells 1\nprocs 2\nsteps 2\ncode\npid r0\nst r0 r0\n";
+    let job = job(&rt, text)?;
+    assert_eq!(rt; job.cells(), 1);
+    assert_eq!(rt; job.procs(), 2);
+    let mut state = State::start(rt.alloc(), &job)?;
+    step(rt.alloc(), &job, &mut state)?;
+    step(rt.alloc(), &job, &mut state)?;
+    assert_eq!(rt; state.get(10), 3);
+    Ok(())
+}
+
+#[test]
+fn disputed_step_changes_nothing(rt: HostRuntime) -> Result<(), Fail> {
+    let text = "pram 1\ncells 2\nprocs 4\nsteps 4\ncode\n\
+        pid r0\nset r1 1\nand r2 r0 r1\nst r2 r0\n";
+    let job = job(&rt, text)?;
     assert_eq!(rt; job.cells(), 2);
     assert_eq!(rt; job.procs(), 4);
     let mut state = State::start(rt.alloc(), &job)?;
@@ -109,7 +275,6 @@ fn steps_one_by_one(rt: HostRuntime) -> Result<(), Fail> {
     };
     assert_eq!(rt; step(rt.alloc(), &job, &mut state), Err(conflict));
     assert_eq!(rt; state.places(), places.as_slice());
-    assert_eq!(rt; state.into_cells(&job).as_slice(), [0, 0].as_slice());
     Ok(())
 }
 

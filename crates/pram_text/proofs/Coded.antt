@@ -6,10 +6,10 @@ use Rattle.pram_text.specs.declared.fault.TextKind.{TextKind}
 use Rattle.pram_text.specs.declared.instr.Instr.{Instr}
 use Rattle.pram_text.specs.declared.instr.Instr.TheVariants.{Halt}
 use Rattle.pram_text.specs.declared.program.Written.{Written}
-use Rattle.pram_text.specs.Reading.{fault_of_place}
+use Rattle.pram_text.specs.Inner.Reading.{fault_of_place}
 use Rattle.pram_text.specs.Text.{IsFirst}
 
-no_fault-Ok : (code : List Instr) (k : ℕ) → fault_of_place (map (λ i. Ok i) code) k ≡ None
+pub no_fault-Ok : (code : List Instr) (k : ℕ) → fault_of_place (map (λ i. Ok i) code) k ≡ None
 no_fault-Ok [] k = refl
 no_fault-Ok (i ∷ code) zero = refl
 no_fault-Ok (i ∷ code) (suc k) = no_fault-Ok code k

@@ -1,17 +1,15 @@
 -- The lines of a header, one at a time.
-use Rattle.std.proofs.Common.{◌≡◌, ◌≢◌, ℕ, ◌==◌, ◌⊎◌, inl, inr, ⊎_elim, if◌then◌else◌, List, [], ◌∷◌, ◌++◌, Ok, Err, refl, ap, sym, ◌∙◌, Bool, true, false, not, ◌||◌, cond, eqb-true, codes, bytes_eq}
-use Rattle.std.specs.Result.{result_err, result_unwrap_or}
-use Rattle.std.proofs.lemmas.Bool.{or_cases}
-use Rattle.pram_text.specs.declared.fault.TextKind.{TextKind}
-use Rattle.pram_text.specs.declared.fault.TextKind.TheVariants.{BadHeader, BadNumber}
+use Rattle.std.proofs.Common.{◌≡◌, ◌≢◌, ℕ, ◌==◌, ⊎_elim, if◌then◌else◌, List, [], ◌∷◌, ◌++◌, Ok, refl, ap, ◌∙◌}
+use Rattle.std.specs.Result.{result_err}
 use Rattle.pram_text.specs.declared.head.Head.{Head}
 use Rattle.pram_text.specs.declared.head.Next.{Next}
 use Rattle.pram_text.specs.declared.instr.Rule.{Rule}
 use Rattle.pram_text.specs.declared.head.Next.TheVariants.{Version, Cells, Procs, Steps, Rules, Start, Code}
 use Rattle.pram_text.specs.Lines.{Line}
-use Rattle.pram_text.specs.Judgement.{version_of, cells_of, procs_of, steps_of, rule_of, is_number, number_of}
-use Rattle.pram_text.specs.Reading.{HoldsHead}
-use Rattle.pram_text.specs.Text.{words_fault, names_rule}
+use Rattle.pram_text.specs.Judgement.{version_of, cells_of, procs_of, steps_of, rule_of}
+use Rattle.pram_text.specs.Inner.Reading.{HoldsHead}
+use Rattle.pram_text.specs.Text.{words_fault}
+use Rattle.pram_text.proofs.Stages.{version_cases, names_rule_at}
 
 -- ---- the fault of a line of the header
 
@@ -31,31 +29,10 @@ pub fault_at_steps : (before : List Line) (w : Line) (head : Head) → HoldsHead
 unfolding words_fault
 fault_at_steps before w head h = rw h.3 refl
 
--- a line of version 2 asks for a rule
-pub names_rule_at : (v : Line) (n : ℕ) → version_of v ≡ Ok n → names_rule v ≡ (n == 2)
-names_rule_at v n e = ap (λ r. result_unwrap_or r 0 == 2) e
-
 pub fault_at_rule : (before : List Line) (w : Line) (head : Head) → HoldsHead Rules before head → words_fault before w ≡ result_err (rule_of w)
 unfolding words_fault
 fault_at_rule before w head h =
-    rw (h.4, names_rule_at h.0 head.version h.5.version, h.6) refl
-
--- ---- versions
-
-version_picked : (a b c : Bool) (m n : ℕ) (k l : TextKind) → (cond (not a) (Err k) (cond (not b) (Err l) (cond c (Ok m) (Err k)))) ≡ Ok n → (c ≡ true) × (m ≡ n)
-version_picked false b c m n k l e = cc
-version_picked true false c m n k l e = cc
-version_picked true true false m n k l e = cc
-version_picked true true true m n k l e = (refl, cc)
-
-pub version_cases : (w : Line) (n : ℕ) → version_of w ≡ Ok n → (n ≡ 1) ⊎ (n ≡ 2)
-unfolding version_of
-version_cases [] n e = cc
-version_cases (a ∷ []) n e = cc
-version_cases (a ∷ b ∷ []) n e =
-    let p = version_picked (bytes_eq a (codes "pram")) (is_number b) ((number_of b == 1) || (number_of b == 2)) (number_of b) n BadHeader BadNumber e in
-    ⊎_elim (λ one. inl (sym p.1 ∙ eqb-true _ _ one)) (λ two. inr (sym p.1 ∙ eqb-true _ _ two)) (or_cases (number_of b == 1) (number_of b == 2) p.0)
-version_cases (a ∷ b ∷ c ∷ ds) n e = cc
+    rw (h.4, names_rule_at h.0 head.version h.5, h.9) refl
 
 -- ---- what follows the line `steps`, and the line `rule`
 
@@ -65,12 +42,12 @@ HoldsHead-steps before w head n next h said is =
     ⊎_elim
     (λ one.
     let at : next ≡ Start = is ∙ ap (λ k. if k == 2 then Rules else Start) one in
-    rw at (record { version = h.0; cells = h.1; procs = h.2; steps = w; ruled = []; parts = lines; sized = record { version = h.4; cells = h.5; procs = h.6; steps = said }; rule = rw one (refl, h.7) }, λ e. cc))
+    rw at (record { version_line = h.0; cells_line = h.1; procs_line = h.2; steps_line = w; rule_lines = []; parts = lines; version_said = h.4; cells_said = h.5; procs_said = h.6; steps_said = said; rule_said = rw one (refl, h.7) }, λ e. cc))
     (λ two.
     let at : next ≡ Rules = is ∙ ap (λ k. if k == 2 then Rules else Start) two in
-    rw at ((h.0, h.1, h.2, w, lines, record { version = h.4; cells = h.5; procs = h.6; steps = said }, two), λ e. cc))
+    rw at ((h.0, h.1, h.2, w, lines, h.4, h.5, h.6, said, two), λ e. cc))
     (version_cases h.0 head.version h.4)
 
 pub HoldsHead-rule : (before : List Line) (w : Line) (head : Head) (rule : Rule) → HoldsHead Rules before head → rule_of w ≡ Ok rule → HoldsHead Start (before ++ w ∷ []) (record head { rule = rule; next = Start })
 HoldsHead-rule before w head rule h said =
-    record { version = h.0; cells = h.1; procs = h.2; steps = h.3; ruled = w ∷ []; parts = ap (λ ls. ls ++ w ∷ []) h.4; sized = record { version = h.5.version; cells = h.5.cells; procs = h.5.procs; steps = h.5.steps }; rule = rw h.6 (w, refl, said) }
+    record { version_line = h.0; cells_line = h.1; procs_line = h.2; steps_line = h.3; rule_lines = w ∷ []; parts = ap (λ ls. ls ++ w ∷ []) h.4; version_said = h.5; cells_said = h.6; procs_said = h.7; steps_said = h.8; rule_said = rw h.9 (w, refl, said) }

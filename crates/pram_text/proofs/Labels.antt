@@ -1,8 +1,8 @@
 -- Instructions and their labels, one line more.
-use Rattle.std.proofs.Common.{◌≡◌, ◌≢◌, ℕ, ◌+◌, ◌<◌, ◌≤◌, List, [], ◌∷◌, ◌++◌, length, map, Ok, Option, Some, None, refl, ap, ap₂, sym, ◌∙◌, subst, Bool, true, false, not, cond, is_some, get_or, if◌then◌else◌, arith, All, IfSome, IsTrue, position, bytes_eq, Bor, BTreeMap, ⊎_elim, le-leb, lt-ltb, eq-eqb, ne_eqb, le-ltb, bytes_eq}
+use Rattle.std.proofs.Common.{◌≡◌, ◌≢◌, ℕ, ◌+◌, ◌<◌, ◌≤◌, List, [], ◌∷◌, ◌++◌, length, map, Ok, Option, Some, None, refl, ap, ap₂, sym, ◌∙◌, Bool, true, false, not, cond, is_some, get_or, if◌then◌else◌, arith, nat_le, IfSome, IsTrue, position, bytes_eq, Bor, BTreeMap, ⊎_elim, le-leb, lt-ltb, eq-eqb, ne_eqb, le-ltb, bytes_eq}
 use Rattle.std.specs.List.{list_any, position_or_len}
 use Rattle.std.specs.Result.{result_err}
-use Rattle.std.proofs.lemmas.Bool.{or_parts, cases_Bool, lt-leb, both_ways}
+use Rattle.std.proofs.lemmas.Bool.{or_parts, cases_Bool, lt-leb, leb-true, leb-false, both_ways}
 use Rattle.std.proofs.lemmas.List.{map-append, length_push, length-map}
 use Rattle.std.proofs.lemmas.List.Elements.{All-push}
 use Rattle.std.proofs.lemmas.List.Folds.{list_any_at, position_or_len_push}
@@ -15,9 +15,10 @@ use Rattle.pram_text.specs.declared.program.Written.{Written}
 use Rattle.pram_text.specs.declared.statement.Statement.{Statement}
 use Rattle.pram_text.specs.Lines.{Line, Word}
 use Rattle.pram_text.specs.Judgement.{label_of, unlabelled, is_name, instr_of, place_in, ◌>>=◌}
-use Rattle.pram_text.specs.Reading.{HoldsCode, HoldsPlaces, place_at, is_named, define_fault}
-use Rattle.pram_text.specs.Statement.{resolved, aimed, IsStatement}
-use Rattle.pram_text.specs.Text.{instr_fault, label_fault, defines}
+use Rattle.pram_text.specs.Inner.Reading.{HoldsCode, HoldsPlaces, place_at, define_fault}
+use Rattle.pram_text.specs.Inner.Statement.{resolved, aimed, ReadsLine}
+use Rattle.pram_text.specs.declared.limits.TheConstants.{MAX_CODE}
+use Rattle.pram_text.specs.Text.{instr_fault, new_label_fault, label_fault, is_named, defines, IsLabelled}
 
 -- ---- the first place that passes
 
@@ -67,13 +68,10 @@ position-push_later p xs y e =
 pub label_fault-held : (body : List Line) (places : BTreeMap (Bor (List ℕ)) ℕ) (line : Line) → HoldsPlaces body places → label_fault body line ≡ define_fault places (label_of line)
 unfolding label_fault
 label_fault-held body places line h =
-    elim (label_of line) as (λ o. (elim o [ None ↦ None | Some label ↦ if not (is_name label) then Some UnknownInstruction else (if list_any (defines label) body then Some DuplicateLabel else None) ]) ≡ define_fault places o) [
-      | None ↦ refl
-      | Some label ↦ ap (λ b. if not (is_name label) then Some UnknownInstruction else (if b then Some DuplicateLabel else None)) (sym (is_some-position (defines label) body) ∙ ap is_some (sym (h label)))
-    ]
+    ap (λ is_known. new_label_fault is_known (label_of line)) (λ i name. (sym (is_some-position (defines name) body) ∙ ap is_some (sym (h name))) i)
 
 -- a label without fault is a name that no line before defines
-new_label : (body : List Line) (label : Word) → (if not (is_name label) then Some UnknownInstruction else (if list_any (defines label) body then Some DuplicateLabel else None)) ≡ None → (is_name label ≡ true) × (list_any (defines label) body ≡ false)
+new_label : (body : List Line) (label : Word) → new_label_fault (λ label. list_any (defines label) body) (Some label) ≡ None → (is_name label ≡ true) × (list_any (defines label) body ≡ false)
 new_label body label e = picked (is_name label) (list_any (defines label) body) e where
   picked : (a b : Bool) → (if not a then Some UnknownInstruction else (if b then Some DuplicateLabel else None)) ≡ None → (a ≡ true) × (b ≡ false)
   picked false b e = cc
@@ -87,22 +85,18 @@ label_is_new body line label e l = new_label body label (rw (l, label_fault) at 
 name_itself : (a : Word) → bytes_eq a a ≡ true
 name_itself a = (bytes_eq-Decides a a).1 refl
 
-defines-named : (name : Word) (line : Line) → defines name line ≡ is_named (label_of line) name
-defines-named name line = elim (label_of line) as (λ o. (elim o [ None ↦ false | Some label ↦ bytes_eq label name ]) ≡ is_named o name) [ None ↦ refl | Some label ↦ refl ]
-
 named_label : (o : Option Word) (name : Word) → is_named o name ≡ true → o ≡ Some name
 named_label None name e = cc
 named_label (Some label) name e = ap Some ((bytes_eq-Decides label name).0 e)
 
 pub HoldsPlaces-push : (body : List Line) (old new : BTreeMap (Bor (List ℕ)) ℕ) (line : Line) → HoldsPlaces body old → label_fault body line ≡ None → ((name : Word) → place_at new name ≡ (if is_named (label_of line) name then Some (length body) else place_at old name)) → HoldsPlaces (body ++ line ∷ []) new
 HoldsPlaces-push body old new line h fine put name =
-    let same : defines name line ≡ is_named (label_of line) name = defines-named name line in
     ⊎_elim
     (λ yes. let named = (label_is_new body line name fine (named_label (label_of line) name yes)).1 in
-    put name ∙ ap (λ b. if b then Some (length body) else place_at old name) yes ∙ sym (position-push_first (defines name) body line named ∙ ap (λ b. cond b (Some (length body)) None) (same ∙ yes)))
+    put name ∙ ap (λ b. if b then Some (length body) else place_at old name) yes ∙ sym (position-push_first (defines name) body line named ∙ ap (λ b. cond b (Some (length body)) None) yes))
     (λ no. put name ∙ ap (λ b. if b then Some (length body) else place_at old name) no ∙ h name ∙ ⊎_elim
     (λ known. sym (position-push_later (defines name) body line known))
-    (λ new. position-none (defines name) body new ∙ sym (position-push_first (defines name) body line new ∙ ap (λ b. cond b (Some (length body)) None) (same ∙ no)))
+    (λ new. position-none (defines name) body new ∙ sym (position-push_first (defines name) body line new ∙ ap (λ b. cond b (Some (length body)) None) no))
     (cases_Bool (list_any (defines name) body)))
     (cases_Bool (is_named (label_of line) name))
 
@@ -118,36 +112,42 @@ AreApart a b = (label : Word) → label_of a ≡ Some label → label_of b ≢ S
 
 label_is_apart : (body : List Line) (line : Line) → label_fault body line ≡ None → (k : ℕ) (d : Line) → k < length body → AreApart (get_or body k d) line
 label_is_apart body line fine k d l label here again =
-    let defined : defines label (get_or body k d) ≡ true = defines-named label (get_or body k d) ∙ ap (λ o. is_named o label) here ∙ name_itself label in
+    let defined : defines label (get_or body k d) ≡ true = ap (λ o. is_named o label) here ∙ name_itself label in
     both_ways _ (label_is_new body line label fine again).1 (list_any_at (defines label) body k d l defined)
 
 -- ---- one line more
 
-pub HoldsCode-push : (body : List Line) (old new : Program) (line : Line) (w : Written) → HoldsCode body old → length body < 4096 → label_fault body line ≡ None
-    → HoldsPlaces (body ++ line ∷ []) new.places
-    → ((find : Word → Option ℕ) → instr_of find (unlabelled line) ≡ resolved find w.statement) → IsStatement w.statement → new.written.items ≡ old.written.items ++ w ∷ [] → HoldsCode (body ++ line ∷ []) new
-HoldsCode-push body old new line w h below fine places said statement items = record {
+pub IsLabelled-none : IsLabelled []
+IsLabelled-none = record { few = omega arith; names = λ k d l. absurd (omega arith); once = λ i j d l h. absurd (omega arith) }
+
+pub IsLabelled-push : (body : List Line) (line : Line) → IsLabelled body → length body < MAX_CODE → label_fault body line ≡ None → IsLabelled (body ++ line ∷ [])
+IsLabelled-push body line h below fine = record {
   few = omega (arith, length_push body line);
   names = All-push (λ l. IfSome (label_of l) (λ label. IsTrue (is_name label))) body line h.names (label_is_name body line fine);
   once = all_pairs_push AreApart body line h.once (label_is_apart body line fine);
+}
+
+pub HoldsCode-push : (body : List Line) (old new : Program) (line : Line) (w : Written) → HoldsCode body old → length body < MAX_CODE → label_fault body line ≡ None
+    → HoldsPlaces (body ++ line ∷ []) new.places → ReadsLine (unlabelled line) (Ok w.statement) → new.written.items ≡ old.written.items ++ w ∷ [] → HoldsCode (body ++ line ∷ []) new
+HoldsCode-push body old new line w h below fine places said items = record {
+  labelled = IsLabelled-push body line h.labelled below fine;
   places = places;
   said = λ find. map-append (λ l. instr_of find (unlabelled l)) body (line ∷ []) ∙ ap₂ (λ xs r. xs ++ r ∷ []) (h.said find) (said find) ∙ sym (ap (map (λ w. resolved find w.statement)) items ∙ map-append (λ w. resolved find w.statement) old.written.items (w ∷ []));
-  sound = subst (All (λ w. IsStatement w.statement)) (sym items) (All-push (λ w. IsStatement w.statement) old.written.items w h.sound statement);
 }
 
 -- ---- the fault of a line
 
-pub instr_fault-long : (body : List Line) (line : Line) → 4096 ≤ length body → instr_fault body line ≡ Some TooLong
+pub instr_fault-long : (body : List Line) (line : Line) → MAX_CODE ≤ length body → instr_fault body line ≡ Some TooLong
 unfolding instr_fault
-instr_fault-long body line l = rw (le-leb 4096 (length body) l) refl
+instr_fault-long body line l = rw (le-leb MAX_CODE (length body) l) refl
 
-pub instr_fault-label : (body : List Line) (line : Line) (kind : TextKind) → length body < 4096 → label_fault body line ≡ Some kind → instr_fault body line ≡ Some kind
+pub instr_fault-label : (body : List Line) (line : Line) (kind : TextKind) → length body < MAX_CODE → label_fault body line ≡ Some kind → instr_fault body line ≡ Some kind
 unfolding instr_fault
-instr_fault-label body line kind l e = rw (lt-leb 4096 (length body) l, e) refl
+instr_fault-label body line kind l e = rw (lt-leb MAX_CODE (length body) l, e) refl
 
-pub instr_fault-rest : (body : List Line) (line : Line) → length body < 4096 → label_fault body line ≡ None → instr_fault body line ≡ result_err (instr_of (λ label. Some 0) (unlabelled line))
+pub instr_fault-rest : (body : List Line) (line : Line) → length body < MAX_CODE → label_fault body line ≡ None → instr_fault body line ≡ result_err (instr_of (λ label. Some 0) (unlabelled line))
 unfolding instr_fault
-instr_fault-rest body line l e = rw (lt-leb 4096 (length body) l, e) refl
+instr_fault-rest body line l e = rw (lt-leb MAX_CODE (length body) l, e) refl
 
 pub resolved-known : (s : Statement) → result_err (resolved (λ label. Some 0) s) ≡ None
 resolved-known s = elim s.target as (λ t. result_err (elim t [ None ↦ Ok s.instr | Some label ↦ place_in (λ label. Some 0) label.now >>= λ place. Ok (aimed s.instr place) ]) ≡ None) [ None ↦ refl | Some label ↦ refl ]
@@ -156,3 +156,13 @@ resolved-known s = elim s.target as (λ t. result_err (elim t [ None ↦ Ok s.in
 pub length-held : (body : List Line) (program : Program) → HoldsCode body program → length body ≡ length program.written.items
 length-held body program h =
     sym (length-map body (λ line. instr_of (λ label. None) (unlabelled line))) ∙ ap length (h.said (λ label. None)) ∙ length-map program.written.items (λ w. resolved (λ label. None) w.statement)
+
+-- a line without a fault of its own
+pub instr_fault-none : (body : List Line) (line : Line) → instr_fault body line ≡ None → (length body < MAX_CODE) × (label_fault body line ≡ None) × (result_err (instr_of (λ label. Some 0) (unlabelled line)) ≡ None)
+unfolding instr_fault
+instr_fault-none body line e = ⊎_elim
+    (λ long. absurd (let some = instr_fault-long body line (leb-true MAX_CODE (length body) long) in cc))
+    (λ few. let below = leb-false MAX_CODE (length body) few in by_label (label_fault body line) refl below) (cases_Bool (nat_le MAX_CODE (length body))) where
+      by_label : (o : Option TextKind) → label_fault body line ≡ o → length body < MAX_CODE → (length body < MAX_CODE) × (label_fault body line ≡ None) × (result_err (instr_of (λ label. Some 0) (unlabelled line)) ≡ None)
+      by_label None f below = (below, f, sym (instr_fault-rest body line below f) ∙ e)
+      by_label (Some kind) f below = absurd (let some = instr_fault-label body line kind below f in cc)

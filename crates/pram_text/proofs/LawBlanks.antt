@@ -1,69 +1,35 @@
 -- Comments and blanks at the ends of a line are no words.
-use Rattle.std.proofs.Common.{◌≡◌, ◌⊎◌, ℕ, suc, Bool, true, false, ◌||◌, ◌&&◌, ◌==◌, cond, List, [], ◌∷◌, ◌++◌, take, filter, refl, sym, ap, subst, ◌∙◌, inl, inr, arith, eqb-true}
-use Rattle.std.specs.List.{AllByRecursion, list_all, slice_split, onto_first, before_first, position_or_len}
-use Rattle.std.proofs.lemmas.Bool.{and_parts, or_cases, both_ways, false_from_ne_true}
-use Rattle.std.proofs.lemmas.List.Splits.{slice_split-cons_yes, slice_split-cons_no}
+use Rattle.std.proofs.Common.{◌≡◌, ℕ, true, false, ◌||◌, ◌&&◌, ◌==◌, List, [], ◌∷◌, ◌++◌, filter, refl, sym, ap, subst, ◌∙◌, inl, inr, ⊎_elim, append-nil, eqb-true}
+use Rattle.std.specs.List.{AllByRecursion, list_all, onto_first}
+use Rattle.std.proofs.lemmas.Bool.{and_parts, or_cases, cases_Bool}
+use Rattle.std.proofs.lemmas.List.Elements.{filter-append}
 use Rattle.pram_text.specs.Lines.{words_of, is_allowed, is_blank, is_filled}
 use Rattle.pram_text.proofs.LawAlike.{allowed}
+use Rattle.pram_text.proofs.WordsOf.{parts_of, parts_of-semicolon, parts_of-blank, parts_of-letter, has_part, words_of-blank}
 
 abbrev Blanks : List ℕ → Type 0
 Blanks bytes = AllByRecursion (λ b. is_blank b ≡ true) bytes
 
-abbrev starts_comment : ℕ → Bool
-starts_comment b = b == 59
+-- a byte starts a comment, or is a blank, or stands in a word
+by_byte : (P : Type 0) (x : ℕ) → ((x == 59) ≡ true → P) → (is_blank x ≡ true → P) → (is_blank x ≡ false → (x == 59) ≡ false → P) → P
+by_byte P x comment blank letter = ⊎_elim comment (λ no. ⊎_elim blank (λ other. letter other no) (cases_Bool (is_blank x))) (cases_Bool (x == 59))
 
--- ---- before the comment
+-- ---- comments
 
-before_at : (x : ℕ) (xs : List ℕ) → starts_comment x ≡ true → before_first starts_comment (x ∷ xs) ≡ []
-before_at x xs e = rw e refl
-
-before_on : (x : ℕ) (xs : List ℕ) → starts_comment x ≡ false → before_first starts_comment (x ∷ xs) ≡ x ∷ before_first starts_comment xs
-before_on x xs e =
-    let at : position_or_len starts_comment (x ∷ xs) ≡ suc (position_or_len starts_comment xs) = rw e (omega arith) in
-    ap (λ n. take n (x ∷ xs)) at
-
--- before a comment, as before its `;`
-cut_comment : (line comment : List ℕ) → before_first starts_comment (line ++ 59 ∷ comment) ≡ before_first starts_comment line
-cut_comment [] comment = refl
-cut_comment (x ∷ line) comment = go (starts_comment x) refl (cut_comment line comment)
-  where
-    go : (b : Bool) → starts_comment x ≡ b → before_first starts_comment (line ++ 59 ∷ comment) ≡ before_first starts_comment line → before_first starts_comment (x ∷ (line ++ 59 ∷ comment)) ≡ before_first starts_comment (x ∷ line)
-    go true e more = before_at x (line ++ 59 ∷ comment) e ∙ sym (before_at x line e)
-    go false e more = before_on x (line ++ 59 ∷ comment) e ∙ ap (λ l. x ∷ l) more ∙ sym (before_on x line e)
+parts_of-comment : (line comment : List ℕ) → parts_of (line ++ 59 ∷ comment) ≡ parts_of line
+parts_of-comment [] comment = refl
+parts_of-comment (x ∷ line) comment =
+    let more = parts_of-comment line comment in
+    by_byte _ x
+    (λ e. parts_of-semicolon x (line ++ 59 ∷ comment) e ∙ sym (parts_of-semicolon x line e))
+    (λ e. parts_of-blank x (line ++ 59 ∷ comment) e ∙ ap (λ parts. [] ∷ parts) more ∙ sym (parts_of-blank x line e))
+    (λ e f. parts_of-letter x (line ++ 59 ∷ comment) e f ∙ ap (onto_first x) more ∙ sym (parts_of-letter x line e f))
 
 pub comment_has_no_words : (line comment : List ℕ) → words_of line ≡ words_of (line ++ 59 ∷ comment)
 unfolding words_of
-comment_has_no_words line comment = ap (λ l. filter is_filled (slice_split is_blank l)) (sym (cut_comment line comment))
-
-blank_is_no_comment : (b : ℕ) → is_blank b ≡ true → starts_comment b ≡ false
-blank_is_no_comment b e = false_from_ne_true (starts_comment b) (λ t.
-    let no : is_blank b ≡ false = ap is_blank (eqb-true b 59 t) in
-    both_ways (is_blank b) no e)
-
-blanks_stay : (blanks : List ℕ) → Blanks blanks → before_first starts_comment blanks ≡ blanks
-blanks_stay [] h = refl
-blanks_stay (b ∷ blanks) h = before_on b blanks (blank_is_no_comment b h.0) ∙ ap (λ l. b ∷ l) (blanks_stay blanks h.1)
-
--- the blanks stand in a comment, or before it
-cut_blanks : (line blanks : List ℕ) → Blanks blanks → (before_first starts_comment (line ++ blanks) ≡ before_first starts_comment line) ⊎ (before_first starts_comment (line ++ blanks) ≡ before_first starts_comment line ++ blanks)
-cut_blanks [] blanks h = inr (blanks_stay blanks h)
-cut_blanks (x ∷ line) blanks h = go (starts_comment x) refl (cut_blanks line blanks h)
-  where
-    go : (b : Bool) → starts_comment x ≡ b → (before_first starts_comment (line ++ blanks) ≡ before_first starts_comment line) ⊎ (before_first starts_comment (line ++ blanks) ≡ before_first starts_comment line ++ blanks)
-        → (before_first starts_comment (x ∷ (line ++ blanks)) ≡ before_first starts_comment (x ∷ line)) ⊎ (before_first starts_comment (x ∷ (line ++ blanks)) ≡ before_first starts_comment (x ∷ line) ++ blanks)
-    go true e more = inl (before_at x (line ++ blanks) e ∙ sym (before_at x line e))
-    go false e (inl more) = inl (before_on x (line ++ blanks) e ∙ ap (λ l. x ∷ l) more ∙ sym (before_on x line e))
-    go false e (inr more) = inr (before_on x (line ++ blanks) e ∙ ap (λ l. x ∷ l) more ∙ ap (λ l. l ++ blanks) (sym (before_on x line e)))
+comment_has_no_words line comment = ap (filter is_filled) (sym (parts_of-comment line comment))
 
 -- ---- blanks behind the words
-
-some_part : (xs : List ℕ) → (first : List ℕ) × (rest : List (List ℕ)) × (slice_split is_blank xs ≡ first ∷ rest)
-some_part [] = ([], [], refl)
-some_part (x ∷ xs) = go (is_blank x) refl (some_part xs)
-  where
-    go : (b : Bool) → is_blank x ≡ b → (first : List ℕ) × (rest : List (List ℕ)) × (slice_split is_blank xs ≡ first ∷ rest) → (first : List ℕ) × (rest : List (List ℕ)) × (slice_split is_blank (x ∷ xs) ≡ first ∷ rest)
-    go true e more = ([], slice_split is_blank xs, slice_split-cons_yes is_blank x xs e)
-    go false e more = (x ∷ more.0, more.1, slice_split-cons_no is_blank x xs e ∙ ap (onto_first x) more.2)
 
 -- the parts of a list with blanks behind it are its own, and empty ones
 record MoreEmpty (parts more : List (List ℕ)) : Type 0 where
@@ -71,55 +37,32 @@ record MoreEmpty (parts more : List (List ℕ)) : Type 0 where
   is : more ≡ parts ++ empty
   none : filter is_filled empty ≡ []
 
-parts_of_blanks : (blanks : List ℕ) → Blanks blanks → MoreEmpty ([] ∷ []) (slice_split is_blank blanks)
-parts_of_blanks [] h = record { empty = []; is = refl; none = refl }
-parts_of_blanks (b ∷ blanks) h =
-    let m = parts_of_blanks blanks h.1 in
-    record { empty = [] ∷ m.empty; is = slice_split-cons_yes is_blank b blanks h.0 ∙ ap (λ l. [] ∷ l) m.is; none = m.none }
+parts_of-blanks : (blanks : List ℕ) → Blanks blanks → MoreEmpty ([] ∷ []) (parts_of blanks)
+parts_of-blanks [] h = record { empty = []; is = refl; none = refl }
+parts_of-blanks (b ∷ blanks) h =
+    let m = parts_of-blanks blanks h.1 in
+    record { empty = [] ∷ m.empty; is = parts_of-blank b blanks h.0 ∙ ap (λ parts. [] ∷ parts) m.is; none = m.none }
 
-parts_with_blanks : (line blanks : List ℕ) → Blanks blanks → MoreEmpty (slice_split is_blank line) (slice_split is_blank (line ++ blanks))
-parts_with_blanks [] blanks h = parts_of_blanks blanks h
-parts_with_blanks (x ∷ line) blanks h = go (is_blank x) refl (parts_with_blanks line blanks h)
-  where
-    go : (b : Bool) → is_blank x ≡ b → MoreEmpty (slice_split is_blank line) (slice_split is_blank (line ++ blanks)) → MoreEmpty (slice_split is_blank (x ∷ line)) (slice_split is_blank (x ∷ (line ++ blanks)))
-    go true e m = record {
-      empty = m.empty;
-      is = slice_split-cons_yes is_blank x (line ++ blanks) e ∙ ap (λ l. [] ∷ l) m.is ∙ ap (λ l. l ++ m.empty) (sym (slice_split-cons_yes is_blank x line e));
-      none = m.none;
-    }
-    go false e m =
-        let part = some_part line in
-        let onto : onto_first x (slice_split is_blank line ++ m.empty) ≡ onto_first x (slice_split is_blank line) ++ m.empty =
-        subst (λ parts. onto_first x (parts ++ m.empty) ≡ onto_first x parts ++ m.empty) (sym part.2) refl in
-        record {
-          empty = m.empty;
-          is = slice_split-cons_no is_blank x (line ++ blanks) e ∙ ap (onto_first x) m.is ∙ onto ∙ ap (λ l. l ++ m.empty) (sym (slice_split-cons_no is_blank x line e));
-          none = m.none;
-        }
-
-filter_more : (parts empty : List (List ℕ)) → filter is_filled empty ≡ [] → filter is_filled (parts ++ empty) ≡ filter is_filled parts
-filter_more [] empty e = e
-filter_more (part ∷ parts) empty e = λ i. cond (is_filled part) (part ∷ filter_more parts empty e i) (filter_more parts empty e i)
-
-same_words : (line blanks : List ℕ) → Blanks blanks → filter is_filled (slice_split is_blank (line ++ blanks)) ≡ filter is_filled (slice_split is_blank line)
-same_words line blanks h =
-    let m = parts_with_blanks line blanks h in
-    ap (filter is_filled) m.is ∙ filter_more (slice_split is_blank line) m.empty m.none
+parts_of-more : (line blanks : List ℕ) → Blanks blanks → MoreEmpty (parts_of line) (parts_of (line ++ blanks))
+parts_of-more [] blanks h = parts_of-blanks blanks h
+parts_of-more (x ∷ line) blanks h =
+    let m = parts_of-more line blanks h in
+    let onto : onto_first x (parts_of line ++ m.empty) ≡ onto_first x (parts_of line) ++ m.empty =
+    subst (λ parts. onto_first x (parts ++ m.empty) ≡ onto_first x parts ++ m.empty) (sym (has_part line).parts) refl in
+    by_byte _ x
+    (λ e. record { empty = []; is = parts_of-semicolon x (line ++ blanks) e ∙ ap (λ parts. parts ++ []) (sym (parts_of-semicolon x line e)); none = refl })
+    (λ e. record { empty = m.empty; is = parts_of-blank x (line ++ blanks) e ∙ ap (λ parts. [] ∷ parts) m.is ∙ ap (λ parts. parts ++ m.empty) (sym (parts_of-blank x line e)); none = m.none })
+    (λ e f. record { empty = m.empty; is = parts_of-letter x (line ++ blanks) e f ∙ ap (onto_first x) m.is ∙ onto ∙ ap (λ parts. parts ++ m.empty) (sym (parts_of-letter x line e f)); none = m.none })
 
 words_before_blanks : (line blanks : List ℕ) → Blanks blanks → words_of (line ++ blanks) ≡ words_of line
 unfolding words_of
-words_before_blanks line blanks h = elim (cut_blanks line blanks h) [
-  | inl e ↦ ap (λ l. filter is_filled (slice_split is_blank l)) e
-  | inr e ↦ ap (λ l. filter is_filled (slice_split is_blank l)) e ∙ same_words (before_first starts_comment line) blanks h
-]
+words_before_blanks line blanks h =
+    let m = parts_of-more line blanks h in
+    ap (filter is_filled) m.is ∙ filter-append is_filled (parts_of line) m.empty ∙ ap (λ none. filter is_filled (parts_of line) ++ none) m.none ∙ append-nil _
 
 words_behind_blanks : (blanks line : List ℕ) → Blanks blanks → words_of (blanks ++ line) ≡ words_of line
-unfolding words_of
 words_behind_blanks [] line h = refl
-words_behind_blanks (b ∷ blanks) line h =
-    ap (λ l. filter is_filled (slice_split is_blank l)) (before_on b (blanks ++ line) (blank_is_no_comment b h.0))
-    ∙ ap (filter is_filled) (slice_split-cons_yes is_blank b (before_first starts_comment (blanks ++ line)) h.0)
-    ∙ words_behind_blanks blanks line h.1
+words_behind_blanks (b ∷ blanks) line h = words_of-blank b (blanks ++ line) h.0 ∙ words_behind_blanks blanks line h.1
 
 blanks_from : (blanks : List ℕ) → list_all is_blank blanks ≡ true → Blanks blanks
 blanks_from [] e = tt

@@ -1,9 +1,9 @@
--- Lines without a fault behind the first four spell start values and code.
-use Rattle.std.proofs.Common.{◌≡◌, ℕ, Bool, true, false, not, ◌==◌, if◌then◌else◌, List, [], ◌∷◌, ◌++◌, codes, Some, None, Ok, refl, sym, ap, subst, ◌∙◌, inl, inr, append_assoc}
-use Rattle.std.specs.List.{list_any, after_first}
-use Rattle.std.specs.Result.{result_err, result_unwrap_or}
-use Rattle.std.proofs.lemmas.Bool.{cond-true, cond-false, not-false}
-use Rattle.std.proofs.lemmas.Slice.Eq.{bytes_eq-Decides}
+-- Lines without a fault are a header, start values, the line `code` and instructions.
+use Rattle.std.proofs.Common.{◌≡◌, ℕ, ◌<◌, ◌≤◌, Bool, true, false, not, ◌==◌, if◌then◌else◌, List, [], ◌∷◌, ◌++◌, length, Option, Some, None, Result, Ok, Err, get_or, refl, sym, ap, subst, ◌∙◌, inl, inr, append_assoc, arith}
+use Rattle.std.specs.List.{list_any}
+use Rattle.std.specs.Result.{result_err}
+use Rattle.std.proofs.lemmas.Bool.{not-false}
+use Rattle.std.proofs.lemmas.List.{get_or_default}
 use Rattle.pram_text.specs.declared.fault.TextKind.{TextKind}
 use Rattle.pram_text.specs.declared.fault.TextKind.TheVariants.{BadHeader, NoCode}
 use Rattle.pram_text.specs.declared.instr.Instr.{Instr}
@@ -12,144 +12,172 @@ use Rattle.pram_text.specs.declared.instr.Rule.TheVariants.{Common}
 use Rattle.pram_text.specs.Job.{JobData}
 use Rattle.pram_text.specs.Lines.{Line, is_filled}
 use Rattle.pram_text.specs.Judgement.{version_of, cells_of, procs_of, steps_of, rule_of, is_code, unlabelled, instr_of}
-use Rattle.pram_text.specs.Text.{place_of, SpellsInit, SpellsCode, SpellsRest, SpellsRule, SpellsLines, names_rule, init_fault, instr_fault, words_fault, has_code, body_of, end_fault}
-use Rattle.pram_text.proofs.LawLists.{NonePasses, none_left, none_at, any_none, any_at, any_split, after_first_at}
-use Rattle.pram_text.proofs.LawOneJob.{code_line, version_is}
-use Rattle.pram_text.proofs.LawNoFault.{rest_fault, behind_fault, rule_skipped, rule_is_no_code}
-use Rattle.pram_text.proofs.LawInits.{inits_spell, unfaulted}
-use Rattle.pram_text.proofs.LawBody.{EachSplit, body_spells, ok_from_no_err}
+use Rattle.pram_text.specs.Text.{place_of, code_line, NamesCells, IsLabelled, SpellsHeader, SpellsLines, init_fault, instr_fault, rest_fault, words_fault, names_rule, has_code, body_of, end_fault, label_fault_at}
+use Rattle.pram_text.proofs.Lists.{NonePasses, none_left, none_at, any_split, grown}
+use Rattle.pram_text.proofs.Said.{said_from_each}
+use Rattle.pram_text.proofs.Inits.{NamesCells-none, NamesCells-more, SpellsInit-from}
+use Rattle.pram_text.proofs.Labels.{IsLabelled-none, IsLabelled-push, instr_fault-none}
+use Rattle.pram_text.proofs.Stages.{version_cases, names_rule_at, code_line_is, rest_fault-inits, rest_fault-body, words_fault-behind, has_code-behind, body_of-body}
 
-code_is : (line : Line) → is_code line ≡ true → line ≡ code_line
-unfolding is_code
-code_is [] e = cc
-code_is (first ∷ []) e = ap (λ w. w ∷ []) ((bytes_eq-Decides first (codes "code")).0 e)
-code_is (first ∷ word ∷ words) e = cc
+abbrev pub EachSplit : List Line → (List Line → Line → Type 0) → Type 0
+EachSplit lines P = (before : List Line) (line : Line) (after : List Line) → lines ≡ before ++ line ∷ after → P before line
 
--- start values and code, whatever else the job has
-record Ending (cells : ℕ) (lines : List Line) : Type 0 where
-  init : List ℕ
-  code : List Instr
-  rest : (rule : Rule) (procs steps : ℕ) → SpellsRest (record { rule = rule; cells = cells; procs = procs; steps = steps; init = init; code = code }) lines
+-- each line passes
+abbrev pub Passes : List Line → Type 0
+Passes lines = EachSplit lines (λ before line. words_fault before line ≡ None)
 
-ending : (cells : ℕ) (inits : List Line) (c : Line) (body : List Line) → NonePasses is_code inits → is_code c ≡ true → is_filled body ≡ true
-    → EachSplit (inits ++ c ∷ body) (λ before line. rest_fault cells before line ≡ None)
-    → EachSplit body (λ before line. result_err (instr_of (place_of body) (unlabelled line)) ≡ None) → Ending cells (inits ++ c ∷ body)
-ending cells inits c body none is filled passes says = record {
-  init = init.0;
-  code = code.0;
-  rest = λ rule procs steps. record { inits = inits; body = body; parts = ap (λ l. inits ++ l ∷ body) (code_is c is); init = init.1; code = code.1 };
-}
-  where
-    init_passes : EachSplit inits (λ before line. init_fault cells before line ≡ None)
-    init_passes before line after e =
-        let none' = subst (NonePasses is_code) e none in
-        let split : inits ++ c ∷ body ≡ before ++ line ∷ (after ++ c ∷ body) = ap (λ l. l ++ c ∷ body) e ∙ append_assoc before (line ∷ after) (c ∷ body) in
-        sym (cond-false (list_any is_code before) (instr_fault (after_first is_code before) line) (if is_code line then None else init_fault cells before line) (any_none is_code before (none_left is_code before (line ∷ after) none'))
-        ∙ cond-false (is_code line) None (init_fault cells before line) (none_at is_code before line after none'))
-        ∙ passes before line (after ++ c ∷ body) split
+ok_from_no_err : {A : Type 0} (r : Result A TextKind) → result_err r ≡ None → (x : A) × (r ≡ Ok x)
+ok_from_no_err (Ok x) e = (x, refl)
+ok_from_no_err (Err kind) e = cc
 
-    instr_passes : EachSplit body (λ before line. instr_fault before line ≡ None)
-    instr_passes before line after e =
-        let split : inits ++ c ∷ body ≡ (inits ++ c ∷ before) ++ line ∷ after = ap (λ l. inits ++ c ∷ l) e ∙ sym (append_assoc inits (c ∷ before) (line ∷ after)) in
-        sym (cond-true (list_any is_code (inits ++ c ∷ before)) (instr_fault (after_first is_code (inits ++ c ∷ before)) line) (if is_code line then None else init_fault cells (inits ++ c ∷ before) line) (any_at is_code inits c before is)
-        ∙ ap (λ l. instr_fault l line) (after_first_at is_code inits c before none is))
-        ∙ passes (inits ++ c ∷ before) line after split
+pub unfaulted : (b : Bool) (kind : TextKind) (o : Option TextKind) → (if b then Some kind else o) ≡ None → (b ≡ false) × (o ≡ None)
+unfaulted true kind o e = cc
+unfaulted false kind o e = (refl, e)
 
-    init : (init : List ℕ) × SpellsInit cells inits init
-    init = inits_spell cells inits init_passes
+-- ---- the header
 
-    code : (code : List Instr) × SpellsCode body code
-    code = body_spells body filled instr_passes says
-
--- the same, behind a line `rule`
-record Ruled (cells : ℕ) (lines : List Line) : Type 0 where
+record HasHeader (lines : List Line) : Type 0 where
+  version : ℕ
+  cells : ℕ
+  procs : ℕ
+  steps : ℕ
   rule : Rule
-  init : List ℕ
-  code : List Instr
-  spells : (procs steps : ℕ) → SpellsRule 2 (record { rule = rule; cells = cells; procs = procs; steps = steps; init = init; code = code }) lines
+  header : List Line
+  rest : List Line
+  parts : lines ≡ header ++ rest
+  sizes : SpellsHeader version cells procs steps rule header
 
-ruled : (cells : ℕ) (front : List Line) (c : Line) (body : List Line) → NonePasses is_code front → is_code c ≡ true → is_filled body ≡ true
-    → EachSplit (front ++ c ∷ body) (λ before line. behind_fault true cells before line ≡ None)
-    → EachSplit body (λ before line. result_err (instr_of (place_of body) (unlabelled line)) ≡ None) → Ruled cells (front ++ c ∷ body)
-ruled cells [] c body none is filled passes says =
-    let rule = ok_from_no_err (rule_of c) (passes [] c body refl) in
-    let no = rule_is_no_code c rule.0 rule.1 in
-    cc
-ruled cells (first ∷ inits) c body none is filled passes says =
-    let rule = ok_from_no_err (rule_of first) (passes [] first (inits ++ c ∷ body) refl) in
-    let end = ending cells inits c body none.1 is filled (λ before line after e. sym (rule_skipped cells first rule.0 before line rule.1) ∙ passes (first ∷ before) line after (λ i. first ∷ e i)) says in
-    record { rule = rule.0; init = end.init; code = end.code; spells = λ procs steps. (rule.1, end.rest rule.0 procs steps) }
-
--- ---- all lines with words
-
-behind : (version cells procs steps : Line) (rest : List Line) → EachSplit (version ∷ cells ∷ procs ∷ steps ∷ rest) (λ before line. words_fault before line ≡ None) → (m : ℕ) → cells_of cells ≡ Ok m
-    → EachSplit rest (λ before line. behind_fault (names_rule version) m before line ≡ None)
+has_header : (lines : List Line) → Passes lines → has_code lines ≡ true → HasHeader lines
 unfolding words_fault
-behind version cells procs steps rest passes m is before line after e =
-    subst (λ n. behind_fault (names_rule version) n before line ≡ None) (ap (λ r. result_unwrap_or r 0) is)
-    (passes (version ∷ cells ∷ procs ∷ steps ∷ before) line after (λ i. version ∷ cells ∷ procs ∷ steps ∷ e i))
+has_header [] passes code = cc
+has_header (a ∷ []) passes code = cc
+has_header (a ∷ b ∷ []) passes code = cc
+has_header (a ∷ b ∷ c ∷ []) passes code = cc
+has_header (a ∷ b ∷ c ∷ d ∷ lines) passes code =
+    let v = ok_from_no_err (version_of a) (passes [] a (b ∷ c ∷ d ∷ lines) refl) in
+    let m = ok_from_no_err (cells_of b) (passes (a ∷ []) b (c ∷ d ∷ lines) refl) in
+    let n = ok_from_no_err (procs_of c) (passes (a ∷ b ∷ []) c (d ∷ lines) refl) in
+    let t = ok_from_no_err (steps_of d) (passes (a ∷ b ∷ c ∷ []) d lines refl) in
+    elim (version_cases a v.0 v.1) [
+      | inl one ↦ record {
+        version = v.0;
+        cells = m.0;
+        procs = n.0;
+        steps = t.0;
+        rule = Common;
+        header = a ∷ b ∷ c ∷ d ∷ [];
+        rest = lines;
+        parts = refl;
+        sizes = record { version_line = a; cells_line = b; procs_line = c; steps_line = d; rule_lines = []; parts = refl; version_said = v.1; cells_said = m.1; procs_said = n.1; steps_said = t.1; rule_said = rw one (refl, refl) };
+      }
+      | inr two ↦ ruled lines (names_rule_at a v.0 v.1 ∙ ap (λ v. v == 2) two) passes code (λ rule first rest said parts. record {
+        version = v.0;
+        cells = m.0;
+        procs = n.0;
+        steps = t.0;
+        rule = rule;
+        header = a ∷ b ∷ c ∷ d ∷ first ∷ [];
+        rest = rest;
+        parts = ap (λ ls. a ∷ b ∷ c ∷ d ∷ ls) parts;
+        sizes = record { version_line = a; cells_line = b; procs_line = c; steps_line = d; rule_lines = first ∷ []; parts = refl; version_said = v.1; cells_said = m.1; procs_said = n.1; steps_said = t.1; rule_said = rw two (first, refl, said) };
+      })
+    ]
+  where
+    ruled : (lines : List Line) → names_rule a ≡ true → Passes (a ∷ b ∷ c ∷ d ∷ lines) → list_any is_code lines ≡ true
+        → ((rule : Rule) (first : Line) (rest : List Line) → rule_of first ≡ Ok rule → lines ≡ first ∷ rest → HasHeader (a ∷ b ∷ c ∷ d ∷ lines)) → HasHeader (a ∷ b ∷ c ∷ d ∷ lines)
+    ruled [] named passes code make = cc
+    ruled (first ∷ rest) named passes code make =
+        let one = passes (a ∷ b ∷ c ∷ d ∷ []) first rest refl in
+        let said : result_err (rule_of first) ≡ None = rw named at one in
+        let rule = ok_from_no_err (rule_of first) said in
+        make rule.0 first rest rule.1 refl
 
--- what the first four lines say
-record Four (version cells procs steps : Line) : Type 0 where
-  v : ℕ
-  m : ℕ
-  n : ℕ
-  t : ℕ
-  version_says : version_of version ≡ Ok v
-  cells_says : cells_of cells ≡ Ok m
-  procs_says : procs_of procs ≡ Ok n
-  steps_says : steps_of steps ≡ Ok t
+-- ---- the parts of lines without a fault
 
-four : (version cells procs steps : Line) (rest : List Line) → EachSplit (version ∷ cells ∷ procs ∷ steps ∷ rest) (λ before line. words_fault before line ≡ None) → Four version cells procs steps
-unfolding words_fault
-four version cells procs steps rest passes =
-    let a = ok_from_no_err (version_of version) (passes [] version (cells ∷ procs ∷ steps ∷ rest) refl) in
-    let b = ok_from_no_err (cells_of cells) (passes (version ∷ []) cells (procs ∷ steps ∷ rest) refl) in
-    let c = ok_from_no_err (procs_of procs) (passes (version ∷ cells ∷ []) procs (steps ∷ rest) refl) in
-    let d = ok_from_no_err (steps_of steps) (passes (version ∷ cells ∷ procs ∷ []) steps rest refl) in
-    record { v = a.0; m = b.0; n = c.0; t = d.0; version_says = a.1; cells_says = b.1; procs_says = c.1; steps_says = d.1 }
+pub record HasParts (lines : List Line) : Type 0 where
+  pub version : ℕ
+  pub cells : ℕ
+  pub procs : ℕ
+  pub steps : ℕ
+  pub rule : Rule
+  pub header : List Line
+  pub inits : List Line
+  pub body : List Line
+  pub parts : lines ≡ header ++ (inits ++ code_line ∷ body)
+  pub sizes : SpellsHeader version cells procs steps rule header
+  pub pairs : List (ℕ × ℕ)
+  pub named : NamesCells cells inits pairs
+  pub passes : EachSplit body (λ before line. instr_fault before line ≡ None)
+  pub is_body : body_of lines ≡ body
 
-rule_spells : (v m n t : ℕ) (version : Line) (front : List Line) (c : Line) (body : List Line) → version_of version ≡ Ok v → NonePasses is_code front → is_code c ≡ true → is_filled body ≡ true
-    → EachSplit (front ++ c ∷ body) (λ before line. behind_fault (names_rule version) m before line ≡ None)
-    → EachSplit body (λ before line. result_err (instr_of (place_of body) (unlabelled line)) ≡ None)
-    → (rule : Rule) × (init : List ℕ) × (code : List Instr) × SpellsRule v (record { rule = rule; cells = m; procs = n; steps = t; init = init; code = code }) (front ++ c ∷ body)
-rule_spells v m n t version front c body e none is filled passes says = elim (version_is version v e) [
-  | inl one ↦
-      let named : names_rule version ≡ false = ap (λ r. result_unwrap_or r 0 == 2) (e ∙ ap (λ n. Ok n) one) in
-      let end = ending m front c body none is filled (λ before line after f. subst (λ b. behind_fault b m before line ≡ None) named (passes before line after f)) says in
-      (Common, end.init, end.code, subst (λ v. SpellsRule v (record { rule = Common; cells = m; procs = n; steps = t; init = end.init; code = end.code }) (front ++ c ∷ body)) (sym one) (refl, end.rest Common n t))
-  | inr two ↦
-      let named : names_rule version ≡ true = ap (λ r. result_unwrap_or r 0 == 2) (e ∙ ap (λ n. Ok n) two) in
-      let end = ruled m front c body none is filled (λ before line after f. subst (λ b. behind_fault b m before line ≡ None) named (passes before line after f)) says in
-      (end.rule, end.init, end.code, subst (λ v. SpellsRule v (record { rule = end.rule; cells = m; procs = n; steps = t; init = end.init; code = end.code }) (front ++ c ∷ body)) (sym two) (end.spells n t))
-]
+pub has_parts : (lines : List Line) → Passes lines → has_code lines ≡ true → HasParts lines
+has_parts lines passes code =
+    let h = has_header lines passes code in
+    let cut = any_split is_code h.rest (sym (ap has_code h.parts ∙ has_code-behind _ _ _ _ _ h.header h.sizes h.rest) ∙ code) in
+    let rest : h.rest ≡ cut.0 ++ code_line ∷ cut.2 = cut.3 ∙ ap (λ l. cut.0 ++ l ∷ cut.2) (code_line_is cut.1 cut.5) in
+    let behind : EachSplit (cut.0 ++ code_line ∷ cut.2) (λ before line. rest_fault h.cells before line ≡ None) = λ before line after e.
+    sym (words_fault-behind _ _ _ _ _ h.header h.sizes before line)
+    ∙ passes (h.header ++ before) line after (h.parts ∙ ap (λ ls. h.header ++ ls) (rest ∙ e) ∙ sym (append_assoc h.header before (line ∷ after))) in
+    let inits : EachSplit cut.0 (λ before line. init_fault h.cells before line ≡ None) = λ before line after e.
+    let none = subst (NonePasses is_code) e cut.4 in
+    sym (rest_fault-inits h.cells before line (none_left is_code before (line ∷ after) none) ∙ ap (λ b. if b then None else init_fault h.cells before line) (none_at is_code before line after none))
+    ∙ behind before line (after ++ code_line ∷ cut.2) (ap (λ ls. ls ++ code_line ∷ cut.2) e ∙ append_assoc before (line ∷ after) (code_line ∷ cut.2)) in
+    let named = grown (λ ls. (pairs : List (ℕ × ℕ)) × NamesCells h.cells ls pairs) cut.0 ([], NamesCells-none h.cells) (λ before line after e more. NamesCells-more h.cells before line more (inits before line after e)) in
+    record {
+      version = h.version;
+      cells = h.cells;
+      procs = h.procs;
+      steps = h.steps;
+      rule = h.rule;
+      header = h.header;
+      inits = cut.0;
+      body = cut.2;
+      parts = h.parts ∙ ap (λ ls. h.header ++ ls) rest;
+      sizes = h.sizes;
+      pairs = named.0;
+      named = named.1;
+      passes = λ before line after e. sym (rest_fault-body h.cells cut.0 before line cut.4)
+          ∙ behind (cut.0 ++ code_line ∷ before) line after (ap (λ ls. cut.0 ++ code_line ∷ ls) e ∙ sym (append_assoc cut.0 (code_line ∷ before) (line ∷ after)));
+      is_body = ap body_of (h.parts ∙ ap (λ ls. h.header ++ ls) rest) ∙ body_of-body _ _ _ _ _ h.header h.sizes cut.0 cut.2 cut.4;
+    }
 
-filled_if : (b : Bool) (kind : TextKind) → (if b then None else Some kind) ≡ None → b ≡ true
-filled_if true kind e = refl
-filled_if false kind e = cc
+-- ---- where all labels are known, too
 
--- a jump behind `code` finds its label
-abbrev pub Known : List Line → Type 0
-Known lines = (before : List Line) (line : Line) (after : List Line) → lines ≡ before ++ line ∷ after → has_code before ≡ true → result_err (instr_of (place_of (body_of lines)) (unlabelled line)) ≡ None
-
-pub lines_spell : (lines : List Line) → EachSplit lines (λ before line. words_fault before line ≡ None) → Known lines → end_fault lines ≡ None → (job : JobData) × SpellsLines job lines
+pub ends : (lines : List Line) → end_fault lines ≡ None → (has_code lines ≡ true) × (is_filled (body_of lines) ≡ true)
 unfolding end_fault
-lines_spell [] passes known e = cc
-lines_spell (version ∷ []) passes known e = cc
-lines_spell (version ∷ cells ∷ []) passes known e = cc
-lines_spell (version ∷ cells ∷ procs ∷ []) passes known e = cc
-lines_spell (version ∷ cells ∷ procs ∷ steps ∷ rest) passes known e =
-    let ends = unfaulted (not (list_any is_code rest)) BadHeader (if is_filled (after_first is_code rest) then None else Some NoCode) e in
-    let cut = any_split is_code rest (not-false (list_any is_code rest) ends.0) in
-    let body : after_first is_code rest ≡ cut.2 = ap (after_first is_code) cut.3 ∙ after_first_at is_code cut.0 cut.1 cut.2 cut.4 cut.5 in
-    let f = four version cells procs steps rest passes in
-    let filled : is_filled cut.2 ≡ true = subst (λ l. is_filled l ≡ true) body (filled_if (is_filled (after_first is_code rest)) NoCode ends.1) in
-    let passes' = subst (λ l. EachSplit l (λ before line. behind_fault (names_rule version) f.m before line ≡ None)) cut.3 (behind version cells procs steps rest passes f.m f.cells_says) in
-    let says : EachSplit cut.2 (λ before line. result_err (instr_of (place_of cut.2) (unlabelled line)) ≡ None) = λ before line after g.
-    subst (λ l. result_err (instr_of (place_of l) (unlabelled line)) ≡ None) body
-    (known (version ∷ cells ∷ procs ∷ steps ∷ (cut.0 ++ cut.1 ∷ before)) line after
-    (λ i. version ∷ cells ∷ procs ∷ steps ∷ (cut.3 ∙ ap (λ l. cut.0 ++ cut.1 ∷ l) g ∙ sym (append_assoc cut.0 (cut.1 ∷ before) (line ∷ after))) i)
-    (any_at is_code cut.0 cut.1 before cut.5)) in
-    let r = rule_spells f.v f.m f.n f.t version cut.0 cut.1 cut.2 f.version_says cut.4 cut.5 filled passes' says in
-    let job : JobData = record { rule = r.0; cells = f.m; procs = f.n; steps = f.t; init = r.1; code = r.2 } in
-    (job, (f.v, f.version_says, f.cells_says, f.procs_says, f.steps_says, subst (λ l. SpellsRule f.v job l) (sym cut.3) r.3))
+ends lines e =
+    let parts = unfaulted (not (has_code lines)) BadHeader (if is_filled (body_of lines) then None else Some NoCode) e in
+    (not-false (has_code lines) parts.0, filled (is_filled (body_of lines)) parts.1)
+  where
+    filled : (b : Bool) → (if b then None else Some NoCode) ≡ None → b ≡ true
+    filled true f = refl
+    filled false f = cc
+
+pub lines_spell : (lines : List Line) → Passes lines → end_fault lines ≡ None → ((k : ℕ) → k < length (body_of lines) → label_fault_at (body_of lines) k ≡ None) → (job : JobData) × SpellsLines job lines
+lines_spell lines passes e known =
+    let end = ends lines e in
+    let p = has_parts lines passes end.0 in
+    let says : Line → Result Instr TextKind = λ line. instr_of (place_of p.body) (unlabelled line) in
+    let known' : (k : ℕ) → k < length p.body → label_fault_at p.body k ≡ None = subst (λ ls. (k : ℕ) → k < length ls → label_fault_at ls k ≡ None) p.is_body known in
+    let code = said_from_each says p.body (λ k d lt. subst (λ line. (i : Instr) × (says line ≡ Ok i)) (get_or_default p.body k [] d lt) (ok_from_no_err (says (get_or p.body k [])) (known' k lt))) in
+    let init = SpellsInit-from p.cells p.inits p.pairs p.named in (
+      record { rule = p.rule; cells = p.cells; procs = p.procs; steps = p.steps; init = _; code = code.0 },
+      record {
+        version = p.version;
+        header = p.header;
+        inits = p.inits;
+        body = p.body;
+        parts = p.parts;
+        sizes = p.sizes;
+        init = init;
+        code = record {
+          some = some p.body (subst (λ ls. is_filled ls ≡ true) p.is_body end.1);
+          labelled = grown IsLabelled p.body IsLabelled-none (λ before line after f h. let fine = instr_fault-none before line (p.passes before line after f) in IsLabelled-push before line h fine.0 fine.1);
+          said = code.1;
+        };
+      },
+    )
+  where
+    some : (ls : List Line) → is_filled ls ≡ true → 1 ≤ length ls
+    some [] f = cc
+    some (l ∷ ls) f = omega arith

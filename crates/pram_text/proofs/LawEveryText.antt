@@ -1,20 +1,20 @@
 -- Every text spells a job or bears a fault.
-use Rattle.std.proofs.Common.{◌≡◌, ◌⊎◌, ℕ, ◌+◌, ◌-◌, ◌<◌, ◌≤◌, zero, suc, true, ◌&&◌, not, ◌==◌, if◌then◌else◌, List, [], length, take, All, IsTrue, Option, Some, None, get_or, refl, sym, ap, subst, ◌∙◌, inl, inr, arith, eq-eqb}
+use Rattle.std.proofs.Common.{◌≡◌, ◌⊎◌, ℕ, ◌+◌, ◌-◌, ◌<◌, ◌≤◌, zero, suc, true, not, ◌==◌, if◌then◌else◌, List, [], ◌++◌, length, map, take, drop, All, IsTrue, Option, Some, None, get_or, refl, sym, ap, subst, ◌∙◌, inl, inr, arith, eq-eqb}
 use Rattle.std.specs.List.{list_all}
-use Rattle.std.specs.Result.{result_err}
-use Rattle.std.proofs.lemmas.Bool.{cond-true, not-false, and_from, cases_eq}
-use Rattle.std.proofs.lemmas.List.{get_or_default}
+use Rattle.std.specs.Option.{option_or}
+use Rattle.std.proofs.lemmas.Bool.{cond-true, not-false, cases_eq}
+use Rattle.std.proofs.lemmas.List.{get_or_default, length-map, take-append-drop, drop_more}
 use Rattle.std.proofs.lemmas.List.Splits.{length-slice_split}
 use Rattle.pram_text.specs.declared.fault.TextKind.{TextKind}
-use Rattle.pram_text.specs.declared.fault.TextKind.TheVariants.{NotAscii}
+use Rattle.pram_text.specs.declared.fault.TextKind.TheVariants.{NotAscii, UnknownLabel}
 use Rattle.pram_text.specs.Job.{JobData}
-use Rattle.pram_text.specs.Lines.{lines_of, words_of, worded, is_allowed, is_filled}
-use Rattle.pram_text.specs.Judgement.{unlabelled, instr_of}
-use Rattle.pram_text.specs.Text.{place_of, Spells, words_fault, line_fault, has_code, body_of, end_fault, fault_at, label_fault_at, IsFirst, Bears}
-use Rattle.pram_text.proofs.LawWorded.{worded_at}
-use Rattle.pram_text.proofs.LawInits.{unfaulted}
-use Rattle.pram_text.proofs.LawBody.{EachSplit, or_parts_none}
-use Rattle.pram_text.proofs.LawEnding.{Known, lines_spell}
+use Rattle.pram_text.specs.Lines.{Line, lines_of, words_of, worded, is_allowed, is_filled}
+use Rattle.pram_text.specs.Judgement.{unlabelled}
+use Rattle.pram_text.specs.Text.{place_of, Spells, words_fault, line_fault, body_of, numbered_body, end_fault, fault_at, label_fault_at, IsFirst, Bears}
+use Rattle.pram_text.proofs.Worded.{worded_at, words-numbered_body}
+use Rattle.pram_text.proofs.Labels.{instr_fault-none}
+use Rattle.pram_text.proofs.LawNoFault.{instr_follows}
+use Rattle.pram_text.proofs.LawEnding.{Passes, has_parts, ends, unfaulted, lines_spell}
 
 -- ---- the first fault, if there is one
 
@@ -33,6 +33,10 @@ search_for fault zero = inr (λ k lt. absurd (omega arith))
 search_for fault (suc n) = one_more fault n (fault n) refl (search_for fault n)
 
 -- ---- where no line bears a fault
+
+or_parts_none : (a b : Option TextKind) → option_or a b ≡ None → (a ≡ None) × (b ≡ None)
+or_parts_none None b e = (refl, e)
+or_parts_none (Some kind) b e = cc
 
 module _ (lines : List (List ℕ)) (some : 1 ≤ length lines) (none : (k : ℕ) → k < length lines → fault_at lines k ≡ None) where
   line_passes : (k : ℕ) → k < length lines → line_fault (worded (take k lines)) (get_or lines k []) ≡ None
@@ -56,38 +60,61 @@ module _ (lines : List (List ℕ)) (some : 1 ≤ length lines) (none : (k : ℕ)
   all_allowed : All (λ line. IsTrue (list_all is_allowed line)) lines
   all_allowed k d lt = subst (λ line. list_all is_allowed line ≡ true) (get_or_default lines k [] d lt) (line_parts k lt).0
 
-  words_pass : EachSplit (worded lines) (λ before line. words_fault before line ≡ None)
+  pub words_pass : Passes (worded lines)
   words_pass before line after e =
       let at = worded_at lines before line after e in
       let filled = subst (λ l. is_filled l ≡ true) (sym at.says) at.filled in
       let one = sym (cond-true (is_filled (words_of (get_or lines at.place []))) (words_fault (worded (take at.place lines)) (words_of (get_or lines at.place []))) None filled) ∙ (line_parts at.place at.within).1 in
       subst (λ l. words_fault before l ≡ None) at.says (subst (λ l. words_fault l (words_of (get_or lines at.place [])) ≡ None) at.front one)
 
-  module _ (known : (k : ℕ) → k < length lines → label_fault_at lines k ≡ None) where
-    labels_known : Known (worded lines)
-    unfolding label_fault_at
-    labels_known before line after e behind =
-        let at = worded_at lines before line after e in
-        let filled = subst (λ l. is_filled l ≡ true) (sym at.says) at.filled in
-        let test = and_from (has_code (worded (take at.place lines))) (is_filled (words_of (get_or lines at.place []))) (subst (λ l. has_code l ≡ true) (sym at.front) behind) filled in
-        let one = sym (cond-true (has_code (worded (take at.place lines)) && is_filled (words_of (get_or lines at.place []))) (result_err (instr_of (place_of (body_of (worded lines))) (unlabelled (words_of (get_or lines at.place []))))) None test) ∙ known at.place at.within in
-        subst (λ l. result_err (instr_of (place_of (body_of (worded lines))) (unlabelled l)) ≡ None) at.says one
-
 has_line : (text : List ℕ) → 1 ≤ length (lines_of text)
 has_line text = omega (arith, length-slice_split (λ b. b == 10) text)
 
 -- A text none of whose lines bears a fault spells a job.
-pub faultless_spells : (text : List ℕ) → ((k : ℕ) → k < length (lines_of text) → fault_at (lines_of text) k ≡ None) → ((k : ℕ) → k < length (lines_of text) → label_fault_at (lines_of text) k ≡ None) → (job : JobData) × Spells text job
+faultless_spells : (text : List ℕ) → ((k : ℕ) → k < length (lines_of text) → fault_at (lines_of text) k ≡ None)
+    → ((k : ℕ) → k < length (numbered_body (lines_of text)) → label_fault_at (map (λ l. l.1) (numbered_body (lines_of text))) k ≡ None) → (job : JobData) × Spells text job
 faultless_spells text none known =
     let lines = lines_of text in
     let some = has_line text in
-    let job = lines_spell (worded lines) (words_pass lines some none) (labels_known lines some none known) (end_passes lines some none) in
+    let words = words-numbered_body lines in
+    let len : length (body_of (worded lines)) ≡ length (numbered_body lines) = ap length (sym words) ∙ length-map (numbered_body lines) (λ l. l.1) in
+    let job = lines_spell (worded lines) (words_pass lines some none) (end_passes lines some none) (λ k lt. subst (λ ls. label_fault_at ls k ≡ None) words (known k (omega arith))) in
     (job.0, record { allowed = all_allowed lines some none; lines = job.1 })
 
 pub spells_or_bears : (text : List ℕ) → ((job : JobData) × Spells text job) ⊎ ((line : ℕ) × (kind : TextKind) × Bears text line kind)
-spells_or_bears text = go (search_for (fault_at (lines_of text)) (length (lines_of text))) (search_for (label_fault_at (lines_of text)) (length (lines_of text)))
+unfolding Bears
+spells_or_bears text = go (search_for (fault_at lines) (length lines)) (search_for (label_fault_at (map (λ l. l.1) body)) (length body))
   where
-    go : Searched (fault_at (lines_of text)) (length (lines_of text)) → Searched (label_fault_at (lines_of text)) (length (lines_of text)) → ((job : JobData) × Spells text job) ⊎ ((line : ℕ) × (kind : TextKind) × Bears text line kind)
-    go (inl first) labels = inr (first.0 + 1, first.1, (first.0, refl, inl first.2))
-    go (inr none) (inl first) = inr (first.0 + 1, first.1, (first.0, refl, inr (none, first.2)))
+    lines : List (List ℕ)
+    lines = lines_of text
+
+    body : List (ℕ × Line)
+    body = numbered_body lines
+
+    go : Searched (fault_at (lines_of text)) (length (lines_of text)) → Searched (label_fault_at (map (λ l. l.1) (numbered_body (lines_of text)))) (length (numbered_body (lines_of text))) → ((job : JobData) × Spells text job) ⊎ ((line : ℕ) × (kind : TextKind) × Bears text line kind)
+    go (inl first) labels = inr (first.0 + 1, first.1, inl (first.0, refl, first.2))
+    go (inr none) (inl first) = inr (_, first.1, inr (none, first.0, refl, first.2))
     go (inr none) (inr known) = inl (faultless_spells text none known)
+
+-- ---- labels come last
+
+-- where no line has a fault of its own, an instruction has none with its labels known
+pub label_comes_last : (text : List ℕ) (line : ℕ) (kind : TextKind) → Bears text line kind → ((k : ℕ) → k < length (lines_of text) → fault_at (lines_of text) k ≡ None) → kind ≡ UnknownLabel
+unfolding Bears
+label_comes_last text line kind (inl first) none = let at = none first.0 first.2.within in let here = first.2.here in cc
+label_comes_last text line kind (inr label) none =
+    let lines = lines_of text in
+    let some = has_line text in
+    let words = words-numbered_body lines in
+    let k = label.1 in
+    let passes = words_pass lines some none in
+    let p = has_parts (worded lines) passes (ends (worded lines) (end_passes lines some none)).0 in
+    let body : map (λ l. l.1) (numbered_body lines) ≡ p.body = words ∙ p.is_body in
+    let len : length p.body ≡ length (numbered_body lines) = sym (ap length body) ∙ length-map (numbered_body lines) (λ l. l.1) in
+    let within : k < length p.body = omega (arith, label.3.within) in
+    let fine = instr_fault-none (take k p.body) (get_or p.body k []) (p.passes (take k p.body) (get_or p.body k []) (drop (k + 1) p.body) (sym (take-append-drop k p.body) ∙ ap (λ l. take k p.body ++ l) (drop_more p.body k [] within))) in
+    let here : label_fault_at p.body k ≡ Some kind = subst (λ ls. label_fault_at ls k ≡ Some kind) body label.3.here in
+    elim (instr_follows (place_of p.body) (unlabelled (get_or p.body k []))).same [
+      | inl same ↦ let known = fine.2 in cc
+      | inr unknown ↦ let is = unknown.0 in cc
+    ]

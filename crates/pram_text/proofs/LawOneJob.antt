@@ -1,97 +1,58 @@
 -- A text spells at most one job.
-use Rattle.std.proofs.Common.{◌≡◌, ◌⊎◌, ℕ, ◌<◌, zero, suc, Bool, true, false, ◌||◌, not, ◌==◌, if◌then◌else◌, List, [], ◌∷◌, codes, bytes_eq, Ok, Err, nat_eq, refl, sym, ap, subst, ◌∙◌, inl, inr, arith, eqb-true}
+use Rattle.std.proofs.Common.{◌≡◌, ◌⊎◌, ℕ, ◌<◌, List, ◌∷◌, ◌++◌, nat_eq, sym, ap, subst, ◌∙◌, ⊎_elim, arith}
 use Rattle.std.specs.Map.{lookup}
 use Rattle.std.specs.Option.{unwrap_or}
-use Rattle.std.proofs.lemmas.Bool.{or_cases}
 use Rattle.std.proofs.lemmas.List.{ext_get_or}
-use Rattle.pram_text.specs.declared.fault.TextKind.TheVariants.{BadHeader, BadNumber}
+use Rattle.pram_text.specs.declared.instr.Rule.{Rule}
 use Rattle.pram_text.specs.Job.{JobData}
 use Rattle.pram_text.specs.Lines.{Line, lines_of, worded}
-use Rattle.pram_text.specs.Judgement.{is_number, number_of, version_of, init_of, is_code, instr_of, unlabelled}
-use Rattle.pram_text.specs.Text.{place_of, SpellsInit, SpellsCode, SpellsRest, SpellsRule, SpellsLines, Spells}
-use Rattle.pram_text.proofs.LawLists.{NonePasses, cut_once}
-use Rattle.pram_text.proofs.LawSaid.{Said, said_once, each_from_said, each_weaker}
-
--- the line `code`
-abbrev pub code_line : Line
-code_line = codes "code" ∷ []
-
-pub code_is_code : is_code code_line ≡ true
-unfolding is_code
-code_is_code = refl
-
-pub init_is_no_code : (cells : ℕ) (line : Line) → (p : ℕ × ℕ) × (init_of cells line ≡ Ok p) → is_code line ≡ false
-unfolding is_code init_of
-init_is_no_code cells [] e = refl
-init_is_no_code cells (first ∷ []) e = let h = e.1 in cc
-init_is_no_code cells (first ∷ word ∷ words) e = refl
-
-pub inits_are_no_code : (cells : ℕ) (inits : List Line) (pairs : List (ℕ × ℕ)) → Said (init_of cells) inits pairs → NonePasses is_code inits
-inits_are_no_code cells inits pairs s = each_weaker _ _ (init_is_no_code cells) inits (each_from_said (init_of cells) inits pairs s)
-
--- the version is 1 or 2
-pub version_is : (line : Line) (v : ℕ) → version_of line ≡ Ok v → (v ≡ 1) ⊎ (v ≡ 2)
-unfolding version_of
-version_is [] v e = cc
-version_is (first ∷ []) v e = cc
-version_is (first ∷ number ∷ []) v e = go (bytes_eq first (codes "pram")) (is_number number) ((number_of number == 1) || (number_of number == 2)) refl e
-  where
-    go : (a b c : Bool) → ((number_of number == 1) || (number_of number == 2)) ≡ c
-        → (if not a then Err BadHeader else (if not b then Err BadNumber else (if c then Ok (number_of number) else Err BadHeader))) ≡ Ok v → (v ≡ 1) ⊎ (v ≡ 2)
-    go false b c f e = cc
-    go true false c f e = cc
-    go true true false f e = cc
-    go true true true f e =
-        let same : number_of number ≡ v = cc in
-        elim (or_cases _ _ f) [ inl one ↦ inl (sym same ∙ eqb-true (number_of number) 1 one) | inr two ↦ inr (sym same ∙ eqb-true (number_of number) 2 two) ]
-version_is (first ∷ number ∷ word ∷ words) v e = cc
+use Rattle.pram_text.specs.Judgement.{rule_of, init_of, is_code, instr_of, unlabelled}
+use Rattle.pram_text.specs.Text.{place_of, code_line, SpellsInit, SpellsCode, SpellsRule, SpellsLines, Spells}
+use Rattle.pram_text.proofs.Lists.{cut_once}
+use Rattle.pram_text.proofs.Said.{said_once}
+use Rattle.pram_text.proofs.Stages.{version_cases, none_named, code_line_is_code}
 
 -- start values, for so many cells
 one_init : (cells : ℕ) (inits : List Line) (a b : List ℕ) → SpellsInit cells inits a → SpellsInit cells inits b → a ≡ b
 one_init cells inits a b s t =
-    let same = said_once (init_of cells) inits s.pairs t.pairs s.said t.said in
+    let same = said_once (init_of cells) inits s.pairs t.pairs s.named.said t.named.said in
     ext_get_or 0 a b (s.len ∙ sym t.len) (λ c lt.
     let within : c < cells = omega (arith, s.len) in
     s.values c within ∙ ap (λ pairs. unwrap_or (lookup (λ d. nat_eq d c) pairs) 0) same ∙ sym (t.values c within))
 
-one_rest : (a b : JobData) (lines : List Line) → a.cells ≡ b.cells → SpellsRest a lines → SpellsRest b lines → (a.init ≡ b.init) × (a.code ≡ b.code)
-one_rest a b lines same s t =
-    let cut = cut_once is_code s.inits code_line s.body t.inits code_line t.body (inits_are_no_code a.cells s.inits s.init.pairs s.init.said) code_is_code
-    (inits_are_no_code b.cells t.inits t.init.pairs t.init.said) code_is_code (sym s.parts ∙ t.parts) in
-    let init = subst (λ inits. SpellsInit a.cells inits a.init) cut.0 s.init in
-    let init' = subst (λ cells. SpellsInit cells t.inits a.init) same init in
-    let code = subst (λ body. SpellsCode body a.code) cut.1 s.code in
-    (one_init b.cells t.inits a.init b.init init' t.init, said_once (λ (line : Line). instr_of (place_of t.body) (unlabelled line)) t.body a.code b.code code.said t.code.said)
-
-one_rule : (v : ℕ) (a b : JobData) (lines : List Line) → a.cells ≡ b.cells → SpellsRule v a lines → SpellsRule v b lines → (a.rule ≡ b.rule) × (a.init ≡ b.init) × (a.code ≡ b.code)
-one_rule (suc zero) a b lines same s t = let rest = one_rest a b lines same s.1 t.1 in (s.0 ∙ sym t.0, rest.0, rest.1)
-one_rule zero a b [] same s t = absurd s
-one_rule zero a b (rule ∷ lines) same s t =
-    let rest = one_rest a b lines same s.1 t.1 in
-    let one = s.0 in
-    let other = t.0 in
-    let rules : a.rule ≡ b.rule = cc in
-    (rules, rest.0, rest.1)
-one_rule (suc (suc v)) a b [] same s t = absurd s
-one_rule (suc (suc v)) a b (rule ∷ lines) same s t =
-    let rest = one_rest a b lines same s.1 t.1 in
-    let one = s.0 in
-    let other = t.0 in
-    let rules : a.rule ≡ b.rule = cc in
-    (rules, rest.0, rest.1)
+one_rule : (v : ℕ) (r r' : Rule) (ruled ruled' rest rest' : List Line) → (v ≡ 1) ⊎ (v ≡ 2) → SpellsRule v r ruled → SpellsRule v r' ruled' → ruled ++ rest ≡ ruled' ++ rest' → (r ≡ r') × (rest ≡ rest')
+one_rule v r r' ruled ruled' rest rest' which s t e = ⊎_elim
+    (λ one. let a = subst (λ v. SpellsRule v r ruled) one s in
+    let b = subst (λ v. SpellsRule v r' ruled') one t in
+    (a.1 ∙ sym b.1, sym (ap (λ ls. ls ++ rest) a.0) ∙ e ∙ ap (λ ls. ls ++ rest') b.0))
+    (λ two. let a = subst (λ v. SpellsRule v r ruled) two s in
+    let b = subst (λ v. SpellsRule v r' ruled') two t in
+    let cut : a.0 ∷ rest ≡ b.0 ∷ rest' = sym (ap (λ ls. ls ++ rest) a.1) ∙ e ∙ ap (λ ls. ls ++ rest') b.1 in
+    let line : a.0 ≡ b.0 = cc in
+    let more : rest ≡ rest' = cc in
+    let rules : r ≡ r' = cc (a.2, b.2, ap rule_of line) in
+    (rules, more))
+    which
 
 one_lines : (a b : JobData) (lines : List Line) → SpellsLines a lines → SpellsLines b lines → a ≡ b
-one_lines a b [] s t = absurd s
-one_lines a b (version ∷ []) s t = absurd s
-one_lines a b (version ∷ cells ∷ []) s t = absurd s
-one_lines a b (version ∷ cells ∷ procs ∷ []) s t = absurd s
-one_lines a b (version ∷ cells ∷ procs ∷ steps ∷ lines) s t =
-    let v : s.0 ≡ t.0 = cc (s.1, t.1) in
-    let c : a.cells ≡ b.cells = cc (s.2, t.2) in
-    let p : a.procs ≡ b.procs = cc (s.3, t.3) in
-    let n : a.steps ≡ b.steps = cc (s.4, t.4) in
-    let r = one_rule t.0 a b lines c (subst (λ v. SpellsRule v a lines) v s.5) t.5 in
-    λ i. record { rule = r.0 i; cells = c i; procs = p i; steps = n i; init = r.1 i; code = r.2 i }
+one_lines a b lines s t =
+    let h = s.sizes in
+    let k = t.sizes in
+    let front = s.inits ++ code_line ∷ s.body in
+    let front' = t.inits ++ code_line ∷ t.body in
+    let e : h.version_line ∷ h.cells_line ∷ h.procs_line ∷ h.steps_line ∷ (h.rule_lines ++ front) ≡ k.version_line ∷ k.cells_line ∷ k.procs_line ∷ k.steps_line ∷ (k.rule_lines ++ front') =
+    sym (ap (λ ls. ls ++ front) h.parts) ∙ sym s.parts ∙ t.parts ∙ ap (λ ls. ls ++ front') k.parts in
+    let v : s.version ≡ t.version = cc (h.version_said, k.version_said) in
+    let c : a.cells ≡ b.cells = cc (h.cells_said, k.cells_said) in
+    let p : a.procs ≡ b.procs = cc (h.procs_said, k.procs_said) in
+    let n : a.steps ≡ b.steps = cc (h.steps_said, k.steps_said) in
+    let behind : h.rule_lines ++ front ≡ k.rule_lines ++ front' = cc in
+    let r = one_rule t.version a.rule b.rule h.rule_lines k.rule_lines front front' (version_cases k.version_line t.version k.version_said) (subst (λ v. SpellsRule v a.rule h.rule_lines) v h.rule_said) k.rule_said behind in
+    let cut = cut_once is_code s.inits code_line s.body t.inits code_line t.body (none_named a.cells s.inits s.init.pairs s.init.named) code_line_is_code
+    (none_named b.cells t.inits t.init.pairs t.init.named) code_line_is_code r.1 in
+    let init = one_init b.cells t.inits a.init b.init (subst (λ cells. SpellsInit cells t.inits a.init) c (subst (λ inits. SpellsInit a.cells inits a.init) cut.0 s.init)) t.init in
+    let code = said_once (λ (line : Line). instr_of (place_of t.body) (unlabelled line)) t.body a.code b.code (subst (λ body. SpellsCode body a.code) cut.1 s.code).said t.code.said in
+    λ i. record { rule = r.0 i; cells = c i; procs = p i; steps = n i; init = init i; code = code i }
 
 pub spells_once : (text : List ℕ) (a b : JobData) → Spells text a → Spells text b → a ≡ b
 spells_once text a b s t = one_lines a b (worded (lines_of text)) s.lines t.lines

@@ -1,20 +1,38 @@
 -- What the judgement of a line depends on, at each stage of a text.
-use Rattle.std.proofs.Common.{◌≡◌, ℕ, suc, ◌+◌, ◌==◌, List, [], ◌∷◌, ◌++◌, map, drop, Result, Ok, Err, Some, None, refl, ap, sym, ◌∙◌, subst, Bool, true, false, not, ◌&&◌, ◌||◌, if◌then◌else◌, arith, ⊎_elim, ◌⊎◌, codes, append_assoc, option_map}
-use Rattle.std.specs.List.{list_any, position_or_len, after_first, cons_option}
-use Rattle.std.specs.Result.{result_ok}
-use Rattle.std.proofs.lemmas.Bool.{or_parts, or_from, or_left, or_right, and_left, and_right}
-use Rattle.std.proofs.lemmas.List.Elements.{filter_map-append}
-use Rattle.std.proofs.lemmas.List.Folds.{list_any-append}
+use Rattle.std.proofs.Common.{◌≡◌, ◌⊎◌, ℕ, ◌==◌, List, [], ◌∷◌, ◌++◌, Result, Ok, Err, None, refl, ap, sym, ◌∙◌, subst, Bool, true, false, not, ◌||◌, cond, if◌then◌else◌, ⊎_elim, inl, inr, eqb-true, codes, bytes_eq, option_map}
+use Rattle.std.specs.List.{list_any, after_first, cons_option}
+use Rattle.std.specs.Result.{result_ok, result_unwrap_or}
+use Rattle.std.proofs.lemmas.Bool.{cond-false, or_cases}
 use Rattle.std.proofs.lemmas.Slice.Eq.{bytes_eq-Decides}
 use Rattle.pram_text.specs.declared.fault.TextKind.{TextKind}
-use Rattle.pram_text.specs.declared.fault.TextKind.TheVariants.{BadHeader}
-use Rattle.pram_text.specs.declared.head.Head.{Head}
+use Rattle.pram_text.specs.declared.fault.TextKind.TheVariants.{BadHeader, BadNumber}
 use Rattle.pram_text.specs.declared.instr.Rule.{Rule}
-use Rattle.pram_text.specs.Lines.{Line, is_filled}
-use Rattle.pram_text.specs.Judgement.{rule_of, init_of, is_code}
-use Rattle.pram_text.specs.Reading.{IsHeader, IsRuled}
-use Rattle.pram_text.specs.Text.{words_fault, init_fault, instr_fault, names_rule, named_cells, has_code, body_of}
-use Rattle.pram_text.proofs.Front.{version_cases, names_rule_at}
+use Rattle.pram_text.specs.Lines.{Line}
+use Rattle.pram_text.specs.Judgement.{is_number, number_of, version_of, rule_of, init_of, is_code}
+use Rattle.pram_text.specs.Text.{words_fault, init_fault, new_cell_fault, instr_fault, rest_fault, names_rule, named_cells, has_code, body_of, code_line, NamesCells, SpellsRule, SpellsHeader}
+use Rattle.pram_text.proofs.Lists.{NonePasses, any_none, any_at, after_first_at, after_first_skip}
+use Rattle.pram_text.proofs.Said.{Said}
+
+-- ---- versions
+
+version_picked : (a b c : Bool) (m n : ℕ) (k l : TextKind) → (cond (not a) (Err k) (cond (not b) (Err l) (cond c (Ok m) (Err k)))) ≡ Ok n → (c ≡ true) × (m ≡ n)
+version_picked false b c m n k l e = cc
+version_picked true false c m n k l e = cc
+version_picked true true false m n k l e = cc
+version_picked true true true m n k l e = (refl, cc)
+
+pub version_cases : (w : Line) (n : ℕ) → version_of w ≡ Ok n → (n ≡ 1) ⊎ (n ≡ 2)
+unfolding version_of
+version_cases [] n e = cc
+version_cases (a ∷ []) n e = cc
+version_cases (a ∷ b ∷ []) n e =
+    let p = version_picked (bytes_eq a (codes "pram")) (is_number b) ((number_of b == 1) || (number_of b == 2)) (number_of b) n BadHeader BadNumber e in
+    ⊎_elim (λ one. inl (sym p.1 ∙ eqb-true _ _ one)) (λ two. inr (sym p.1 ∙ eqb-true _ _ two)) (or_cases (number_of b == 1) (number_of b == 2) p.0)
+version_cases (a ∷ b ∷ c ∷ ds) n e = cc
+
+-- a line of version 2 asks for a rule
+pub names_rule_at : (v : Line) (n : ℕ) → version_of v ≡ Ok n → names_rule v ≡ (n == 2)
+names_rule_at v n e = ap (λ r. result_unwrap_or r 0 == 2) e
 
 -- ---- which lines are the line `code`
 
@@ -24,110 +42,95 @@ is_code-rule [] rule e = refl
 is_code-rule (a ∷ []) rule e = cc
 is_code-rule (a ∷ b ∷ ds) rule e = refl
 
-pub is_code-init : (cells : ℕ) (line : Line) (p : ℕ × ℕ) → init_of cells line ≡ Ok p → is_code line ≡ false
+is_code-init : (cells : ℕ) (line : Line) (p : ℕ × ℕ) → init_of cells line ≡ Ok p → is_code line ≡ false
 unfolding init_of is_code
 is_code-init cells [] p e = refl
 is_code-init cells (a ∷ []) p e = cc
 is_code-init cells (a ∷ b ∷ ds) p e = refl
 
-pub init_of-rule : (cells : ℕ) (line : Line) (rule : Rule) → rule_of line ≡ Ok rule → init_of cells line ≡ Err BadHeader
+init_of-rule : (cells : ℕ) (line : Line) (rule : Rule) → rule_of line ≡ Ok rule → init_of cells line ≡ Err BadHeader
 unfolding rule_of init_of
 init_of-rule cells [] rule e = refl
 init_of-rule cells (a ∷ []) rule e = refl
 init_of-rule cells (a ∷ b ∷ []) rule e = refl
 init_of-rule cells (a ∷ b ∷ c ∷ ds) rule e = cc
 
-pub code_line : (line : Line) → is_code line ≡ true → line ≡ codes "code" ∷ []
+pub code_line_is : (line : Line) → is_code line ≡ true → line ≡ code_line
 unfolding is_code
-code_line [] e = cc
-code_line (a ∷ []) e = ap (λ word. word ∷ []) ((bytes_eq-Decides a (codes "code")).0 e)
-code_line (a ∷ b ∷ ds) e = cc
+code_line_is [] e = cc
+code_line_is (a ∷ []) e = ap (λ word. word ∷ []) ((bytes_eq-Decides a (codes "code")).0 e)
+code_line_is (a ∷ b ∷ ds) e = cc
 
-no_code-ruled : (version : ℕ) (rule : Rule) (ruled : List Line) → (version ≡ 1) ⊎ (version ≡ 2) → IsRuled version rule ruled → list_any is_code ruled ≡ false
-no_code-ruled version rule ruled which h =
-    ⊎_elim
-    (λ one. let none = subst (λ v. IsRuled v rule ruled) one h in ap (list_any is_code) none.0)
-    (λ two. let some = subst (λ v. IsRuled v rule ruled) two h in ap (list_any is_code) some.1 ∙ or_from (is_code some.0) false (is_code-rule some.0 rule some.2) refl)
-    which
+pub code_line_is_code : is_code code_line ≡ true
+unfolding is_code
+code_line_is_code = refl
 
-no_code-inits : (cells : ℕ) (inits : List Line) (pairs : List (ℕ × ℕ)) → map (init_of cells) inits ≡ map (λ p. Ok p) pairs → list_any is_code inits ≡ false
-no_code-inits cells [] pairs e = refl
-no_code-inits cells (line ∷ inits) [] e = cc
-no_code-inits cells (line ∷ inits) (p ∷ pairs) e = or_from (is_code line) (list_any is_code inits) (is_code-init cells line p (cc)) (no_code-inits cells inits pairs (cc))
+none_said : (cells : ℕ) (inits : List Line) (pairs : List (ℕ × ℕ)) → Said (init_of cells) inits pairs → NonePasses is_code inits
+none_said cells [] pairs s = tt
+none_said cells (line ∷ inits) [] s = cc
+none_said cells (line ∷ inits) (p ∷ pairs) s = (is_code-init cells line p (cc), none_said cells inits pairs (cc))
 
--- ---- what stands behind the first line that passes
-
-after_first-at : {X : Type 0} (p : X → Bool) (xs : List X) (y : X) (ys : List X) → list_any p xs ≡ false → p y ≡ true → after_first p (xs ++ y ∷ ys) ≡ ys
-after_first-at p [] y ys none here = rw here refl
-after_first-at p (x ∷ xs) y ys none here =
-    let h = or_parts (p x) (list_any p xs) none in
-    let next : position_or_len p (x ∷ xs ++ y ∷ ys) + 1 ≡ suc (position_or_len p (xs ++ y ∷ ys) + 1) = rw h.0 (omega arith) in
-    ap (λ n. drop n (x ∷ xs ++ y ∷ ys)) next ∙ after_first-at p xs y ys h.1 here
-
-list_any-at : {X : Type 0} (p : X → Bool) (xs : List X) (y : X) (ys : List X) → p y ≡ true → list_any p (xs ++ y ∷ ys) ≡ true
-list_any-at p [] y ys here = or_left (p y) (list_any p ys) here
-list_any-at p (x ∷ xs) y ys here = or_right (p x) (list_any p (xs ++ y ∷ ys)) (list_any-at p xs y ys here)
+pub none_named : (cells : ℕ) (inits : List Line) (pairs : List (ℕ × ℕ)) → NamesCells cells inits pairs → NonePasses is_code inits
+none_named cells inits pairs h = none_said cells inits pairs h.said
 
 -- ---- behind the header
 
--- the cells that the line of the rule names: none
-named_cells-ruled : (version cells : ℕ) (rule : Rule) (ruled : List Line) → (version ≡ 1) ⊎ (version ≡ 2) → IsRuled version rule ruled → named_cells cells ruled ≡ []
-named_cells-ruled version cells rule ruled which h =
-    ⊎_elim
-    (λ one. let none = subst (λ v. IsRuled v rule ruled) one h in ap (named_cells cells) none.0)
-    (λ two. let some = subst (λ v. IsRuled v rule ruled) two h in
-    ap (named_cells cells) some.1 ∙ ap (λ (r : Result (ℕ × ℕ) TextKind). cons_option (option_map (λ p. p.0) (result_ok r)) []) (init_of-rule cells some.0 rule some.2))
-    which
+pub rest_fault-inits : (cells : ℕ) (inits : List Line) (w : Line) → NonePasses is_code inits → rest_fault cells inits w ≡ (if is_code w then None else init_fault cells inits w)
+rest_fault-inits cells inits w none = cond-false (list_any is_code inits) _ _ (any_none is_code inits none)
 
-init_fault-named : (cells : ℕ) (before before' : List Line) (w : Line) → named_cells cells before ≡ named_cells cells before' → init_fault cells before w ≡ init_fault cells before' w
+pub rest_fault-body : (cells : ℕ) (inits body : List Line) (w : Line) → NonePasses is_code inits → rest_fault cells (inits ++ code_line ∷ body) w ≡ instr_fault body w
+rest_fault-body cells inits body w none =
+    ap (λ b. if b then instr_fault (after_first is_code (inits ++ code_line ∷ body)) w else (if is_code w then None else init_fault cells (inits ++ code_line ∷ body) w)) (any_at is_code inits code_line body code_line_is_code)
+    ∙ ap (λ ls. instr_fault ls w) (after_first_at is_code inits code_line body none code_line_is_code)
+
+-- the line of the rule says nothing of start values and instructions
+rest_fault-rule : (cells : ℕ) (first : Line) (rule : Rule) (before : List Line) (w : Line) → rule_of first ≡ Ok rule → rest_fault cells (first ∷ before) w ≡ rest_fault cells before w
 unfolding init_fault
-init_fault-named cells before before' w e = ap (λ cs. elim (init_of cells w) [ Ok p ↦ if list_any (λ c. c == p.0) cs then Some BadHeader else None | Err kind ↦ Some kind ]) e
+rest_fault-rule cells first rule before w e =
+    let no_code = is_code-rule first rule e in
+    let any : list_any is_code (first ∷ before) ≡ list_any is_code before = ap (λ b. b || list_any is_code before) no_code in
+    let after = after_first_skip is_code first before no_code in
+    let named : named_cells cells (first ∷ before) ≡ named_cells cells before = ap (λ (r : Result (ℕ × ℕ) TextKind). cons_option (option_map (λ p. p.0) (result_ok r)) (named_cells cells before)) (init_of-rule cells first rule e) in
+    (λ i. if any i then instr_fault (after i) w else (if is_code w then None else new_cell_fault (named i) (init_of cells w)))
 
-module _ (lines : List Line) (head : Head) (k : IsHeader lines head) where
-  which : (head.version ≡ 1) ⊎ (head.version ≡ 2)
-  which = version_cases k.version head.version k.sized.version
-
-  -- no line with a rule is asked for
-  rule_is_there : (rest : List Line) → (names_rule k.version && not (is_filled (k.ruled ++ rest))) ≡ false
-  rule_is_there rest =
-      ⊎_elim
-      (λ one. and_left (names_rule k.version) (not (is_filled (k.ruled ++ rest))) (names_rule_at k.version head.version k.sized.version ∙ ap (λ v. v == 2) one))
-      (λ two. let some = subst (λ v. IsRuled v head.rule k.ruled) two k.rule in and_right (names_rule k.version) (not (is_filled (k.ruled ++ rest))) (ap (λ ls. not (is_filled (ls ++ rest))) some.1))
-      which
-
-  none_in_rule : list_any is_code k.ruled ≡ false
-  none_in_rule = no_code-ruled head.version head.rule k.ruled which k.rule
-
-  pub has_code-header : (rest : List Line) → has_code (lines ++ rest) ≡ list_any is_code rest
-  has_code-header rest = ap (λ ls. has_code (ls ++ rest)) k.parts ∙ list_any-append is_code k.ruled rest ∙ ap (λ b. b || list_any is_code rest) none_in_rule
-
-  module _ (inits : List Line) (pairs : List (ℕ × ℕ)) (said : map (init_of head.cells) inits ≡ map (λ p. Ok p) pairs) where
-    pub none_before : list_any is_code (k.ruled ++ inits) ≡ false
-    none_before = list_any-append is_code k.ruled inits ∙ or_from (list_any is_code k.ruled) (list_any is_code inits) none_in_rule (no_code-inits head.cells inits pairs said)
-
-    pub has_code-start : has_code (lines ++ inits) ≡ false
-    has_code-start = has_code-header inits ∙ no_code-inits head.cells inits pairs said
-
-    pub words_fault-start : (w : Line) → words_fault (lines ++ inits) w ≡ (if is_code w then None else init_fault head.cells inits w)
+module _ (version cells procs steps : ℕ) (rule : Rule) (header : List Line) (h : SpellsHeader version cells procs steps rule header) where
+  module _ (rest : List Line) where
+    pub words_fault-behind : (w : Line) → words_fault (header ++ rest) w ≡ rest_fault cells rest w
     unfolding words_fault
-    words_fault-start w =
-        let same = init_fault-named head.cells (k.ruled ++ inits) inits w (filter_map-append _ k.ruled inits ∙ ap (λ cs. cs ++ named_cells head.cells inits) (named_cells-ruled head.version head.cells head.rule k.ruled which k.rule)) in
-        rw (k.parts, rule_is_there inits, none_before, k.sized.cells, same) refl
+    words_fault-behind w =
+        ap (λ ls. words_fault (ls ++ rest) w) h.parts
+        ∙ ⊎_elim
+        (λ one. let ruled = subst (λ v. SpellsRule v rule h.rule_lines) one h.rule_said in
+        let none = ruled.0 in
+        let named : names_rule h.version_line ≡ false = names_rule_at h.version_line version h.version_said ∙ ap (λ v. v == 2) one in
+        rw (none, named, h.cells_said) refl)
+        (λ two. let some = subst (λ v. SpellsRule v rule h.rule_lines) two h.rule_said in
+        let lines = some.1 in
+        let named : names_rule h.version_line ≡ true = names_rule_at h.version_line version h.version_said ∙ ap (λ v. v == 2) two in
+        rw (lines, named, h.cells_said) (rest_fault-rule cells some.0 rule rest w some.2))
+        (version_cases h.version_line version h.version_said)
 
-    module _ (body : List Line) where
-      pub has_code-code : has_code (lines ++ (inits ++ (codes "code" ∷ []) ∷ body)) ≡ true
-      unfolding is_code
-      has_code-code = has_code-header (inits ++ (codes "code" ∷ []) ∷ body) ∙ list_any-at is_code inits (codes "code" ∷ []) body refl
+    -- what passes over the line of the rule gives of all lines what it gives of the rest
+    behind : {A : Type 0} (answer : List Line → A) → ((first : Line) (ls : List Line) → is_code first ≡ false → answer (first ∷ ls) ≡ answer ls) → answer (h.rule_lines ++ rest) ≡ answer rest
+    behind answer skip = ⊎_elim
+        (λ one. let none = subst (λ v. SpellsRule v rule h.rule_lines) one h.rule_said in ap (λ ls. answer (ls ++ rest)) none.0)
+        (λ two. let some = subst (λ v. SpellsRule v rule h.rule_lines) two h.rule_said in
+        ap (λ ls. answer (ls ++ rest)) some.1 ∙ skip some.0 rest (is_code-rule some.0 rule some.2))
+        (version_cases h.version_line version h.version_said)
 
-      pub body_of-code : body_of (lines ++ (inits ++ (codes "code" ∷ []) ∷ body)) ≡ body
-      unfolding is_code
-      body_of-code =
-          ap (λ ls. body_of (ls ++ (inits ++ (codes "code" ∷ []) ∷ body))) k.parts ∙ ap (after_first is_code) (sym (append_assoc k.ruled inits ((codes "code" ∷ []) ∷ body))) ∙ after_first-at is_code (k.ruled ++ inits) (codes "code" ∷ []) body none_before refl
+    pub has_code-behind : has_code (header ++ rest) ≡ list_any is_code rest
+    has_code-behind = ap (λ ls. has_code (ls ++ rest)) h.parts ∙ behind (list_any is_code) (λ first ls no. ap (λ b. b || list_any is_code ls) no)
 
-      pub words_fault-code : (w : Line) → words_fault (lines ++ (inits ++ (codes "code" ∷ []) ∷ body)) w ≡ instr_fault body w
-      unfolding words_fault is_code
-      words_fault-code w =
-          let rest : List Line = inits ++ (codes "code" ∷ []) ∷ body in
-          let some : list_any is_code (k.ruled ++ rest) ≡ true = list_any-append is_code k.ruled rest ∙ or_right (list_any is_code k.ruled) (list_any is_code rest) (list_any-at is_code inits (codes "code" ∷ []) body refl) in
-          let after : after_first is_code (k.ruled ++ rest) ≡ body = ap (after_first is_code) (sym (append_assoc k.ruled inits ((codes "code" ∷ []) ∷ body))) ∙ after_first-at is_code (k.ruled ++ inits) (codes "code" ∷ []) body none_before refl in
-          rw (k.parts, rule_is_there rest, some, after) refl
+    pub body_of-behind : body_of (header ++ rest) ≡ after_first is_code rest
+    body_of-behind = ap (λ ls. body_of (ls ++ rest)) h.parts ∙ behind (after_first is_code) (λ first ls no. after_first_skip is_code first ls no)
+
+  -- a text up to and behind its line `code`
+  module _ (inits body : List Line) (none : NonePasses is_code inits) where
+    pub has_code-header : has_code (header ++ inits) ≡ false
+    has_code-header = has_code-behind inits ∙ any_none is_code inits none
+
+    pub has_code-body : has_code (header ++ (inits ++ code_line ∷ body)) ≡ true
+    has_code-body = has_code-behind (inits ++ code_line ∷ body) ∙ any_at is_code inits code_line body code_line_is_code
+
+    pub body_of-body : body_of (header ++ (inits ++ code_line ∷ body)) ≡ body
+    body_of-body = body_of-behind (inits ++ code_line ∷ body) ∙ after_first_at is_code inits code_line body none code_line_is_code

@@ -1,5 +1,5 @@
 -- A reader, one line with words more.
-use Rattle.std.proofs.Common.{◌≡◌, ◌≢◌, ℕ, List, [], ◌∷◌, ◌++◌, Result, Ok, Err, Some, None, refl, ap, ap₂, sym, ◌∙◌, subst, Bool, true, false, ◌&&◌, cond, codes, append_assoc, append-nil, OnOk, Option, slice_index_or, arith}
+use Rattle.std.proofs.Common.{◌≡◌, ◌≢◌, ℕ, List, [], ◌∷◌, ◌++◌, Result, Ok, Err, Some, None, refl, ap, ap₂, sym, ◌∙◌, subst, Bool, true, false, ◌&&◌, cond, if◌then◌else◌, append_assoc, append-nil, OnOk, Option, slice_index_or}
 use Rattle.std.specs.List.{list_all}
 use Rattle.std.proofs.lemmas.Bool.{and_right}
 use Rattle.pram_text.specs.declared.fault.TextKind.{TextKind}
@@ -12,9 +12,10 @@ use Rattle.pram_text.specs.declared.reader.Reader.{Reader}
 use Rattle.pram_text.specs.Lines.{Line, is_allowed, is_filled, words_of, worded}
 use Rattle.pram_text.specs.Judgement.{is_code}
 use Rattle.std.specs.Global.{Vec}
-use Rattle.pram_text.specs.Reading.{HoldsHead, HoldsAt, Holds, IsHeader, HoldsStart, HoldsCode, TakesHead, TakesStart, TakesCode, TakesWords, TakesLine, numbers_of, number_if}
-use Rattle.pram_text.specs.Text.{words_fault, init_fault, line_fault, has_code}
-use Rattle.pram_text.proofs.Stages.{has_code-start, has_code-code, words_fault-start, words_fault-code, code_line}
+use Rattle.pram_text.specs.Inner.Reading.{HoldsHead, HoldsAt, Holds, HoldsStart, HoldsCode, TakesHead, TakesStart, TakesCode, TakesWords, TakesLine, numbers_of, number_if}
+use Rattle.pram_text.specs.Text.{words_fault, init_fault, instr_fault, line_fault, has_code, body_of, code_line}
+use Rattle.pram_text.proofs.Inits.{NamesCells-none}
+use Rattle.pram_text.proofs.Stages.{none_named, has_code-header, has_code-body, body_of-body, words_fault-behind, rest_fault-inits, rest_fault-body, code_line_is}
 
 -- ---- the header
 
@@ -38,7 +39,7 @@ HoldsAt-front Start before reader a b h = absurd (a refl)
 HoldsAt-front Code before reader a b h = absurd (b refl)
 
 pub HoldsStart-none : (cells : ℕ) (start : List (Option ℕ)) → start ≡ [] → HoldsStart cells [] start
-HoldsStart-none cells start e = record { pairs = []; said = refl; once = λ i j d l h. absurd (omega arith); found = λ c. ap (λ xs. slice_index_or xs c None) e }
+HoldsStart-none cells start e = record { pairs = []; named = NamesCells-none cells; found = λ c. ap (λ xs. slice_index_or xs c None) e }
 
 HoldsAt-from_head : (next : Next) (before : List Line) (reader : Reader) → next ≢ Code → HoldsHead next before reader.head → reader.start.items ≡ [] → HoldsCode [] reader.program → HoldsAt next before reader
 HoldsAt-from_head Version before reader b h e code = (h, e, code)
@@ -60,50 +61,57 @@ TakesWords-front before w old number head a b h t =
 
 -- ---- start values
 
-IsHeader-next : (lines : List Line) (head : Head) (next : Next) → IsHeader lines head → IsHeader lines (record head { next = next })
-IsHeader-next lines head next h = record {
-  version = h.version;
-  cells = h.cells;
-  procs = h.procs;
-  steps = h.steps;
-  ruled = h.ruled;
-  parts = h.parts;
-  sized = record { version = h.sized.version; cells = h.sized.cells; procs = h.sized.procs; steps = h.sized.steps };
-  rule = h.rule;
-}
+module _ (before : List Line) (reader : Reader) (h : HoldsAt Start before reader) where
+  pub has_code-held_start : has_code before ≡ false
+  has_code-held_start = ap has_code h.2 ∙ has_code-header _ _ _ _ _ h.0 h.3 h.1 [] (none_named _ h.1 h.4.pairs h.4.named)
+
+  words_fault-held_start : (w : Line) → words_fault before w ≡ (if is_code w then None else init_fault reader.head.cells h.1 w)
+  words_fault-held_start w =
+      ap (λ ls. words_fault ls w) h.2 ∙ words_fault-behind _ _ _ _ _ h.0 h.3 h.1 w ∙ rest_fault-inits reader.head.cells h.1 w (none_named _ h.1 h.4.pairs h.4.named)
 
 pub TakesWords-code_line : (before : List Line) (w : Line) (old : Reader) (number : ℕ) → HoldsAt Start before old → is_code w ≡ true
     → (words_fault before w ≡ None) × HoldsAt Code (before ++ w ∷ []) (record old { head = record old.head { next = Code } }) × (numbers_of old.program ≡ numbers_of old.program ++ number_if (has_code before) number)
 TakesWords-code_line before w old number h code = (
-  ap (λ ls. words_fault ls w) h.2 ∙ words_fault-start h.0 old.head h.3 h.1 h.4.pairs h.4.said w ∙ ap (λ b. cond b None (init_fault old.head.cells h.1 w)) code,
-  (h.0, h.1, [], ap₂ (λ ls l. ls ++ l ∷ []) h.2 (code_line w code) ∙ append_assoc h.0 h.1 ((codes "code" ∷ []) ∷ []), IsHeader-next h.0 old.head Code h.3, h.4, h.5),
-  sym (ap (λ b. numbers_of old.program ++ number_if b number) (ap has_code h.2 ∙ has_code-start h.0 old.head h.3 h.1 h.4.pairs h.4.said) ∙ append-nil (numbers_of old.program)),
+  words_fault-held_start before old h w ∙ ap (λ b. cond b None (init_fault old.head.cells h.1 w)) code,
+  (h.0, h.1, [], ap₂ (λ ls l. ls ++ l ∷ []) h.2 (code_line_is w code) ∙ append_assoc h.0 h.1 (code_line ∷ []), h.3, h.4, h.5),
+  sym (ap (λ b. numbers_of old.program ++ number_if b number) (has_code-held_start before old h) ∙ append-nil (numbers_of old.program)),
 )
 
 pub TakesWords-start : (before : List Line) (w : Line) (old : Reader) (number : ℕ) (r : Result (Unit {0}) TextKind) (start : Vec (Option ℕ)) → HoldsAt Start before old → old.head.next ≡ Start → is_code w ≡ false
     → ((inits : List Line) → HoldsStart old.head.cells inits old.start.items → TakesStart old.head.cells inits w r start.items) → TakesWords before w old number r (record old { start = start })
 TakesWords-start before w old number (Ok u) start h next other told =
     let t = told h.1 h.4 in (
-      ap (λ ls. words_fault ls w) h.2 ∙ words_fault-start h.0 old.head h.3 h.1 h.4.pairs h.4.said w ∙ ap (λ b. cond b None (init_fault old.head.cells h.1 w)) other ∙ t.0,
+      words_fault-held_start before old h w ∙ ap (λ b. cond b None (init_fault old.head.cells h.1 w)) other ∙ t.0,
       subst (λ n. HoldsAt n (before ++ w ∷ []) (record old { start = start })) (sym next) (h.0, h.1 ++ w ∷ [], ap (λ ls. ls ++ w ∷ []) h.2 ∙ append_assoc h.0 h.1 (w ∷ []), h.3, t.1, h.5),
-      sym (ap (λ b. numbers_of old.program ++ number_if b number) (ap has_code h.2 ∙ has_code-start h.0 old.head h.3 h.1 h.4.pairs h.4.said) ∙ append-nil (numbers_of old.program)),
+      sym (ap (λ b. numbers_of old.program ++ number_if b number) (has_code-held_start before old h) ∙ append-nil (numbers_of old.program)),
     )
 TakesWords-start before w old number (Err kind) start h next other told = λ memory.
-    ap (λ ls. words_fault ls w) h.2 ∙ words_fault-start h.0 old.head h.3 h.1 h.4.pairs h.4.said w ∙ ap (λ b. cond b None (init_fault old.head.cells h.1 w)) other ∙ told h.1 h.4 memory
+    words_fault-held_start before old h w ∙ ap (λ b. cond b None (init_fault old.head.cells h.1 w)) other ∙ told h.1 h.4 memory
 
 -- ---- instructions
+
+module _ (before : List Line) (reader : Reader) (h : HoldsAt Code before reader) where
+  pub has_code-held : has_code before ≡ true
+  has_code-held = ap has_code h.3 ∙ has_code-body _ _ _ _ _ h.0 h.4 h.1 h.2 (none_named _ h.1 h.5.pairs h.5.named)
+
+  pub body_of-held : body_of before ≡ h.2
+  body_of-held = ap body_of h.3 ∙ body_of-body _ _ _ _ _ h.0 h.4 h.1 h.2 (none_named _ h.1 h.5.pairs h.5.named)
+
+  words_fault-held : (w : Line) → words_fault before w ≡ instr_fault h.2 w
+  words_fault-held w =
+      ap (λ ls. words_fault ls w) h.3 ∙ words_fault-behind _ _ _ _ _ h.0 h.4 (h.1 ++ code_line ∷ h.2) w ∙ rest_fault-body reader.head.cells h.1 h.2 w (none_named _ h.1 h.5.pairs h.5.named)
 
 pub TakesWords-code : (before : List Line) (w : Line) (old : Reader) (number : ℕ) (r : Result (Unit {0}) TextKind) (program : Program) → HoldsAt Code before old → old.head.next ≡ Code
     → ((body : List Line) → HoldsCode body old.program → TakesCode body w r program) → OnOk r (numbers_of program ≡ numbers_of old.program ++ number ∷ []) → TakesWords before w old number r (record old { program = program })
 TakesWords-code before w old number (Ok u) program h next told numbers =
     let t = told h.2 h.6 in (
-      ap (λ ls. words_fault ls w) h.3 ∙ words_fault-code h.0 old.head h.4 h.1 h.5.pairs h.5.said h.2 w ∙ t.0,
+      words_fault-held before old h w ∙ t.0,
       subst (λ n. HoldsAt n (before ++ w ∷ []) (record old { program = program })) (sym next)
-          (h.0, h.1, h.2 ++ w ∷ [], ap (λ ls. ls ++ w ∷ []) h.3 ∙ append_assoc h.0 (h.1 ++ (codes "code" ∷ []) ∷ h.2) (w ∷ []) ∙ ap (λ ls. h.0 ++ ls) (append_assoc h.1 ((codes "code" ∷ []) ∷ h.2) (w ∷ [])), h.4, h.5, t.1),
-      numbers ∙ sym (ap (λ b. numbers_of old.program ++ number_if b number) (ap has_code h.3 ∙ has_code-code h.0 old.head h.4 h.1 h.5.pairs h.5.said h.2)),
+          (h.0, h.1, h.2 ++ w ∷ [], ap (λ ls. ls ++ w ∷ []) h.3 ∙ append_assoc h.0 (h.1 ++ code_line ∷ h.2) (w ∷ []) ∙ ap (λ ls. h.0 ++ ls) (append_assoc h.1 (code_line ∷ h.2) (w ∷ [])), h.4, h.5, t.1),
+      numbers ∙ sym (ap (λ b. numbers_of old.program ++ number_if b number) (has_code-held before old h)),
     )
 TakesWords-code before w old number (Err kind) program h next told numbers = λ memory.
-    ap (λ ls. words_fault ls w) h.3 ∙ words_fault-code h.0 old.head h.4 h.1 h.5.pairs h.5.said h.2 w ∙ told h.2 h.6 memory
+    words_fault-held before old h w ∙ told h.2 h.6 memory
 
 -- ---- any line
 

@@ -5,7 +5,7 @@ use Rattle.std.specs.Str.{bytes_eq}
 use Rattle.std.proofs.lemmas.Slice.Eq.{bytes_eq-Decides}
 use Rattle.pram_text.specs.declared.statement.Mnemonic.{Mnemonic}
 use Rattle.pram_text.specs.Lines.{Word}
-use Rattle.pram_text.specs.Statement.{name_of}
+use Rattle.pram_text.specs.Inner.Statement.{name_of}
 
 find-passes : (p : Mnemonic → Bool) (xs : List Mnemonic) (x : Mnemonic) → find p xs ≡ Some x → p x ≡ true
 find-passes p [] x e = cc

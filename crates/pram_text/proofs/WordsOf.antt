@@ -5,7 +5,7 @@ use Rattle.std.proofs.lemmas.Grind.{common_steps}
 use Rattle.std.proofs.lemmas.List.Sums.{prefix_len-le-length}
 use Rattle.std.proofs.lemmas.List.Splits.{slice_split-cons_yes, slice_split-cons_no}
 use Rattle.pram_text.specs.Lines.{Line, is_blank, is_filled, words_of}
-use Rattle.pram_text.specs.Words.{ends_word}
+use Rattle.pram_text.specs.Inner.Words.{ends_word}
 
 -- the parts between the blanks before the first semicolon, empty ones too
 abbrev pub parts_of : List ℕ → Line
@@ -17,16 +17,16 @@ before-semicolon b bs e = rw e refl
 before-other : (b : ℕ) (bs : List ℕ) → (b == 59) ≡ false → before_first (λ c. c == 59) (b ∷ bs) ≡ b ∷ before_first (λ c. c == 59) bs
 before-other b bs e = rw e (rw one-add refl)
 
-parts_of-semicolon : (b : ℕ) (bs : List ℕ) → (b == 59) ≡ true → parts_of (b ∷ bs) ≡ [] ∷ []
+pub parts_of-semicolon : (b : ℕ) (bs : List ℕ) → (b == 59) ≡ true → parts_of (b ∷ bs) ≡ [] ∷ []
 parts_of-semicolon b bs e = ap (slice_split is_blank) (before-semicolon b bs e)
 
 blank_is_no_semicolon : (b : ℕ) → is_blank b ≡ true → (b == 59) ≡ false
 blank_is_no_semicolon b e = grind arith
 
-parts_of-blank : (b : ℕ) (bs : List ℕ) → is_blank b ≡ true → parts_of (b ∷ bs) ≡ [] ∷ parts_of bs
+pub parts_of-blank : (b : ℕ) (bs : List ℕ) → is_blank b ≡ true → parts_of (b ∷ bs) ≡ [] ∷ parts_of bs
 parts_of-blank b bs e = ap (slice_split is_blank) (before-other b bs (blank_is_no_semicolon b e)) ∙ slice_split-cons_yes is_blank b (before_first (λ c. c == 59) bs) e
 
-parts_of-letter : (b : ℕ) (bs : List ℕ) → is_blank b ≡ false → (b == 59) ≡ false → parts_of (b ∷ bs) ≡ onto_first b (parts_of bs)
+pub parts_of-letter : (b : ℕ) (bs : List ℕ) → is_blank b ≡ false → (b == 59) ≡ false → parts_of (b ∷ bs) ≡ onto_first b (parts_of bs)
 parts_of-letter b bs e f = ap (slice_split is_blank) (before-other b bs f) ∙ slice_split-cons_no is_blank b (before_first (λ c. c == 59) bs) e
 
 pub words_of-nil : words_of [] ≡ []
@@ -57,10 +57,10 @@ words_of-blanks (b ∷ bs) =
     step (is_blank b) refl
 
 -- the parts of a text that begins with a word: what the word's end leaves gives the words that follow
-record HasPart (s : List ℕ) (n : ℕ) : Type 0 where
-  rest : Line
-  parts : parts_of s ≡ take n s ∷ rest
-  words : filter is_filled rest ≡ words_of (drop n s)
+pub record HasPart (s : List ℕ) (n : ℕ) : Type 0 where
+  pub rest : Line
+  pub parts : parts_of s ≡ take n s ∷ rest
+  pub words : filter is_filled rest ≡ words_of (drop n s)
 
 HasPart-cons : (b : ℕ) (bs : List ℕ) (n : ℕ) → is_blank b ≡ false → (b == 59) ≡ false → HasPart bs n → HasPart (b ∷ bs) (1 + n)
 HasPart-cons b bs n e f h = record {
@@ -69,7 +69,7 @@ HasPart-cons b bs n e f h = record {
   words = rw one-add h.words;
 }
 
-has_part : (s : List ℕ) → HasPart s (position_or_len ends_word s)
+pub has_part : (s : List ℕ) → HasPart s (position_or_len ends_word s)
 unfolding words_of
 has_part [] = record { rest = []; parts = refl; words = refl }
 has_part (b ∷ bs) =

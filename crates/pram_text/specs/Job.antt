@@ -3,6 +3,7 @@ use Rattle.std.specs.Prelude.{◌≡◌, ℕ, ◌<◌, ◌≤◌, ◌^◌, List,
 use Rattle.pram_text.specs.declared.instr.Instr.{Instr}
 use Rattle.pram_text.specs.declared.instr.Instr.TheVariants.{Set, Pid, Add, Sub, Mul, And, Or, Xor, Lt, Eq, Ld, St, Jz, Jmp, Halt}
 use Rattle.pram_text.specs.declared.instr.Rule.{Rule}
+use Rattle.pram_text.specs.declared.limits.TheConstants.{MAX_CELLS, MAX_PROCS, MAX_CODE, REGISTERS}
 
 -- M cells, N processors, T steps, a start value for each cell, and the code
 pub record JobData : Type 0 where
@@ -13,30 +14,31 @@ pub record JobData : Type 0 where
   pub init : List ℕ
   pub code : List Instr
 
--- registers are below 4, a number is below 2^32, and a jump leads into the code of this length or to its end
+-- registers are those that there are, a number is below 2^32,
+-- and a jump leads into the code of this length or to its end
 abbrev pub IsInstr : ℕ → Instr → Type 0
-IsInstr len (Set r k) = (r < 4) × (k < 2 ^ 32)
-IsInstr len (Pid r) = r < 4
-IsInstr len (Add r a b) = (r < 4) × (a < 4) × (b < 4)
-IsInstr len (Sub r a b) = (r < 4) × (a < 4) × (b < 4)
-IsInstr len (Mul r a b) = (r < 4) × (a < 4) × (b < 4)
-IsInstr len (And r a b) = (r < 4) × (a < 4) × (b < 4)
-IsInstr len (Or r a b) = (r < 4) × (a < 4) × (b < 4)
-IsInstr len (Xor r a b) = (r < 4) × (a < 4) × (b < 4)
-IsInstr len (Lt r a b) = (r < 4) × (a < 4) × (b < 4)
-IsInstr len (Eq r a b) = (r < 4) × (a < 4) × (b < 4)
-IsInstr len (Ld r a) = (r < 4) × (a < 4)
-IsInstr len (St a b) = (a < 4) × (b < 4)
-IsInstr len (Jz r place) = (r < 4) × (place ≤ len)
+IsInstr len (Set r k) = (r < REGISTERS) × (k < 2 ^ 32)
+IsInstr len (Pid r) = r < REGISTERS
+IsInstr len (Add r a b) = (r < REGISTERS) × (a < REGISTERS) × (b < REGISTERS)
+IsInstr len (Sub r a b) = (r < REGISTERS) × (a < REGISTERS) × (b < REGISTERS)
+IsInstr len (Mul r a b) = (r < REGISTERS) × (a < REGISTERS) × (b < REGISTERS)
+IsInstr len (And r a b) = (r < REGISTERS) × (a < REGISTERS) × (b < REGISTERS)
+IsInstr len (Or r a b) = (r < REGISTERS) × (a < REGISTERS) × (b < REGISTERS)
+IsInstr len (Xor r a b) = (r < REGISTERS) × (a < REGISTERS) × (b < REGISTERS)
+IsInstr len (Lt r a b) = (r < REGISTERS) × (a < REGISTERS) × (b < REGISTERS)
+IsInstr len (Eq r a b) = (r < REGISTERS) × (a < REGISTERS) × (b < REGISTERS)
+IsInstr len (Ld r a) = (r < REGISTERS) × (a < REGISTERS)
+IsInstr len (St a b) = (a < REGISTERS) × (b < REGISTERS)
+IsInstr len (Jz r place) = (r < REGISTERS) × (place ≤ len)
 IsInstr len (Jmp place) = place ≤ len
 IsInstr len Halt = Unit {0}
 
 -- the limits of a job
 pub record IsJob (job : JobData) : Type 0 where
-  pub cells : (1 ≤ job.cells) × (job.cells ≤ 65536)
-  pub procs : (1 ≤ job.procs) × (job.procs ≤ 1024)
+  pub cells : (1 ≤ job.cells) × (job.cells ≤ MAX_CELLS)
+  pub procs : (1 ≤ job.procs) × (job.procs ≤ MAX_PROCS)
   pub steps : job.steps < 2 ^ 32
   pub init_len : length job.init ≡ job.cells
   pub init_fits : All (λ v. v < 2 ^ 32) job.init
-  pub code_len : (1 ≤ length job.code) × (length job.code ≤ 4096)
+  pub code_len : (1 ≤ length job.code) × (length job.code ≤ MAX_CODE)
   pub code_fits : All (IsInstr (length job.code)) job.code

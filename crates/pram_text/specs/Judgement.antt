@@ -11,6 +11,7 @@ use Rattle.pram_text.specs.declared.instr.Instr.{Instr}
 use Rattle.pram_text.specs.declared.instr.Instr.TheVariants.{Set, Pid, Add, Sub, Mul, And, Or, Xor, Lt, Eq, Ld, St, Jz, Jmp, Halt}
 use Rattle.pram_text.specs.declared.instr.Rule.{Rule}
 use Rattle.pram_text.specs.declared.instr.Rule.TheVariants.{Common, Priority, Crew}
+use Rattle.pram_text.specs.declared.limits.TheConstants.{MAX_CELLS, MAX_PROCS}
 use Rattle.pram_text.specs.Lines.{Word, Line, is_filled}
 
 -- what the next part says of the value of the part before it, unless that part has a fault
@@ -30,7 +31,8 @@ number_of word = digits_value 10 word
 
 unfoldable pub number_in : ℕ → ℕ → Word → Result ℕ TextKind
 number_in low high word =
-    if is_number word then (if nat_le low (number_of word) && nat_le (number_of word) high then Ok (number_of word) else Err OutOfLimits)
+    if is_number word
+    then (if nat_le low (number_of word) && nat_le (number_of word) high then Ok (number_of word) else Err OutOfLimits)
     else Err BadNumber
 
 -- the greatest number of 32 bits
@@ -40,13 +42,15 @@ most = 4294967295
 -- a letter or `_`, then letters, digits or `_`
 unfoldable pub is_name : Word → Bool
 is_name [] = false
-is_name (b ∷ bs) = (is_ascii_alphabetic b || (b == 95)) && list_all (λ c. is_ascii_alphanumeric c || (c == 95)) bs
+is_name (b ∷ bs) =
+    (is_ascii_alphabetic b || (b == 95)) && list_all (λ c. is_ascii_alphanumeric c || (c == 95)) bs
 
 -- ---- header lines
 
 -- `NAME number`
 unfoldable pub named_number : Word → ℕ → ℕ → Line → Result ℕ TextKind
-named_number name low high (first ∷ number ∷ []) = if bytes_eq first name then number_in low high number else Err BadHeader
+named_number name low high (first ∷ number ∷ []) =
+    if bytes_eq first name then number_in low high number else Err BadHeader
 named_number name low high _ = Err BadHeader
 
 -- `pram 1` or `pram 2`
@@ -58,10 +62,10 @@ version_of (first ∷ number ∷ []) =
 version_of _ = Err BadHeader
 
 abbrev pub cells_of : Line → Result ℕ TextKind
-cells_of line = named_number (codes "cells") 1 65536 line
+cells_of line = named_number (codes "cells") 1 MAX_CELLS line
 
 abbrev pub procs_of : Line → Result ℕ TextKind
-procs_of line = named_number (codes "procs") 1 1024 line
+procs_of line = named_number (codes "procs") 1 MAX_PROCS line
 
 abbrev pub steps_of : Line → Result ℕ TextKind
 steps_of line = named_number (codes "steps") 0 most line
@@ -78,7 +82,9 @@ rule_of _ = Err BadHeader
 -- `init c v`, where there are so many cells: the cell and its value
 unfoldable pub init_of : ℕ → Line → Result (ℕ × ℕ) TextKind
 init_of cells (first ∷ cell ∷ value ∷ []) =
-    if bytes_eq first (codes "init") then (number_in 0 (cells - 1) cell >>= λ c. number_in 0 most value >>= λ v. Ok (c, v)) else Err BadHeader
+    if bytes_eq first (codes "init")
+    then (number_in 0 (cells - 1) cell >>= λ c. number_in 0 most value >>= λ v. Ok (c, v))
+    else Err BadHeader
 init_of cells _ = Err BadHeader
 
 unfoldable pub is_code : Line → Bool
@@ -87,7 +93,7 @@ is_code _ = false
 
 -- ---- instruction lines
 
-unfoldable pub is_label : Word → Bool
+abbrev pub is_label : Word → Bool
 is_label word = slice_index word (length word - 1) == 58
 
 -- what stands before the `:` of a line's label
@@ -120,11 +126,13 @@ two_registers make (a ∷ b ∷ []) = register_of a >>= λ a'. register_of b >>=
 two_registers make _ = Err WrongOperands
 
 abbrev pub three_registers : (ℕ → ℕ → ℕ → Instr) → Line → Result Instr TextKind
-three_registers make (r ∷ a ∷ b ∷ []) = register_of r >>= λ r'. register_of a >>= λ a'. register_of b >>= λ b'. Ok (make r' a' b')
+three_registers make (r ∷ a ∷ b ∷ []) =
+    register_of r >>= λ r'. register_of a >>= λ a'. register_of b >>= λ b'. Ok (make r' a' b')
 three_registers make _ = Err WrongOperands
 
 abbrev pub register_number : (ℕ → ℕ → Instr) → Line → Result Instr TextKind
-register_number make (r ∷ k ∷ []) = register_of r >>= λ r'. number_in 0 most k >>= λ k'. Ok (make r' k')
+register_number make (r ∷ k ∷ []) =
+    register_of r >>= λ r'. number_in 0 most k >>= λ k'. Ok (make r' k')
 register_number make _ = Err WrongOperands
 
 -- a label stands for its place, where `find` finds it
@@ -136,7 +144,8 @@ one_label find make (label ∷ []) = place_in find label >>= λ place. Ok (make 
 one_label find make _ = Err WrongOperands
 
 abbrev pub register_label : (Word → Option ℕ) → (ℕ → ℕ → Instr) → Line → Result Instr TextKind
-register_label find make (r ∷ label ∷ []) = register_of r >>= λ r'. place_in find label >>= λ place. Ok (make r' place)
+register_label find make (r ∷ label ∷ []) =
+    register_of r >>= λ r'. place_in find label >>= λ place. Ok (make r' place)
 register_label find make _ = Err WrongOperands
 
 -- the instruction of a line behind its label

@@ -1,7 +1,6 @@
 pub mod Job
 pub mod Lines
 pub mod Judgement
-pub mod Words
-pub mod Statement
 pub mod Text
-pub mod Reading
+pub mod Laws
+pub mod Inner

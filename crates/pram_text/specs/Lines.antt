@@ -1,6 +1,6 @@
 -- The lines of a text, and the words of a line.
 use Rattle.std.specs.Prelude.{ℕ, Bool, true, false, ◌&&◌, ◌||◌, ◌==◌, nat_le, List, [], ◌∷◌, filter, map}
-use Rattle.std.specs.List.{slice_split, before_first}
+use Rattle.std.specs.List.{slice_split, before_first, enumerate_from}
 
 abbrev pub Word : Type 0
 Word = List ℕ
@@ -31,3 +31,7 @@ words_of line = filter is_filled (slice_split is_blank (before_first (λ b. b ==
 -- the lines that have words
 abbrev pub worded : List (List ℕ) → List Line
 worded lines = filter is_filled (map words_of lines)
+
+-- the same lines, each with its number among all lines, counted from 1
+abbrev pub numbered : List (List ℕ) → List (ℕ × Line)
+numbered lines = filter (λ l. is_filled l.1) (enumerate_from 1 (map words_of lines))

@@ -1,5 +1,5 @@
 -- A text spells a job; a line of a text bears a fault.
-use Rattle.std.specs.Prelude.{◌≡◌, ◌≢◌, ℕ, ◌+◌, ◌<◌, ◌≤◌, Bool, false, not, ◌&&◌, ◌==◌, nat_le, if◌then◌else◌, List, [], ◌∷◌, ◌++◌, length, take, map, codes, All, AllPairs, Option, Some, None, unwrap_or, Ok, Err, IfSome, IsTrue, ◌⊎◌, zero, suc, drop, option_map, slice_index, slice_index_or, position}
+use Rattle.std.specs.Prelude.{◌≡◌, ◌≢◌, ℕ, ◌+◌, ◌<◌, ◌≤◌, Bool, false, not, ◌&&◌, ◌==◌, nat_le, if◌then◌else◌, List, [], ◌∷◌, ◌++◌, length, take, map, codes, All, AllPairs, Option, Some, None, unwrap_or, Result, Ok, Err, IfSome, IsTrue, ◌⊎◌, zero, suc, drop, option_map, slice_index, slice_index_or, position}
 use Rattle.std.specs.List.{list_all, list_any, after_first, filter_map}
 use Rattle.std.specs.Map.{lookup}
 use Rattle.std.specs.Option.{option_or}
@@ -9,15 +9,22 @@ use Rattle.pram_text.specs.declared.fault.TextKind.{TextKind}
 use Rattle.pram_text.specs.declared.fault.TextKind.TheVariants.{NotAscii, BadHeader, UnknownInstruction, DuplicateLabel, NoCode, TooLong, Memory}
 use Rattle.pram_text.specs.declared.instr.Instr.{Instr}
 use Rattle.pram_text.specs.declared.instr.Rule.TheVariants.{Common}
+use Rattle.pram_text.specs.declared.instr.Rule.{Rule}
+use Rattle.pram_text.specs.declared.limits.TheConstants.{MAX_CODE}
 use Rattle.pram_text.specs.Job.{JobData}
-use Rattle.pram_text.specs.Lines.{Word, Line, lines_of, words_of, worded, is_allowed, is_filled}
+use Rattle.pram_text.specs.Lines.{Word, Line, lines_of, words_of, worded, numbered, is_allowed, is_filled}
 use Rattle.pram_text.specs.Judgement.{version_of, cells_of, procs_of, steps_of, rule_of, init_of, is_code, label_of, unlabelled, is_name, instr_of}
 
 -- ---- labels
 
+-- whether this label, if there is one, has the name
+abbrev pub is_named : Option Word → Word → Bool
+is_named None name = false
+is_named (Some label) name = bytes_eq label name
+
 -- whether a line defines the label
 abbrev pub defines : Word → Line → Bool
-defines name line = elim (label_of line) [ None ↦ false | Some label ↦ bytes_eq label name ]
+defines name line = is_named (label_of line) name
 
 -- a label's place is the number of the first instruction that it stands before
 abbrev pub place_of : List Line → Word → Option ℕ
@@ -25,40 +32,62 @@ place_of body name = position (defines name) body
 
 -- ---- a text spells a job
 
--- Each cell is named at most once, and holds the value that its line gives; the other cells hold 0.
-pub record SpellsInit (cells : ℕ) (inits : List Line) (init : List ℕ) : Type 0 where
-  pub pairs : List (ℕ × ℕ)
+-- Each line names a cell and its value, and no two name one cell.
+pub record NamesCells (cells : ℕ) (inits : List Line) (pairs : List (ℕ × ℕ)) : Type 0 where
   pub said : map (init_of cells) inits ≡ map (λ p. Ok p) pairs
   pub once : AllPairs (λ (p q : ℕ × ℕ). p.0 ≢ q.0) pairs
+
+-- A cell that is named holds the value beside it, and the other cells hold 0.
+pub record SpellsInit (cells : ℕ) (inits : List Line) (init : List ℕ) : Type 0 where
+  pub pairs : List (ℕ × ℕ)
+  pub named : NamesCells cells inits pairs
   pub len : length init ≡ cells
   pub values : (c : ℕ) → c < cells → slice_index init c ≡ unwrap_or (lookup (λ d. d == c) pairs) 0
 
--- Labels are names, no two lines define one label, and each line says its instruction, a label standing for its place.
-pub record SpellsCode (body : List Line) (code : List Instr) : Type 0 where
-  pub some : 1 ≤ length body
-  pub few : length body ≤ 4096
+-- So many lines at most, whose labels are names, and no two define one label.
+pub record IsLabelled (body : List Line) : Type 0 where
+  pub few : length body ≤ MAX_CODE
   pub names : All (λ line. IfSome (label_of line) (λ label. IsTrue (is_name label))) body
   pub once : AllPairs (λ a b. (label : Word) → label_of a ≡ Some label → label_of b ≢ Some label) body
+
+-- Each line says its instruction, a label standing for its place.
+pub record SpellsCode (body : List Line) (code : List Instr) : Type 0 where
+  pub some : 1 ≤ length body
+  pub labelled : IsLabelled body
   pub said : map (λ line. instr_of (place_of body) (unlabelled line)) body ≡ map (λ i. Ok i) code
 
--- Start values, the line `code`, and the instructions.
-pub record SpellsRest (job : JobData) (lines : List Line) : Type 0 where
+-- Version 1 has the rule common, and no line for it; version 2 has one line, which names its rule.
+abbrev pub SpellsRule : ℕ → Rule → List Line → Type 0
+SpellsRule (suc zero) rule lines = (lines ≡ []) × (rule ≡ Common)
+SpellsRule version rule lines = (line : Line) × (lines ≡ line ∷ []) × (rule_of line ≡ Ok rule)
+
+-- The header: four lines, and those of the rule.
+pub record SpellsHeader (version cells procs steps : ℕ) (rule : Rule) (lines : List Line) : Type 0 where
+  pub version_line : Line
+  pub cells_line : Line
+  pub procs_line : Line
+  pub steps_line : Line
+  pub rule_lines : List Line
+  pub parts : lines ≡ version_line ∷ cells_line ∷ procs_line ∷ steps_line ∷ rule_lines
+  pub version_said : version_of version_line ≡ Ok version
+  pub cells_said : cells_of cells_line ≡ Ok cells
+  pub procs_said : procs_of procs_line ≡ Ok procs
+  pub steps_said : steps_of steps_line ≡ Ok steps
+  pub rule_said : SpellsRule version rule rule_lines
+
+abbrev pub code_line : Line
+code_line = codes "code" ∷ []
+
+-- The lines with words: the header, start values, the line `code`, and the instructions.
+pub record SpellsLines (job : JobData) (lines : List Line) : Type 0 where
+  pub version : ℕ
+  pub header : List Line
   pub inits : List Line
   pub body : List Line
-  pub parts : lines ≡ inits ++ (codes "code" ∷ []) ∷ body
+  pub parts : lines ≡ header ++ (inits ++ code_line ∷ body)
+  pub sizes : SpellsHeader version job.cells job.procs job.steps job.rule header
   pub init : SpellsInit job.cells inits job.init
   pub code : SpellsCode body job.code
-
--- Version 1 has the rule common; version 2 names its rule.
-abbrev pub SpellsRule : ℕ → JobData → List Line → Type 0
-SpellsRule (suc zero) job lines = (job.rule ≡ Common) × SpellsRest job lines
-SpellsRule version job [] = ⊥
-SpellsRule version job (rule ∷ lines) = (rule_of rule ≡ Ok job.rule) × SpellsRest job lines
-
-abbrev pub SpellsLines : JobData → List Line → Type 0
-SpellsLines job (version ∷ cells ∷ procs ∷ steps ∷ lines) =
-    (v : ℕ) × (version_of version ≡ Ok v) × (cells_of cells ≡ Ok job.cells) × (procs_of procs ≡ Ok job.procs) × (steps_of steps ≡ Ok job.steps) × SpellsRule v job lines
-SpellsLines job _ = ⊥
 
 pub record Spells (text : List ℕ) (job : JobData) : Type 0 where
   pub allowed : All (λ line. IsTrue (list_all is_allowed line)) (lines_of text)
@@ -72,27 +101,31 @@ names_rule version = result_unwrap_or (version_of version) 0 == 2
 
 -- the cells that lines before have named
 abbrev pub named_cells : ℕ → List Line → List ℕ
-named_cells cells lines = filter_map (λ line. option_map (λ p. p.0) (result_ok (init_of cells line))) lines
+named_cells cells lines =
+    filter_map (λ line. option_map (λ p. p.0) (result_ok (init_of cells line))) lines
 
 -- Behind the header stand start values, of each cell at most once.
-unfoldable pub init_fault : ℕ → List Line → Line → Option TextKind
-init_fault cells before line =
-    elim (init_of cells line) [
-      | Ok p ↦ if list_any (λ c. c == p.0) (named_cells cells before) then Some BadHeader else None
-      | Err kind ↦ Some kind
-    ]
+abbrev pub new_cell_fault : List ℕ → Result (ℕ × ℕ) TextKind → Option TextKind
+new_cell_fault named (Ok p) = if list_any (λ c. c == p.0) named then Some BadHeader else None
+new_cell_fault named (Err kind) = Some kind
 
--- A label is a name that no earlier line defines.
+unfoldable pub init_fault : ℕ → List Line → Line → Option TextKind
+init_fault cells before line = new_cell_fault (named_cells cells before) (init_of cells line)
+
+-- A label is a name that is not known yet.
+abbrev pub new_label_fault : (Word → Bool) → Option Word → Option TextKind
+new_label_fault is_known None = None
+new_label_fault is_known (Some label) =
+    if not (is_name label) then Some UnknownInstruction
+    else (if is_known label then Some DuplicateLabel else None)
+
 unfoldable pub label_fault : List Line → Line → Option TextKind
-label_fault body line = elim (label_of line) [
-  | None ↦ None
-  | Some label ↦ if not (is_name label) then Some UnknownInstruction else (if list_any (defines label) body then Some DuplicateLabel else None)
-]
+label_fault body line = new_label_fault (λ label. list_any (defines label) body) (label_of line)
 
 -- The label first, then the instruction; a jump's label counts as known.
 unfoldable pub instr_fault : List Line → Line → Option TextKind
 instr_fault body line =
-    if nat_le 4096 (length body) then Some TooLong
+    if nat_le MAX_CODE (length body) then Some TooLong
     else option_or (label_fault body line) (result_err (instr_of (λ label. Some 0) (unlabelled line)))
 
 -- whether the line `code` stands among lines without a fault, behind the first four
@@ -103,6 +136,12 @@ has_code lines = list_any is_code (drop 4 lines)
 abbrev pub body_of : List Line → List Line
 body_of lines = after_first is_code (drop 4 lines)
 
+-- a line behind the header, where these lines stand between
+abbrev pub rest_fault : ℕ → List Line → Line → Option TextKind
+rest_fault cells before line =
+    if list_any is_code before then instr_fault (after_first is_code before) line
+    else (if is_code line then None else init_fault cells before line)
+
 unfoldable pub words_fault : List Line → Line → Option TextKind
 words_fault [] line = result_err (version_of line)
 words_fault (version ∷ []) line = result_err (cells_of line)
@@ -110,9 +149,7 @@ words_fault (version ∷ cells ∷ []) line = result_err (procs_of line)
 words_fault (version ∷ cells ∷ procs ∷ []) line = result_err (steps_of line)
 words_fault (version ∷ cells ∷ procs ∷ steps ∷ before) line =
     if names_rule version && not (is_filled before) then result_err (rule_of line)
-    else (if list_any is_code before then instr_fault (after_first is_code before) line
-    else (if is_code line then None
-    else init_fault (result_unwrap_or (cells_of cells) 0) before line))
+    else rest_fault (result_unwrap_or (cells_of cells) 0) before line
 
 unfoldable pub line_fault : List Line → List ℕ → Option TextKind
 line_fault before line =
@@ -134,26 +171,31 @@ fault_at lines k =
     option_or (line_fault (worded (take k lines)) (slice_index_or lines k []))
     (if (k + 1) == length lines then end_fault (worded lines) else None)
 
--- the jump to an unknown label
-unfoldable pub label_fault_at : List (List ℕ) → ℕ → Option TextKind
-label_fault_at lines k =
-    if has_code (worded (take k lines)) && is_filled (words_of (slice_index_or lines k []))
-    then result_err (instr_of (place_of (body_of (worded lines))) (unlabelled (words_of (slice_index_or lines k []))))
-    else None
+-- the instruction lines of a text, each with its number
+abbrev pub numbered_body : List (List ℕ) → List (ℕ × Line)
+numbered_body lines = after_first (λ l. is_code l.1) (drop 4 (numbered lines))
 
--- The first line with a fault has this one.
-pub record IsFirst (fault : ℕ → Option TextKind) (len line : ℕ) (kind : TextKind) : Type 0 where
-  pub within : line < len
-  pub here : fault line ≡ Some kind
-  pub earlier : (k : ℕ) → k < line → fault k ≡ None
+-- the fault of one of these instruction lines, whose own are none: its jump's label is not defined
+abbrev pub label_fault_at : List Line → ℕ → Option TextKind
+label_fault_at body k = result_err (instr_of (place_of body) (unlabelled (slice_index_or body k [])))
+
+-- The first of so many with a fault has this one.
+pub record IsFirst (fault : ℕ → Option TextKind) (len place : ℕ) (kind : TextKind) : Type 0 where
+  pub within : place < len
+  pub here : fault place ≡ Some kind
+  pub earlier : (k : ℕ) → k < place → fault k ≡ None
 
 -- Lines count from 1. An unknown label is looked for where no line has another fault.
-abbrev pub Bears : List ℕ → ℕ → TextKind → Type 0
-Bears text line kind = (k : ℕ) × (line ≡ k + 1) ×
-    (IsFirst (fault_at (lines_of text)) (length (lines_of text)) k kind
-    ⊎ (((j : ℕ) → j < length (lines_of text) → fault_at (lines_of text) j ≡ None) × IsFirst (label_fault_at (lines_of text)) (length (lines_of text)) k kind))
+unfoldable pub Bears : List ℕ → ℕ → TextKind → Type 0
+Bears text line kind =
+    let lines = lines_of text in
+    let body = numbered_body lines in
+    ((k : ℕ) × (line ≡ k + 1) × IsFirst (fault_at lines) (length lines) k kind)
+    ⊎ (((j : ℕ) → j < length lines → fault_at lines j ≡ None)
+    × (k : ℕ) × (line ≡ slice_index (map (λ l. l.0) body) k)
+    × IsFirst (label_fault_at (map (λ l. l.1) body)) (length body) k kind)
 
--- A refusal names a fault of the text. Where memory ran out it says nothing of the text, and names line 0.
+-- A refusal names a fault of the text. Where memory ran out it says nothing of it, and names line 0.
 abbrev pub IsRefusal : List ℕ → ℕ → TextKind → Type 0
 IsRefusal text line Memory = line ≡ 0
 IsRefusal text line kind = Bears text line kind

@@ -1,7 +1,7 @@
 //! The header of a text.
 ghost use Rattle.std.specs.Prelude.{◌≡◌, ◌==◌, if◌then◌else◌, List};
 ghost use Rattle.pram_text.specs.Lines.{Line, words_of};
-ghost use Rattle.pram_text.specs.Reading.{HoldsHead, TakesHead, IsFront};
+ghost use Rattle.pram_text.specs.Inner.Reading.{HoldsHead, TakesHead, IsFront};
 
 use crate::fault::TextKind;
 use crate::header::{cells_in, procs_in, rule_in, steps_in, version_in};

@@ -1,10 +1,12 @@
 //! Header lines.
 ghost use Rattle.std.specs.Prelude.{◌≡◌, ◌≤◌};
 ghost use Rattle.pram_text.specs.Lines.{words_of};
-ghost use Rattle.pram_text.specs.Judgement.{named_number, version_of, cells_of, procs_of, steps_of, rule_of, init_of, is_code};
+ghost use Rattle.pram_text.specs.Judgement.{named_number, version_of, cells_of, procs_of, steps_of};
+ghost use Rattle.pram_text.specs.Judgement.{rule_of, init_of, is_code};
 
 use crate::fault::TextKind;
 use crate::instr::Rule;
+use crate::limits::{MAX_CELLS, MAX_PROCS};
 use crate::numbers::{is_numeric, number_within};
 use crate::words::{is_word, one_word, three_words, two_words};
 
@@ -40,14 +42,14 @@ fn named_number_in(name: &str, low: u32, high: u32, line: &[u8]) -> Result<u32, 
 pub(crate) fn cells_in(line: &[u8]) -> Result<u32, TextKind>
     ensures { result ≡ cells_of (words_of line.now) }
 {
-    named_number_in("cells", 1, 65536, line)
+    named_number_in("cells", 1, MAX_CELLS, line)
 }
 
 /// How many processors the line `procs` asks for.
 pub(crate) fn procs_in(line: &[u8]) -> Result<u32, TextKind>
     ensures { result ≡ procs_of (words_of line.now) }
 {
-    named_number_in("procs", 1, 1024, line)
+    named_number_in("procs", 1, MAX_PROCS, line)
 }
 
 /// How many steps the line `steps` asks for.

@@ -1,7 +1,8 @@
 //! Instructions, and the rules of writing.
 
-/// What a processor does in a step. Registers have the numbers 0 to 3, places are those of instructions, counted from 0.
-/// On the right, a register stands for what it holds. Arithmetic is modulo 2^32.
+/// What a processor does in a step. Registers have the numbers 0 to 3, places are those of
+/// instructions, counted from 0. On the right, a register stands for what it holds. Arithmetic is
+/// modulo 2^32.
 #[derive(Clone, Copy, Debug, PartialEq, Eq)]
 pub enum Instr {
     /// `set r k`: r becomes k.

@@ -3,7 +3,7 @@ ghost use Rattle.std.specs.Prelude.{◌≡◌, ℕ, IfOk};
 ghost use Rattle.pram_text.specs.Job.{JobData, IsJob};
 
 use crate::instr::{Instr, Rule};
-use std::alloc::{AllocError, Global};
+use std::alloc::AllocError;
 use std::marker::Model;
 
 /// A program of the machine, the sizes of the machine, and the values that its cells start with.
@@ -20,9 +20,23 @@ pub struct Job {
 impl Model for Job {
     ghost Value = { JobData };
 
-    ghost view = { λ j. record { rule = j.rule; cells = j.cells; procs = j.procs; steps = j.steps; init = j.init.items; code = j.code.items } };
+    ghost view = { λ j. record {
+      rule = j.rule;
+      cells = j.cells;
+      procs = j.procs;
+      steps = j.steps;
+      init = j.init.items;
+      code = j.code.items;
+    } };
 
-    ghost invariant = { λ j. IsJob (record { rule = j.rule; cells = j.cells; procs = j.procs; steps = j.steps; init = j.init.items; code = j.code.items }) };
+    ghost invariant = { λ j. IsJob (record {
+      rule = j.rule;
+      cells = j.cells;
+      procs = j.procs;
+      steps = j.steps;
+      init = j.init.items;
+      code = j.code.items;
+    }) };
 }
 
 impl Job {
@@ -63,14 +77,12 @@ impl Job {
     }
 
     /// An equal job.
-    pub fn try_clone(&self, alloc: Global) -> Result<Job, AllocError>
+    pub fn try_clone(&self) -> Result<Job, AllocError>
         ensures { IfOk result (λ job. job ≡ self.now) }
     {
-        let init = Vec::from_slice(alloc, self.init.as_slice())?;
-        let code = Vec::from_slice(alloc, self.code.as_slice())?;
         Ok(Job {
-            init,
-            code,
+            init: self.init.clone()?,
+            code: self.code.clone()?,
             ..*self
         })
     }

@@ -7,6 +7,7 @@ mod header;
 mod instr;
 mod job;
 pub mod laws;
+pub mod limits;
 mod numbers;
 mod program;
 mod reader;

@@ -1,18 +1,17 @@
 //! The instructions of a text.
-ghost use Rattle.std.specs.Prelude.{◌≡◌, ◌≢◌, ℕ, ◌++◌, ◌∷◌, [], List, Option, Some, None, OnOk, IfOk, IfErr, Result, map};
+ghost use Rattle.std.specs.Prelude.{◌≡◌, ◌++◌, ◌∷◌, [], List, OnOk, IfErr};
 ghost use Rattle.std.specs.Option.{option_copied};
-ghost use Rattle.pram_text.specs.Lines.{Word, Line, words_of};
-ghost use Rattle.pram_text.specs.Reading.{HoldsCode, HoldsPlaces, TakesCode, Defines, IsCoded, numbers_of, place_at};
-ghost use Rattle.pram_text.specs.Statement.{aimed, resolved};
+ghost use Rattle.pram_text.specs.Lines.{Line, words_of};
+ghost use Rattle.pram_text.specs.Inner.Reading.{HoldsCode, TakesCode, Defines, IsCoded};
+ghost use Rattle.pram_text.specs.Inner.Reading.{numbers_of, place_at};
+ghost use Rattle.pram_text.specs.Inner.Statement.{aimed, resolved};
 
 use crate::fault::{TextFault, TextKind};
 use crate::instr::Instr;
+use crate::limits::MAX_CODE;
 use crate::statement::{Statement, is_name_word, split_label, statement_in};
 use std::alloc::{AllocError, Global};
 use std::collections::BTreeMap;
-
-/// How many instructions a text may have.
-const MOST: usize = 4096;
 
 /// A statement, and the number of its line.
 #[derive(Clone, Copy)]
@@ -47,7 +46,7 @@ impl<'t> Program<'t> {
         ensures number { OnOk result (numbers_of self.new ≡ numbers_of self.old ++ number ∷ []) }
     {
         let place = self.written.len();
-        if place >= MOST {
+        if place >= MAX_CODE {
             return Err(TextKind::TooLong);
         }
         let (label, rest) = split_label(line);
@@ -60,12 +59,13 @@ impl<'t> Program<'t> {
         Ok(())
     }
 
-    /// The instructions, each jump with the place of its label. The fault is that of the first jump to an unknown one.
-    pub(crate) fn code(&self, alloc: Global) -> Result<Vec<Instr>, TextFault>
+    /// The instructions, each jump with the place of its label.
+    /// The fault is that of the first jump to an unknown one.
+    pub(crate) fn code(&self) -> Result<Vec<Instr>, TextFault>
         ensures told { IsCoded (place_at self.now.places) self.now.written.items result }
         ensures memory { IfErr result (λ fault. fault.kind ≡ TextKind.Memory → fault.line ≡ 0) }
     {
-        let mut code = Vec::with_capacity(alloc, self.written.len())?;
+        let mut code = Vec::with_capacity(*self.written.allocator(), self.written.len())?;
         for written in &self.written {
             match resolve(&self.places, &written.statement) {
                 Ok(instr) => code.push(instr)?,

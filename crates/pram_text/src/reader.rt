@@ -1,7 +1,8 @@
 //! Reads a text line by line.
-ghost use Rattle.std.specs.Prelude.{◌≡◌, ◌≢◌, [], List, IfOk, IfErr};
+ghost use Rattle.std.specs.Prelude.{◌≡◌, ◌≢◌, ◌≤◌, ℕ, [], List, IfOk, IfErr, vec_len};
 ghost use Rattle.pram_text.specs.Lines.{Line, words_of};
-ghost use Rattle.pram_text.specs.Reading.{Finishes, Holds, TakesLine, TakesWords, numbers_of};
+ghost use Rattle.pram_text.specs.Inner.Reading.{Finishes, Holds, HoldsAt};
+ghost use Rattle.pram_text.specs.Inner.Reading.{TakesLine, TakesWords, numbers_of};
 ghost use Rattle.pram_text.specs.Text.{IsRefusal, Spells};
 
 use crate::fault::{TextFault, TextKind};
@@ -15,7 +16,8 @@ use std::alloc::Global;
 
 /// The job that a text spells, or the first line that is wrong, and what is wrong with it.
 ///
-/// The time is linear in the text, but for a factor that is the logarithm of the number of start values and of labels.
+/// The time is linear in the text, and in the number of cells that it asks for; each label and each
+/// jump adds a search among at most 4,096 labels.
 pub fn read_job(alloc: Global, text: &[u8]) -> Result<Job, TextFault>
     ensures spells { IfOk result (λ job. Spells text.now job) }
     ensures bears { IfErr result (λ fault. IsRefusal text.now fault.line fault.kind) }
@@ -28,7 +30,7 @@ pub fn read_job(alloc: Global, text: &[u8]) -> Result<Job, TextFault>
             return Err(refusal(number, kind));
         }
     }
-    reader.finish(alloc, number)
+    reader.finish(number)
 }
 
 // The fault of a line. Where memory ran out it is no line's.
@@ -101,7 +103,7 @@ impl<'t> Reader<'t> {
     }
 
     // The job that the lines spell, where all of them were read and the last one has this number.
-    fn finish(self, alloc: Global, last: u64) -> Result<Job, TextFault>
+    fn finish(self, last: u64) -> Result<Job, TextFault>
         requires { (before : List Line) × Holds before self }
         ensures told { (before : List Line) → Holds before self.entry
             → Finishes before (numbers_of self.entry.program) last result }
@@ -119,7 +121,19 @@ impl<'t> Reader<'t> {
                 kind: TextKind::NoCode,
             });
         }
-        let code = self.program.code(alloc)?;
+        self.job()
+    }
+
+    // The job that the lines spell, unless a jump leads to an unknown label.
+    fn job(&self) -> Result<Job, TextFault>
+        requires held { (before : List Line) × HoldsAt Next.Code before self.now }
+        requires some { 1 ≤ vec_len self.now.program.written }
+        ensures told { (before : List Line) (last : ℕ) → HoldsAt Next.Code before self.now
+            → Finishes before (numbers_of self.now.program) last result }
+        ensures memory { IfErr result (λ fault. fault.kind ≡ TextKind.Memory → fault.line ≡ 0) }
+    {
+        let code = self.program.code()?;
+        let alloc = *self.start.allocator();
         let init = start_values(alloc, &self.start, self.head.cells)?;
         Ok(Job::new(
             self.head.rule,

@@ -1,8 +1,9 @@
 //! The start values of a text.
-ghost use Rattle.std.specs.Prelude.{◌≡◌, ◌<◌, ◌≤◌, ◌==◌, ℕ, List, Some, IfOk, OnOk, OnErr, if◌then◌else◌, map, unwrap_or, vec_len};
+ghost use Rattle.std.specs.Prelude.{◌≡◌, ◌<◌, ◌≤◌, ◌==◌, ℕ, List, Some, if◌then◌else◌};
+ghost use Rattle.std.specs.Prelude.{IfOk, OnOk, map, unwrap_or, vec_len};
 ghost use Rattle.std.specs.List.{range_with_len};
 ghost use Rattle.pram_text.specs.Lines.{Line, words_of};
-ghost use Rattle.pram_text.specs.Reading.{HoldsStart, TakesStart, given};
+ghost use Rattle.pram_text.specs.Inner.Reading.{HoldsStart, TakesStart, given};
 
 use crate::fault::TextKind;
 use crate::header::init_in;
@@ -41,7 +42,8 @@ fn make_room(start: &mut Vec<Option<u32>>, cells: usize) -> Result<(), AllocErro
 fn give(start: &mut Vec<Option<u32>>, cell: usize, value: u32) -> Option<u32>
     requires { cell < vec_len start.old }
     ensures before { result ≡ given start.old.items cell }
-    ensures given { (c : ℕ) → given start.new.items c ≡ (if c == cell then Some value else given start.old.items c) }
+    ensures given { (c : ℕ) → given start.new.items c
+        ≡ (if c == cell then Some value else given start.old.items c) }
 {
     start[cell].replace(value)
 }

@@ -1,13 +1,14 @@
 //! Instruction lines.
-ghost use Rattle.std.specs.Prelude.{◌≡◌, ℕ, ◌^◌, ◌<◌, ◌||◌, ◌==◌, List, ◌∷◌, find, Option, None, Ok, IfOk};
+ghost use Rattle.std.specs.Prelude.{◌≡◌, ◌||◌, ◌==◌, ◌∷◌, find, None};
 ghost use Rattle.std.specs.Char.{is_ascii_alphabetic, is_ascii_alphanumeric};
 ghost use Rattle.std.specs.List.{list_all};
 ghost use Rattle.std.specs.Option.{option_copied};
 ghost use Rattle.std.specs.Str.{bytes_eq};
 ghost use Rattle.pram_text.specs.Lines.{words_of};
-ghost use Rattle.pram_text.specs.declared.instr.Instr.{Instr};
-ghost use Rattle.pram_text.specs.Statement.{result_and_then, name_of, resolved, IsStatement};
-ghost use Rattle.pram_text.specs.Judgement.{label_of, unlabelled, is_name, register_of, place_in, no_operand, one_register, two_registers, three_registers, register_number, register_label, one_label, instr_of};
+ghost use Rattle.pram_text.specs.Inner.Statement.{ReadsNone, ReadsOne, ReadsTwo, ReadsThree};
+ghost use Rattle.pram_text.specs.Inner.Statement.{ReadsNumber, ReadsJump, ReadsLabel};
+ghost use Rattle.pram_text.specs.Inner.Statement.{ReadsLine, name_of};
+ghost use Rattle.pram_text.specs.Judgement.{label_of, unlabelled, is_name, register_of};
 
 use crate::fault::TextKind;
 use crate::instr::Instr;
@@ -93,7 +94,7 @@ impl Mnemonic {
 }
 
 /// The label of a line without its colon, and the line behind it.
-#[tactic(auto, unfolding(crate::specs::Judgement::label_of, crate::specs::Judgement::unlabelled, crate::specs::Judgement::is_label))]
+#[tactic(auto, unfolding(crate::specs::Judgement::label_of, crate::specs::Judgement::unlabelled))]
 pub(crate) fn split_label(line: &[u8]) -> (Option<&[u8]>, &[u8])
     ensures label { option_copied result.0 ≡ label_of (words_of line.now) }
     ensures rest { words_of result.1.now ≡ unlabelled (words_of line.now) }
@@ -133,8 +134,7 @@ pub(crate) fn is_name_word(word: &[u8]) -> bool
 
 #[tactic(auto, unfolding(crate::specs::Judgement::register_of))]
 fn register_in(word: &[u8]) -> Result<u8, TextKind>
-    ensures value { result ≡ register_of word.now }
-    ensures below_four { IfOk result (λ register. register < 4) }
+    ensures { result ≡ register_of word.now }
 {
     if is_word(word, "r0") {
         Ok(0)
@@ -150,7 +150,7 @@ fn register_in(word: &[u8]) -> Result<u8, TextKind>
 }
 
 fn no_operand_in(operands: &[u8]) -> Result<(), TextKind>
-    ensures { (instr : Instr) → no_operand instr (words_of operands.now) ≡ result_and_then result (λ _. Ok instr) }
+    ensures { ReadsNone (words_of operands.now) result }
 {
     if has_words(operands) {
         Err(TextKind::WrongOperands)
@@ -160,8 +160,7 @@ fn no_operand_in(operands: &[u8]) -> Result<(), TextKind>
 }
 
 fn one_register_in(operands: &[u8]) -> Result<u8, TextKind>
-    ensures value { (make : ℕ → Instr) → one_register make (words_of operands.now) ≡ result_and_then result (λ r. Ok (make r)) }
-    ensures below_four { IfOk result (λ r. r < 4) }
+    ensures { ReadsOne (words_of operands.now) result }
 {
     let Some(r) = one_word(operands) else {
         return Err(TextKind::WrongOperands);
@@ -170,8 +169,7 @@ fn one_register_in(operands: &[u8]) -> Result<u8, TextKind>
 }
 
 fn two_registers_in(operands: &[u8]) -> Result<(u8, u8), TextKind>
-    ensures value { (make : ℕ → ℕ → Instr) → two_registers make (words_of operands.now) ≡ result_and_then result (λ p. Ok (make p.0 p.1)) }
-    ensures below_four { IfOk result (λ p. (p.0 < 4) × (p.1 < 4)) }
+    ensures { ReadsTwo (words_of operands.now) result }
 {
     let Some((a, b)) = two_words(operands) else {
         return Err(TextKind::WrongOperands);
@@ -180,8 +178,7 @@ fn two_registers_in(operands: &[u8]) -> Result<(u8, u8), TextKind>
 }
 
 fn three_registers_in(operands: &[u8]) -> Result<(u8, u8, u8), TextKind>
-    ensures value { (make : ℕ → ℕ → ℕ → Instr) → three_registers make (words_of operands.now) ≡ result_and_then result (λ p. Ok (make p.0 p.1 p.2)) }
-    ensures below_four { IfOk result (λ p. (p.0 < 4) × (p.1 < 4) × (p.2 < 4)) }
+    ensures { ReadsThree (words_of operands.now) result }
 {
     let Some((r, a, b)) = three_words(operands) else {
         return Err(TextKind::WrongOperands);
@@ -190,8 +187,7 @@ fn three_registers_in(operands: &[u8]) -> Result<(u8, u8, u8), TextKind>
 }
 
 fn register_number_in(operands: &[u8]) -> Result<(u8, u32), TextKind>
-    ensures value { (make : ℕ → ℕ → Instr) → register_number make (words_of operands.now) ≡ result_and_then result (λ p. Ok (make p.0 p.1)) }
-    ensures fits { IfOk result (λ p. (p.0 < 4) × (p.1 < 2 ^ 32)) }
+    ensures { ReadsNumber (words_of operands.now) result }
 {
     let Some((r, k)) = two_words(operands) else {
         return Err(TextKind::WrongOperands);
@@ -200,8 +196,7 @@ fn register_number_in(operands: &[u8]) -> Result<(u8, u32), TextKind>
 }
 
 fn register_label_in(operands: &[u8]) -> Result<(u8, &[u8]), TextKind>
-    ensures value { (find : List ℕ → Option ℕ) → (make : ℕ → ℕ → Instr) → register_label find make (words_of operands.now) ≡ result_and_then result (λ p. result_and_then (place_in find p.1.now) (λ place. Ok (make p.0 place))) }
-    ensures below_four { IfOk result (λ p. p.0 < 4) }
+    ensures { ReadsJump (words_of operands.now) result }
 {
     let Some((r, label)) = two_words(operands) else {
         return Err(TextKind::WrongOperands);
@@ -210,7 +205,7 @@ fn register_label_in(operands: &[u8]) -> Result<(u8, &[u8]), TextKind>
 }
 
 fn label_in(operands: &[u8]) -> Result<&[u8], TextKind>
-    ensures { (find : List ℕ → Option ℕ) → (make : ℕ → Instr) → one_label find make (words_of operands.now) ≡ result_and_then result (λ label. result_and_then (place_in find label.now) (λ place. Ok (make place))) }
+    ensures { ReadsLabel (words_of operands.now) result }
 {
     one_word(operands).ok_or(TextKind::WrongOperands)
 }
@@ -228,8 +223,7 @@ fn plain<'a>(instr: Instr) -> Statement<'a>
 // The statement of an instruction of this name.
 #[tactic(auto, unfolding(crate::specs::Judgement::instr_of))]
 fn operation(mnemonic: Mnemonic, operands: &[u8]) -> Result<Statement<'_>, TextKind>
-    ensures said { (find : List ℕ → Option ℕ) → instr_of find (name_of mnemonic ∷ words_of operands.now) ≡ result_and_then result (resolved find) }
-    ensures statement { IfOk result IsStatement }
+    ensures { ReadsLine (name_of mnemonic ∷ words_of operands.now) result }
 {
     match mnemonic {
         Mnemonic::Set => register_number_in(operands).map(|(r, k)| plain(Instr::Set(r, k))),
@@ -259,8 +253,7 @@ fn operation(mnemonic: Mnemonic, operands: &[u8]) -> Result<Statement<'_>, TextK
 /// The statement of a line behind its label.
 #[tactic(auto, unfolding(crate::specs::Judgement::instr_of))]
 pub(crate) fn statement_in(line: &[u8]) -> Result<Statement<'_>, TextKind>
-    ensures said { (find : List ℕ → Option ℕ) → instr_of find (words_of line.now) ≡ result_and_then result (resolved find) }
-    ensures statement { IfOk result IsStatement }
+    ensures { ReadsLine (words_of line.now) result }
 {
     let Some((name, operands)) = next_word(line) else {
         return Err(TextKind::UnknownInstruction);

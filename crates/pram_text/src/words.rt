@@ -3,7 +3,7 @@ ghost use Rattle.std.specs.Prelude.{◌≡◌, ◌∷◌, [], not, None, MatchOp
 ghost use Rattle.std.specs.List.{position, list_all};
 ghost use Rattle.std.specs.Str.{bytes_eq};
 ghost use Rattle.pram_text.specs.Lines.{is_allowed, is_blank, is_filled, words_of};
-ghost use Rattle.pram_text.specs.Words.{ends_word, one_of, two_of, three_of};
+ghost use Rattle.pram_text.specs.Inner.Words.{ends_word, one_of, two_of, three_of};
 
 // What stands between words.
 fn blank(byte: u8) -> bool
@@ -36,7 +36,8 @@ fn word_end(line: &[u8]) -> Option<usize>
 
 /// The first word of a line, and the rest of the line behind it.
 pub(crate) fn next_word(line: &[u8]) -> Option<(&[u8], &[u8])>
-    ensures { MatchOption result (words_of line.now ≡ []) (λ x. words_of line.now ≡ x.0.now ∷ words_of x.1.now) }
+    ensures { MatchOption result (words_of line.now ≡ [])
+        (λ x. words_of line.now ≡ x.0.now ∷ words_of x.1.now) }
 {
     let start = word_start(line)?;
     let (_, line) = line.split_at(start);
@@ -57,7 +58,8 @@ pub(crate) fn has_words(line: &[u8]) -> bool
 
 /// The word of a line of one word.
 pub(crate) fn one_word(line: &[u8]) -> Option<&[u8]>
-    ensures { MatchOption result (one_of (words_of line.now) ≡ None) (λ x. words_of line.now ≡ x.now ∷ []) }
+    ensures { MatchOption result (one_of (words_of line.now) ≡ None)
+        (λ x. words_of line.now ≡ x.now ∷ []) }
 {
     let (word, rest) = next_word(line)?;
     if has_words(rest) { None } else { Some(word) }
@@ -65,7 +67,8 @@ pub(crate) fn one_word(line: &[u8]) -> Option<&[u8]>
 
 /// The words of a line of two.
 pub(crate) fn two_words(line: &[u8]) -> Option<(&[u8], &[u8])>
-    ensures { MatchOption result (two_of (words_of line.now) ≡ None) (λ x. words_of line.now ≡ x.0.now ∷ x.1.now ∷ []) }
+    ensures { MatchOption result (two_of (words_of line.now) ≡ None)
+        (λ x. words_of line.now ≡ x.0.now ∷ x.1.now ∷ []) }
 {
     let (first, rest) = next_word(line)?;
     let second = one_word(rest)?;
@@ -74,7 +77,8 @@ pub(crate) fn two_words(line: &[u8]) -> Option<(&[u8], &[u8])>
 
 /// The words of a line of three.
 pub(crate) fn three_words(line: &[u8]) -> Option<(&[u8], &[u8], &[u8])>
-    ensures { MatchOption result (three_of (words_of line.now) ≡ None) (λ x. words_of line.now ≡ x.0.now ∷ x.1.now ∷ x.2.now ∷ []) }
+    ensures { MatchOption result (three_of (words_of line.now) ≡ None)
+        (λ x. words_of line.now ≡ x.0.now ∷ x.1.now ∷ x.2.now ∷ []) }
 {
     let (first, rest) = next_word(line)?;
     let (second, third) = two_words(rest)?;

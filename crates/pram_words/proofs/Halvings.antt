@@ -1,17 +1,18 @@
 -- Numbers of digits, leaves and depths.
-use Rattle.std.proofs.Common.{◌≡◌, ℕ, ◌+◌, ◌-◌, ◌*◌, ◌%◌, ◌^◌, ◌<◌, ◌≤◌, inl, inr, refl, ap, ◌∙◌, arith}
-use Rattle.std.proofs.lemmas.Nat.{leading_length, pow_pos, pow_below, pow-add}
+use Rattle.std.proofs.Common.{◌≡◌, ℕ, ◌==◌, ◌+◌, ◌-◌, ◌*◌, ◌%◌, ◌^◌, ◌<◌, ◌≤◌, inl, inr, refl, sym, ap, ◌∙◌, arith}
+use Rattle.std.proofs.lemmas.Nat.{leading_length, pow_pos, pow_below, pow-add, and_mask}
+use Rattle.std.proofs.lemmas.Nat.Bits.{bit_at_and, bit_at_ones}
 use Rattle.std.proofs.Math.Nat.{pow-le-pow_right}
 use Rattle.std.proofs.lemmas.Bool.{cases_order, eqb-true, eq-eqb}
 use Rattle.std.specs.Int.{IsPowerOfTwo, IsNextPowerOfTwo, leading_zeros, bit_at, w32}
 use Rattle.std.specs.Int.Count.{leading_unique}
 use Rattle.pram_words.specs.Tree.{digits_of, leaves_of, depth_of, turns_right, IsTurn}
 
-double : (k : ℕ) → 2 ^ (k + 1) ≡ 2 * 2 ^ k
+pub double : (k : ℕ) → 2 ^ (k + 1) ≡ 2 * 2 ^ k
 double k = omega (arith, pow-add 2 k 1)
 
 -- a smaller power has a smaller exponent
-exponents : (j k : ℕ) → 2 ^ j < 2 ^ k → j < k
+pub exponents : (j k : ℕ) → 2 ^ j < 2 ^ k → j < k
 exponents j k h = elim (cases_order j k) [
   | inl e ↦ absurd (let f : 2 ^ j ≡ 2 ^ k = ap (λ x. 2 ^ x) e in omega arith)
   | inr c ↦ elim c [ inl l ↦ l | inr g ↦ absurd (let f = pow_below k j g in omega arith) ]
@@ -84,3 +85,11 @@ turn l worker n l_fits n_fits = λ h d e low high.
     let height : h ≡ depth_of l = depth_unique l h l_fits (omega arith) (let pos = pow_pos h in omega arith) in
     let depth : d ≡ depth_of n = depth_unique n d n_fits low (omega (arith, double d)) in
     rw (height, depth) (eqb-true (bit_at (worker % l) (depth_of l - 1 - depth_of n)) 1, eq-eqb (bit_at (worker % l) (depth_of l - 1 - depth_of n)) 1)
+
+-- a bit below l is the same in w and in w mod l
+pub turn_bit : (l worker n h : ℕ) → l ≡ 2 ^ h → h ≡ depth_of l → depth_of n < h → turns_right l worker n ≡ (bit_at worker (h - 1 - depth_of n) == 1)
+turn_bit l worker n h e height inner =
+    let one = bit_at_ones h (h - 1 - depth_of n) (omega arith) in
+    let same : bit_at (worker % 2 ^ h) (h - 1 - depth_of n) ≡ bit_at worker (h - 1 - depth_of n)
+    = ap (λ x. bit_at x (h - 1 - depth_of n)) (sym (and_mask worker h)) ∙ bit_at_and worker (2 ^ h - 1) (h - 1 - depth_of n) ∙ omega arith in
+    rw (← height, e, same) refl

@@ -1,3 +1,4 @@
 pub mod Halvings
 pub mod Numbering
 pub mod Starts
+pub mod Ways

@@ -2,4 +2,6 @@ pub mod Stamps
 pub mod Phases
 pub mod Tree
 pub mod Words
+pub mod Ways
 pub mod Start
+pub mod Laws

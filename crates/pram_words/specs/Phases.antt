@@ -1,5 +1,5 @@
 -- Phases: step t has the phases 3(t - 1) + 1, 3(t - 1) + 2 and 3t.
-use Rattle.std.specs.Prelude.{◌≡◌, ℕ, ◌+◌, ◌-◌, ◌*◌, ◌/◌, ◌%◌, ◌≤◌, ◌==◌, if◌then◌else◌}
+use Rattle.std.specs.Prelude.{ℕ, ◌+◌, ◌-◌, ◌*◌, ◌/◌, ◌%◌, ◌==◌, if◌then◌else◌}
 use Rattle.pram_words.specs.declared.phases.Kind.{Kind}
 use Rattle.pram_words.specs.declared.phases.Kind.TheVariants.{Compute, Apply, Verify}
 
@@ -13,9 +13,3 @@ step_at phase = (phase + 2) / 3
 
 abbrev pub kind_at : ℕ → Kind
 kind_at phase = if phase % 3 == 0 then Verify else (if phase % 3 == 1 then Compute else Apply)
-
--- a phase and its step and kind give each other back
-abbrev pub PhasesUndo : Type 0
-PhasesUndo =
-    ((step : ℕ) (kind : Kind) → 1 ≤ step → (step_at (phase_of step kind) ≡ step) × (kind_at (phase_of step kind) ≡ kind))
-    × ((phase : ℕ) → 1 ≤ phase → phase_of (step_at phase) (kind_at phase) ≡ phase)

@@ -1,21 +1,43 @@
 //! Where the words of a board lie.
-ghost use Rattle.std.specs.Prelude.{◌≡◌, ℕ, ◌+◌, ◌<◌, ◌≤◌, ◌↔◌, IsTrue, if◌then◌else◌};
-ghost use Rattle.pram_words.specs.Tree.{leaves_of};
-ghost use Rattle.pram_words.specs.Words.{LayoutData, IsLayout, IsStamped, IsInRange, Admits, has_claims, layout_of, places_of, positions_at, places_at, claims_at, number_of, length_of, word_at};
+ghost use Rattle.std.specs.Prelude.{◌≡◌, ℕ, ◌+◌, ◌*◌, ◌<◌, ◌≤◌, ◌↔◌, IsTrue, if◌then◌else◌};
+ghost use Rattle.pram_words.specs.declared.layout.Form.TheVariants.{Compact, Wide};
+ghost use Rattle.pram_words.specs.declared.words.Word.TheVariants.{Asked, Claim, Conflict};
+ghost use Rattle.pram_words.specs.declared.words.Word.TheVariants.{Node, Position, Stored};
 ghost use Rattle.pram_words.specs.Start.{start_of};
-ghost use Rattle.pram_words.specs.declared.words.Word.TheVariants.{Asked, Position, Stored, Claim};
+ghost use Rattle.pram_words.specs.Tree.{depth_of, leaves_of};
+ghost use Rattle.pram_words.specs.Ways.{IsTurnOf, first_leaf_in, turns_right_in, way_of};
+ghost use Rattle.pram_words.specs.Words.{Admits, IsInRange, IsLayout, IsStamped, LayoutData};
+ghost use Rattle.pram_words.specs.Words.{has_claims, layout_of, length_of, most_length};
+ghost use Rattle.pram_words.specs.Words.{number_of, places_of, word_at};
+ghost use Rattle.pram_words.specs.Words.{claims_at, compact_word, places_at, positions_at};
+ghost use Rattle.pram_words.specs.Words.{block_at, block_word, cells_at, line_word};
+ghost use Rattle.pram_words.specs.Words.{wide_claims_at, wide_place, wide_word};
 
 use crate::stamps::{payload, stamp};
-use crate::tree::{first_leaf, leaves};
+use crate::tree::{first_leaf, goes_right, goes_right_wide, leaves};
 use crate::words::Word;
 use pram_text::{Job, Rule};
 use std::marker::Model;
 
-/// Where the words of a board lie, for L leaves, M cells, N processors and W workers: the conflict (word 0), the nodes (1 to
-/// 2L - 1), three request words a processor, a position word a worker, two words a place, and, under the rules priority and
-/// crew, a claim word a cell. Places are the M cells, then four registers a processor, then a counter a processor.
+/// How the words of a board lie, and which way its workers turn. Every result holds for both forms.
+#[derive(Clone, Copy, Debug, PartialEq, Eq)]
+pub enum Form {
+    /// One kind behind the other: the conflict (word 0), the nodes (1 to 2L - 1), three request
+    /// words a processor, a position word a worker, two words a place, and, under the rules
+    /// priority and crew, a claim word a cell. A worker turns by the high bits of its number.
+    Compact,
+    /// On lines of 8 words: the conflict, each inner node and each position on a line of its own,
+    /// what belongs to one processor together on two lines, then the cells and the claims; the
+    /// words between are spare. A worker turns by its number's low bits, so that workers start far
+    /// apart and walk towards each other.
+    Wide,
+}
+
+/// Where the words of a board lie, for L leaves, M cells, N processors and W workers. Places are
+/// the M cells, then four registers a processor, then a counter a processor.
 #[derive(Clone, Copy, Debug, PartialEq, Eq)]
 pub struct Layout {
+    form: Form,
     leaves: u32,
     cells: u32,
     procs: u32,
@@ -26,30 +48,68 @@ pub struct Layout {
 impl Model for Layout {
     ghost Value = { LayoutData };
 
-    ghost view = { λ y. record { leaves = y.leaves; cells = y.cells; procs = y.procs; workers = y.workers; claims = y.claims } };
+    ghost view = { λ y. record {
+      form = y.form;
+      leaves = y.leaves;
+      cells = y.cells;
+      procs = y.procs;
+      workers = y.workers;
+      claims = y.claims;
+    } };
 
-    ghost invariant = { λ y. IsLayout (record { leaves = y.leaves; cells = y.cells; procs = y.procs; workers = y.workers; claims = y.claims }) };
+    ghost invariant = { λ y. IsLayout (record {
+      form = y.form;
+      leaves = y.leaves;
+      cells = y.cells;
+      procs = y.procs;
+      workers = y.workers;
+      claims = y.claims;
+    }) };
 
-    ghost inverse = { λ y. record { leaves = y.leaves; cells = y.cells; procs = y.procs; workers = y.workers; claims = y.claims } };
+    ghost inverse = { λ y. record {
+      form = y.form;
+      leaves = y.leaves;
+      cells = y.cells;
+      procs = y.procs;
+      workers = y.workers;
+      claims = y.claims;
+    } };
 }
 
 impl Layout {
-    /// The layout of the board of a job for so many workers.
+    /// The compact layout of the board of a job for so many workers.
     pub fn new(job: &Job, workers: u32) -> Layout
         requires some { 1 ≤ workers }
         requires most { workers ≤ 64 }
-        ensures value { result ≡ layout_of job.now workers }
+        ensures value { result ≡ layout_of job.now Compact workers }
         ensures limits { IsLayout result }
     {
-        Layout::of(job.rule(), job.cells(), job.procs(), workers)
+        Layout::of(Form::Compact, job.rule(), job.cells(), job.procs(), workers)
+    }
+
+    /// The wide layout of the board of a job for so many workers.
+    pub fn wide(job: &Job, workers: u32) -> Layout
+        requires some { 1 ≤ workers }
+        requires most { workers ≤ 64 }
+        ensures value { result ≡ layout_of job.now Wide workers }
+        ensures limits { IsLayout result }
+    {
+        Layout::of(Form::Wide, job.rule(), job.cells(), job.procs(), workers)
     }
 
     // The layout from plain numbers.
-    pub(crate) fn of(rule: Rule, cells: u32, procs: u32, workers: u32) -> Layout
+    pub(crate) fn of(form: Form, rule: Rule, cells: u32, procs: u32, workers: u32) -> Layout
         requires cells { (1 ≤ cells) × (cells ≤ 65536) }
         requires procs { (1 ≤ procs) × (procs ≤ 1024) }
         requires workers { (1 ≤ workers) × (workers ≤ 64) }
-        ensures value { result ≡ record { leaves = leaves_of procs; cells = cells; procs = procs; workers = workers; claims = has_claims rule } }
+        ensures value { result ≡ record {
+          form = form;
+          leaves = leaves_of procs;
+          cells = cells;
+          procs = procs;
+          workers = workers;
+          claims = has_claims rule;
+        } }
         ensures limits { IsLayout result }
     {
         let claims = match rule {
@@ -57,12 +117,21 @@ impl Layout {
             Rule::Priority | Rule::Crew => true,
         };
         Layout {
+            form,
             leaves: leaves(procs),
             cells,
             procs,
             workers,
             claims,
         }
+    }
+
+    /// The form of the board.
+    pub fn form(&self) -> Form
+        ensures value { result ≡ self.now.form }
+        ensures limits { IsLayout self.now }
+    {
+        self.form
     }
 
     /// How many leaves the tree has.
@@ -81,18 +150,49 @@ impl Layout {
         self.workers
     }
 
-    /// How many words a board has: at most 146,496, or 212,032 with claim words.
-    #[tactic(auto, unfolding(crate::specs::Words::number_of, crate::specs::Words::length_of))]
+    /// How many words a board has: compact at most 146,496, or 212,032 with claim words; wide at
+    /// most 156,160, or 221,696 with claim words.
+    #[tactic(auto, unfolding(crate::specs::Words::length_of))]
     pub fn length(&self) -> u32
         ensures value { result ≡ length_of self.now }
-        ensures most { result ≤ (if self.now.claims then 212032 else 146496) }
+        ensures most { result ≤ most_length self.now }
         ensures limits { IsLayout self.now }
     {
-        let words = if self.claims { self.cells } else { 0 };
-        self.first_claim() + words
+        let claims = if self.claims { self.cells } else { 0 };
+        match self.form {
+            Form::Compact => self.first_claim() + claims,
+            Form::Wide => self.wide_first_claim() + claims,
+        }
     }
 
-    /// The word of part j of the request of processor i: 0 is the data place, 1 the data value, 2 the next counter.
+    /// The word that holds the step of the conflict.
+    #[tactic(auto, unfolding(crate::specs::Words::number_of, crate::specs::Words::length_of))]
+    pub fn conflict_word(&self) -> u32
+        ensures value { result ≡ number_of self.now Conflict }
+        ensures below { result < length_of self.now }
+    {
+        // The limits of a layout are known where one of its fields is read.
+        let _ = &self.form;
+        0
+    }
+
+    /// The word that holds the last phase that is finished below node n.
+    #[tactic(auto, unfolding(crate::specs::Words::number_of, crate::specs::Words::length_of))]
+    pub fn node_word(&self, n: u32) -> u32
+        requires some { 1 ≤ n }
+        requires node { n < 2 * self.now.leaves }
+        ensures value { result ≡ number_of self.now (Node n) }
+        ensures below { result < length_of self.now }
+    {
+        match self.form {
+            Form::Compact => n,
+            Form::Wide if n < self.leaves => 8 * n,
+            Form::Wide => self.block(n - self.leaves),
+        }
+    }
+
+    /// The word of part j of the request of processor i: 0 is the data place, 1 the data value, 2
+    /// the next counter.
     #[tactic(auto, unfolding(crate::specs::Words::number_of, crate::specs::Words::length_of))]
     pub fn request_word(&self, i: u32, j: u32) -> u32
         requires processor { i < self.now.procs }
@@ -100,7 +200,10 @@ impl Layout {
         ensures value { result ≡ number_of self.now (Asked i j) }
         ensures below { result < length_of self.now }
     {
-        2 * self.leaves + 3 * i + j
+        match self.form {
+            Form::Compact => 2 * self.leaves + 3 * i + j,
+            Form::Wide => self.block(i) + 1 + j,
+        }
     }
 
     /// The word that holds the node where worker w stands.
@@ -110,7 +213,10 @@ impl Layout {
         ensures value { result ≡ number_of self.now (Position w) }
         ensures below { result < length_of self.now }
     {
-        self.first_position() + w
+        match self.form {
+            Form::Compact => self.first_position() + w,
+            Form::Wide => 8 * (self.leaves + w),
+        }
     }
 
     /// The first of the two words of place p; the second follows it.
@@ -121,7 +227,10 @@ impl Layout {
         ensures second { result + 1 ≡ number_of self.now (Stored p 1) }
         ensures below { result + 1 < length_of self.now }
     {
-        self.first_place() + 2 * p
+        match self.form {
+            Form::Compact => self.first_place() + 2 * p,
+            Form::Wide => self.wide_place_word(p),
+        }
     }
 
     /// The claim word of cell c.
@@ -132,7 +241,10 @@ impl Layout {
         ensures value { result ≡ number_of self.now (Claim c) }
         ensures below { result < length_of self.now }
     {
-        self.first_claim() + c
+        match self.form {
+            Form::Compact => self.first_claim() + c,
+            Form::Wide => self.wide_first_claim() + c,
+        }
     }
 
     /// What the word of this number is.
@@ -141,27 +253,40 @@ impl Layout {
         requires { number < length_of self.now }
         ensures { result ≡ word_at self.now number }
     {
-        let requests = 2 * self.leaves;
-        let positions = self.first_position();
-        let places = self.first_place();
-        let claims = self.first_claim();
-        if number == 0 {
-            Word::Conflict
-        } else if number < requests {
-            Word::Node(number)
-        } else if number < positions {
-            Word::Asked((number - requests) / 3, (number - requests) % 3)
-        } else if number < places {
-            Word::Position(number - positions)
-        } else if number < claims {
-            Word::Stored((number - places) / 2, (number - places) % 2)
-        } else {
-            Word::Claim(number - claims)
+        match self.form {
+            Form::Compact => self.compact_word(number),
+            Form::Wide => self.wide_word(number),
         }
     }
 
-    /// Whether the word of this number may have this value; false for a number past the last word. The layout is to be the
-    /// job's.
+    /// The leaf where worker w begins. Takes a step for each level of the tree in the wide form.
+    #[tactic(auto, unfolding(crate::specs::Ways::first_leaf_in))]
+    pub fn first_leaf(&self, w: u32) -> u32
+        ensures value { result ≡ first_leaf_in self.now w }
+        ensures leaf { (self.now.leaves ≤ result) × (result < 2 * self.now.leaves) }
+    {
+        match self.form {
+            Form::Compact => first_leaf(self.leaves, w),
+            Form::Wide => self.leaf_of_turns(w),
+        }
+    }
+
+    /// Whether worker w goes to the right child of an inner node when both children are unfinished.
+    #[tactic(auto, unfolding(crate::specs::Ways::turns_right_in))]
+    pub fn goes_right(&self, w: u32, n: u32) -> bool
+        requires node { 1 ≤ n }
+        requires inner { n < self.now.leaves }
+        ensures value { result ≡ turns_right_in self.now w n }
+        ensures turn { IsTurnOf self.now.form self.now w n result }
+    {
+        match self.form {
+            Form::Compact => goes_right(self.leaves, w, n),
+            Form::Wide => goes_right_wide(self.workers, w, n),
+        }
+    }
+
+    /// Whether the word of this number may have this value; false for a number past the last word.
+    /// The layout is to be the job's.
     pub fn admits(&self, job: &Job, word: u32, value: u64) -> bool
         ensures { IsTrue result ↔ Admits self.now job.now word value }
     {
@@ -174,12 +299,13 @@ impl Layout {
         ensures { result ≡ start_of self.now job.now (word_at self.now word) }
     {
         match self.word(word) {
-            Word::Position(w) => u64::from(first_leaf(self.leaves, w)),
+            Word::Position(w) => u64::from(self.first_leaf(w)),
             Word::Stored(p, _) => match job.init().get(p as usize) {
                 Some(value) => u64::from(*value),
                 None => 0,
             },
-            Word::Conflict | Word::Node(_) | Word::Asked(_, _) | Word::Claim(_) => 0,
+            Word::Conflict | Word::Node(_) | Word::Asked(_, _) => 0,
+            Word::Claim(_) | Word::Spare(_) => 0,
         }
     }
 
@@ -200,10 +326,124 @@ impl Layout {
             Word::Stored(p, _) if p < counters => is_stamped(steps, u32::MAX, value),
             Word::Stored(_, _) => is_stamped(steps, past_code, value),
             Word::Claim(_) => is_stamped(steps, self.procs, value),
+            Word::Spare(_) => value == 0,
         }
     }
 
-    // The first position word, word of a place and claim word (the length where there is none).
+    // The word of a number in the compact form.
+    fn compact_word(&self, number: u32) -> Word
+        ensures { result ≡ compact_word self.now number }
+    {
+        let requests = 2 * self.leaves;
+        let positions = self.first_position();
+        let places = self.first_place();
+        let claims = self.first_claim();
+        if number == 0 {
+            Word::Conflict
+        } else if number < requests {
+            Word::Node(number)
+        } else if number < positions {
+            Word::Asked((number - requests) / 3, (number - requests) % 3)
+        } else if number < places {
+            Word::Position(number - positions)
+        } else if number < claims {
+            Word::Stored((number - places) / 2, (number - places) % 2)
+        } else {
+            Word::Claim(number - claims)
+        }
+    }
+
+    // The word of a number in the wide form.
+    fn wide_word(&self, number: u32) -> Word
+        ensures { result ≡ wide_word self.now number }
+    {
+        let blocks = self.block(0);
+        let cells = self.block(self.leaves);
+        let claims = self.wide_first_claim();
+        if number < blocks {
+            if number % 8 == 0 {
+                self.line_word(number / 8)
+            } else {
+                Word::Spare(number)
+            }
+        } else if number < cells {
+            self.block_word(number, (number - blocks) / 16, (number - blocks) % 16)
+        } else if number < claims {
+            Word::Stored((number - cells) / 2, number % 2)
+        } else {
+            Word::Claim(number - claims)
+        }
+    }
+
+    // The word that begins line q of the lines that have one word each.
+    fn line_word(&self, q: u32) -> Word
+        ensures { result ≡ line_word self.now q }
+    {
+        if q == 0 {
+            Word::Conflict
+        } else if q < self.leaves {
+            Word::Node(q)
+        } else {
+            Word::Position(q - self.leaves)
+        }
+    }
+
+    // The word of a number that lies at place s of the block of leaf i.
+    fn block_word(&self, number: u32, i: u32, s: u32) -> Word
+        requires leaf { i < self.now.leaves }
+        requires place { s < 16 }
+        ensures { result ≡ block_word self.now number i s }
+    {
+        if s == 0 {
+            Word::Node(self.leaves + i)
+        } else if i < self.procs && s < 4 {
+            Word::Asked(i, s - 1)
+        } else if i < self.procs && s < 6 {
+            Word::Stored(self.cells + 4 * self.procs + i, s - 4)
+        } else if i < self.procs && s < 14 {
+            Word::Stored(self.cells + 4 * i + (s - 6) / 2, s % 2)
+        } else {
+            Word::Spare(number)
+        }
+    }
+
+    // The first word of a place in the wide form.
+    fn wide_place_word(&self, p: u32) -> u32
+        requires { p < places_of self.now }
+        ensures value { result ≡ wide_place self.now p }
+        ensures below { result + 1 < wide_claims_at self.now }
+        ensures limits { IsLayout self.now }
+    {
+        let counters = self.cells + 4 * self.procs;
+        if p < self.cells {
+            self.block(self.leaves) + 2 * p
+        } else if p < counters {
+            let register = p - self.cells;
+            self.block(register / 4) + 6 + 2 * (register % 4)
+        } else {
+            self.block(p - counters) + 4
+        }
+    }
+
+    // The first word of the block of leaf i in the wide form, or past the last leaf, of the cells.
+    fn block(&self, i: u32) -> u32
+        requires { i ≤ 1024 }
+        ensures value { result ≡ block_at self.now i }
+        ensures below { i < self.now.procs → result + 16 ≤ cells_at self.now }
+        ensures limits { IsLayout self.now }
+    {
+        8 * (self.leaves + self.workers) + 16 * i
+    }
+
+    fn wide_first_claim(&self) -> u32
+        ensures value { result ≡ wide_claims_at self.now }
+        ensures limits { IsLayout self.now }
+    {
+        self.block(self.leaves) + 2 * self.cells
+    }
+
+    // The first position word, word of a place and claim word of the compact form (the length where
+    // there is none).
     fn first_position(&self) -> u32
         ensures value { result ≡ positions_at self.now }
         ensures limits { IsLayout self.now }
@@ -223,6 +463,19 @@ impl Layout {
         ensures limits { IsLayout self.now }
     {
         self.first_place() + 2 * (self.cells + 5 * self.procs)
+    }
+
+    // The leaf where a worker's turns lead from the root.
+    fn leaf_of_turns(&self, w: u32) -> u32
+        ensures value { result ≡ way_of self.now w (depth_of self.now.leaves) }
+        ensures leaf { (self.now.leaves ≤ result) × (result < 2 * self.now.leaves) }
+    {
+        let leaves = self.leaves();
+        let mut node = 1;
+        while node < leaves {
+            node = 2 * node + u32::from(self.goes_right(w, node));
+        }
+        node
     }
 }
 

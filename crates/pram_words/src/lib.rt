@@ -1,19 +1,25 @@
 //! The words of a shared board: stamps, phases, the tree of progress, and where each word lies.
 //!
-//! All calls are pure, take constant time and take no memory.
+//! All calls are pure and take no memory; they take constant time, but for a worker's first leaf in
+//! the wide form, which takes time in the height of the tree.
 #![tactic(auto)]
 
+pub mod laws;
 mod layout;
 mod phases;
 mod stamps;
 mod tree;
 mod words;
 
-pub use layout::Layout;
-pub use phases::{Kind, kind_of, phase, phases_undo, step_of};
-pub use stamps::{payload, stamp, stamped, stamps_undo};
+pub use laws::{
+    phases_undo, stamps_undo, words_have_ranges, words_keep_apart, words_start_admitted,
+    workers_begin_at_leaves,
+};
+pub use layout::{Form, Layout};
+pub use phases::{Kind, kind_of, phase, step_of};
+pub use stamps::{payload, stamp, stamped};
 pub use tree::{first_leaf, goes_right, height, leaves, left, parent, right};
-pub use words::{Word, words_have_ranges, words_keep_apart, words_start_admitted};
+pub use words::Word;
 
 #[cfg(test)]
 mod tests;

@@ -1,6 +1,6 @@
 //! Phases: the passes over all processors that carry out one step of the machine after the other.
 ghost use Rattle.std.specs.Prelude.{◌≡◌, ◌*◌, ◌≤◌};
-ghost use Rattle.pram_words.specs.Phases.{phase_of, step_at, kind_at, PhasesUndo};
+ghost use Rattle.pram_words.specs.Phases.{phase_of, step_at, kind_at};
 
 /// What a pass does, in the order of the passes of a step.
 #[derive(Clone, Copy, Debug, PartialEq, Eq)]
@@ -46,8 +46,3 @@ pub fn kind_of(phase: u64) -> Kind
         _ => Kind::Apply,
     }
 }
-
-/// The law that a phase and its step and kind give each other back. It does nothing.
-pub fn phases_undo()
-    ensures { PhasesUndo }
-{}

@@ -1,8 +1,9 @@
 //! Stamped words: the number of a step above a payload, in one word.
-ghost use Rattle.std.specs.Prelude.{◌≡◌, ◌<◌, ◌^◌};
-ghost use Rattle.pram_words.specs.Stamps.{stamped_word, stamp_of, payload_of, StampsUndo};
+ghost use Rattle.std.specs.Prelude.{◌≡◌};
+ghost use Rattle.pram_words.specs.Stamps.{stamped_word, stamp_of, payload_of};
 
-/// The word with this stamp in its upper 32 bits and this payload in its lower 32. Words compare by their stamps first.
+/// The word with this stamp in its upper 32 bits and this payload in its lower 32. Words compare by
+/// their stamps first.
 pub fn stamped(stamp: u32, payload: u32) -> u64
     ensures { result ≡ stamped_word stamp payload }
 {
@@ -22,8 +23,3 @@ pub fn payload(word: u64) -> u32
 {
     (word % 0x1_0000_0000) as u32
 }
-
-/// The law that a word and its two halves give each other back. It does nothing.
-pub fn stamps_undo()
-    ensures { StampsUndo }
-{}

@@ -34,8 +34,9 @@ fn tree_of_leaves(rt: HostRuntime) {
 
 #[test]
 fn layout_of_three_cells(rt: HostRuntime) {
-    let layout = Layout::of(Rule::Common, 3, 3, 2);
+    let layout = Layout::of(Form::Compact, Rule::Common, 3, 3, 2);
     assert_eq!(rt; (layout.leaves(), layout.workers()), (4, 2));
+    assert_eq!(rt; (layout.conflict_word(), layout.node_word(7)), (0, 7));
     assert_eq!(rt;
         (layout.request_word(0, 0), layout.request_word(2, 2)),
         (8, 16)
@@ -44,28 +45,102 @@ fn layout_of_three_cells(rt: HostRuntime) {
         (layout.position_word(0), layout.position_word(1)),
         (17, 18)
     );
-    assert_eq!(rt;
-        (
-            layout.place_word(0),
-            layout.place_word(1),
-            layout.place_word(2)
-        ),
-        (19, 21, 23)
-    );
-    assert_eq!(rt; (layout.place_word(3), layout.place_word(14)), (25, 47));
-    assert_eq!(rt; (layout.place_word(15), layout.place_word(17)), (49, 53));
+    for (place, word) in [
+        (0, 19),
+        (1, 21),
+        (2, 23),
+        (3, 25),
+        (14, 47),
+        (15, 49),
+        (17, 53),
+    ] {
+        assert_eq!(rt; layout.place_word(place), word, "place {place}");
+    }
     assert_eq!(rt; layout.length(), 55);
     assert_eq!(rt; layout.word(54), Word::Stored(17, 1));
 }
 
 #[test]
-fn layout_with_claims(rt: HostRuntime) {
-    let layout = Layout::of(Rule::Crew, 3, 3, 2);
-    assert_eq!(rt; (layout.claim_word(0), layout.claim_word(2)), (55, 57));
-    assert_eq!(rt; layout.length(), 58);
-    let largest = Layout::of(Rule::Priority, 65536, 1024, 64);
-    assert_eq!(rt; largest.length(), 212032);
-    assert_eq!(rt; Layout::of(Rule::Common, 65536, 1024, 64).length(), 146496);
+fn wide_layout_of_three_cells(rt: HostRuntime) {
+    let layout = Layout::of(Form::Wide, Rule::Common, 3, 3, 2);
+    assert_eq!(rt; (layout.form(), layout.leaves()), (Form::Wide, 4));
+    assert_eq!(rt; layout.conflict_word(), 0);
+    for (node, word) in [(1, 8), (3, 24), (4, 48), (5, 64), (7, 96)] {
+        assert_eq!(rt; layout.node_word(node), word, "node {node}");
+    }
+    assert_eq!(rt;
+        (layout.position_word(0), layout.position_word(1)),
+        (32, 40)
+    );
+    assert_eq!(rt;
+        (layout.request_word(0, 0), layout.request_word(2, 2)),
+        (49, 83)
+    );
+    for (place, word) in [
+        (0, 112),
+        (2, 116),
+        (3, 54),
+        (6, 60),
+        (14, 92),
+        (15, 52),
+        (17, 84),
+    ] {
+        assert_eq!(rt; layout.place_word(place), word, "place {place}");
+    }
+    assert_eq!(rt; layout.length(), 118);
+    for (number, word) in [
+        (1, Word::Spare(1)),
+        (47, Word::Spare(47)),
+        (61, Word::Stored(6, 1)),
+        (62, Word::Spare(62)),
+        (96, Word::Node(7)),
+        (97, Word::Spare(97)),
+        (117, Word::Stored(2, 1)),
+    ] {
+        assert_eq!(rt; layout.word(number), word, "word {number}");
+    }
+}
+
+#[test]
+fn layouts_with_claims(rt: HostRuntime) {
+    let compact = Layout::of(Form::Compact, Rule::Crew, 3, 3, 2);
+    assert_eq!(rt; (compact.claim_word(0), compact.claim_word(2)), (55, 57));
+    assert_eq!(rt; compact.length(), 58);
+    let wide = Layout::of(Form::Wide, Rule::Crew, 3, 3, 2);
+    assert_eq!(rt; (wide.claim_word(0), wide.claim_word(2)), (118, 120));
+    assert_eq!(rt; wide.length(), 121);
+}
+
+#[test]
+fn largest_layouts(rt: HostRuntime) {
+    for (form, rule, length) in [
+        (Form::Compact, Rule::Common, 146496),
+        (Form::Compact, Rule::Priority, 212032),
+        (Form::Wide, Rule::Common, 156160),
+        (Form::Wide, Rule::Priority, 221696),
+    ] {
+        assert_eq!(rt; Layout::of(form, rule, 65536, 1024, 64).length(), length);
+    }
+}
+
+#[test]
+fn workers_of_a_wide_board_start_far_apart(rt: HostRuntime) {
+    let layout = Layout::of(Form::Wide, Rule::Common, 1, 8, 4);
+    for (worker, leaf) in [(0, 8), (1, 12), (2, 11), (3, 15)] {
+        assert_eq!(rt; layout.first_leaf(worker), leaf, "worker {worker}");
+    }
+    assert_eq!(rt; layout.leaves(), 8);
+    assert!(rt; layout.goes_right(1, 1));
+    assert!(rt; !layout.goes_right(1, 3));
+    assert!(rt; !layout.goes_right(1, 6));
+    assert_eq!(rt;
+        Layout::of(Form::Wide, Rule::Common, 1, 8, 1).first_leaf(0),
+        8
+    );
+    assert_eq!(rt;
+        Layout::of(Form::Compact, Rule::Common, 1, 8, 4).first_leaf(3),
+        11
+    );
 }
 
 #[test]

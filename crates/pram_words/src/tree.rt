@@ -1,8 +1,9 @@
-//! The tree of progress, kept as a heap: node 1 is the root, node n has the children 2n and 2n + 1, and a tree of l leaves
-//! has the leaves l to 2l - 1.
+//! The tree of progress, kept as a heap: node 1 is the root, node n has the children 2n and 2n + 1,
+//! and a tree of l leaves has the leaves l to 2l - 1.
 ghost use Rattle.std.specs.Prelude.{◌≡◌, ◌+◌, ◌*◌, ◌/◌, ◌^◌, ◌<◌, ◌≤◌};
 ghost use Rattle.std.specs.Int.{IsPowerOfTwo, IsNextPowerOfTwo};
 ghost use Rattle.pram_words.specs.Tree.{leaves_of, depth_of, first_leaf_of, turns_right, IsTurn};
+ghost use Rattle.pram_words.specs.Ways.{turns_right_wide, IsTurnWide};
 
 /// How many leaves the tree of n processors has: the least power of two that is at least n.
 pub fn leaves(n: u32) -> u32
@@ -56,8 +57,8 @@ pub fn first_leaf(l: u32, w: u32) -> u32
     l + w % l
 }
 
-/// Whether worker w goes to the right child of an inner node when both children are unfinished: at depth d of a tree of
-/// height h, where the bit h - 1 - d of w mod l is 1.
+/// Whether worker w goes to the right child of an inner node when both children are unfinished: at
+/// depth d of a tree of height h, where the bit h - 1 - d of w mod l is 1.
 pub fn goes_right(l: u32, w: u32, n: u32) -> bool
     requires tree { IsPowerOfTwo l }
     requires node { 1 ≤ n }
@@ -66,7 +67,18 @@ pub fn goes_right(l: u32, w: u32, n: u32) -> bool
     ensures turn { IsTurn l w n result }
 {
     let bit = height(l) - 1 - depth(n);
-    (w % l) >> bit & 1 == 1
+    w >> bit & 1 == 1
+}
+
+// Whether one of so many workers goes right in the wide form: at depth d by bit d of its number,
+// and below the last bit that the workers need by that bit again; with one worker never.
+pub(crate) fn goes_right_wide(workers: u32, w: u32, n: u32) -> bool
+    requires some { 1 ≤ workers }
+    requires node { 1 ≤ n }
+    ensures value { result ≡ turns_right_wide workers w n }
+    ensures turn { IsTurnWide workers w n result }
+{
+    workers > 1 && w >> depth(n).min(depth(workers - 1)) & 1 == 1
 }
 
 // The depth of a node; the root has depth 0.

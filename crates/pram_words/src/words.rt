@@ -1,6 +1,4 @@
 //! What the words of a board are.
-ghost use Rattle.pram_words.specs.Words.{WordsKeepApart, WordsHaveRanges};
-ghost use Rattle.pram_words.specs.Start.{WordsStartAdmitted};
 
 /// What a word of a board is.
 #[derive(Clone, Copy, Debug, PartialEq, Eq)]
@@ -9,8 +7,8 @@ pub enum Word {
     Conflict,
     /// The last phase that is finished below a node.
     Node(u32),
-    /// A part of the request of a processor, stamped: 0 is the data place plus 1, or 0 for none; 1 the data value; 2 the next
-    /// counter.
+    /// A part of the request of a processor, stamped: 0 is the data place plus 1, or 0 for none; 1
+    /// the data value; 2 the next counter.
     Asked(u32, u32),
     /// The node where a worker stands.
     Position(u32),
@@ -18,19 +16,6 @@ pub enum Word {
     Stored(u32, u32),
     /// The claims to a cell, stamped.
     Claim(u32),
+    /// A word of this number that belongs to nothing, and always holds 0.
+    Spare(u32),
 }
-
-/// The law that no two things share a word, and that the words have the numbers from 0 up to the length. It does nothing.
-pub fn words_keep_apart()
-    ensures { WordsKeepApart }
-{}
-
-/// The law that the values that a word may have are those that the layout admits at its number. It does nothing.
-pub fn words_have_ranges()
-    ensures { WordsHaveRanges }
-{}
-
-/// The law that the words of a board start in their ranges, each as its kind says. It does nothing.
-pub fn words_start_admitted()
-    ensures { WordsStartAdmitted }
-{}

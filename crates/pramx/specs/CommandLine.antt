@@ -24,7 +24,11 @@ workers_rule = record (new_rule (codes "workers")) {
 
 -- --plan P
 abbrev pub plan_rule : Rule
-plan_rule = record (new_rule (codes "plan")) { long = Some (codes "plan"); value_names = 1; action = Some Set }
+plan_rule = record (new_rule (codes "plan")) {
+  long = Some (codes "plan");
+  value_names = 1;
+  action = Some Set;
+}
 
 -- NAME FILE
 abbrev pub on_file : Text → App
@@ -36,12 +40,18 @@ with_workers name = with_rule (with_rule (on_file name) workers_rule) plan_rule
 
 -- the program without its subcommands, of which one must stand
 abbrev pub bare : App
-bare = let a = new_app (codes "pramx") in record a { top = record a.top { subcommand_required = true } }
+bare =
+    let a = new_app (codes "pramx") in
+    record a { top = record a.top { subcommand_required = true } }
 
 -- the program's command
 abbrev pub pramx : App
-pramx = with_subcommand (with_subcommand (with_subcommand (with_subcommand bare (on_file (codes "check")).top)
-    (on_file (codes "plain")).top) (with_workers (codes "run")).top) (with_workers (codes "replay")).top
+pramx =
+    with_subcommand (with_subcommand (with_subcommand (with_subcommand bare
+    (on_file (codes "check")).top)
+    (on_file (codes "plain")).top)
+    (with_workers (codes "run")).top)
+    (with_workers (codes "replay")).top
 
 -- The subcommand of this name was met, with this file.
 pub record HasFile (matches : Option (Text × List Row)) (name file : Text) : Type 0 where
@@ -50,11 +60,13 @@ pub record HasFile (matches : Option (Text × List Row)) (name file : Text) : Ty
   pub has_file : first_of (codes "file") rows ≡ Some file
 
 -- The subcommand of this name was met, with this file, these workers, and this plan if it has one.
-pub record HasWorkers (matches : Option (Text × List Row)) (name file : Text) (workers : ℕ) (plan : Option Text) : Type 0 where
+pub record HasWorkers (matches : Option (Text × List Row)) (name file : Text) (workers : ℕ)
+    (plan : Option Text) : Type 0 where
   pub rows : List Row
   pub met : matches ≡ Some (name, rows)
   pub has_file : first_of (codes "file") rows ≡ Some file
-  pub has_workers : IsSomeAnd (one_of (codes "workers") rows) (λ text. workers ≡ digits_value 10 (without_leading_plus text))
+  pub has_workers : IsSomeAnd (one_of (codes "workers") rows)
+      (λ text. workers ≡ digits_value 10 (without_leading_plus text))
   pub some : 1 ≤ workers
   pub few : workers ≤ 64
   pub has_plan : first_of (codes "plan") rows ≡ plan
@@ -66,8 +78,10 @@ text_of = option_map (λ s. s.now)
 abbrev pub IsMet : Option (Text × List Row) → Line → Type 0
 IsMet matches (Check file) = HasFile matches (codes "check") file.now
 IsMet matches (Plain file) = HasFile matches (codes "plain") file.now
-IsMet matches (Run file workers plan) = HasWorkers matches (codes "run") file.now workers (text_of plan)
-IsMet matches (Replay file workers plan) = HasWorkers matches (codes "replay") file.now workers (text_of plan)
+IsMet matches (Run file workers plan) =
+    HasWorkers matches (codes "run") file.now workers (text_of plan)
+IsMet matches (Replay file workers plan) =
+    HasWorkers matches (codes "replay") file.now workers (text_of plan)
 
 -- the files that a line names
 abbrev pub file_of : Line → Text

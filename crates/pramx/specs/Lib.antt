@@ -1,6 +1,4 @@
 pub mod CommandLine
+pub mod Inner
 pub mod Input
-pub mod Plain
-pub mod Printed
 pub mod Serve
-pub mod Transfer

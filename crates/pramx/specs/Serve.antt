@@ -1,40 +1,35 @@
 -- What the status of a line that was served says of the source and the sink, by their bytes before
 -- and after.
-use Rattle.std.specs.Prelude.{◌≡◌, ℕ, Bool, true, false, List, Option, ⊤}
-use Rattle.std.specs.Io.KnownBytes.{Appends}
-use Rattle.pram_text.specs.Job.{JobData}
+use Rattle.std.specs.Prelude.{◌≡◌, ◌⊎◌, ℕ, Bool, List, Option, IsTrue, ⊤}
 use Rattle.pram_step.specs.declared.answer.RunAnswer.{RunAnswer}
 use Rattle.pram_step.specs.declared.answer.RunAnswer.TheVariants.{Final, Conflict, Unfinished}
-use Rattle.pramx.specs.Plain.{GivesFault, GivesJob, PrintsAnswer}
-use Rattle.pramx.specs.Printed.{summary}
 use Rattle.pram_text.specs.declared.fault.TextKind.{TextKind}
-use Rattle.pramx.specs.declared.server.Refusal.{Refusal}
-use Rattle.pramx.specs.declared.server.Refusal.TheVariants as refusal
+use Rattle.pram_io.specs.Plain.{GivesFault, PrintsAnswer, PrintsSummary}
+use Rattle.pram_io.specs.Transfer.{GivesMoreThan}
+use Rattle.pram_io.specs.declared.transfer.TheConstants.{MOST}
 use Rattle.pramx.specs.declared.line.Line.{Line}
 use Rattle.pramx.specs.declared.line.Line.TheVariants.{Check, Plain, Run, Replay}
+use Rattle.pramx.specs.declared.refusal.TheConstants.{DONE, CONFLICT, UNFINISHED}
 
 -- the status of an answer
 abbrev pub status_of : RunAnswer → ℕ
-status_of (Final cells) = 0
-status_of (Conflict fault) = 1
-status_of (Unfinished step) = 3
-
--- The source gave a job, and the sink took its summary.
-pub record PrintsSummary (source source' sink sink' : Option (List ℕ)) : Type 0 where
-  pub job : JobData
-  pub gives : GivesJob source source' job
-  pub prints : Appends sink sink' (summary job)
+status_of (Final cells) = DONE
+status_of (Conflict fault) = CONFLICT
+status_of (Unfinished step) = UNFINISHED
 
 -- The source gave a job, the sink took its printed answer, and the status is that of the answer.
-pub record PrintsWithStatus (source source' sink sink' : Option (List ℕ)) (status : ℕ) : Type 0 where
+pub record PrintsWithStatus (source source' sink sink' : Option (List ℕ)) (status : ℕ)
+    : Type 0 where
   pub answer : RunAnswer
   pub prints : PrintsAnswer source source' sink sink' answer
   pub of_answer : status ≡ status_of answer
 
 -- The line was done, and this is its status.
-abbrev pub IsDone : Line → Option (List ℕ) → Option (List ℕ) → Option (List ℕ) → Option (List ℕ) → ℕ → Type 0
-IsDone (Check file) source source' sink sink' status = PrintsSummary source source' sink sink' × (status ≡ 0)
-IsDone (Plain file) source source' sink sink' status = PrintsWithStatus source source' sink sink' status
+abbrev pub IsDone : Line → (source source' sink sink' : Option (List ℕ)) → ℕ → Type 0
+IsDone (Check file) source source' sink sink' status =
+    PrintsSummary source source' sink sink' × (status ≡ DONE)
+IsDone (Plain file) source source' sink sink' status =
+    PrintsWithStatus source source' sink sink' status
 IsDone (Run file workers plan) source source' sink sink' status = ⊥
 IsDone (Replay file workers plan) source source' sink sink' status = ⊥
 
@@ -44,26 +39,14 @@ pub record GivesNoJob (source source' : Option (List ℕ)) : Type 0 where
   pub kind : TextKind
   pub gives : GivesFault source source' line kind
 
--- whether a refusal is of the text
-abbrev pub is_of_text : Refusal → Bool
-is_of_text (refusal.Text line kind) = true
-is_of_text (refusal.File name) = false
-is_of_text (refusal.Size name) = false
-is_of_text refusal.Memory = false
-is_of_text refusal.NotYet = false
+-- The fact holds, if the line is one that is served.
+abbrev pub IfServed : Line → Type 0 → Type 0
+IfServed (Check file) P = P
+IfServed (Plain file) P = P
+IfServed (Run file workers plan) P = ⊤
+IfServed (Replay file workers plan) P = ⊤
 
--- what a refusal of the text says of it
-abbrev pub IsBorne : Option (List ℕ) → Option (List ℕ) → Refusal → Type 0
-IsBorne source source' (refusal.Text line kind) = GivesFault source source' line kind
-IsBorne source source' (refusal.File name) = ⊤
-IsBorne source source' (refusal.Size name) = ⊤
-IsBorne source source' refusal.Memory = ⊤
-IsBorne source source' refusal.NotYet = ⊤
-
--- whether a refusal is of a file or of the output
-abbrev pub is_of_file : Refusal → Bool
-is_of_file (refusal.Text line kind) = false
-is_of_file (refusal.File name) = true
-is_of_file (refusal.Size name) = false
-is_of_file refusal.Memory = false
-is_of_file refusal.NotYet = false
+-- The source or the sink has failed, or the source gave more bytes than are taken.
+abbrev pub HasCause : Bool → Bool → Option (List ℕ) → Option (List ℕ) → Type 0
+HasCause source_failed sink_failed source source' =
+    IsTrue source_failed ⊎ IsTrue sink_failed ⊎ GivesMoreThan MOST source source'

@@ -2,8 +2,7 @@
 ghost use Rattle.std.specs.Prelude.{◌≡◌, false};
 ghost use Rattle.pramx.specs.Input.{remaining_of};
 
-use crate::device::Source;
-use crate::from_read::FromRead;
+use pram_io::{FromRead, Source};
 use std::fs;
 use std::io::{ErrorKind, Read, Result};
 use std::rt::Files;

@@ -1,27 +1,21 @@
 //! Runs programs of a synchronous parallel machine: `pramx check FILE`, `pramx plain FILE`.
 #![tactic(auto)]
 
-ghost use Rattle.std.specs.Prelude.{◌≡◌, false};
+ghost use Rattle.std.specs.Prelude.{◌≡◌, ◌≤◌, false};
 
-mod device;
-mod from_read;
 mod input;
-mod into_write;
 mod line;
-mod plain;
-mod print;
+mod refusal;
 mod server;
 #[cfg(test)]
 mod tests;
-mod transfer;
 
-use crate::device::Sink;
 use crate::input::open_input;
-use crate::into_write::IntoWrite;
 use crate::line::read_line;
-use crate::server::{MEMORY, USAGE, serve};
-use crate::transfer::put;
+use crate::refusal::{DONE, FAILED, MEMORY, Refusal, tell};
+use crate::server::serve;
 use clap::error::ErrorKind;
+use pram_io::{IntoWrite, Sink};
 use std::alloc::{AllocError, Global};
 use std::env::{self, Env};
 use std::io;
@@ -36,19 +30,19 @@ fn main(rt: HostRuntime) -> ExitCode {
 /// Does what the program's words ask, and answers the exit status.
 fn status<R: AllocGlobal + Env + Files + Print + Eprint, E: Sink>(rt: &R, err: &mut E) -> u8
     requires { E.has_failed err.old ≡ false }
+    ensures { result ≤ MEMORY }
 {
     let alloc = rt.alloc();
     let words = match words_of(rt) {
         Ok(words) => words,
-        Err(error) if error.kind() == io::ErrorKind::OutOfMemory => return tell_memory(err),
-        Err(_) => {
-            let _ = put(err, b"error: a word of the line is not UTF-8\n");
-            return USAGE;
+        Err(error) if error.kind() == io::ErrorKind::OutOfMemory => {
+            return tell(alloc, Refusal::Memory, err);
         }
+        Err(_) => return tell(alloc, Refusal::Word, err),
     };
     match texts_of(alloc, words.as_slice()) {
         Ok(texts) => line_status(rt, alloc, texts.as_slice(), err),
-        Err(AllocError) => tell_memory(err),
+        Err(AllocError) => tell(alloc, Refusal::Memory, err),
     }
 }
 
@@ -67,10 +61,11 @@ fn line_status<'a, R: Files + Print + Eprint, E: Sink>(
     err: &mut E,
 ) -> u8
     requires { E.has_failed err.old ≡ false }
+    ensures { result ≤ MEMORY }
 {
     let line = match read_line(alloc, words) {
         Ok(line) => line,
-        Err(error) => return refusal_status(rt, &error, err),
+        Err(error) => return refusal_status(rt, alloc, &error, err),
     };
     let mut job = open_input(rt, line.file());
     let mut plan = line.plan().map(|name| open_input(rt, name));
@@ -79,27 +74,24 @@ fn line_status<'a, R: Files + Print + Eprint, E: Sink>(
 }
 
 /// Prints what `read_line` answers in place of a line, and answers its status.
-fn refusal_status<R: Print + Eprint, E: Sink>(rt: &R, error: &clap::Error, err: &mut E) -> u8
+fn refusal_status<R: Print + Eprint, E: Sink>(
+    rt: &R,
+    alloc: Global,
+    error: &clap::Error,
+    err: &mut E,
+) -> u8
     requires { E.has_failed err.old ≡ false }
+    ensures { result ≤ MEMORY }
 {
     if error.kind() == ErrorKind::OutOfMemory {
-        return tell_memory(err);
+        return tell(alloc, Refusal::Memory, err);
     }
     let printed = error.print(rt);
     if error.use_stderr() {
-        return USAGE;
+        return FAILED;
     }
-    if printed.is_err() {
-        let _ = put(err, b"file -\n");
-        return USAGE;
+    match printed {
+        Ok(()) => DONE,
+        Err(_) => tell(alloc, Refusal::Output, err),
     }
-    0
-}
-
-/// Tells want of memory, and answers its status.
-fn tell_memory<E: Sink>(err: &mut E) -> u8
-    requires { E.has_failed err.old ≡ false }
-{
-    let _ = put(err, b"memory\n");
-    MEMORY
 }

@@ -10,7 +10,7 @@ use Rattle.csv.specs.declared.parser.Action.{Action}
 use Rattle.csv.specs.declared.parser.State.{State}
 use Rattle.csv.specs.declared.parser.State.TheVariants as st
 use Rattle.csv.specs.declared.reader.Reader.{Reader}
-use Rattle.stop_plan.specs.Reading.{AfterRead, HasRead, bytes_left}
+use Rattle.stop_plan.specs.Inner.Reading.{AfterRead, HasRead, bytes_left}
 use Rattle.stop_plan.specs.Records.{Record}
 
 -- a step that ends a record leaves the reader between records

@@ -1,5 +1,5 @@
+pub mod Inner
 pub mod Laws
 pub mod Plan
-pub mod Reading
 pub mod Records
 pub mod Schedule

@@ -1,5 +1,5 @@
 //! The rows of a plan while it is read.
-ghost use Rattle.std.specs.Prelude.{◌≡◌, ◌++◌, ◌∷◌, [], false, ℕ, Err, Ok, IfOk, Some, MatchResult, length};
+ghost use Rattle.std.specs.Prelude.{◌≡◌, ◌++◌, ◌∷◌, [], false, Ok, IfOk, Some, MatchResult};
 ghost use Rattle.csv.specs.Records.{fields_of};
 ghost use Rattle.stop_plan.specs.Plan.{stops};
 ghost use Rattle.stop_plan.specs.Records.{fault_below, row_of};
@@ -29,7 +29,8 @@ impl Model for Draft {
 
     ghost view = { λ d. d.rows.items };
 
-    ghost invariant = { λ d. (worker : ℕ) → set.contains nat_cmp d.stopped worker ≡ stops d.rows.items worker };
+    ghost invariant = { λ d. (worker : ℕ)
+        → set.contains nat_cmp d.stopped worker ≡ stops d.rows.items worker };
 }
 
 impl Draft {
@@ -45,7 +46,8 @@ impl Draft {
     /// The row of a record below the header, after those so far.
     pub(crate) fn judge(&self, workers: u32, fields: &ByteRecord) -> Result<Row, PlanKind>
         ensures { MatchResult result
-            (λ row. (row_of workers (fields_of fields.now) ≡ Ok row) × (stops self.now row.worker ≡ false))
+            (λ row. (row_of workers (fields_of fields.now) ≡ Ok row)
+                × (stops self.now row.worker ≡ false))
             (λ kind. fault_below (row_of workers (fields_of fields.now)) self.now ≡ Some kind) }
     {
         let row = row_of(workers, fields)?;

@@ -10,7 +10,8 @@ use csv::ByteRecord;
 
 // The fields of a record of three.
 fn three_fields(fields: &ByteRecord) -> Option<(&[u8], &[u8], &[u8])>
-    ensures { MatchOption result (length (fields_of fields.now) ≢ 3) (λ f. fields_of fields.now ≡ f.0.now ∷ f.1.now ∷ f.2.now ∷ []) }
+    ensures { MatchOption result (length (fields_of fields.now) ≢ 3)
+        (λ f. fields_of fields.now ≡ f.0.now ∷ f.1.now ∷ f.2.now ∷ []) }
 {
     if fields.len() != 3 {
         return None;
@@ -25,7 +26,11 @@ fn is_word(field: &[u8], word: &str) -> bool
 }
 
 /// Whether a record is the header of a plan.
-#[tactic(auto, using(crate::proofs::Fields::other_header), unfolding(crate::specs::Records::is_header))]
+#[tactic(
+    auto,
+    using(crate::proofs::Fields::other_header),
+    unfolding(crate::specs::Records::is_header)
+)]
 pub(crate) fn is_header(fields: &ByteRecord) -> bool
     ensures { result ≡ is_header (fields_of fields.now) }
 {

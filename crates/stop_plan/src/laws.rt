@@ -1,5 +1,6 @@
 //! Laws of the definitions, each the contract of a function that does nothing.
-ghost use Rattle.stop_plan.specs.Laws.{NeverBoth, OneFault, OnePlan, OneSchedule, PlanOrFault, RowsNameWorkers};
+ghost use Rattle.stop_plan.specs.Laws.{NeverBoth, OneFault, OnePlan, OneSchedule};
+ghost use Rattle.stop_plan.specs.Laws.{PlanOrFault, RowsNameWorkers};
 
 /// Records spell at most one plan.
 pub fn one_plan()

@@ -1,9 +1,10 @@
 //! Plans from text.
-ghost use Rattle.std.specs.Prelude.{◌≡◌, ◌<◌, ◌+◌, ◌⊎◌, ◌++◌, ◌∷◌, [], ℕ, List, IfOk, IfErr, OnOk, None, Some, true, length};
+ghost use Rattle.std.specs.Prelude.{◌≡◌, ◌⊎◌, IfOk, IfErr, OnOk, true};
 ghost use Rattle.csv.specs.Reading.{error_kind, stops_reader};
 ghost use Rattle.csv.specs.Records.{fields_of};
-ghost use Rattle.stop_plan.specs.Reading.{AfterRead, HasRead, IsPlanReader, bytes_left};
-ghost use Rattle.stop_plan.specs.Records.{FirstFault, Record, SpellsPlan, fault_of, no_memory, records_of, rows_of};
+ghost use Rattle.stop_plan.specs.Inner.Reading.{IsPlanReader, ReadsOn, LeavesFewer};
+ghost use Rattle.stop_plan.specs.Inner.Reading.{RefusesRecord, TakesRecord};
+ghost use Rattle.stop_plan.specs.Records.{FirstFault, SpellsPlan, no_memory, records_of};
 
 use crate::draft::Draft;
 use crate::judge::is_header;
@@ -28,11 +29,11 @@ fn refused(_error: Error) -> PlanFault
 // Whether there is one more record.
 fn next_record<R: Read>(reader: &mut Reader<R>, fields: &mut ByteRecord) -> Result<bool, PlanFault>
     requires { IsPlanReader reader.old }
-    ensures reads { IfOk result (λ found. (text : List ℕ) (given : List Record) → HasRead R.remaining text given reader.old
-        → AfterRead R.remaining text given reader.new found (fields_of fields.new)) }
+    ensures reads { IfOk result (λ found.
+        ReadsOn R.remaining reader.old reader.new found (fields_of fields.new)) }
     ensures stays { OnOk result (IsPlanReader reader.new) }
-    ensures shrinks { IfOk result (λ found. found ≡ true → (text : List ℕ) (given : List Record) → HasRead R.remaining text given reader.old
-        → bytes_left R.remaining reader.new < bytes_left R.remaining reader.old) }
+    ensures shrinks { IfOk result (λ found.
+        found ≡ true → LeavesFewer R.remaining reader.old reader.new) }
     ensures refused { IfErr result (λ fault. fault ≡ no_memory) }
 {
     reader.read_byte_record(fields).map_err(refused)
@@ -45,11 +46,9 @@ fn take_record(
     row: u64,
     fields: &ByteRecord,
 ) -> Result<Draft, PlanFault>
-    ensures taken { IfOk result (λ next. (given : List Record) → length given + 1 ≡ row → draft ≡ rows_of workers given
-        → (fault_of workers given (fields_of fields.now) ≡ None) × (next ≡ rows_of workers (given ++ fields_of fields.now ∷ []))) }
-    ensures fault { IfErr result (λ fault. (fault ≡ no_memory) ⊎ ((fault.row ≡ row)
-        × ((given : List Record) → length given + 1 ≡ row → draft ≡ rows_of workers given
-        → fault_of workers given (fields_of fields.now) ≡ Some fault.kind))) }
+    ensures taken { IfOk result (TakesRecord workers row draft (fields_of fields.now)) }
+    ensures fault { IfErr result (λ fault. (fault ≡ no_memory)
+        ⊎ RefusesRecord workers row draft (fields_of fields.now) fault) }
 {
     if row == 1 {
         return if is_header(fields) {
@@ -72,7 +71,8 @@ fn take_record(
 /// the plan without rows. Takes time in the length of the text.
 pub fn read_plan(alloc: Global, text: &[u8], workers: u32) -> Result<Plan, PlanFault>
     ensures plan { IfOk result (SpellsPlan workers (records_of text.now)) }
-    ensures fault { IfErr result (λ fault. (fault ≡ no_memory) ⊎ FirstFault workers (records_of text.now) fault.row fault.kind) }
+    ensures fault { IfErr result (λ fault. (fault ≡ no_memory)
+        ⊎ FirstFault workers (records_of text.now) fault.row fault.kind) }
 {
     let mut reader = ReaderBuilder::new()
         .has_headers(false)

@@ -72,8 +72,8 @@ fn a_record_of_ten_thousand_fields(rt: HostRuntime) -> Result<(), Fail> {
 
 #[test]
 fn rows_of_a_plan(rt: HostRuntime) -> Result<(), Fail> {
-    let text =
-        b"\xEF\xBB\xBFworker,act,ticks\r\n\"0\",\"go\",\"0004\"\r\n2,sleep,4294967295\n\n2,back,00\n2,stop,0";
+    let text = b"\xEF\xBB\xBFworker,act,ticks\r\n\"0\",\"go\",\"0004\"\r\n\
+        2,sleep,4294967295\n\n2,back,00\n2,stop,0";
     let Ok(plan) = read_plan(rt.alloc(), text, 3) else {
         assert!(rt; false);
         return Ok(());

@@ -1,7 +1,7 @@
 //! One worker over a plain list of words.
 ghost use Rattle.std.specs.Prelude.{◌≡◌, IfOk, IfSome};
-ghost use Rattle.walkx.specs.Stages.{Serves};
-ghost use Rattle.walkx.specs.Walk.{AsksAdmitted, IsAdmitted, IsLayoutOf};
+ghost use Rattle.walkx.specs.Serving.{Serves};
+ghost use Rattle.walkx.specs.Walk.{AsksAdmitted, HearsAdmitted, IsLayoutOf};
 ghost use Rattle.walk_trace.specs.Words.{AllAdmitted};
 
 use pram_text::Job;
@@ -44,7 +44,7 @@ fn act(job: &Job, layout: &Layout, words: &mut [u64], op: Op) -> u64
     requires words { AllAdmitted job.now layout.now words.old }
     requires op { AsksAdmitted job.now layout.now op }
     ensures words { AllAdmitted job.now layout.now words.new }
-    ensures answer { IsAdmitted job.now layout.now op result }
+    ensures answer { HearsAdmitted job.now layout.now op result }
 {
     match op {
         Op::Load(k) => words[k as usize],

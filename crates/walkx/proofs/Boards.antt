@@ -1,45 +1,42 @@
 -- A job's board: words and what they may have.
-use Rattle.std.proofs.lemmas.Bool.{cases_Bool, cond-true, cond-false, le-ltb}
-use Rattle.pram_step.specs.Machine.{counter_place}
-use Rattle.walkx.specs.Tasks.{newer_payload, first_is_older}
-use Rattle.std.proofs.Common.{ap, inl, inr, length, lit<, ◌≡◌, ℕ, ◌+◌, ◌*◌, ◌^◌, ◌<◌, ◌≤◌, arith, sym, subst}
+use Rattle.std.proofs.Common.{◌≡◌, ℕ, ◌+◌, ◌*◌, ◌^◌, ◌<◌, ◌≤◌, Bool, true, false, if◌then◌else◌, Option, Some, None, ap, refl, inl, inr, arith}
 use Rattle.pram_text.specs.Job.{JobData}
-use Rattle.pram_words.proofs.Numbering.{ranges, numbering}
+use Rattle.pram_step.specs.declared.requests.Request.{Request}
+use Rattle.pram_step.specs.Instructions.{HasShape, place_part}
+use Rattle.pram_step.specs.Machine.{IsDataPlace}
+use Rattle.pram_words.proofs.Numbering.{ranges, numbering, cases_form, form_wide}
 use Rattle.pram_words.specs.declared.words.Word.{Word}
-use Rattle.pram_words.specs.declared.words.Word.TheVariants.{Conflict, Node, Asked, Stored}
+use Rattle.pram_words.specs.declared.words.Word.TheVariants.{Conflict, Node, Asked, Position}
 use Rattle.pram_words.specs.Phases.{step_at}
 use Rattle.pram_words.specs.Stamps.{stamped_word, payload_of}
-use Rattle.pram_words.specs.Words.{LayoutData, IsLayout, IsWord, IsInRange, IsStamped, Admits, number_of, length_of, places_of, counters_of, most_asked, most_stored}
-use Rattle.walkx.specs.Stages.{IsBoard}
+use Rattle.pram_words.specs.Words.{LayoutData, IsLayout, IsWord, IsInRange, IsStamped, Admits, number_of, length_of, claims_at, wide_claims_at, most_asked}
+use Rattle.walkx.specs.Walk.{IsBoard}
+
+-- what is admitted at a word's number the word may have
+pub in_range : (job : JobData) (y : LayoutData) (a : Word) (v : ℕ) → IsBoard job y → IsWord y a → Admits y job (number_of y a) v → IsInRange y job a v
+in_range job y a v board is admitted = ((ranges y job board.layout board.limits.steps).admitted a v is).1 admitted
 
 -- what a word of the board may have is admitted at its number
 pub admits : (job : JobData) (y : LayoutData) (a : Word) (v : ℕ) → IsBoard job y → IsWord y a → IsInRange y job a v → Admits y job (number_of y a) v
 admits job y a v board is range = ((ranges y job board.layout board.limits.steps).admitted a v is).0 range
 
--- and the other way
-pub in_range : (job : JobData) (y : LayoutData) (a : Word) (v : ℕ) → IsBoard job y → IsWord y a → Admits y job (number_of y a) v → IsInRange y job a v
-in_range job y a v board is admitted = ((ranges y job board.layout board.limits.steps).admitted a v is).1 admitted
-
 -- a word's number is below the length
 pub is_below : (job : JobData) (y : LayoutData) (a : Word) → IsBoard job y → IsWord y a → number_of y a < length_of y
 is_below job y a board is = (numbering y board.layout).below a is
 
-pub root_below : (y : LayoutData) → IsLayout y → 1 < length_of y
-unfolding number_of
-root_below y limits = (numbering y limits).below (Node 1) (omega arith, omega (arith, limits.leaves))
+pub root_most : (job : JobData) (y : LayoutData) (root : ℕ) → IsBoard job y → Admits y job (number_of y (Node 1)) root → root ≤ 3 * job.steps
+root_most job y root board admitted = in_range job y (Node 1) root board (omega arith, omega (arith, board.layout.leaves)) admitted
 
--- the same at the numbers that stand for themselves
-pub node_below : (job : JobData) (y : LayoutData) (n : ℕ) → IsBoard job y → 1 ≤ n → n < 2 * y.leaves → n < length_of y
-unfolding number_of
-node_below job y n board some most = is_below job y (Node n) board (some, most)
+pub conflict_most : (job : JobData) (y : LayoutData) (u : ℕ) → IsBoard job y → Admits y job (number_of y Conflict) u → u ≤ job.steps
+conflict_most job y u board admitted = in_range job y Conflict u board tt admitted
 
-pub node_admits : (job : JobData) (y : LayoutData) (n v : ℕ) → IsBoard job y → 1 ≤ n → n < 2 * y.leaves → v ≤ 3 * job.steps → Admits y job n v
-unfolding number_of
-node_admits job y n v board some most range = admits job y (Node n) v board (some, most) range
+-- a position that was loaded is a node
+pub position_most : (job : JobData) (y : LayoutData) (w n : ℕ) → IsBoard job y → w < y.workers → Admits y job (number_of y (Position w)) n → n < 2 * y.leaves
+position_most job y w n board worker admitted = (in_range job y (Position w) n board worker admitted).1
 
-pub conflict_admits : (job : JobData) (y : LayoutData) (v : ℕ) → IsBoard job y → v ≤ job.steps → Admits y job 0 v
-unfolding number_of
-conflict_admits job y v board range = admits job y Conflict v board tt range
+-- what a request word holds
+pub asked_part : (job : JobData) (y : LayoutData) (i j a : ℕ) → IsBoard job y → i < y.procs → j < 3 → Admits y job (number_of y (Asked i j)) a → payload_of a ≤ most_asked y job j
+asked_part job y i j a board processor part admitted = (in_range job y (Asked i j) a board (processor, part) admitted).1
 
 -- a stamped word
 pub stamps : (steps most t v : ℕ) → t ≤ steps → v ≤ most → v < 2 ^ 32 → IsStamped steps most (stamped_word t v)
@@ -49,27 +46,6 @@ stamps steps most t v a b c = (omega arith, omega arith)
 pub step_most : (steps q : ℕ) → q ≤ 3 * steps → step_at q ≤ steps
 step_most steps q h = omega arith
 
-pub step_some : (q : ℕ) → 1 ≤ q → 1 ≤ step_at q
-step_some q h = omega arith
-
--- a word that is known by its number
-pub admits_at : (job : JobData) (y : LayoutData) (a : Word) (k v : ℕ) → k ≡ number_of y a → IsBoard job y → IsWord y a → IsInRange y job a v → Admits y job k v
-admits_at job y a k v e board is range = subst (λ (n : ℕ). Admits y job n v) (sym e) (admits job y a v board is range)
-
--- what is loaded of a stamped word
-pub asked_in_range : (job : JobData) (y : LayoutData) (j t v word : ℕ) → word ≡ stamped_word t v → t ≤ job.steps → v ≤ most_asked y job j → v < 2 ^ 32 → IsStamped job.steps (most_asked y job j) word
-asked_in_range job y j t v word e a b c = subst (λ (n : ℕ). IsStamped job.steps (most_asked y job j) n) (sym e) (stamps job.steps (most_asked y job j) t v a b c)
-
--- the numbers of a board are small
-pub length_small : (job : JobData) (y : LayoutData) → IsBoard job y → length_of y < 2 ^ 32
-unfolding length_of
-length_small job y board =
-    let limits = board.layout in
-    elim (cases_Bool y.claims) [
-      | inl e ↦ (let f = cond-true y.claims y.cells 0 e in omega (arith, limits.leaves, limits.cells, limits.procs, limits.workers))
-      | inr e ↦ (let f = cond-false y.claims y.cells 0 e in omega (arith, limits.leaves, limits.cells, limits.procs, limits.workers))
-    ]
-
 -- the layout's sizes are the job's
 pub same_cells : (job : JobData) (y : LayoutData) → IsBoard job y → y.cells ≡ job.cells
 same_cells job y board = ap (λ (z : LayoutData). z.cells) board.is
@@ -77,25 +53,22 @@ same_cells job y board = ap (λ (z : LayoutData). z.cells) board.is
 pub same_procs : (job : JobData) (y : LayoutData) → IsBoard job y → y.procs ≡ job.procs
 same_procs job y board = ap (λ (z : LayoutData). z.procs) board.is
 
--- what may be written to a place
-pub stored_admits : (job : JobData) (y : LayoutData) (p k word t v w : ℕ) → IsBoard job y → p < places_of y → k < 2 → word ≡ number_of y (Stored p k) → w ≡ stamped_word t v → t ≤ job.steps → v ≤ most_stored y job p → v < 2 ^ 32 → Admits y job word w
-stored_admits job y p k word t v w board place second number e step most fits =
-    admits_at job y (Stored p k) word w number board (place, second) (subst (λ (n : ℕ). IsStamped job.steps (most_stored y job p) n) (sym e) (stamps job.steps (most_stored y job p) t v step most fits))
+-- the numbers of a board are small
+pub length_small : (y : LayoutData) → IsLayout y → length_of y < 2 ^ 32
+unfolding length_of
+length_small y limits = elim (cases_form y.form) [
+  | inl e ↦ rw e (by_claims y.claims (claims_at y) (omega (arith, limits.leaves, limits.cells, limits.procs, limits.workers)))
+  | inr e ↦ rw (form_wide y.form (claims_at y) (wide_claims_at y) e) (by_claims y.claims (wide_claims_at y) (omega (arith, limits.leaves, limits.cells, limits.procs, limits.workers)))
+]
+  where
+    by_claims : (b : Bool) (n : ℕ) → n ≤ 1000000 → n + (if b then y.cells else 0) < 2 ^ 32
+    by_claims true n few = omega (arith, limits.cells)
+    by_claims false n few = omega arith
 
--- a counter that was read is at most one past the code's end
-counter_part : (job : JobData) (y : LayoutData) (p i k a : ℕ) → IsBoard job y → p < places_of y → k < 2 → p ≡ counter_place job i → Admits y job (number_of y (Stored p k)) a → payload_of a ≤ length job.code + 1
-counter_part job y p i k a board place second is admitted =
-    let range = in_range job y (Stored p k) a board (place, second) admitted in
-    let most = le-ltb p (counters_of y) (omega (arith, is, same_cells job y board, same_procs job y board)) in
-    rw most at range.1
-
-pub counter_most : (job : JobData) (y : LayoutData) (p i a b : ℕ) → IsBoard job y → p < places_of y → p ≡ counter_place job i → Admits y job (number_of y (Stored p 0)) a → Admits y job (number_of y (Stored p 1)) b → newer_payload a b ≤ length job.code + 1
-counter_most job y p i a b board place is first second =
-    elim (cases_Bool (first_is_older a b)) [
-      | inl e ↦ rw e (counter_part job y p i 1 b board place (lit< tt) is second)
-      | inr e ↦ rw e (counter_part job y p i 0 a board place (lit< tt) is first)
-    ]
-
--- what a request word holds
-pub asked_part : (job : JobData) (y : LayoutData) (i j a : ℕ) → IsBoard job y → i < y.procs → j < 3 → Admits y job (number_of y (Asked i j)) a → payload_of a ≤ most_asked y job j
-asked_part job y i j a board processor part admitted = (in_range job y (Asked i j) a board (processor, part) admitted).1
+-- where a request's data goes, plus 1
+pub place_shape : (job : JobData) (i : ℕ) (r : Request) → i < job.procs → HasShape job i r → place_part r ≤ job.cells + 4 * job.procs
+place_shape job i r proc has = by_put r.put has.data_place
+  where
+    by_put : (put : Option (ℕ × ℕ)) → ((place value : ℕ) → put ≡ Some (place, value) → IsDataPlace job i place) → elim put [ None ↦ 0 | Some w ↦ w.0 + 1 ] ≤ job.cells + 4 * job.procs
+    by_put None well = omega arith
+    by_put (Some w) well = elim (well w.0 w.1 refl) [ inl cell ↦ omega arith | inr own ↦ omega (arith, own.1) ]

@@ -3,13 +3,14 @@ use Rattle.std.proofs.Common.{◌≡◌, ℕ, ◌+◌, ◌-◌, ◌*◌, ◌%◌
 use Rattle.std.proofs.lemmas.Bool.{cases_lt, cond_both, eq-eqb, eqb-false}
 use Rattle.pram_text.specs.Job.{JobData}
 use Rattle.pram_words.specs.Words.{LayoutData, number_of}
-use Rattle.pram_words.specs.declared.words.Word.TheVariants.{Position}
+use Rattle.pram_words.specs.declared.words.Word.TheVariants.{Conflict, Node, Position}
 use Rattle.walkx.specs.declared.operation.Op.{Op}
 use Rattle.walkx.specs.declared.operation.Op.TheVariants.{Load, Max}
-use Rattle.walkx.specs.declared.worker.Doing.TheVariants as doing
+use Rattle.walkx.specs.Doing as doing
 use Rattle.walkx.specs.Scripts.{Script, asks, ends}
 use Rattle.walkx.specs.Walk.{Then, begins, turns, stops, back_script, begin_script}
-use Rattle.walkx.specs.Bound.{low, MayHear, phases_weight, later_weight}
+use Rattle.walkx.specs.Bound.{low, MayHear}
+use Rattle.walkx.proofs.BoundWeight.{low_of, phases_weight, later_weight}
 use Rattle.walkx.proofs.BoundTurns.{Grown, turns_most}
 use Rattle.walkx.proofs.BoundTasks.{IsWithin}
 
@@ -88,35 +89,35 @@ unfolding later_weight
 back_leads job y w n before = (
   omega arith,
   λ found may.
-      let fewer = phases_fewer y (3 * job.steps - low ((Load (number_of y (Position w)), found) ∷ before) 1) (3 * job.steps) (omega arith) in
+      let fewer = phases_fewer y (3 * job.steps - low_of y ((Load (number_of y (Position w)), found) ∷ before) 1) (3 * job.steps) (omega arith) in
       let at = may.position refl in
       (omega arith, omega arith, omega arith),
 )
 
 pub begin_leads : (job : JobData) (y : LayoutData) (w n : ℕ) (before : List (Op × ℕ)) → 1 ≤ y.leaves → 1 ≤ n → n < 2 * y.leaves →
     Leads job y w (To job y (later_weight job y before n doing.Begin)) (begin_script job y n) 2 before
-unfolding begin_script number_of
+unfolding begin_script
 begin_leads job y w n before leaves some inside = (
   omega arith,
   λ root may.
-      let rises : low before 1 ≤ root = may.rises (omega arith) (omega arith) in
+      let rises : low_of y before 1 ≤ root = may.rises 1 (omega arith) (omega arith) refl in
       let most : root ≤ 3 * job.steps = may.root refl in
       let to = To job y (later_weight job y before n doing.Begin) in
       let turn = λ (history : List (Op × ℕ)) (h : root < 3 * job.steps). enters history root rises h in
-      cond_both (root % 3 == 0) _ _ (λ script. Leads job y w to script 1 ((Load 1, root) ∷ before))
+      cond_both (root % 3 == 0) _ _ (λ script. Leads job y w to script 1 ((Load (number_of y (Node 1)), root) ∷ before))
       (λ e. (
         omega arith,
         λ u told.
-            cond_both (u == 0) _ _ (λ script. Leads job y w to script 0 ((Load 0, u) ∷ (Load 1, root) ∷ before))
-            (λ none. cond_both (root == 3 * job.steps) _ _ (λ script. Leads job y w to script 0 ((Load 0, u) ∷ (Load 1, root) ∷ before))
+            cond_both (u == 0) _ _ (λ script. Leads job y w to script 0 ((Load (number_of y Conflict), u) ∷ (Load (number_of y (Node 1)), root) ∷ before))
+            (λ none. cond_both (root == 3 * job.steps) _ _ (λ script. Leads job y w to script 0 ((Load (number_of y Conflict), u) ∷ (Load (number_of y (Node 1)), root) ∷ before))
             (λ last. tt)
-            (λ more. let ne = eqb-false root (3 * job.steps) more in turn ((Load 0, u) ∷ (Load 1, root) ∷ before) (less_than root (3 * job.steps) most ne)))
+            (λ more. let ne = eqb-false root (3 * job.steps) more in turn ((Load (number_of y Conflict), u) ∷ (Load (number_of y (Node 1)), root) ∷ before) (less_than root (3 * job.steps) most ne)))
             (λ some. tt),
       ))
-      (λ e. let ne = eqb-false (root % 3) 0 e in turn ((Load 1, root) ∷ before) (less_than root (3 * job.steps) most (λ same. ne (thirds root job.steps same)))),
+      (λ e. let ne = eqb-false (root % 3) 0 e in turn ((Load (number_of y (Node 1)), root) ∷ before) (less_than root (3 * job.steps) most (λ same. ne (thirds root job.steps same)))),
 )
   where
-    enters : (history : List (Op × ℕ)) (root : ℕ) → low before 1 ≤ root → root < 3 * job.steps → To job y (later_weight job y before n doing.Begin) (turns n (root + 1)) history
+    enters : (history : List (Op × ℕ)) (root : ℕ) → low_of y before 1 ≤ root → root < 3 * job.steps → To job y (later_weight job y before n doing.Begin) (turns n (root + 1)) history
     enters history root rises h =
-        let phase = phase_enters job y history n (root + 1) (3 * job.steps - low before 1) leaves (omega arith) in
+        let phase = phase_enters job y history n (root + 1) (3 * job.steps - low_of y before 1) leaves (omega arith) in
         (some, inside, omega arith, omega arith, unfold later_weight in omega arith)

@@ -1,33 +1,31 @@
 -- The own-step bound.
-use Rattle.std.proofs.Common.{◌≡◌, ℕ, suc, ◌+◌, ◌-◌, ◌*◌, ◌<◌, ◌≤◌, List, [], ◌∷◌, ◌++◌, length, drop, Option, Some, None, IfSome, refl, sym, ap, ◌∙◌, subst, pow_pos, le_trans, le_of_lt, arith}
-use Rattle.std.proofs.lemmas.Nat.{mod_below}
+use Rattle.std.proofs.Common.{◌≡◌, ℕ, suc, ◌+◌, ◌-◌, ◌*◌, ◌<◌, ◌≤◌, List, [], ◌∷◌, ◌++◌, length, drop, Some, refl, sym, ◌∙◌, subst, pow_pos, arith}
 use Rattle.pram_text.specs.Job.{JobData}
 use Rattle.pram_words.specs.Tree.{digits_of, leaves_of}
-use Rattle.pram_words.specs.Words.{LayoutData, layout_of}
+use Rattle.pram_words.specs.Words.{LayoutData}
 use Rattle.walkx.specs.declared.operation.Op.{Op}
-use Rattle.walkx.specs.declared.worker.Doing.{Doing}
-use Rattle.walkx.specs.declared.worker.Doing.TheVariants as doing
+use Rattle.walkx.specs.Doing.{Doing}
+use Rattle.walkx.specs.Doing as doing
 use Rattle.walkx.specs.Scripts.{Script, asks, ends, behind, rest, first_op, op_with, heard_in}
-use Rattle.walkx.specs.Walk.{Then, begins, turns, stops, Walking, Fits, IsPhase, GoesOn, node_of, script_by, script_of, rest_of, phase_begun, heard_of, ask_of, goes_on, told_by, told, end_of, begin_script, started, come_back}
-use Rattle.walkx.specs.Bound.{low, told_all, history_of, MayHear, IsHeard, IsGoing, StepsAreBounded, OwnStepsAreBounded, longest, later_weight, weight, most_steps}
+use Rattle.walkx.specs.Walk.{Then, begins, turns, stops, Walking, Fits, IsPhase, IsGoing, IsLayoutOf, node_of, script_by, script_of, rest_of, phase_begun, heard_of, ask_of, goes_on, told_by, told}
+use Rattle.walkx.specs.Bound.{told_all, history_of, MayHear, IsHeard, most_steps}
+use Rattle.walkx.specs.Laws.{OwnStepsAreBounded}
+use Rattle.walkx.proofs.BoundWeight.{low_of, longest, later_weight, weight}
 use Rattle.walkx.proofs.BoundScripts.{Leads, To, phases_fewer, phase_enters, back_leads, begin_leads}
 use Rattle.walkx.proofs.BoundTurn.{turn_leads}
+use Rattle.walkx.proofs.Going.{asks_of}
+use Rattle.walkx.proofs.Fitting.{node_range, new_workers_fit}
 use Rattle.walkx.proofs.BoundWalk.{Sound, Less, after_weight, step}
 
 -- ---- a worker that fits is sound
 
-node_inside : (y : LayoutData) (number : ℕ) (node : Option ℕ) → 1 ≤ y.leaves → IfSome node (λ n. (1 ≤ n) × (n < 2 * y.leaves)) →
-    (1 ≤ node_of y (record { number = number; node = node; now = doing.Begin; heard = [] })) × (node_of y (record { number = number; node = node; now = doing.Begin; heard = [] }) < 2 * y.leaves)
-node_inside y number None leaves inside = let below = mod_below number y.leaves leaves in (omega arith, omega arith)
-node_inside y number (Some n) leaves inside = (inside.0, inside.1)
-
 -- each script leads from its start to what follows it
-script_leads : (job : JobData) (y : LayoutData) (w n : ℕ) (now : Doing) (before : List (Op × ℕ)) → 1 ≤ y.leaves → 1 ≤ n → n < 2 * y.leaves → IsPhase job now → end_of now ≡ None →
+script_leads : (job : JobData) (y : LayoutData) (w n : ℕ) (now : Doing) (before : List (Op × ℕ)) → 1 ≤ y.leaves → 1 ≤ n → n < 2 * y.leaves → IsPhase job now → IsGoing now →
     Leads job y w (To job y (later_weight job y before n now)) (script_by job y w n now) (longest now) before
 script_leads job y w n doing.Back before leaves some inside phase going = back_leads job y w n before
 script_leads job y w n doing.Begin before leaves some inside phase going = begin_leads job y w n before leaves some inside
 script_leads job y w n (doing.Turn q) before leaves some inside phase going = turn_leads job y w n q before some inside phase.0 phase.1
-script_leads job y w n (doing.Over e) before leaves some inside phase going = absurd (cc)
+script_leads job y w n (doing.Over e) before leaves some inside phase going = absurd going
 
 -- and from where these answers bring it
 one_on : (job : JobData) (y : LayoutData) (w : ℕ) (to : Then → List (Op × ℕ) → Type 0) (s : Script Then) (found k j : ℕ) (heard before : List (Op × ℕ)) → k - 1 ≡ j →
@@ -57,19 +55,13 @@ all_dropped script [] before op first = refl
 all_dropped script (found ∷ earlier) before op first =
     one_dropped (rest script earlier) found op (length earlier) (heard_in script earlier) before first (λ o. all_dropped script earlier before o)
 
-asking : (now : Doing) (script : Script Then) → end_of now ≡ None → GoesOn now script → (op : Op) × (first_op script ≡ Some op)
-asking doing.Back script going goes = goes
-asking doing.Begin script going goes = goes
-asking (doing.Turn q) script going goes = goes
-asking (doing.Over e) script going goes = absurd (cc)
-
 pub fits_sound : (job : JobData) (y : LayoutData) (w : Walking) → 1 ≤ y.leaves → Fits job y w → IsHeard job y w.number (heard_of job y w) → Sound job y (heard_of job y w) w
 unfolding after_weight
 fits_sound job y w leaves fits may = λ going.
-    let asks = asking w.now (rest_of job y w) going fits.goes_on in
-    let node = node_inside y w.number w.node leaves fits.node in
+    let asks = asks_of w.now (rest_of job y w) going fits.matches in
+    let node = node_range job y w leaves fits in
     let before : List (Op × ℕ) = phase_begun y w.now in
-    let dropped : drop (length w.heard) (heard_of job y w) ≡ before = all_dropped (script_of job y w) w.heard before asks.0 asks.1 in
+    let dropped : drop (length w.heard) (heard_of job y w) ≡ before = all_dropped (script_of job y w) w.heard before asks.op asks.first in
     record {
       leads = subst (λ (es : List (Op × ℕ)). Leads job y w.number (To job y (later_weight job y es (node_of y w) w.now)) (rest_of job y w) (longest w.now - length w.heard) (heard_of job y w)) (sym dropped)
           (rest_leads job y w.number (To job y (later_weight job y before (node_of y w) w.now)) (script_of job y w) (longest w.now) w.heard before
@@ -92,13 +84,13 @@ told_number doing.Begin w found script = goes_number w found script
 told_number (doing.Turn q) w found script = goes_number w found script
 
 -- A worker that is going after an answer was going before it.
-going_before : (now : Doing) (w : Walking) (found : ℕ) (script : Script Then) → w.now ≡ now → IsGoing (told_by now w found script) → IsGoing w
+going_before : (now : Doing) (w : Walking) (found : ℕ) (script : Script Then) → w.now ≡ now → IsGoing (told_by now w found script).now → IsGoing w.now
 going_before (doing.Over e) w found script is going = going
-going_before doing.Back w found script is going = ap end_of is
-going_before doing.Begin w found script is going = ap end_of is
-going_before (doing.Turn q) w found script is going = ap end_of is
+going_before doing.Back w found script is going = subst IsGoing (sym is) tt
+going_before doing.Begin w found script is going = subst IsGoing (sym is) tt
+going_before (doing.Turn q) w found script is going = subst IsGoing (sym is) tt
 
-pub going_earlier : (job : JobData) (y : LayoutData) (w : Walking) (found : ℕ) → IsGoing (told job y w found) → IsGoing w
+pub going_earlier : (job : JobData) (y : LayoutData) (w : Walking) (found : ℕ) → IsGoing (told job y w found).now → IsGoing w.now
 going_earlier job y w found going = going_before w.now w found (behind (rest_of job y w) found) refl going
 
 number_stays : (job : JobData) (y : LayoutData) (w : Walking) (answers : List ℕ) → (told_all job y w answers).number ≡ w.number
@@ -108,7 +100,7 @@ number_stays job y w (found ∷ earlier) =
     told_number v.now v found (behind (rest_of job y v) found) ∙ number_stays job y w earlier
 
 -- the step at the end of a walk
-walk_step : (job : JobData) (y : LayoutData) (w : Walking) (found : ℕ) (earlier : List ℕ) → 1 ≤ y.leaves → IsGoing (told_all job y w earlier) → Sound job y (history_of job y w earlier) (told_all job y w earlier) →
+walk_step : (job : JobData) (y : LayoutData) (w : Walking) (found : ℕ) (earlier : List ℕ) → 1 ≤ y.leaves → IsGoing (told_all job y w earlier).now → Sound job y (history_of job y w earlier) (told_all job y w earlier) →
     IsHeard job y w.number (history_of job y w (found ∷ earlier)) →
     Less job y (history_of job y w (found ∷ earlier)) (told_all job y w (found ∷ earlier)) (weight job y (history_of job y w earlier) (told_all job y w earlier))
 walk_step job y w found earlier leaves going sound may =
@@ -123,12 +115,12 @@ sound_all job y w (found ∷ earlier) leaves fits may = λ going.
     let before = going_earlier job y (told_all job y w earlier) found going in
     (walk_step job y w found earlier leaves before (sound_all job y w earlier leaves fits may.1) may).sound going
 
-falls : (job : JobData) (y : LayoutData) (w : Walking) → 1 ≤ y.leaves → Fits job y w → (found : ℕ) (earlier : List ℕ) → IsGoing (told_all job y w earlier) → IsHeard job y w.number (history_of job y w (found ∷ earlier)) →
+falls : (job : JobData) (y : LayoutData) (w : Walking) → 1 ≤ y.leaves → Fits job y w → (found : ℕ) (earlier : List ℕ) → IsGoing (told_all job y w earlier).now → IsHeard job y w.number (history_of job y w (found ∷ earlier)) →
     weight job y (history_of job y w (found ∷ earlier)) (told_all job y w (found ∷ earlier)) < weight job y (history_of job y w earlier) (told_all job y w earlier)
 falls job y w leaves fits found earlier going may = (walk_step job y w found earlier leaves going (sound_all job y w earlier leaves fits may.1) may).less
 
 -- each answer has taken one
-pub lighter : (job : JobData) (y : LayoutData) (w : Walking) → 1 ≤ y.leaves → Fits job y w → (answers : List ℕ) → IsGoing (told_all job y w answers) → IsHeard job y w.number (history_of job y w answers) →
+pub lighter : (job : JobData) (y : LayoutData) (w : Walking) → 1 ≤ y.leaves → Fits job y w → (answers : List ℕ) → IsGoing (told_all job y w answers).now → IsHeard job y w.number (history_of job y w answers) →
     length answers + weight job y (history_of job y w answers) (told_all job y w answers) ≤ weight job y (heard_of job y w) w
 lighter job y w leaves fits [] going may = omega arith
 lighter job y w leaves fits (found ∷ earlier) going may =
@@ -144,7 +136,7 @@ start_weight : (job : JobData) (y : LayoutData) (history : List (Op × ℕ)) (n 
 unfolding later_weight
 start_weight job y history n heard doing.Back leaves phase = omega arith
 start_weight job y history n heard doing.Begin leaves phase =
-    let fewer = phases_fewer y (3 * job.steps - low history 1) (3 * job.steps) (omega arith) in
+    let fewer = phases_fewer y (3 * job.steps - low_of y history 1) (3 * job.steps) (omega arith) in
     omega arith
 start_weight job y history n heard (doing.Turn q) leaves phase =
     let first = phase.0 in
@@ -160,29 +152,14 @@ starts job y w leaves fits = start_weight job y (drop (length w.heard) (heard_of
 within : (job : JobData) (y : LayoutData) → 288 * y.leaves * job.steps + 3 < most_steps job y
 within job y = omega arith
 
-pub steps_bounded : (job : JobData) (y : LayoutData) (w : Walking) → 1 ≤ y.leaves → Fits job y w → StepsAreBounded job y w
-steps_bounded job y w leaves fits =
-    let first = starts job y w leaves fits in
-    let most = within job y in
-    record {
-      starts = le_trans first (le_of_lt most);
-      falls = falls job y w leaves fits;
-      bound = λ answers going may. let all = lighter job y w leaves fits answers going may in omega arith;
-    }
-
 some_leaves : (n : ℕ) → 1 ≤ leaves_of n
 unfolding leaves_of
 some_leaves n = let pos = pow_pos (digits_of (n - 1)) in omega arith
 
-fits_started : (job : JobData) (y : LayoutData) (number : ℕ) → number < y.workers → Fits job y (started number)
-unfolding begin_script
-fits_started job y number below = record { number = below; node = tt; phase = tt; admitted = tt; goes_on = (_, refl) }
-
-fits_come_back : (job : JobData) (y : LayoutData) (number : ℕ) → number < y.workers → Fits job y (come_back number)
-fits_come_back job y number below = record { number = below; node = tt; phase = tt; admitted = tt; goes_on = (_, refl) }
+steps_bounded : (job : JobData) (y : LayoutData) (w : Walking) → IsLayoutOf job y → Fits job y w → (answers : List ℕ) → IsGoing (told_all job y w answers).now → IsHeard job y w.number (history_of job y w answers) → length answers < most_steps job y
+steps_bounded job y w is fits answers going may =
+    let leaves : 1 ≤ y.leaves = subst (λ (z : LayoutData). 1 ≤ z.leaves) (sym is) (some_leaves job.procs) in
+    omega (arith, lighter job y w leaves fits answers going may, starts job y w leaves fits, within job y)
 
 pub own_steps : OwnStepsAreBounded
-own_steps job workers = (
-  λ w fits. steps_bounded job (layout_of job workers) w (some_leaves job.procs) fits,
-  λ number below. (fits_started job (layout_of job workers) number below, fits_come_back job (layout_of job workers) number below),
-)
+own_steps = (steps_bounded, new_workers_fit)

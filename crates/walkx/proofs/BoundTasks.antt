@@ -7,6 +7,7 @@ use Rattle.pram_text.specs.declared.instr.Rule.{Rule}
 use Rattle.pram_text.specs.declared.instr.Rule.TheVariants.{Common, Priority, Crew}
 use Rattle.pram_text.specs.Job.{JobData}
 use Rattle.pram_step.specs.declared.requests.Request.{Request}
+use Rattle.pram_step.specs.Instructions.{operands_of, goes_to}
 use Rattle.pram_words.specs.declared.phases.Kind.{Kind}
 use Rattle.pram_words.specs.declared.phases.Kind.TheVariants.{Compute, Apply, Verify}
 use Rattle.pram_words.specs.declared.words.Word.TheVariants.{Claim}
@@ -15,7 +16,7 @@ use Rattle.pram_words.specs.Words.{LayoutData, number_of}
 use Rattle.walkx.specs.declared.operation.Op.{Op}
 use Rattle.walkx.specs.declared.operation.Op.TheVariants.{Load}
 use Rattle.walkx.specs.Scripts.{Script, asks}
-use Rattle.walkx.specs.Tasks.{loads_both, reads_place, writes_place, operands_of, reads_registers, reads_cell, goes, claim_of, differs, raises_request, executes, compute_task, hears_part, claims, carries, apply_task, crew_apply_task, reports, verify_task, crew_verify_task, claim_task, priority_apply_task, task_of}
+use Rattle.walkx.specs.Tasks.{loads_both, reads_place, writes_place, reads_registers, reads_cell, claim_of, differs, raises_request, executes, compute_task, hears_part, claims, carries, apply_task, crew_apply_task, reports, verify_task, crew_verify_task, claim_task, priority_apply_task, task_of}
 
 -- What is said of a script and of a number of operations that it may have: it holds with more, and one operation takes one.
 pub record IsWithin {R : Type 0} (G : ℕ → Script R → Type 0) : Type 0 where
@@ -80,7 +81,7 @@ raises_request_within G is k y t i request after late =
 
 executes_within : {R : Type 0} (G : ℕ → Script R → Type 0) → IsWithin G → (k : ℕ) (job : JobData) (y : LayoutData) (t i counter : ℕ) (instr : Option Instr) (after : Script R) →
     G k after → G (k + 9) (executes job y t i counter instr after)
-executes_within G is k job y t i counter None after late = is.more (k + 9) (k + 3) _ (omega arith) (raises_request_within G is k y t i (goes counter) after late)
+executes_within G is k job y t i counter None after late = is.more (k + 9) (k + 3) _ (omega arith) (raises_request_within G is k y t i (goes_to counter) after late)
 executes_within G is k job y t i counter (Some instr) after late =
     let few = operands_few instr in
     reads_registers_within G is (k + 9) (k + 3 + 2) job y t i (operands_of instr) [] after _ (omega arith) (is.more (k + 3 + 2) k after (omega arith) late)

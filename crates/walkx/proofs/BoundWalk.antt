@@ -1,16 +1,15 @@
 -- A worker that is going makes its weight less with each operation.
-use Rattle.std.proofs.Common.{◌≡◌, ℕ, suc, ◌+◌, ◌-◌, ◌<◌, ◌≤◌, List, [], ◌∷◌, length, drop, Some, None, unwrap_or, refl, sym, ap, ◌∙◌, subst, arith}
+use Rattle.std.proofs.Common.{◌≡◌, ℕ, suc, ◌+◌, ◌-◌, ◌<◌, ◌≤◌, List, [], ◌∷◌, length, drop, Some, refl, sym, ap, ◌∙◌, subst, arith}
 use Rattle.pram_text.specs.Job.{JobData}
 use Rattle.pram_words.specs.Words.{LayoutData}
 use Rattle.walkx.specs.declared.operation.Ended.{Ended}
-use Rattle.walkx.specs.declared.operation.Ended.TheVariants as ended
 use Rattle.walkx.specs.declared.operation.Op.{Op}
-use Rattle.walkx.specs.declared.operation.Op.TheVariants.{Over}
-use Rattle.walkx.specs.declared.worker.Doing.{Doing}
-use Rattle.walkx.specs.declared.worker.Doing.TheVariants as doing
+use Rattle.walkx.specs.Doing as doing
 use Rattle.walkx.specs.Scripts.{Script, asks, ends, behind, first_op}
-use Rattle.walkx.specs.Walk.{Then, begins, turns, stops, Walking, node_of, rest_of, next_op, ask_of, goes_on, told_by, told, end_of, begin_script, turn_script}
-use Rattle.walkx.specs.Bound.{MayHear, IsGoing, longest, later_weight, weight}
+use Rattle.walkx.specs.Walk.{Then, begins, turns, stops, Walking, node_of, rest_of, ask_of, IsGoing, goes_on, told, begin_script, turn_script}
+use Rattle.walkx.specs.Bound.{MayHear}
+use Rattle.walkx.proofs.BoundWeight.{longest, later_weight, weight}
+use Rattle.walkx.proofs.Going.{Asks, next_of, told_going}
 use Rattle.walkx.proofs.BoundScripts.{Leads, leads_more, To, begin_leads}
 use Rattle.walkx.proofs.BoundTurn.{turn_leads}
 
@@ -23,10 +22,10 @@ after_weight job y history w = later_weight job y (drop (length w.heard) history
 -- the rest of its script leads to no more weight, and is not empty
 pub record Going (job : JobData) (y : LayoutData) (history : List (Op × ℕ)) (w : Walking) : Type 0 where
   pub leads : Leads job y w.number (To job y (after_weight job y history w)) (rest_of job y w) (longest w.now - length w.heard) history
-  pub asking : (op : Op) × (first_op (rest_of job y w) ≡ Some op)
+  pub asking : Asks (rest_of job y w)
 
 abbrev pub Sound : JobData → LayoutData → List (Op × ℕ) → Walking → Type 0
-Sound job y history w = IsGoing w → Going job y history w
+Sound job y history w = IsGoing w.now → Going job y history w
 
 -- ---- one answer more
 
@@ -39,7 +38,7 @@ begins_less : (job : JobData) (y : LayoutData) (history : List (Op × ℕ)) (num
     Less job y history (record { number = number; node = Some n; now = doing.Begin; heard = [] }) (most + k)
 unfolding after_weight weight begin_script
 begins_less job y history number n most k leaves to some = record {
-  sound = λ going. record { leads = begin_leads job y number n history leaves to.0 to.1; asking = (_, refl) };
+  sound = λ going. record { leads = begin_leads job y number n history leaves to.0 to.1; asking = record { op = _; first = refl } };
   less = omega (arith, to.2);
 }
 
@@ -47,7 +46,7 @@ turns_less : (job : JobData) (y : LayoutData) (history : List (Op × ℕ)) (numb
     Less job y history (record { number = number; node = Some n; now = doing.Turn q; heard = [] }) (most + k)
 unfolding after_weight weight turn_script
 turns_less job y history number n q most k to some = record {
-  sound = λ going. record { leads = turn_leads job y number n q history to.0 to.1 to.2 to.3; asking = (_, refl) };
+  sound = λ going. record { leads = turn_leads job y number n q history to.0 to.1 to.2 to.3; asking = record { op = _; first = refl } };
   less = omega (arith, to.4);
 }
 
@@ -72,7 +71,7 @@ longer_less job y history w op other found k t is some e first leads =
       sound = λ going. record {
         leads = subst (λ (a : ℕ). Leads job y w.number (To job y a) (behind (rest_of job y w) found) (longest w.now - suc (length w.heard)) h) (sym same)
             (subst (λ (script : Script Then). Leads job y w.number (To job y (after_weight job y history w)) script (longest w.now - suc (length w.heard)) h) (sym e) now);
-        asking = (other, ap first_op e ∙ first);
+        asking = record { op = other; first = ap first_op e ∙ first };
       };
       less = less;
     }
@@ -82,7 +81,7 @@ longer_less job y history w op other found k t is some e first leads =
 
 stops_less : (job : JobData) (y : LayoutData) (history : List (Op × ℕ)) (w : Walking) (e : Ended) (k : ℕ) → 1 ≤ k → Less job y history (record w { now = doing.Over e }) k
 unfolding weight later_weight
-stops_less job y history w e k some = record { sound = λ going. absurd (cc); less = omega arith }
+stops_less job y history w e k some = record { sound = λ going. absurd going; less = omega arith }
 
 goes_less : (job : JobData) (y : LayoutData) (history : List (Op × ℕ)) (w : Walking) (op : Op) (found k : ℕ) (t : Script Then) → 1 ≤ y.leaves → longest w.now - length w.heard ≡ k → 1 ≤ k →
     behind (rest_of job y w) found ≡ t → Leads job y w.number (To job y (after_weight job y history w)) t (k - 1) ((op, found) ∷ history) →
@@ -92,20 +91,6 @@ goes_less job y history w op found k (ends (begins n)) leaves is some e leads = 
 goes_less job y history w op found k (ends (turns n q)) leaves is some e leads = turns_less job y ((op, found) ∷ history) w.number n q (after_weight job y history w) k leads some
 goes_less job y history w op found k (ends (stops over)) leaves is some e leads =
     stops_less job y ((op, found) ∷ history) (record w { heard = found ∷ w.heard }) over (after_weight job y history w + k) (omega arith)
-
--- ---- what `told` and `ask_of` are while the worker is going
-
-told_going : (now : Doing) (w : Walking) (found : ℕ) (script : Script Then) → end_of now ≡ None → told_by now w found script ≡ goes_on w found script
-told_going doing.Back w found script going = refl
-told_going doing.Begin w found script going = refl
-told_going (doing.Turn q) w found script going = refl
-told_going (doing.Over e) w found script going = absurd (cc)
-
-ask_going : (now : Doing) (script : Script Then) (op : Op) → end_of now ≡ None → first_op script ≡ Some op → next_op now script ≡ op
-ask_going doing.Back script op going first = ap (λ o. unwrap_or o (Over ended.Done)) first
-ask_going doing.Begin script op going first = ap (λ o. unwrap_or o (Over ended.Done)) first
-ask_going (doing.Turn q) script op going first = ap (λ o. unwrap_or o (Over ended.Done)) first
-ask_going (doing.Over e) script op going first = absurd (cc)
 
 -- ---- the step
 
@@ -119,13 +104,13 @@ step_by job y history w found k (asks other next) op leaves is e first leads may
     (goes_less job y history w other found k (next found) leaves is leads.0 (ap (λ s. behind s found) e)
     (leads.1 found (subst (λ (o : Op). MayHear job y w.number history o found) (sym same) may)))
 
-pub step : (job : JobData) (y : LayoutData) (history : List (Op × ℕ)) (w : Walking) (found : ℕ) → 1 ≤ y.leaves → IsGoing w → Sound job y history w → MayHear job y w.number history (ask_of job y w) found →
+pub step : (job : JobData) (y : LayoutData) (history : List (Op × ℕ)) (w : Walking) (found : ℕ) → 1 ≤ y.leaves → IsGoing w.now → Sound job y history w → MayHear job y w.number history (ask_of job y w) found →
     Less job y ((ask_of job y w, found) ∷ history) (told job y w found) (weight job y history w)
 unfolding weight after_weight
 step job y history w found leaves going sound may =
     let known = sound going in
-    let asked : ask_of job y w ≡ known.asking.0 = ask_going w.now (rest_of job y w) known.asking.0 going known.asking.1 in
+    let asked : ask_of job y w ≡ known.asking.op = next_of w.now (rest_of job y w) known.asking.op going known.asking.first in
     subst (λ (o : Op). Less job y ((o, found) ∷ history) (told job y w found) (weight job y history w)) (sym asked)
-    (subst (λ (v : Walking). Less job y ((known.asking.0, found) ∷ history) v (weight job y history w)) (sym (told_going w.now w found (behind (rest_of job y w) found) going))
-    (step_by job y history w found (longest w.now - length w.heard) (rest_of job y w) known.asking.0 leaves refl refl known.asking.1 known.leads
+    (subst (λ (v : Walking). Less job y ((known.asking.op, found) ∷ history) v (weight job y history w)) (sym (told_going w.now w found (behind (rest_of job y w) found) going))
+    (step_by job y history w found (longest w.now - length w.heard) (rest_of job y w) known.asking.op leaves refl refl known.asking.first known.leads
     (subst (λ (o : Op). MayHear job y w.number history o found) asked may)))

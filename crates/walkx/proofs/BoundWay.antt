@@ -1,7 +1,7 @@
 -- The way from a node to the root.
 use Rattle.std.proofs.Common.{◌≡◌, ℕ, zero, suc, ◌/◌, ◌<◌, ◌≤◌, true, false, ◌≢◌, refl, sym, inl, inr, arith}
 use Rattle.std.proofs.lemmas.Bool.{eq-eqb, ne_eqb, cases_eq}
-use Rattle.walkx.specs.Bound.{lies_on_way}
+use Rattle.walkx.proofs.BoundWeight.{lies_on_way}
 
 -- Zero has no way but itself.
 none_from_zero : (more m : ℕ) → 1 ≤ m → lies_on_way more m 0 ≡ false

@@ -1,9 +1,14 @@
-pub mod Begun
 pub mod Boards
+pub mod Cells
 pub mod Hearing
 pub mod Looks
-pub mod Meets
+pub mod Going
+pub mod Ends
+pub mod Fitting
+pub mod Knowing
+pub mod Asking
 pub mod Tells
+pub mod BoundWeight
 pub mod BoundWay
 pub mod BoundTurns
 pub mod BoundTasks

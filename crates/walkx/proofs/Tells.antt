@@ -1,218 +1,98 @@
 -- A worker that hears an answer.
 use Rattle.std.proofs.Common.{◌≡◌, ◌≢◌, add-one, get_or-set_other, get_or-set_same, ℕ, zero, suc, ◌+◌, ◌<◌, ◌≤◌, List, [], ◌∷◌, length, Option, Some, None, refl, sym, ap, subst, ◌∙◌, arith}
 use Rattle.std.specs.Prelude.{slice_set}
-use Rattle.std.specs.List.{AllByRecursion}
 use Rattle.pram_text.specs.Job.{JobData}
 use Rattle.pram_words.specs.Phases.{kind_at}
 use Rattle.pram_words.specs.Words.{LayoutData}
 use Rattle.walkx.specs.declared.operation.Ended.{Ended}
 use Rattle.walkx.specs.declared.operation.Op.{Op}
-use Rattle.walkx.specs.declared.worker.Doing.{Doing}
-use Rattle.walkx.specs.declared.worker.Doing.TheVariants as doing
-use Rattle.walkx.specs.declared.stage.At.{At}
-use Rattle.walkx.specs.declared.stage.Want.{Want}
-use Rattle.walkx.specs.declared.stage.Want.TheVariants as want
+use Rattle.walkx.specs.Doing.{Doing}
+use Rattle.walkx.specs.Doing as doing
 use Rattle.walkx.specs.declared.stage.Stage.{Stage}
 use Rattle.walkx.specs.declared.stage.Stage.TheVariants as stage
 use Rattle.walkx.specs.declared.stage.Step.{Step}
 use Rattle.walkx.specs.declared.stage.Step.TheVariants as step
-use Rattle.walkx.specs.Scripts.{Script, asks, ends, behind, first_op, op_with}
-use Rattle.walkx.specs.Stages.{IsStage, IsStep, IsGoing, Kept, Serves, at_of, doing_of, most_heard, heard_for, newest, processor_of, script_at, script_behind, step_of, stepped, then_marks}
-use Rattle.walkx.specs.Walk.{Then, Walking, Fits, GoesOn, IsAdmitted, ask_of, told, told_by, goes_on, heard_of, rest_of, begin_script, turn_script, begins, turns, stops, next_op, started, come_back}
+use Rattle.walkx.specs.Scripts.{Script, asks, ends, behind, first_op}
+use Rattle.walkx.specs.Inner.Posts.{PostData, processor_of, step_of, then_marks}
+use Rattle.walkx.specs.Inner.Stages.{IsStage, IsStep, WorkerData, post_of, doing_of, newest, script_at, script_behind, stepped}
+use Rattle.walkx.specs.Serving.{Serves}
+use Rattle.walkx.specs.Walk.{Then, Walking, Fits, IsBoard, IsGoing, HearsAdmitted, ask_of, told, goes_on, rest_of, begin_script, turn_script, begins, turns, stops, started, come_back}
+use Rattle.walkx.proofs.Fitting.{fits_told, new_workers_fit}
+use Rattle.walkx.proofs.Going.{Asks, told_going}
 use Rattle.walkx.proofs.Hearing.{hears_first}
-
--- ---- scripts that ask
-
--- a script asks this first
-record Asks (s : Script Then) : Type 0 where
-  op : Op
-  first : first_op s ≡ Some op
 
 goes_on_asks : (w : Walking) (found : ℕ) (s : Script Then) → Asks s → goes_on w found s ≡ record w { heard = found ∷ w.heard }
 goes_on_asks w found (asks op next) a = refl
 goes_on_asks w found (ends r) a = let no : None ≡ Some a.op = a.first in cc
 
-op_with_first : (s : Script Then) (op : Op) (found : ℕ) → first_op s ≡ Some op → op_with s found ≡ (op, found) ∷ []
-op_with_first (asks op' next) op found e = let same : op' ≡ op = cc in ap (λ (o : Op). (o, found) ∷ []) same
-op_with_first (ends r) op found e = cc
-
-goes_on_of : (d : Doing) (s : Script Then) → Asks s → GoesOn d s
-goes_on_of doing.Back s a = (a.op, a.first)
-goes_on_of doing.Begin s a = (a.op, a.first)
-goes_on_of (doing.Turn q) s a = (a.op, a.first)
-goes_on_of (doing.Over e) s a = tt
-
-asks_of : (d : Doing) (s : Script Then) → IsGoing d → GoesOn d s → Asks s
-asks_of doing.Back s going g = record { op = g.0; first = g.1 }
-asks_of doing.Begin s going g = record { op = g.0; first = g.1 }
-asks_of (doing.Turn q) s going g = record { op = g.0; first = g.1 }
-asks_of (doing.Over e) s going g = absurd going
-
-next_of : (d : Doing) (s : Script Then) (op : Op) → IsGoing d → first_op s ≡ Some op → next_op d s ≡ op
-next_of doing.Back s op going e = rw e
-next_of doing.Begin s op going e = rw e
-next_of (doing.Turn q) s op going e = rw e
-next_of (doing.Over e') s op going e = absurd going
-
-told_going : (d : Doing) (w : Walking) (found : ℕ) (s : Script Then) → IsGoing d → told_by d w found s ≡ goes_on w found s
-told_going doing.Back w found s going = refl
-told_going doing.Begin w found s going = refl
-told_going (doing.Turn q) w found s going = refl
-told_going (doing.Over e) w found s going = absurd going
-
 -- each stage of a worker that isn't over asks
-stage_asks : (job : JobData) (y : LayoutData) (at : At) (st : Stage) → IsStage job y at st → IsGoing (doing_of st at.phase) → Asks (script_at job y at st)
+stage_asks : (at : PostData) (st : Stage) → IsStage at st → IsGoing (doing_of st at.phase) → Asks (script_at at st)
 unfolding begin_script turn_script
-stage_asks job y at stage.Back is going = record { op = _; first = refl }
-stage_asks job y at stage.Begin is going = record { op = _; first = refl }
-stage_asks job y at (stage.Look root) is going = record { op = _; first = refl }
-stage_asks job y at stage.Node is going = record { op = _; first = refl }
-stage_asks job y at stage.Left is going = record { op = _; first = refl }
-stage_asks job y at (stage.Right l) is going = record { op = _; first = refl }
-stage_asks job y at (stage.Move to) is going = record { op = _; first = refl }
-stage_asks job y at stage.Mark is going = record { op = _; first = refl }
-stage_asks job y at (stage.Place p w) is going = record { op = _; first = refl }
-stage_asks job y at (stage.Again p w a) is going = record { op = _; first = refl }
-stage_asks job y at (stage.Swap k old new next) is going = record { op = _; first = refl }
-stage_asks job y at (stage.Ask r) is going = record { op = _; first = refl }
-stage_asks job y at (stage.AskValue r) is going = record { op = _; first = refl }
-stage_asks job y at (stage.AskNext r) is going = record { op = _; first = refl }
-stage_asks job y at stage.Hear is going = record { op = _; first = hears_first job y (step_of at) (processor_of y at) (then_marks at y) job.rule (kind_at at.phase) is.1 }
-stage_asks job y at (stage.HearValue p) is going = record { op = _; first = refl }
-stage_asks job y at (stage.HearNext p value) is going = record { op = _; first = refl }
-stage_asks job y at (stage.HearWritten p) is going = record { op = _; first = refl }
-stage_asks job y at (stage.Claim c carry) is going = record { op = _; first = refl }
-stage_asks job y at (stage.Win c carry) is going = record { op = _; first = refl }
-stage_asks job y at (stage.Own c) is going = record { op = _; first = refl }
-stage_asks job y at stage.Report is going = record { op = _; first = refl }
-stage_asks job y at (stage.Over e) is going = absurd going
+stage_asks at stage.Back is going = record { op = _; first = refl }
+stage_asks at stage.Begin is going = record { op = _; first = refl }
+stage_asks at (stage.Look root) is going = record { op = _; first = refl }
+stage_asks at stage.Node is going = record { op = _; first = refl }
+stage_asks at stage.Left is going = record { op = _; first = refl }
+stage_asks at (stage.Right l) is going = record { op = _; first = refl }
+stage_asks at (stage.Move to) is going = record { op = _; first = refl }
+stage_asks at stage.Mark is going = record { op = _; first = refl }
+stage_asks at (stage.Place p w) is going = record { op = _; first = refl }
+stage_asks at (stage.Again p w a) is going = record { op = _; first = refl }
+stage_asks at (stage.Swap k old new next) is going = record { op = _; first = refl }
+stage_asks at (stage.Ask r) is going = record { op = _; first = refl }
+stage_asks at (stage.AskValue r) is going = record { op = _; first = refl }
+stage_asks at (stage.AskNext r) is going = record { op = _; first = refl }
+stage_asks at stage.Hear is going = record { op = _; first = hears_first at.job at.layout (step_of at) (processor_of at) (then_marks at) at.job.rule (kind_at at.phase) is.1 }
+stage_asks at (stage.HearValue p) is going = record { op = _; first = refl }
+stage_asks at (stage.HearNext p value) is going = record { op = _; first = refl }
+stage_asks at (stage.CheckValue p) is going = record { op = _; first = refl }
+stage_asks at (stage.Claim c carry) is going = record { op = _; first = refl }
+stage_asks at (stage.HearClaim c carry) is going = record { op = _; first = refl }
+stage_asks at (stage.CheckClaim c) is going = record { op = _; first = refl }
+stage_asks at stage.Report is going = record { op = _; first = refl }
+stage_asks at (stage.Over e) is going = absurd going
 
--- ---- a script goes on
-
--- what was heard stays admitted with one answer more
-admitted_on : (job : JobData) (y : LayoutData) (w : Walking) (found : ℕ) → Fits job y w → IsGoing w.now → IsAdmitted job y (ask_of job y w) found
-    → AllByRecursion (λ (e : Op × ℕ). IsAdmitted job y e.0 e.1) (heard_of job y (record w { heard = found ∷ w.heard }))
-admitted_on job y w found fits going admitted =
-    let a = asks_of w.now (rest_of job y w) going fits.goes_on in
-    rw (op_with_first (rest_of job y w) a.op found a.first)
-    (subst (λ (op : Op). IsAdmitted job y op found) (next_of w.now (rest_of job y w) a.op going a.first) admitted, fits.admitted)
-
-rest_on : (job : JobData) (y : LayoutData) (w : Walking) (found : ℕ) (old new : Script Then) → rest_of job y w ≡ old → new ≡ behind old found → behind (rest_of job y w) found ≡ new
-rest_on job y w found old new e f = ap (λ (s : Script Then). behind s found) e ∙ sym f
-
-fits_on : (job : JobData) (y : LayoutData) (w : Walking) (found : ℕ) → Fits job y w → IsGoing w.now → IsAdmitted job y (ask_of job y w) found → Asks (behind (rest_of job y w) found) → Fits job y (record w { heard = found ∷ w.heard })
-fits_on job y w found fits going admitted asks_next = record {
-  number = fits.number;
-  node = fits.node;
-  phase = fits.phase;
-  admitted = admitted_on job y w found fits going admitted;
-  goes_on = goes_on_of w.now (behind (rest_of job y w) found) asks_next;
-}
+-- ---- what the answer leads to
 
 -- a worker and what it was told
-pub record Hears (job : JobData) (y : LayoutData) (k : Kept) (found : ℕ) (new : Kept) : Type 0 where
+pub record Hears (job : JobData) (y : LayoutData) (k : WorkerData) (found : ℕ) (new : WorkerData) : Type 0 where
   pub told : new.walking ≡ told job y k.walking found
   pub serves : Serves job y new
 
-told_as : (job : JobData) (y : LayoutData) (w : Walking) (found : ℕ) (s : Script Then) → IsGoing w.now → behind (rest_of job y w) found ≡ s → told job y w found ≡ goes_on w found s
-told_as job y w found s going e = told_going w.now w found (behind (rest_of job y w) found) going ∙ ap (goes_on w found) e
-
-hears_on : (job : JobData) (y : LayoutData) (k : Kept) (found : ℕ) (new : Stage) → Serves job y k → IsAdmitted job y (ask_of job y k.walking) found
-    → script_at job y (at_of y k) new ≡ behind (script_at job y (at_of y k) k.stage) found → IsStep job y (at_of y k) k.stage (step.On new) → Hears job y k found (stepped k found (step.On new))
-hears_on job y k found new serves admitted is fits =
+-- of a worker that is going
+going_told : (job : JobData) (y : LayoutData) (k : WorkerData) (found : ℕ) (s : Step) → Serves job y k → IsGoing (doing_of k.stage k.phase)
+    → script_behind (post_of job y k) s ≡ behind (script_at (post_of job y k) k.stage) found → told job y k.walking found ≡ goes_on k.walking found (script_behind (post_of job y k) s)
+going_told job y k found s serves going is =
     let w = k.walking in
-    let going : IsGoing w.now = rw serves.now fits.0 in
-    let next : behind (rest_of job y w) found ≡ script_at job y (at_of y k) new = rest_on job y w found _ _ serves.rest is in
+    told_going w.now w found (behind (rest_of job y w) found) (rw serves.stands.now going) ∙ ap (goes_on w found) (ap (λ (t : Script Then). behind t found) serves.stands.rest ∙ sym is)
+
+-- the worker is what it was told to be, and so it fits
+hears_by_law : (job : JobData) (y : LayoutData) (k new : WorkerData) (found : ℕ) → IsBoard job y → Serves job y k → HearsAdmitted job y (ask_of job y k.walking) found
+    → told job y k.walking found ≡ new.walking → (Fits job y new.walking → Serves job y new) → Hears job y k found new
+hears_by_law job y k new found board serves admitted is make =
+    record { told = sym is; serves = make (subst (Fits job y) is (fits_told job y k.walking found board serves.fits admitted)) }
+
+hears : (job : JobData) (y : LayoutData) (k : WorkerData) (found : ℕ) (s : Step) → IsBoard job y → Serves job y k → HearsAdmitted job y (ask_of job y k.walking) found
+    → script_behind (post_of job y k) s ≡ behind (script_at (post_of job y k) k.stage) found → IsStep (post_of job y k) k.stage s → Hears job y k found (stepped k found s)
+unfolding begin_script turn_script
+hears job y k found (step.On new) board serves admitted is fits =
+    let at = post_of job y k in
     let new_going : IsGoing (doing_of new k.phase) = rw fits.2 fits.0 in
-    let asks_next : Asks (script_at job y (at_of y k) new) = stage_asks job y (at_of y k) new fits.1 new_going in
-    record {
-      told = sym (told_as job y w found _ going next ∙ goes_on_asks w found _ asks_next);
-      serves = record {
-        fits = fits_on job y w found serves.fits going admitted (subst Asks (sym next) asks_next);
-        now = serves.now ∙ sym fits.2;
-        rest = next;
-        stage = fits.1;
-      };
-    }
-
--- ---- another script
-
-hears_begins : (job : JobData) (y : LayoutData) (k : Kept) (found n : ℕ) → Serves job y k → ends (begins n) ≡ behind (script_at job y (at_of y k) k.stage) found
-    → IsStep job y (at_of y k) k.stage (step.Begins n) → Hears job y k found (stepped k found (step.Begins n))
-unfolding begin_script
-hears_begins job y k found n serves is fits =
-    let w = k.walking in
-    let going : IsGoing w.now = rw serves.now fits.0 in
-    record {
-      told = sym (told_as job y w found (ends (begins n)) going (rest_on job y w found _ _ serves.rest is));
-      serves = record {
-        fits = record { number = serves.fits.number; node = (fits.1, fits.2); phase = tt; admitted = tt; goes_on = (_, refl) };
-        now = refl;
-        rest = refl;
-        stage = tt;
-      };
-    }
-
-hears_turns : (job : JobData) (y : LayoutData) (k : Kept) (found n q : ℕ) → Serves job y k → ends (turns n q) ≡ behind (script_at job y (at_of y k) k.stage) found
-    → IsStep job y (at_of y k) k.stage (step.Turns n q) → Hears job y k found (stepped k found (step.Turns n q))
-unfolding turn_script
-hears_turns job y k found n q serves is fits =
-    let w = k.walking in
-    let going : IsGoing w.now = rw serves.now fits.0 in
-    record {
-      told = sym (told_as job y w found (ends (turns n q)) going (rest_on job y w found _ _ serves.rest is));
-      serves = record {
-        fits = record { number = serves.fits.number; node = (fits.1, fits.2); phase = (fits.3, fits.4); admitted = fits.5; goes_on = (_, refl) };
-        now = refl;
-        rest = refl;
-        stage = record { some = fits.3; most = fits.4; begun = fits.5 };
-      };
-    }
-
--- ---- the end
-
-abbrev beginning : ℕ → Option ℕ → List ℕ → ℕ → Stage → Doing → Kept
-beginning number node heard phase st now = record { walking = record { number = number; node = node; now = now; heard = heard }; phase = phase; stage = st }
-
-hears_stops : (job : JobData) (y : LayoutData) (number : ℕ) (node : Option ℕ) (heard : List ℕ) (phase : ℕ) (st : Stage) (found : ℕ) (e : Ended)
-    → Serves job y (beginning number node heard phase st doing.Begin) → IsAdmitted job y (ask_of job y (beginning number node heard phase st doing.Begin).walking) found
-    → ends (stops e) ≡ behind (script_at job y (at_of y (beginning number node heard phase st doing.Begin)) st) found
-    → Hears job y (beginning number node heard phase st doing.Begin) found (stepped (beginning number node heard phase st doing.Begin) found (step.Stops e))
-hears_stops job y number node heard phase st found e serves admitted is =
-    let w : Walking = (beginning number node heard phase st doing.Begin).walking in
-    let over : behind (rest_of job y w) found ≡ ends (stops e) = rest_on job y w found _ _ serves.rest is in
-    record {
-      told = sym (told_as job y w found (ends (stops e)) tt over);
-      serves = record {
-        fits = record { number = serves.fits.number; node = serves.fits.node; phase = tt; admitted = admitted_on job y w found serves.fits tt admitted; goes_on = tt };
-        now = refl;
-        rest = over;
-        stage = tt;
-      };
-    }
-
-hears_end : (job : JobData) (y : LayoutData) (k : Kept) (found : ℕ) (e : Ended) → k.walking.now ≡ doing.Begin → Serves job y k → IsAdmitted job y (ask_of job y k.walking) found
-    → ends (stops e) ≡ behind (script_at job y (at_of y k) k.stage) found → Hears job y k found (stepped k found (step.Stops e))
-hears_end job y k found e begin =
-    let w = k.walking in
-    let P : Doing → Type 0 = λ now. Serves job y (beginning w.number w.node w.heard k.phase k.stage now) → IsAdmitted job y (ask_of job y (beginning w.number w.node w.heard k.phase k.stage now).walking) found
-    → ends (stops e) ≡ behind (script_at job y (at_of y (beginning w.number w.node w.heard k.phase k.stage now)) k.stage) found
-    → Hears job y (beginning w.number w.node w.heard k.phase k.stage now) found (stepped (beginning w.number w.node w.heard k.phase k.stage now) found (step.Stops e)) in
-    subst P (sym begin) (hears_stops job y w.number w.node w.heard k.phase k.stage found e)
-
-hears_nothing : (job : JobData) (y : LayoutData) (k : Kept) (found : ℕ) (e : Ended) → k.walking.now ≡ doing.Over e → Serves job y k → Hears job y k found k
-hears_nothing job y k found e over serves = record {
-  told = rw over;
-  serves = serves;
-}
-
-pub hears : (job : JobData) (y : LayoutData) (k : Kept) (found : ℕ) (s : Step) → Serves job y k → IsAdmitted job y (ask_of job y k.walking) found
-    → script_behind job y (at_of y k) s ≡ behind (script_at job y (at_of y k) k.stage) found → IsStep job y (at_of y k) k.stage s → Hears job y k found (stepped k found s)
-hears job y k found (step.On new) serves admitted is fits = hears_on job y k found new serves admitted is fits
-hears job y k found (step.Begins n) serves admitted is fits = hears_begins job y k found n serves is fits
-hears job y k found (step.Turns n q) serves admitted is fits = hears_turns job y k found n q serves is fits
-hears job y k found (step.Stops e) serves admitted is fits = hears_end job y k found e (serves.now ∙ fits) serves admitted is
-hears job y k found (step.Stays e) serves admitted is fits = hears_nothing job y k found e (serves.now ∙ fits) serves
+    let asks_next : Asks (script_at at new) = stage_asks at new fits.1 new_going in
+    let told_is = going_told job y k found (step.On new) serves fits.0 is in
+    hears_by_law job y k _ found board serves admitted (told_is ∙ goes_on_asks k.walking found _ asks_next)
+    (λ f. record { fits = f; stands = record { now = serves.stands.now ∙ sym fits.2; rest = ap (λ (t : Script Then). behind t found) serves.stands.rest ∙ sym is; stage = fits.1 } })
+hears job y k found (step.Begins n) board serves admitted is fits =
+    hears_by_law job y k _ found board serves admitted (going_told job y k found (step.Begins n) serves fits is)
+    (λ f. record { fits = f; stands = record { now = refl; rest = refl; stage = tt } })
+hears job y k found (step.Turns n q) board serves admitted is fits =
+    hears_by_law job y k _ found board serves admitted (going_told job y k found (step.Turns n q) serves fits is)
+    (λ f. record { fits = f; stands = record { now = refl; rest = refl; stage = f.phase.1 } })
+hears job y k found (step.Stops e) board serves admitted is fits =
+    hears_by_law job y k _ found board serves admitted (going_told job y k found (step.Stops e) serves (rw fits tt) is)
+    (λ f. record { fits = f; stands = record { now = refl; rest = f.matches; stage = tt } })
+hears job y k found (step.Stays e) board serves admitted is fits =
+    record { told = rw (serves.stands.now ∙ fits); serves = serves }
 
 -- ---- what was heard, newest first
 
@@ -225,72 +105,25 @@ newest-set (suc n) k v xs h =
 pub newest-push : (n v : ℕ) (xs : List ℕ) → n < length xs → newest (n + 1) (slice_set xs n v) ≡ v ∷ newest n xs
 newest-push n v xs h = rw (add-one, newest-set n n v xs (omega arith), get_or-set_same)
 
-heard_for_small : (w : Want) → heard_for w ≤ 9
-heard_for_small want.Counter = omega arith
-heard_for_small (want.Only instr counter) = omega arith
-heard_for_small (want.First instr counter r) = omega arith
-heard_for_small (want.Second instr counter a) = omega arith
-heard_for_small (want.Cell instr counter a) = omega arith
-heard_for_small (want.Write value None) = omega arith
-heard_for_small (want.Write value (Some next)) = omega arith
-heard_for_small (want.Compare value) = omega arith
-
-pub most_heard_small : (st : Stage) → most_heard st ≤ 14
-most_heard_small stage.Back = omega arith
-most_heard_small stage.Begin = omega arith
-most_heard_small (stage.Look root) = omega arith
-most_heard_small stage.Node = omega arith
-most_heard_small stage.Left = omega arith
-most_heard_small (stage.Right l) = omega arith
-most_heard_small (stage.Move to) = omega arith
-most_heard_small stage.Mark = omega arith
-most_heard_small (stage.Place p w) = omega (arith, heard_for_small w)
-most_heard_small (stage.Again p w a) = omega (arith, heard_for_small w)
-most_heard_small (stage.Swap k old new None) = omega arith
-most_heard_small (stage.Swap k old new (Some next)) = omega arith
-most_heard_small (stage.Ask r) = omega arith
-most_heard_small (stage.AskValue r) = omega arith
-most_heard_small (stage.AskNext r) = omega arith
-most_heard_small stage.Hear = omega arith
-most_heard_small (stage.HearValue p) = omega arith
-most_heard_small (stage.HearNext p value) = omega arith
-most_heard_small (stage.HearWritten p) = omega arith
-most_heard_small (stage.Claim c carry) = omega arith
-most_heard_small (stage.Win c carry) = omega arith
-most_heard_small (stage.Own c) = omega arith
-most_heard_small stage.Report = omega arith
-most_heard_small (stage.Over e) = omega arith
-
 -- ---- a worker as its code has it
 
 -- the same from what the code knows: v is the worker as its fields show it
-pub hears_by : (job : JobData) (y : LayoutData) (v k : Kept) (at : At) (found : ℕ) (s : Step) → v ≡ k → at ≡ at_of y k → Serves job y k → IsAdmitted job y (ask_of job y k.walking) found
-    → script_behind job y at s ≡ behind (script_at job y at v.stage) found → IsStep job y at v.stage s → Hears job y k found (stepped v found s)
-hears_by job y v k at found s e f serves admitted =
-    let P : Kept → At → Type 0 = λ u a. script_behind job y a s ≡ behind (script_at job y a u.stage) found → IsStep job y a u.stage s → Hears job y k found (stepped u found s) in
-    let Q : Kept → Type 0 = λ u. P u at in
-    subst Q (sym e) (subst (P k) (sym f) (λ is fits. hears job y k found s serves admitted is fits))
+pub hears_by : (job : JobData) (y : LayoutData) (v k : WorkerData) (at : PostData) (found : ℕ) (s : Step) → v ≡ k → at ≡ post_of job y k → IsBoard job y → Serves job y k → HearsAdmitted job y (ask_of job y k.walking) found
+    → script_behind at s ≡ behind (script_at at v.stage) found → IsStep at v.stage s → Hears job y k found (stepped v found s)
+hears_by job y v k at found s e f board serves admitted =
+    let P : WorkerData → PostData → Type 0 = λ u a. script_behind a s ≡ behind (script_at a u.stage) found → IsStep a u.stage s → Hears job y k found (stepped u found s) in
+    let Q : WorkerData → Type 0 = λ u. P u at in
+    subst Q (sym e) (subst (P k) (sym f) (λ is fits. hears job y k found s board serves admitted is fits))
 
-pub doing_stays : (job : JobData) (y : LayoutData) (v k : Kept) (at : At) (new : Stage) → v ≡ k → at ≡ at_of y k → IsStep job y at v.stage (step.On new) → doing_of new v.phase ≡ doing_of v.stage v.phase
+pub doing_stays : (job : JobData) (y : LayoutData) (v k : WorkerData) (at : PostData) (new : Stage) → v ≡ k → at ≡ post_of job y k → IsStep at v.stage (step.On new) → doing_of new v.phase ≡ doing_of v.stage v.phase
 doing_stays job y v k at new e f =
-    let P : Kept → At → Type 0 = λ u a. IsStep job y a u.stage (step.On new) → doing_of new u.phase ≡ doing_of u.stage u.phase in
-    let Q : Kept → Type 0 = λ u. P u at in
+    let P : WorkerData → PostData → Type 0 = λ u a. IsStep a u.stage (step.On new) → doing_of new u.phase ≡ doing_of u.stage u.phase in
+    let Q : WorkerData → Type 0 = λ u. P u at in
     subst Q (sym e) (subst (P k) (sym f) (λ fits. fits.2))
 
 -- a new worker serves
 pub starts : (job : JobData) (y : LayoutData) (w : ℕ) → w < y.workers → Serves job y (record { walking = started w; phase = 0; stage = stage.Begin })
-unfolding begin_script
-starts job y w worker = record {
-  fits = record { number = worker; node = tt; phase = tt; admitted = tt; goes_on = (_, refl) };
-  now = refl;
-  rest = refl;
-  stage = tt;
-}
+starts job y w worker = record { fits = (new_workers_fit job y w worker).0; stands = record { now = refl; rest = refl; stage = tt } }
 
 pub comes_back : (job : JobData) (y : LayoutData) (w : ℕ) → w < y.workers → Serves job y (record { walking = come_back w; phase = 0; stage = stage.Back })
-comes_back job y w worker = record {
-  fits = record { number = worker; node = tt; phase = tt; admitted = tt; goes_on = (_, refl) };
-  now = refl;
-  rest = refl;
-  stage = tt;
-}
+comes_back job y w worker = record { fits = (new_workers_fit job y w worker).1; stands = record { now = refl; rest = refl; stage = tt } }

@@ -1,11 +1,13 @@
 pub mod Operations
 pub mod Scripts
+pub mod Doing
 pub mod Tasks
 pub mod Walk
 pub mod Reads
 pub mod Records
 pub mod Codes
-pub mod Stages
-pub mod Glances
+pub mod Inner
+pub mod Serving
 pub mod Requests
 pub mod Bound
+pub mod Laws

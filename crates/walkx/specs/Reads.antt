@@ -13,7 +13,7 @@ use Rattle.walkx.specs.declared.operation.Reading.{Reading}
 use Rattle.walkx.specs.declared.operation.Reading.TheVariants.{At}
 use Rattle.walkx.specs.Scripts.{Script, asks, ends, rest, heard_in}
 use Rattle.walkx.specs.Tasks.{newer_payload}
-use Rattle.walkx.specs.Walk.{IsAdmitted}
+use Rattle.walkx.specs.Walk.{HearsAdmitted}
 
 -- *Seen step*: the step that the root and then word 0 show to be finished.
 abbrev pub step_seen : ℕ → ℕ → ℕ
@@ -70,4 +70,4 @@ HeardAdmitted job y (read.Load k) found = Admits y job k found
 HeardAdmitted job y (read.Over reading) found = Unit {0}
 
 pub record LooksFit (job : JobData) (y : LayoutData) (r : Looking) : Type 0 where
-  pub admitted : AllByRecursion (λ e. IsAdmitted job y e.0 e.1) (heard_in (reader_script y r.cell) r.heard)
+  pub admitted : AllByRecursion (λ e. HearsAdmitted job y e.0 e.1) (heard_in (reader_script y r.cell) r.heard)

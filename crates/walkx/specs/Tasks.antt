@@ -1,11 +1,11 @@
 -- What a worker does at the leaf of a processor, by the kind of the phase and the rule of writing. Each task is told what follows it.
-use Rattle.std.specs.Prelude.{ℕ, ◌+◌, ◌-◌, ◌*◌, ◌%◌, ◌^◌, Bool, not, ◌&&◌, ◌||◌, ◌==◌, nat_lt, nat_le, if◌then◌else◌, List, [], ◌∷◌, ◌++◌, length, slice_get, slice_index, Option, Some, None, bit_and, bit_or, bit_xor}
+use Rattle.std.specs.Prelude.{ℕ, ◌+◌, ◌-◌, Bool, not, ◌&&◌, ◌||◌, ◌==◌, nat_lt, nat_le, if◌then◌else◌, List, [], ◌∷◌, ◌++◌, slice_get, slice_index, Option, Some, None}
 use Rattle.pram_text.specs.declared.instr.Instr.{Instr}
-use Rattle.pram_text.specs.declared.instr.Instr.TheVariants.{Set, Pid, Add, Sub, Mul, And, Or, Xor, Lt, Eq, Ld, St, Jz, Jmp, Halt}
 use Rattle.pram_text.specs.declared.instr.Rule.{Rule}
 use Rattle.pram_text.specs.declared.instr.Rule.TheVariants.{Common, Priority, Crew}
 use Rattle.pram_text.specs.Job.{JobData}
 use Rattle.pram_step.specs.declared.requests.Request.{Request}
+use Rattle.pram_step.specs.Instructions.{operands_of, cell_read, decided, goes_to, place_part, value_part}
 use Rattle.pram_step.specs.Machine.{register_place, counter_place}
 use Rattle.pram_words.specs.declared.phases.Kind.{Kind}
 use Rattle.pram_words.specs.declared.phases.Kind.TheVariants.{Compute, Apply, Verify}
@@ -25,6 +25,13 @@ is_late t a b = nat_le t (stamp_of a) || nat_le t (stamp_of b)
 abbrev pub first_is_older : ℕ → ℕ → Bool
 first_is_older a b = nat_le (stamp_of a) (stamp_of b)
 
+-- the older one's number and itself
+abbrev pub older : ℕ → ℕ → ℕ
+older a b = if first_is_older a b then 0 else 1
+
+abbrev pub older_word : ℕ → ℕ → ℕ
+older_word a b = if first_is_older a b then a else b
+
 -- the payload of the newer one
 abbrev pub newer_payload : ℕ → ℕ → ℕ
 newer_payload a b = payload_of (if first_is_older a b then b else a)
@@ -41,56 +48,7 @@ reads_place y t p after next = loads_both y p (λ a b. if is_late t a b then aft
 abbrev pub writes_place : {R : Type 0} → LayoutData → ℕ → ℕ → ℕ → Script R → Script R
 writes_place y t p value after = loads_both y p (λ a b.
     if is_late t a b then after
-    else asks (Swap (number_of y (Stored p (if first_is_older a b then 0 else 1))) (if first_is_older a b then a else b) (stamped_word t value)) (λ found. after))
-
--- ---- the request of a processor, from what was heard
-
--- the registers that an instruction reads, in the order in which it is written
-abbrev pub operands_of : Instr → List ℕ
-operands_of (Set r k) = []
-operands_of (Pid r) = []
-operands_of (Add r a b) = a ∷ b ∷ []
-operands_of (Sub r a b) = a ∷ b ∷ []
-operands_of (Mul r a b) = a ∷ b ∷ []
-operands_of (And r a b) = a ∷ b ∷ []
-operands_of (Or r a b) = a ∷ b ∷ []
-operands_of (Xor r a b) = a ∷ b ∷ []
-operands_of (Lt r a b) = a ∷ b ∷ []
-operands_of (Eq r a b) = a ∷ b ∷ []
-operands_of (Ld r a) = a ∷ []
-operands_of (St a b) = a ∷ b ∷ []
-operands_of (Jz r place) = r ∷ []
-operands_of (Jmp place) = []
-operands_of Halt = []
-
--- the cell that an instruction reads, a being its first operand
-abbrev pub cell_read : JobData → Instr → ℕ → Option ℕ
-cell_read job (Ld r a') a = if nat_lt a job.cells then Some a else None
-cell_read job _ a = None
-
--- processor i's request at this counter: a and b are what its operands hold, v what the cell does that it reads
-abbrev pub gives : JobData → ℕ → ℕ → ℕ → ℕ → Request
-gives job i counter r value = record { put = Some (register_place job i r, value); next = counter + 1 }
-
-abbrev pub goes : ℕ → Request
-goes place = record { put = None; next = place }
-
-unfoldable pub decided : JobData → ℕ → ℕ → Instr → ℕ → ℕ → ℕ → Request
-decided job i counter (Set r k) a b v = gives job i counter r k
-decided job i counter (Pid r) a b v = gives job i counter r i
-decided job i counter (Add r _ _) a b v = gives job i counter r ((a + b) % 2 ^ 32)
-decided job i counter (Sub r _ _) a b v = gives job i counter r ((a + (2 ^ 32 - b)) % 2 ^ 32)
-decided job i counter (Mul r _ _) a b v = gives job i counter r ((a * b) % 2 ^ 32)
-decided job i counter (And r _ _) a b v = gives job i counter r (bit_and a b)
-decided job i counter (Or r _ _) a b v = gives job i counter r (bit_or a b)
-decided job i counter (Xor r _ _) a b v = gives job i counter r (bit_xor a b)
-decided job i counter (Lt r _ _) a b v = gives job i counter r (if nat_lt a b then 1 else 0)
-decided job i counter (Eq r _ _) a b v = gives job i counter r (if a == b then 1 else 0)
-decided job i counter (Ld r _) a b v = if nat_lt a job.cells then gives job i counter r v else goes (length job.code + 1)
-decided job i counter (St _ _) a b v = if nat_lt a job.cells then record { put = Some (a, b); next = counter + 1 } else goes (length job.code + 1)
-decided job i counter (Jz r place) a b v = goes (if a == 0 then place else counter + 1)
-decided job i counter (Jmp place) a b v = goes place
-decided job i counter Halt a b v = goes (length job.code)
+    else asks (Swap (number_of y (Stored p (older a b))) (older_word a b) (stamped_word t value)) (λ found. after))
 
 -- ---- the compute task of step t, for processor i
 
@@ -103,13 +61,7 @@ abbrev pub reads_cell : {R : Type 0} → LayoutData → ℕ → Option ℕ → S
 reads_cell y t None after next = next 0
 reads_cell y t (Some c) after next = reads_place y t c after next
 
--- the words of a request: the data place plus 1 or 0 for none, the data value, the next counter
-abbrev pub place_part : Request → ℕ
-place_part request = elim request.put [ None ↦ 0 | Some w ↦ w.0 + 1 ]
-
-abbrev pub value_part : Request → ℕ
-value_part request = elim request.put [ None ↦ 0 | Some w ↦ w.1 ]
-
+-- the words of a request
 abbrev pub raises_request : {R : Type 0} → LayoutData → ℕ → ℕ → Request → Script R → Script R
 raises_request y t i request after =
     asks (Max (number_of y (Asked i 0)) (stamped_word t (place_part request))) (λ found.
@@ -117,7 +69,7 @@ raises_request y t i request after =
     asks (Max (number_of y (Asked i 2)) (stamped_word t request.next)) (λ found. after)))
 
 abbrev pub executes : {R : Type 0} → JobData → LayoutData → ℕ → ℕ → ℕ → Option Instr → Script R → Script R
-executes job y t i counter None after = raises_request y t i (goes counter) after
+executes job y t i counter None after = raises_request y t i (goes_to counter) after
 executes job y t i counter (Some instr) after =
     reads_registers job y t i (operands_of instr) [] after (λ values.
     reads_cell y t (cell_read job instr (slice_index values 0)) after (λ v.

@@ -1,17 +1,17 @@
 -- The walk: the scripts back, begin and turn, and a worker that goes through them.
 use Rattle.std.specs.Prelude.{◌≡◌, ℕ, ◌+◌, ◌-◌, ◌*◌, ◌/◌, ◌%◌, ◌<◌, ◌≤◌, ◌&&◌, ◌==◌, nat_le, if◌then◌else◌, List, [], ◌∷◌, ◌++◌, Option, Some, None, IfSome, unwrap_or}
 use Rattle.std.specs.List.{AllByRecursion}
-use Rattle.pram_text.specs.Job.{JobData}
+use Rattle.pram_text.specs.Job.{JobData, IsJob}
 use Rattle.pram_words.specs.Phases.{step_at, kind_at}
-use Rattle.pram_words.specs.Tree.{first_leaf_of, turns_right}
-use Rattle.pram_words.specs.Words.{LayoutData, Admits, number_of, length_of, layout_of}
+use Rattle.pram_words.specs.Ways.{first_leaf_in, turns_right_in}
+use Rattle.pram_words.specs.Words.{LayoutData, IsLayout, Admits, number_of, length_of, layout_of}
 use Rattle.pram_words.specs.declared.words.Word.TheVariants.{Conflict, Node, Position}
 use Rattle.walkx.specs.declared.operation.Ended.{Ended}
 use Rattle.walkx.specs.declared.operation.Ended.TheVariants as ended
 use Rattle.walkx.specs.declared.operation.Op.{Op}
 use Rattle.walkx.specs.declared.operation.Op.TheVariants.{Load, Store, Max, Swap, Over}
-use Rattle.walkx.specs.declared.worker.Doing.{Doing}
-use Rattle.walkx.specs.declared.worker.Doing.TheVariants as doing
+use Rattle.walkx.specs.Doing.{Doing}
+use Rattle.walkx.specs.Doing as doing
 use Rattle.walkx.specs.Scripts.{Script, asks, ends, behind, rest, first_op, heard_in}
 use Rattle.walkx.specs.Tasks.{task_of}
 
@@ -37,7 +37,7 @@ begin_script job y n = asks (Load (number_of y (Node 1))) (λ root.
 -- the child of an inner node with an unfinished child to which worker w goes, its children having been heard
 abbrev pub way_down : LayoutData → ℕ → ℕ → ℕ → ℕ → ℕ → ℕ
 way_down y w n q l r =
-    if nat_le q l then 2 * n + 1 else (if nat_le q r then 2 * n else (if turns_right y.leaves w n then 2 * n + 1 else 2 * n))
+    if nat_le q l then 2 * n + 1 else (if nat_le q r then 2 * n else (if turns_right_in y w n then 2 * n + 1 else 2 * n))
 
 abbrev pub stands_at : LayoutData → ℕ → ℕ → ℕ → Script Then
 stands_at y w n q = asks (Store (number_of y (Position w)) n) (λ stored. ends (turns n q))
@@ -69,7 +69,7 @@ pub record Walking : Type 0 where
   pub heard : List ℕ
 
 abbrev pub node_of : LayoutData → Walking → ℕ
-node_of y w = unwrap_or w.node (first_leaf_of y.leaves w.number)
+node_of y w = unwrap_or w.node (first_leaf_in y w.number)
 
 -- A worker that is over has heard a whole begin.
 abbrev pub script_by : JobData → LayoutData → ℕ → ℕ → Doing → Script Then
@@ -130,9 +130,12 @@ abbrev pub heard_of : JobData → LayoutData → Walking → List (Op × ℕ)
 heard_of job y w = heard_in (script_of job y w) w.heard ++ phase_begun y w.now
 
 -- what was loaded is admitted for its word
-abbrev pub IsAdmitted : JobData → LayoutData → Op → ℕ → Type 0
-IsAdmitted job y (Load k) found = Admits y job k found
-IsAdmitted job y _ found = Unit {0}
+abbrev pub HearsAdmitted : JobData → LayoutData → Op → ℕ → Type 0
+HearsAdmitted job y (Load k) found = Admits y job k found
+HearsAdmitted job y _ found = Unit {0}
+
+abbrev pub AllAdmitted : JobData → LayoutData → List (Op × ℕ) → Type 0
+AllAdmitted job y heard = AllByRecursion (λ (e : Op × ℕ). HearsAdmitted job y e.0 e.1) heard
 
 -- what is asked is on the board, and a value that it is to take is admitted for its word
 abbrev pub AsksAdmitted : JobData → LayoutData → Op → Type 0
@@ -144,22 +147,33 @@ AsksAdmitted job y (Over e) = Unit {0}
 
 -- the layout is the job's
 abbrev pub IsLayoutOf : JobData → LayoutData → Type 0
-IsLayoutOf job y = y ≡ layout_of job y.workers
+IsLayoutOf job y = y ≡ layout_of job y.form y.workers
+
+-- a job within its limits, and its board
+pub record IsBoard (job : JobData) (y : LayoutData) : Type 0 where
+  pub limits : IsJob job
+  pub layout : IsLayout y
+  pub is : IsLayoutOf job y
+
+-- the worker is not over
+abbrev pub IsGoing : Doing → Type 0
+IsGoing (doing.Over e) = ⊥
+IsGoing _ = Unit {0}
 
 -- the phase is one of the job's
 abbrev pub IsPhase : JobData → Doing → Type 0
 IsPhase job (doing.Turn q) = (1 ≤ q) × (q ≤ 3 * job.steps)
 IsPhase job _ = Unit {0}
 
--- the script goes on, unless the worker is over
-abbrev pub GoesOn : Doing → Script Then → Type 0
-GoesOn (doing.Over e) script = Unit {0}
-GoesOn _ script = (op : Op) × (first_op script ≡ Some op)
+-- What is left of the script matches what the worker is doing: it goes on, or it ended as the worker did.
+abbrev pub Matches : Doing → Script Then → Type 0
+Matches (doing.Over e) script = script ≡ ends (stops e)
+Matches _ script = (op : Op) × (first_op script ≡ Some op)
 
--- the worker fits the job and the layout
+-- The worker fits the job and the layout. One that is over has heard what ended it.
 pub record Fits (job : JobData) (y : LayoutData) (w : Walking) : Type 0 where
   pub number : w.number < y.workers
   pub node : IfSome w.node (λ n. (1 ≤ n) × (n < 2 * y.leaves))
   pub phase : IsPhase job w.now
-  pub admitted : AllByRecursion (λ e. IsAdmitted job y e.0 e.1) (heard_of job y w)
-  pub goes_on : GoesOn w.now (rest_of job y w)
+  pub admitted : AllAdmitted job y (heard_of job y w)
+  pub matches : Matches w.now (rest_of job y w)

@@ -1,8 +1,29 @@
-//! Laws of the walk.
-ghost use Rattle.walkx.specs.Bound.{OwnStepsAreBounded};
+//! Laws of the walk: each function here does nothing, and its contract is the law.
+ghost use Rattle.walkx.specs.Laws.{AnswersKeepFit, KnownStayKnown, NewWorkersFit};
+ghost use Rattle.walkx.specs.Laws.{OwnStepsAreBounded, WhatIsAskedIsAdmitted};
 
-/// The law that a worker is over after at most 300 L T + 8 operations, L being the leaves and T the steps, if it hears no node below
-/// what it loaded there before or raised it to. It does nothing.
+/// A worker that is newly started, or comes back, fits the job and the board.
+pub fn new_workers_fit()
+    ensures { NewWorkersFit }
+{}
+
+/// A worker that fits still fits with each admitted answer.
+pub fn answers_keep_fit()
+    ensures { AnswersKeepFit }
+{}
+
+/// A worker that a record knows is known to the record with its next step.
+pub fn known_stay_known()
+    ensures { KnownStayKnown }
+{}
+
+/// What a worker that fits asks is on the board, and what it writes is admitted there.
+pub fn what_is_asked_is_admitted()
+    ensures { WhatIsAskedIsAdmitted }
+{}
+
+/// A worker that is still going has made fewer than 300 L T + 8 steps, L being the leaves and T the
+/// steps of the job, if it hears no node below what it loaded there before or raised it to.
 pub fn own_steps_are_bounded()
     ensures { OwnStepsAreBounded }
 {}

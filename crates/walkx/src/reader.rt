@@ -1,14 +1,15 @@
 //! The reader of a cell.
 ghost use Rattle.std.specs.Prelude.{◌≡◌, ℕ, ◌<◌};
-ghost use Rattle.pram_words.specs.Words.{Admits, number_of};
-ghost use Rattle.pram_words.specs.declared.words.Word.TheVariants as Word;
-ghost use Rattle.walkx.specs.Glances.{IsGlance, IsLater, most_heard, reads_again, reads_both, script_at};
-ghost use Rattle.walkx.specs.Reads.{HeardAdmitted, LooksOnBoard, lesser, looks_for, reader_script, told_at};
-ghost use Rattle.walkx.specs.Scripts.{behind, ends};
-ghost use Rattle.walkx.specs.Stages.{IsBoard};
+ghost use Rattle.walkx.specs.Inner.Glances.{HearsGlance, IsGlance, IsLaterGlance};
+ghost use Rattle.walkx.specs.Inner.Glances.{StandsBehindGlance, most_looked, reads_again};
+ghost use Rattle.walkx.specs.Inner.Glances.{reads_both, script_of_glance};
+ghost use Rattle.walkx.specs.Reads.{LooksOnBoard, lesser, looks_for, told_at};
+ghost use Rattle.walkx.specs.Scripts.{ends};
+ghost use Rattle.walkx.specs.Walk.{IsBoard};
 
-use crate::compute::newer;
 use crate::operation::{ReadOp, Reading};
+use crate::place::newer;
+use crate::post::within_limits;
 use crate::stage::Glance;
 use crate::words::seen_step;
 use pram_text::Job;
@@ -26,22 +27,23 @@ pub struct Reader {
 
 impl Model for Reader {
     ghost use Rattle.std.specs.Prelude.{◌≤◌};
-    ghost use Rattle.walkx.specs.Glances.{Kept, most_heard};
-    ghost use Rattle.walkx.specs.Stages.{newest};
+    ghost use Rattle.walkx.specs.Inner.Glances.{ReaderData, most_looked, reader_data};
+    ghost use Rattle.walkx.specs.Inner.Stages.{newest};
 
-    ghost Value = { Kept };
+    ghost Value = { ReaderData };
 
-    ghost view = { λ r. record { looking = record { cell = r.cell; heard = newest r.count r.heard }; stage = r.stage } };
+    ghost view = { λ r. reader_data r.cell r.stage (newest r.count r.heard) };
 
-    ghost invariant = { λ r. r.count ≤ most_heard r.stage };
+    ghost invariant = { λ r. r.count ≤ most_looked r.stage };
 }
 
 impl Reader {
     ghost use Rattle.std.specs.Prelude.{◌≡◌, ℕ, ◌<◌, [], length};
     ghost use Rattle.pram_text.specs.Job.{JobData};
     ghost use Rattle.pram_words.specs.Words.{LayoutData};
-    ghost use Rattle.walkx.specs.Glances.{Follows};
-    ghost use Rattle.walkx.specs.Reads.{LooksFit, LooksOnBoard, HeardAdmitted, look_of, looked, looks_for};
+    ghost use Rattle.walkx.specs.Serving.{Follows};
+    ghost use Rattle.walkx.specs.Reads.{HeardAdmitted, LooksFit, LooksOnBoard, look_of, looked};
+    ghost use Rattle.walkx.specs.Reads.{looks_for};
     ghost use Rattle.walkx.specs.Walk.{IsLayoutOf};
 
     /// A reader of this cell.
@@ -65,7 +67,7 @@ impl Reader {
         ensures on_board { LooksOnBoard layout.now result }
         ensures few { (k : ℕ) → result ≡ ReadOp.Load k → length self.now.looking.heard < 5 }
     {
-        asked(layout, self.cell, self.stage)
+        operation(layout, self.cell, self.stage)
     }
 
     /// Hears the answer of the step that it asked for.
@@ -73,34 +75,36 @@ impl Reader {
         requires layout { IsLayoutOf job.now layout.now }
         requires follows { Follows layout.now self.old }
         requires fits { LooksFit job.now layout.now self.old.looking }
-        requires admitted { HeardAdmitted job.now layout.now (looks_for (look_of layout.now self.old.looking)) answer }
-        ensures told { self.new.looking ≡ looked self.old.looking answer (look_of layout.now self.old.looking) }
+        requires admitted { HeardAdmitted job.now layout.now (looks_for (look_of layout.now
+            self.old.looking)) answer }
+        ensures told { self.new.looking ≡ looked self.old.looking answer (look_of layout.now
+            self.old.looking) }
         ensures follows { Follows layout.now self.new }
         ensures fits { LooksFit job.now layout.now self.new.looking }
     {
         if let Glance::Over(_) = self.stage {
             return;
         }
-        let _ = job.steps();
-        let _ = layout.leaves();
-        self.stage = told(job, layout, self.cell, self.stage, answer);
+        within_limits(job, layout);
+        self.stage = after(job, layout, self.cell, self.stage, answer);
         self.heard[self.count] = answer;
         self.count += 1;
     }
 }
 
 // The operation that a stage asks for.
-#[tactic(auto, using(crate::proofs::Boards::root_below), unfolding(pram_words::specs::Words::number_of, crate::specs::Reads::reader_script, crate::specs::Reads::read_script))]
-fn asked(layout: &Layout, cell: u32, stage: Glance) -> ReadOp
+#[tactic(auto, using(crate::proofs::Boards::length_small), unfolding(crate::specs::Reads::reader_script, crate::specs::Reads::read_script))]
+fn operation(layout: &Layout, cell: u32, stage: Glance) -> ReadOp
     requires cell { cell < layout.now.cells }
-    ensures asks { result ≡ looks_for (script_at layout.now cell stage) }
+    ensures asks { result ≡ looks_for (script_of_glance layout.now cell stage) }
     ensures on_board { LooksOnBoard layout.now result }
-    ensures few { (k : ℕ) → result ≡ ReadOp.Load k → most_heard stage < 5 }
+    ensures few { (k : ℕ) → result ≡ ReadOp.Load k → most_looked stage < 5 }
 {
+    // This tells that the tree has a root.
     let _ = layout.leaves();
     match stage {
-        Glance::Begin => ReadOp::Load(1),
-        Glance::Look(_) => ReadOp::Load(0),
+        Glance::Begin => ReadOp::Load(layout.node_word(1)),
+        Glance::Look(_) => ReadOp::Load(layout.conflict_word()),
         Glance::First(_) | Glance::Again(_, _, _) => ReadOp::Load(layout.place_word(cell)),
         Glance::Second(_, _) => ReadOp::Load(layout.place_word(cell) + 1),
         Glance::Over(reading) => ReadOp::Over(reading),
@@ -109,20 +113,20 @@ fn asked(layout: &Layout, cell: u32, stage: Glance) -> ReadOp
 
 // What the answer to a stage leads to.
 #[tactic(auto, unfolding(crate::specs::Reads::reader_script, crate::specs::Reads::read_script))]
-fn told(job: &Job, layout: &Layout, cell: u32, stage: Glance, answer: u64) -> Glance
+fn after(job: &Job, layout: &Layout, cell: u32, stage: Glance, answer: u64) -> Glance
     requires board { IsBoard job.now layout.now }
     requires stage { IsGlance stage }
-    requires answer { HeardAdmitted job.now layout.now (looks_for (script_at layout.now cell stage)) answer }
-    ensures rest { script_at layout.now cell result ≡ behind (script_at layout.now cell stage) answer }
+    requires answer { HearsGlance job.now layout.now cell stage answer }
+    ensures rest { StandsBehindGlance layout.now cell stage answer result }
     ensures stage { IsGlance result }
-    ensures later { IsLater stage result }
+    ensures later { IsLaterGlance stage result }
 {
     match stage {
-        Glance::Begin => begun(job, layout, cell, answer),
+        Glance::Begin => after_root(job, layout, cell, answer),
         Glance::Look(root) => Glance::First(seen_step(root, answer)),
         Glance::First(step) => Glance::Second(step, answer),
-        Glance::Second(step, first) => heard_both(layout, cell, step, first, answer),
-        Glance::Again(step, first, second) => Glance::Over(heard_again(
+        Glance::Second(step, first) => after_both(layout, cell, step, first, answer),
+        Glance::Again(step, first, second) => Glance::Over(after_again(
             step, first, second, answer,
         )),
         Glance::Over(reading) => Glance::Over(reading),
@@ -130,15 +134,14 @@ fn told(job: &Job, layout: &Layout, cell: u32, stage: Glance, answer: u64) -> Gl
 }
 
 // The root was heard.
-#[tactic(auto, using(crate::proofs::Begun::root_most), unfolding(crate::specs::Reads::reader_script))]
-fn begun(job: &Job, layout: &Layout, cell: u32, root: u64) -> Glance
+#[tactic(auto, using(crate::proofs::Boards::root_most), unfolding(crate::specs::Reads::reader_script))]
+fn after_root(job: &Job, layout: &Layout, cell: u32, root: u64) -> Glance
     requires board { IsBoard job.now layout.now }
-    requires root { Admits layout.now job.now (number_of layout.now (Word.Node 1)) root }
-    ensures rest { script_at layout.now cell result ≡ behind (reader_script layout.now cell) root }
+    requires root { HearsGlance job.now layout.now cell Glance.Begin root }
+    ensures rest { StandsBehindGlance layout.now cell Glance.Begin root result }
     ensures stage { IsGlance result }
-    ensures later { IsLater Glance.Begin result }
+    ensures later { IsLaterGlance Glance.Begin result }
 {
-    let _ = job.steps();
     if root % 3 == 0 {
         Glance::Look(root)
     } else {
@@ -147,10 +150,11 @@ fn begun(job: &Job, layout: &Layout, cell: u32, root: u64) -> Glance
 }
 
 // Both words were heard.
-fn heard_both(layout: &Layout, cell: u32, step: u32, first: u64, second: u64) -> Glance
-    ensures rest { script_at layout.now cell result ≡ reads_both layout.now cell step first second }
+fn after_both(layout: &Layout, cell: u32, step: u32, first: u64, second: u64) -> Glance
+    ensures rest { script_of_glance layout.now cell result ≡ reads_both layout.now cell step first
+        second }
     ensures stage { IsGlance result }
-    ensures later { IsLater (Glance.Second step first) result }
+    ensures later { IsLaterGlance (Glance.Second step first) result }
 {
     if stamp(first) <= step {
         if stamp(second) <= step {
@@ -172,7 +176,7 @@ fn heard_both(layout: &Layout, cell: u32, step: u32, first: u64, second: u64) ->
 }
 
 // The first word was heard once more.
-fn heard_again(step: u32, first: u64, second: u64, again: u64) -> Reading
+fn after_again(step: u32, first: u64, second: u64, again: u64) -> Reading
     ensures { ends result ≡ reads_again step first second again }
 {
     if again == first {

@@ -1,7 +1,8 @@
 //! What a seat remembers.
 use std::marker::Model;
 
-/// A record of atomic steps with their answers. It stands in contracts and views alone: no value of it is ever made.
+/// A record of atomic steps with their answers. It stands in contracts and views alone: no value of
+/// it is ever made.
 pub struct Recorded {
     never: u8,
 }

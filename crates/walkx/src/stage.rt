@@ -3,17 +3,6 @@ use crate::operation::{Ended, Reading};
 use pram_step::Request;
 use pram_text::Instr;
 
-/// Who is at work, where, and in which phase.
-#[derive(Clone, Copy)]
-pub(crate) struct At {
-    /// The worker's number.
-    pub worker: u32,
-    /// The node where it stands.
-    pub node: u32,
-    /// The phase of its turn.
-    pub phase: u64,
-}
-
 /// What the two words of a place are loaded for.
 #[derive(Clone, Copy)]
 pub(crate) enum Want {
@@ -27,18 +16,11 @@ pub(crate) enum Want {
     Second(Instr, u32, u32),
     /// The cell that an instruction reads; its number.
     Cell(Instr, u32, u32),
-    /// The older of the two words is swapped for this value; then, if there is a next counter, it is written too.
+    /// The older of the two words is swapped for this value; then the next counter is written, if
+    /// there is one.
     Write(u32, Option<u32>),
     /// A word of this step with another value is a conflict.
     Compare(u32),
-}
-
-/// The registers that an instruction reads, in the order in which it is written.
-#[derive(Clone, Copy)]
-pub(crate) enum Operands {
-    None,
-    One(u8),
-    Two(u8, u8),
 }
 
 /// A request as it was heard: the data place plus 1 or 0, the data value, the next counter.
@@ -72,7 +54,8 @@ pub(crate) enum Stage {
     Place(u32, Want),
     /// The second word of a place is loaded, the first being this.
     Again(u32, Want, u64),
-    /// This word is swapped, from the first value to the second; then the counter is written, if there is a next one.
+    /// This word is swapped, from the first value to the second; then the next counter is written,
+    /// if there is one.
     Swap(u32, u64, u64, Option<u32>),
     /// The first word of the request is raised.
     Ask(Request),
@@ -87,13 +70,13 @@ pub(crate) enum Stage {
     /// The third word of the request is loaded, to be carried out with this data place and value.
     HearNext(u32, u32),
     /// The second word of the request is loaded, to be compared with this place.
-    HearWritten(u32),
+    CheckValue(u32),
     /// The claim to this cell is raised; then the request is carried out, if it is this pass.
     Claim(u32, Option<Carry>),
     /// The claim to this cell is loaded; who has it writes.
-    Win(u32, Carry),
+    HearClaim(u32, Carry),
     /// The claim to this cell is loaded; it must be the processor's own.
-    Own(u32),
+    CheckClaim(u32),
     /// The conflict is reported.
     Report,
     /// The worker is over.

@@ -1,53 +1,38 @@
 //! Worked rows: what no clause says, or what was worked out by hand.
-ghost use Rattle.walkx.specs.Glances.{Follows};
+ghost use Rattle.std.specs.Prelude.{◌≡◌, IfOk};
+ghost use Rattle.pram_words.specs.Words.{layout_of};
+ghost use Rattle.pram_words.specs.declared.layout.Form.TheVariants.{Compact};
 ghost use Rattle.walkx.specs.Reads.{LooksFit};
-ghost use Rattle.walkx.specs.Stages.{Serves};
+ghost use Rattle.walkx.specs.Serving.{Follows, Serves};
 ghost use Rattle.walkx.specs.Walk.{IsLayoutOf};
 
-use crate::{Ended, Op, ReadOp, Reader, Reading, Worker, request_of, requests_meet, seen_step};
+use crate::{Ended, Op, ReadOp, Reader, Reading, Worker, request_of, seen_step};
 use pram_step::Request;
 use pram_text::{Job, read_job};
-use pram_words::Layout;
+use pram_words::{Kind, Layout, phase, stamped};
 use std::alloc::{AllocError, Global};
 use std::process::Abort;
 use std::test::Fail;
 
-// One processor sets a register in one step: each operation, with the word before it.
-const STEPS: [(Op, u64); 33] = [
-    (Op::Load(1), 0),
-    (Op::Load(0), 0),
-    (Op::Load(1), 0),
-    (Op::Load(16), 0),
-    (Op::Load(17), 0),
-    (Op::Max(2, 4294967298), 0),
-    (Op::Max(3, 4294967303), 0),
-    (Op::Max(4, 4294967297), 0),
-    (Op::Max(1, 1), 0),
-    (Op::Load(1), 1),
-    (Op::Load(1), 1),
-    (Op::Load(1), 1),
-    (Op::Load(2), 4294967298),
-    (Op::Load(3), 4294967303),
-    (Op::Load(4), 4294967297),
-    (Op::Load(8), 0),
-    (Op::Load(9), 0),
-    (Op::Swap(8, 0, 4294967303), 0),
-    (Op::Load(16), 0),
-    (Op::Load(17), 0),
-    (Op::Swap(16, 0, 4294967297), 0),
-    (Op::Max(1, 2), 1),
-    (Op::Load(1), 2),
-    (Op::Load(1), 2),
-    (Op::Load(1), 2),
-    (Op::Load(2), 4294967298),
-    (Op::Load(3), 4294967303),
-    (Op::Load(8), 4294967303),
-    (Op::Load(9), 0),
-    (Op::Max(1, 3), 2),
-    (Op::Load(1), 3),
-    (Op::Load(1), 3),
-    (Op::Load(0), 0),
-];
+const TWO: &[u8] = b"pram 1\ncells 2\nprocs 2\nsteps 1\ncode\npid r0\n";
+
+const EIGHT_STEPS: &[u8] = b"pram 1
+cells 1
+procs 1
+steps 8
+code
+set r1 30
+set r2 50
+st r0 r1
+set r1 70
+st r0 r2
+set r2 80
+st r0 r1
+st r0 r2
+";
+
+// A phase that no job has.
+const NEVER: u64 = u64::MAX;
 
 // The words that a board starts with.
 fn start_words(alloc: Global, job: &Job, layout: &Layout) -> Result<Vec<u64>, AllocError> {
@@ -56,6 +41,16 @@ fn start_words(alloc: Global, job: &Job, layout: &Layout) -> Result<Vec<u64>, Al
         words.push(layout.start_word(job, k))?;
     }
     Ok(words)
+}
+
+// A job, its board for one worker, and the words that the board starts with.
+fn fresh(alloc: Global, text: &[u8]) -> Result<(Job, Layout, Vec<u64>), Fail>
+    ensures { IfOk result (λ b. b.1 ≡ layout_of b.0 Compact 1) }
+{
+    let job = read_job(alloc, text)?;
+    let layout = Layout::new(&job, 1);
+    let words = start_words(alloc, &job, &layout)?;
+    Ok((job, layout, words))
 }
 
 // The word of this number.
@@ -157,13 +152,51 @@ fn make(
     }
 }
 
-// Makes the steps of the table.
+// One processor sets a register in one step: each operation, with the word before it.
 fn follow(rt: &impl Abort, job: &Job, layout: &Layout, worker: &mut Worker, words: &mut Vec<u64>)
     requires layout { IsLayoutOf job.now layout.now }
     requires serves { Serves job.now layout.now worker.old }
     ensures serves { Serves job.now layout.now worker.new }
 {
-    for step in STEPS {
+    let compute = phase(1, Kind::Compute);
+    let apply = phase(1, Kind::Apply);
+    let verify = phase(1, Kind::Verify);
+    let steps = [
+        (Op::Load(1), 0),
+        (Op::Load(0), 0),
+        (Op::Load(1), 0),
+        (Op::Load(16), 0),
+        (Op::Load(17), 0),
+        (Op::Max(2, stamped(1, 2)), 0),
+        (Op::Max(3, stamped(1, 7)), 0),
+        (Op::Max(4, stamped(1, 1)), 0),
+        (Op::Max(1, compute), 0),
+        (Op::Load(1), compute),
+        (Op::Load(1), compute),
+        (Op::Load(1), compute),
+        (Op::Load(2), stamped(1, 2)),
+        (Op::Load(3), stamped(1, 7)),
+        (Op::Load(4), stamped(1, 1)),
+        (Op::Load(8), 0),
+        (Op::Load(9), 0),
+        (Op::Swap(8, 0, stamped(1, 7)), 0),
+        (Op::Load(16), 0),
+        (Op::Load(17), 0),
+        (Op::Swap(16, 0, stamped(1, 1)), 0),
+        (Op::Max(1, apply), compute),
+        (Op::Load(1), apply),
+        (Op::Load(1), apply),
+        (Op::Load(1), apply),
+        (Op::Load(2), stamped(1, 2)),
+        (Op::Load(3), stamped(1, 7)),
+        (Op::Load(8), stamped(1, 7)),
+        (Op::Load(9), 0),
+        (Op::Max(1, verify), apply),
+        (Op::Load(1), verify),
+        (Op::Load(1), verify),
+        (Op::Load(0), 0),
+    ];
+    for step in steps {
         assert_eq!(rt; go(rt, job, layout, worker, words), step);
     }
 }
@@ -193,13 +226,11 @@ fn look(
 }
 
 #[test]
-fn one_step_of_one_processor(rt: HostRuntime) -> Result<(), Fail> {
-    let job = read_job(
+fn one_processor_is_done_after_33_steps(rt: HostRuntime) -> Result<(), Fail> {
+    let (job, layout, mut words) = fresh(
         rt.alloc(),
         b"pram 1\ncells 1\nprocs 1\nsteps 1\ncode\nset r0 7\n",
     )?;
-    let layout = Layout::new(&job, 1);
-    let mut words = start_words(rt.alloc(), &job, &layout)?;
     let mut worker = Worker::start(0);
     assert_eq!(rt; worker.number(), 0);
     follow(&rt, &job, &layout, &mut worker, &mut words);
@@ -209,56 +240,99 @@ fn one_step_of_one_processor(rt: HostRuntime) -> Result<(), Fail> {
 }
 
 #[test]
-fn two_processors(rt: HostRuntime) -> Result<(), Fail> {
-    let job = read_job(
-        rt.alloc(),
-        b"pram 1\ncells 2\nprocs 2\nsteps 1\ncode\npid r0\n",
-    )?;
-    let layout = Layout::new(&job, 1);
-    let mut words = start_words(rt.alloc(), &job, &layout)?;
+fn two_processors_are_done_after_101_steps(rt: HostRuntime) -> Result<(), Fail> {
+    let (job, layout, mut words) = fresh(rt.alloc(), TWO)?;
     let mut worker = Worker::start(0);
-    assert_eq!(rt; run(&rt, &job, &layout, &mut worker, &mut words, 4), 101);
+    assert_eq!(rt;
+        run(&rt, &job, &layout, &mut worker, &mut words, NEVER),
+        101
+    );
     assert_eq!(rt; worker.ended(), Some(Ended::Done));
     Ok(())
 }
 
 #[test]
-fn a_worker_that_comes_back(rt: HostRuntime) -> Result<(), Fail> {
-    let job = read_job(
-        rt.alloc(),
-        b"pram 1\ncells 2\nprocs 2\nsteps 1\ncode\npid r0\n",
-    )?;
-    let layout = Layout::new(&job, 1);
-    let mut words = start_words(rt.alloc(), &job, &layout)?;
+fn a_worker_comes_back_where_it_stood(rt: HostRuntime) -> Result<(), Fail> {
+    let (job, layout, mut words) = fresh(rt.alloc(), TWO)?;
     let mut worker = Worker::start(0);
-    make(&rt, &job, &layout, &mut worker, &mut words, 15);
+    make(&rt, &job, &layout, &mut worker, &mut words, 14);
+    assert_eq!(rt;
+        go(&rt, &job, &layout, &mut worker, &mut words),
+        (Op::Store(10, 3), 1)
+    );
     let mut worker = Worker::back(0);
     assert_eq!(rt;
         go(&rt, &job, &layout, &mut worker, &mut words),
         (Op::Load(10), 3)
     );
-    assert_eq!(rt; run(&rt, &job, &layout, &mut worker, &mut words, 4), 88);
+    assert_eq!(rt; run(&rt, &job, &layout, &mut worker, &mut words, NEVER), 88);
     Ok(())
 }
 
 #[test]
-fn a_read_beside_a_write(rt: HostRuntime) -> Result<(), Fail> {
-    let job = read_job(
+fn priority_without_a_cell_takes_30_steps(rt: HostRuntime) -> Result<(), Fail> {
+    let (job, layout, mut words) = fresh(
+        rt.alloc(),
+        b"pram 2\ncells 1\nprocs 1\nsteps 1\nrule priority\ncode\nset r0 7\n",
+    )?;
+    let mut worker = Worker::start(0);
+    assert_eq!(rt; run(&rt, &job, &layout, &mut worker, &mut words, NEVER), 30);
+    Ok(())
+}
+
+#[test]
+fn priority_claims_a_cell_in_36_steps(rt: HostRuntime) -> Result<(), Fail> {
+    let (job, layout, mut words) = fresh(
+        rt.alloc(),
+        b"pram 2\ncells 1\nprocs 1\nsteps 1\nrule priority\ncode\nst r0 r1\n",
+    )?;
+    let mut worker = Worker::start(0);
+    make(&rt, &job, &layout, &mut worker, &mut words, 17);
+    assert_eq!(rt;
+        go(&rt, &job, &layout, &mut worker, &mut words),
+        (Op::Max(18, stamped(1, 1)), 0)
+    );
+    make(&rt, &job, &layout, &mut worker, &mut words, 10);
+    assert_eq!(rt;
+        go(&rt, &job, &layout, &mut worker, &mut words),
+        (Op::Swap(6, 0, stamped(1, 0)), 0)
+    );
+    assert_eq!(rt; run(&rt, &job, &layout, &mut worker, &mut words, NEVER), 7);
+    Ok(())
+}
+
+#[test]
+fn crew_claims_a_cell_in_36_steps(rt: HostRuntime) -> Result<(), Fail> {
+    let (job, layout, mut words) = fresh(
+        rt.alloc(),
+        b"pram 2\ncells 1\nprocs 1\nsteps 1\nrule crew\ncode\nst r0 r1\n",
+    )?;
+    let mut worker = Worker::start(0);
+    make(&rt, &job, &layout, &mut worker, &mut words, 19);
+    assert_eq!(rt;
+        go(&rt, &job, &layout, &mut worker, &mut words),
+        (Op::Max(18, stamped(1, 1)), 0)
+    );
+    assert_eq!(rt; run(&rt, &job, &layout, &mut worker, &mut words, NEVER), 16);
+    Ok(())
+}
+
+#[test]
+fn a_read_beside_a_write_sees_the_older_value(rt: HostRuntime) -> Result<(), Fail> {
+    let (job, layout, mut words) = fresh(
         rt.alloc(),
         b"pram 1\ncells 1\nprocs 1\nsteps 2\ninit 0 4\ncode\nset r1 7\nst r0 r1\n",
     )?;
-    let layout = Layout::new(&job, 1);
-    let mut words = start_words(rt.alloc(), &job, &layout)?;
     let mut worker = Worker::start(0);
     make(&rt, &job, &layout, &mut worker, &mut words, 53);
     let mut reader = Reader::new(0);
     assert_eq!(rt;
         look(&rt, &job, &layout, &mut reader, &words),
-        (ReadOp::Load(1), 4)
+        (ReadOp::Load(1), phase(2, Kind::Compute))
     );
     assert_eq!(rt;
         look(&rt, &job, &layout, &mut reader, &words),
-        (ReadOp::Load(6), 8589934599)
+        (ReadOp::Load(6), stamped(2, 7))
     );
     assert_eq!(rt;
         look(&rt, &job, &layout, &mut reader, &words),
@@ -272,18 +346,21 @@ fn a_read_beside_a_write(rt: HostRuntime) -> Result<(), Fail> {
 }
 
 #[test]
-fn a_read_that_looks_again(rt: HostRuntime) -> Result<(), Fail> {
-    let text =
-        b"pram 1\ncells 1\nprocs 1\nsteps 8\ncode\nset r1 30\nset r2 50\nst r0 r1\nset r1 70\nst r0 r2\nset r2 80\nst r0 r1\nst r0 r2\n";
-    let job = read_job(rt.alloc(), text)?;
-    let layout = Layout::new(&job, 1);
-    let mut words = start_words(rt.alloc(), &job, &layout)?;
+fn a_read_looks_again(rt: HostRuntime) -> Result<(), Fail> {
+    let (job, layout, mut words) = fresh(rt.alloc(), EIGHT_STEPS)?;
     let mut worker = Worker::start(0);
-    run(&rt, &job, &layout, &mut worker, &mut words, 18);
+    run(
+        &rt,
+        &job,
+        &layout,
+        &mut worker,
+        &mut words,
+        phase(6, Kind::Verify),
+    );
     let mut reader = Reader::new(0);
     assert_eq!(rt;
         look(&rt, &job, &layout, &mut reader, &words),
-        (ReadOp::Load(1), 18)
+        (ReadOp::Load(1), phase(6, Kind::Verify))
     );
     assert_eq!(rt;
         look(&rt, &job, &layout, &mut reader, &words),
@@ -291,16 +368,23 @@ fn a_read_that_looks_again(rt: HostRuntime) -> Result<(), Fail> {
     );
     assert_eq!(rt;
         look(&rt, &job, &layout, &mut reader, &words),
-        (ReadOp::Load(6), 12884901918)
+        (ReadOp::Load(6), stamped(3, 30))
     );
-    run(&rt, &job, &layout, &mut worker, &mut words, 24);
+    run(
+        &rt,
+        &job,
+        &layout,
+        &mut worker,
+        &mut words,
+        phase(8, Kind::Verify),
+    );
     assert_eq!(rt;
         look(&rt, &job, &layout, &mut reader, &words),
-        (ReadOp::Load(7), 34359738448)
+        (ReadOp::Load(7), stamped(8, 80))
     );
     assert_eq!(rt;
         look(&rt, &job, &layout, &mut reader, &words),
-        (ReadOp::Load(6), 30064771142)
+        (ReadOp::Load(6), stamped(7, 70))
     );
     assert_eq!(rt;
         reader.ask(&layout),
@@ -310,7 +394,7 @@ fn a_read_that_looks_again(rt: HostRuntime) -> Result<(), Fail> {
 }
 
 #[test]
-fn seen_steps(rt: HostRuntime) {
+fn steps_are_seen_behind_a_conflict_or_none(rt: HostRuntime) {
     for (root, conflict, step) in [(0, 0, 0), (4, 0, 1), (5, 0, 1), (6, 0, 2), (6, 2, 1)] {
         assert!(rt; root <= 12884901885);
         assert_eq!(rt; seen_step(root, conflict), step);
@@ -318,13 +402,18 @@ fn seen_steps(rt: HostRuntime) {
 }
 
 #[test]
-fn requests(rt: HostRuntime) {
-    requests_meet();
+fn a_request_is_heard(rt: HostRuntime) {
     let none = Request { put: None, next: 4 };
-    assert_eq!(rt; request_of(4294967296, 4294967296, 4294967300), none);
+    assert_eq!(rt;
+        request_of(stamped(1, 0), stamped(1, 0), stamped(1, 4)),
+        none
+    );
     let some = Request {
         put: Some((0, 9)),
         next: 1,
     };
-    assert_eq!(rt; request_of(4294967297, 4294967305, 4294967297), some);
+    assert_eq!(rt;
+        request_of(stamped(1, 1), stamped(1, 9), stamped(1, 1)),
+        some
+    );
 }

@@ -1,169 +1,155 @@
 //! What an answer leads to.
-ghost use Rattle.std.specs.Prelude.{◌≡◌, ◌%◌, nat_le, if◌then◌else◌};
-ghost use Rattle.pram_words.specs.Words.{Admits, number_of};
-ghost use Rattle.pram_words.specs.declared.words.Word.TheVariants as Word;
+ghost use Rattle.std.specs.Prelude.{◌≡◌};
+ghost use Rattle.walkx.specs.Inner.Stages.{HearsStage, IsStage, IsStep, StandsFor};
+ghost use Rattle.walkx.specs.Inner.Stages.{follows_children, script_at, script_behind, task_at};
+ghost use Rattle.walkx.specs.Inner.Stages.{work_at};
 ghost use Rattle.walkx.specs.Scripts.{behind};
-ghost use Rattle.pram_words.specs.Phases.{kind_at};
-ghost use Rattle.walkx.specs.Stages.{IsBoard, IsAt, IsTurn, IsWork, IsStage, IsLater, IsStep, doing_of, goes_down, processor_of, script_at, script_behind, step_of, then_marks};
-ghost use Rattle.walkx.specs.Tasks.{task_of};
-ghost use Rattle.walkx.specs.Walk.{IsAdmitted, leaf_script, next_op};
 
-use crate::carry::{carried, counted, heard, heard_next, heard_value, heard_written, owned, won};
-use crate::compute::{begin_request, judge};
+use crate::apply::{after_claim, after_first_part, after_next, after_value, data_write};
+use crate::compute::counter_read;
 use crate::operation::Ended;
-use crate::stage::{At, Stage, Step};
-use pram_text::Job;
-use pram_words::{Kind, Layout, goes_right, kind_of, left, parent, right};
+use crate::place::{after_words, counter_write};
+use crate::post::{Leaf, Post};
+use crate::stage::{Stage, Step};
+use crate::verify::{after_checked_claim, after_own_value};
+use pram_words::{Kind, left, parent, right};
 
 /// What the answer to a stage leads to.
 #[tactic(auto, unfolding(crate::specs::Walk::begin_script, crate::specs::Walk::turn_script))]
-pub(crate) fn step(job: &Job, layout: &Layout, at: At, stage: Stage, answer: u64) -> Step
-    requires board { IsBoard job.now layout.now }
-    requires at { IsAt layout.now at }
-    requires stage { IsStage job.now layout.now at stage }
-    requires answer { IsAdmitted job.now layout.now (next_op (doing_of stage at.phase) (script_at job.now layout.now at stage)) answer }
-    ensures rest { script_behind job.now layout.now at result ≡ behind (script_at job.now layout.now at stage) answer }
-    ensures fits { IsStep job.now layout.now at stage result }
+pub(crate) fn after(at: &Post, stage: Stage, answer: u64) -> Step
+    requires stage { IsStage at.now stage }
+    requires answer { HearsStage at.now stage answer }
+    ensures rest { script_behind at.now result ≡ behind (script_at at.now stage) answer }
+    ensures fits { IsStep at.now stage result }
 {
+    let phase = at.phase();
     match stage {
         Stage::Back => Step::Begins(answer as u32),
-        Stage::Begin => begun(job, layout, at, answer),
-        Stage::Look(root) => looked(job, layout, at, root, answer),
-        Stage::Node => arrived(job, layout, at, answer),
+        Stage::Begin => after_root(at, answer),
+        Stage::Look(root) => after_conflict(at, root, answer),
+        Stage::Node => after_node(at, answer),
         Stage::Left => Step::On(Stage::Right(answer)),
-        Stage::Right(first) => Step::On(went(job, layout, at, first, answer)),
-        Stage::Move(to) => Step::Turns(to, at.phase),
-        Stage::Mark => Step::Turns(at.node, at.phase),
+        Stage::Right(first) => Step::On(after_children(at, first, answer)),
+        Stage::Move(to) => Step::Turns(to, phase),
+        Stage::Mark => Step::Turns(at.node(), phase),
         Stage::Place(place, want) => Step::On(Stage::Again(place, want, answer)),
-        Stage::Again(place, want, first) => Step::On(judge(
-            job, layout, at, place, want, first, answer,
+        Stage::Again(place, want, first) => Step::On(after_words(
+            &at.leaf(),
+            place,
+            want,
+            first,
+            answer,
         )),
-        Stage::Swap(_, _, _, next) => Step::On(counted(job, layout, at, next)),
+        Stage::Swap(_, _, _, next) => Step::On(counter_write(&at.leaf(), next)),
         Stage::Ask(request) => Step::On(Stage::AskValue(request)),
         Stage::AskValue(request) => Step::On(Stage::AskNext(request)),
         Stage::AskNext(_) => Step::On(Stage::Mark),
-        Stage::Hear => Step::On(heard(job, layout, at, answer)),
-        Stage::HearValue(place) => Step::On(heard_value(job, layout, at, place, answer)),
-        Stage::HearNext(place, value) => Step::On(heard_next(
-            job, layout, at, place, value, answer,
-        )),
-        Stage::HearWritten(place) => Step::On(heard_written(job, layout, at, place, answer)),
+        Stage::Hear => Step::On(after_first_part(&at.leaf(), answer)),
+        Stage::HearValue(place) => Step::On(after_value(&at.leaf(), place, answer)),
+        Stage::HearNext(place, value) => Step::On(after_next(&at.leaf(), place, value, answer)),
+        Stage::CheckValue(place) => Step::On(after_own_value(&at.leaf(), place, answer)),
         Stage::Claim(_, None) => Step::On(Stage::Mark),
-        Stage::Claim(_, Some(carry)) => Step::On(carried(job, layout, at, carry)),
-        Stage::Win(_, carry) => Step::On(won(job, layout, at, carry, answer)),
-        Stage::Own(cell) => Step::On(owned(job, layout, at, cell, answer)),
+        Stage::Claim(_, Some(carry)) => Step::On(data_write(&at.leaf(), carry)),
+        Stage::HearClaim(_, carry) => Step::On(after_claim(&at.leaf(), carry, answer)),
+        Stage::CheckClaim(cell) => Step::On(after_checked_claim(&at.leaf(), cell, answer)),
         Stage::Report => Step::On(Stage::Mark),
         Stage::Over(ended) => Step::Stays(ended),
     }
 }
 
-// The root was heard.
-#[tactic(auto, using(crate::proofs::Begun::root_most, crate::proofs::Begun::is_begun), unfolding(crate::specs::Walk::begin_script))]
-fn begun(job: &Job, layout: &Layout, at: At, root: u64) -> Step
-    requires board { IsBoard job.now layout.now }
-    requires at { IsAt layout.now at }
-    requires root { Admits layout.now job.now (number_of layout.now (Word.Node 1)) root }
-    ensures rest { script_behind job.now layout.now at result ≡ behind (script_at job.now layout.now at Stage.Begin) root }
-    ensures fits { IsStep job.now layout.now at Stage.Begin result }
+// What follows the root.
+#[tactic(auto, using(crate::proofs::Boards::root_most), unfolding(crate::specs::Walk::begin_script))]
+fn after_root(at: &Post, root: u64) -> Step
+    requires root { HearsStage at.now Stage.Begin root }
+    ensures rest { script_behind at.now result ≡ behind (script_at at.now Stage.Begin) root }
+    ensures fits { IsStep at.now Stage.Begin result }
 {
+    let node = at.node();
     if root % 3 == 0 {
         Step::On(Stage::Look(root))
     } else {
-        Step::Turns(at.node, root + 1)
+        Step::Turns(node, root + 1)
     }
 }
 
-// The conflict was heard.
-#[tactic(auto, using(crate::proofs::Begun::root_most, crate::proofs::Begun::conflict_most, crate::proofs::Begun::is_begun))]
-fn looked(job: &Job, layout: &Layout, at: At, root: u64, conflict: u64) -> Step
-    requires board { IsBoard job.now layout.now }
-    requires at { IsAt layout.now at }
-    requires stage { IsStage job.now layout.now at (Stage.Look root) }
-    requires conflict { Admits layout.now job.now (number_of layout.now Word.Conflict) conflict }
-    ensures rest { script_behind job.now layout.now at result ≡ behind (script_at job.now layout.now at (Stage.Look root)) conflict }
-    ensures fits { IsStep job.now layout.now at (Stage.Look root) result }
+// What follows the conflict, the root being this.
+#[tactic(auto, using(crate::proofs::Boards::conflict_most))]
+fn after_conflict(at: &Post, root: u64, conflict: u64) -> Step
+    requires stage { IsStage at.now (Stage.Look root) }
+    requires conflict { HearsStage at.now (Stage.Look root) conflict }
+    ensures rest { script_behind at.now result ≡ behind (script_at at.now (Stage.Look root))
+        conflict }
+    ensures fits { IsStep at.now (Stage.Look root) result }
 {
+    let last = 3 * u64::from(at.job().steps());
     if conflict != 0 {
         Step::Stops(Ended::Conflict(conflict as u32))
-    } else if root == 3 * u64::from(job.steps()) {
+    } else if root == last {
         Step::Stops(Ended::Done)
     } else {
-        Step::Turns(at.node, root + 1)
+        Step::Turns(at.node(), root + 1)
     }
 }
 
-// The node was heard.
+// What follows the node.
 #[tactic(auto, unfolding(crate::specs::Walk::turn_script))]
-fn arrived(job: &Job, layout: &Layout, at: At, found: u64) -> Step
-    requires board { IsBoard job.now layout.now }
-    requires at { IsAt layout.now at }
-    requires turn { IsTurn job.now layout.now at }
-    ensures rest { script_behind job.now layout.now at result ≡ behind (script_at job.now layout.now at Stage.Node) found }
-    ensures fits { IsStep job.now layout.now at Stage.Node result }
+fn after_node(at: &Post, found: u64) -> Step
+    requires turn { IsStage at.now Stage.Node }
+    ensures rest { script_behind at.now result ≡ behind (script_at at.now Stage.Node) found }
+    ensures fits { IsStep at.now Stage.Node result }
 {
-    if at.phase > found {
-        Step::On(unfinished(job, layout, at))
-    } else if at.node == 1 {
+    if at.phase() > found {
+        Step::On(work(at))
+    } else if at.node() == 1 {
         Step::Begins(1)
     } else {
-        Step::On(Stage::Move(parent(at.node)))
+        Step::On(Stage::Move(parent(at.node())))
     }
 }
 
 // The work at an unfinished node.
-fn unfinished(job: &Job, layout: &Layout, at: At) -> Stage
-    requires board { IsBoard job.now layout.now }
-    requires at { IsAt layout.now at }
-    requires turn { IsTurn job.now layout.now at }
-    ensures rest { script_at job.now layout.now at result ≡ (if nat_le layout.now.leaves at.node then leaf_script job.now layout.now at.node at.phase else script_at job.now layout.now at Stage.Left) }
-    ensures stage { IsStage job.now layout.now at result }
-    ensures later { IsLater 0 at result }
+fn work(at: &Post) -> Stage
+    requires turn { IsStage at.now Stage.Node }
+    ensures { StandsFor at.now 14 (work_at at.now) result }
 {
-    let leaves = layout.leaves();
-    if at.node < leaves {
+    let leaves = at.layout().leaves();
+    if at.node() < leaves {
         Stage::Left
-    } else if at.node >= leaves + job.procs() {
+    } else if at.node() >= leaves + at.job().procs() {
         Stage::Mark
     } else {
-        worked(job, layout, at)
+        task(&at.leaf())
     }
 }
 
-// The work at an unfinished leaf of a processor.
+// The task at an unfinished leaf of a processor.
 #[tactic(auto, using(crate::proofs::Hearing::task_computes))]
-fn worked(job: &Job, layout: &Layout, at: At) -> Stage
-    requires board { IsBoard job.now layout.now }
-    requires work { IsWork job.now layout.now at }
-    ensures rest { script_at job.now layout.now at result ≡ task_of job.now.rule (kind_at at.phase) job.now layout.now (step_of at) (processor_of layout.now at) (then_marks at layout.now) }
-    ensures stage { IsStage job.now layout.now at result }
-    ensures later { IsLater 0 at result }
+fn task(leaf: &Leaf) -> Stage
+    ensures { StandsFor leaf.now 14 (task_at leaf.now) result }
 {
-    match kind_of(at.phase) {
-        Kind::Compute => begin_request(job, layout, at),
+    match leaf.kind() {
+        Kind::Compute => counter_read(leaf),
         Kind::Apply | Kind::Verify => Stage::Hear,
     }
 }
 
-// Both children were heard.
-fn went(job: &Job, layout: &Layout, at: At, first: u64, second: u64) -> Stage
-    requires board { IsBoard job.now layout.now }
-    requires at { IsAt layout.now at }
-    requires stage { IsStage job.now layout.now at (Stage.Right first) }
-    ensures rest { script_at job.now layout.now at result ≡ goes_down layout.now at first second }
-    ensures stage { IsStage job.now layout.now at result }
-    ensures later { IsLater 2 at result }
+// What follows both children.
+fn after_children(at: &Post, first: u64, second: u64) -> Stage
+    requires inner { IsStage at.now (Stage.Right first) }
+    ensures { StandsFor at.now 12 (follows_children at.now first second) result }
 {
-    if at.phase <= first {
-        if at.phase <= second {
+    let node = at.node();
+    if at.phase() <= first {
+        if at.phase() <= second {
             Stage::Mark
         } else {
-            Stage::Move(right(at.node))
+            Stage::Move(right(node))
         }
-    } else if at.phase <= second {
-        Stage::Move(left(at.node))
-    } else if goes_right(layout.leaves(), at.worker, at.node) {
-        Stage::Move(right(at.node))
+    } else if at.phase() <= second {
+        Stage::Move(left(node))
+    } else if at.layout().goes_right(at.worker(), node) {
+        Stage::Move(right(node))
     } else {
-        Stage::Move(left(at.node))
+        Stage::Move(left(node))
     }
 }

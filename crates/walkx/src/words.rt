@@ -1,10 +1,8 @@
 //! What words say that were loaded.
-ghost use Rattle.std.specs.Prelude.{◌≡◌, ℕ, ◌^◌, ◌<◌, ◌≤◌};
+ghost use Rattle.std.specs.Prelude.{◌≡◌, ℕ, ◌≤◌};
 ghost use Rattle.pram_step.specs.declared.requests.Request.{Request};
-ghost use Rattle.pram_words.specs.Stamps.{stamped_word};
 ghost use Rattle.walkx.specs.Reads.{step_seen};
-ghost use Rattle.walkx.specs.Requests.{heard_request, RequestsMeet};
-ghost use Rattle.walkx.specs.Tasks.{place_part, value_part};
+ghost use Rattle.walkx.specs.Requests.{AreWordsOf, heard_request};
 
 use pram_step::Request;
 use pram_words::payload;
@@ -22,11 +20,11 @@ pub fn seen_step(root: u64, conflict: u64) -> u32
     }
 }
 
-/// The request that the three words of a request stand for: the data place plus 1 or 0 for none, the data value, and the next counter.
+/// The request that its three words stand for: the data place plus 1 or 0 for none, the data value,
+/// and the next counter.
 pub fn request_of(place: u64, value: u64, next: u64) -> Request
     ensures value { result ≡ heard_request place value next }
-    ensures undoes { (t : ℕ) (r : Request) → place_part r < 2 ^ 32 → value_part r < 2 ^ 32 → r.next < 2 ^ 32
-        → place ≡ stamped_word t (place_part r) → value ≡ stamped_word t (value_part r) → next ≡ stamped_word t r.next → result ≡ r }
+    ensures undoes { (t : ℕ) (r : Request) → AreWordsOf t r place value next → result ≡ r }
 {
     let put = match payload(place) {
         0 => None,
@@ -37,9 +35,3 @@ pub fn request_of(place: u64, value: u64, next: u64) -> Request
         next: payload(next),
     }
 }
-
-/// The law that a worker's request is the machine's: what is decided of a processor's counter, operands and cell in a state is its
-/// request there. It does nothing.
-pub fn requests_meet()
-    ensures { RequestsMeet }
-{}

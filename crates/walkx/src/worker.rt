@@ -1,24 +1,12 @@
 //! The worker.
-use crate::ask::asked;
+use crate::ask::operation;
 use crate::operation::{Ended, Op};
-use crate::stage::{At, Stage, Step};
-use crate::turn::step;
+use crate::post::{Post, within_limits};
+use crate::stage::{Stage, Step};
+use crate::turn::after;
 use pram_text::Job;
-use pram_words::{Layout, first_leaf};
+use pram_words::Layout;
 use std::marker::Model;
-
-/// What a worker is doing: which script is in progress, a turn being part of a phase.
-#[derive(Clone, Copy, Debug, PartialEq, Eq)]
-pub enum Doing {
-    /// It comes back, and loads its position.
-    Back,
-    /// It begins, and looks for the phase.
-    Begin,
-    /// It makes a turn in this phase.
-    Turn(u64),
-    /// It is over.
-    Over(Ended),
-}
 
 /// A worker. It asks for one atomic step at a time, and is told the answer.
 #[derive(Drop)]
@@ -33,11 +21,11 @@ pub struct Worker {
 
 impl Model for Worker {
     ghost use Rattle.std.specs.Prelude.{◌≤◌};
-    ghost use Rattle.walkx.specs.Stages.{Kept, doing_of, most_heard, newest};
+    ghost use Rattle.walkx.specs.Inner.Stages.{WorkerData, most_heard, newest, worker_data};
 
-    ghost Value = { Kept };
+    ghost Value = { WorkerData };
 
-    ghost view = { λ w. record { walking = record { number = w.number; node = w.node; now = doing_of w.stage w.phase; heard = newest w.count w.heard }; phase = w.phase; stage = w.stage } };
+    ghost view = { λ w. worker_data w.number w.node w.phase w.stage (newest w.count w.heard) };
 
     ghost invariant = { λ w. w.count ≤ most_heard w.stage };
 }
@@ -45,9 +33,11 @@ impl Model for Worker {
 impl Worker {
     ghost use Rattle.std.specs.Prelude.{◌≡◌, ◌<◌};
     ghost use Rattle.pram_text.specs.Job.{JobData};
-    ghost use Rattle.pram_words.specs.Words.{LayoutData, IsLayout};
-    ghost use Rattle.walkx.specs.Stages.{Serves, at_of};
-    ghost use Rattle.walkx.specs.Walk.{AsksAdmitted, IsAdmitted, IsLayoutOf, ask_of, come_back, end_of, started, told};
+    ghost use Rattle.pram_words.specs.Words.{LayoutData};
+    ghost use Rattle.walkx.specs.Inner.Stages.{post_of};
+    ghost use Rattle.walkx.specs.Serving.{Serves};
+    ghost use Rattle.walkx.specs.Walk.{AsksAdmitted, HearsAdmitted, IsBoard, IsLayoutOf, ask_of};
+    ghost use Rattle.walkx.specs.Walk.{come_back, end_of, started, told};
 
     /// Worker w, at its first leaf.
     pub fn start(w: u32) -> Worker
@@ -98,28 +88,26 @@ impl Worker {
 
     /// The worker's next atomic step, or how it ended.
     #[inline(always)]
+    #[tactic(auto, using(crate::proofs::Asking::all_ask))]
     pub fn ask(&self, job: &Job, layout: &Layout) -> Op
         requires layout { IsLayoutOf job.now layout.now }
         requires serves { Serves job.now layout.now self.now }
         ensures asks { result ≡ ask_of job.now layout.now self.now.walking }
         ensures admitted { AsksAdmitted job.now layout.now result }
     {
-        let at = self.at(layout);
-        let _ = job.steps();
-        asked(job, layout, at, self.stage)
+        operation(&self.post(job, layout), self.stage)
     }
 
     /// Hears the answer of the step that it asked for.
     pub fn tell(&mut self, job: &Job, layout: &Layout, answer: u64)
         requires layout { IsLayoutOf job.now layout.now }
         requires serves { Serves job.now layout.now self.old }
-        requires admitted { IsAdmitted job.now layout.now (ask_of job.now layout.now self.old.walking) answer }
+        requires admitted { HearsAdmitted job.now layout.now (ask_of job.now layout.now
+            self.old.walking) answer }
         ensures told { self.new.walking ≡ told job.now layout.now self.old.walking answer }
         ensures serves { Serves job.now layout.now self.new }
     {
-        let at = self.at(layout);
-        let _ = job.steps();
-        match step(job, layout, at, self.stage, answer) {
+        match after(&self.post(job, layout), self.stage, answer) {
             Step::On(stage) => {
                 self.stage = stage;
                 self.heard[self.count] = answer;
@@ -145,20 +133,18 @@ impl Worker {
         }
     }
 
-    // Who is at work, where, and in which phase.
-    fn at(&self, layout: &Layout) -> At
-        ensures value { result ≡ at_of layout.now self.now }
-        ensures limits { IsLayout layout.now }
+    // Where the worker stands.
+    fn post<'a>(&self, job: &'a Job, layout: &'a Layout) -> Post<'a>
+        requires layout { IsLayoutOf job.now layout.now }
+        requires serves { Serves job.now layout.now self.now }
+        ensures value { result ≡ post_of job.now layout.now self.now }
+        ensures board { IsBoard job.now layout.now }
     {
-        let leaves = layout.leaves();
+        within_limits(job, layout);
         let node = match self.node {
             Some(node) => node,
-            None => first_leaf(leaves, self.number),
+            None => layout.first_leaf(self.number),
         };
-        At {
-            worker: self.number,
-            node,
-            phase: self.phase,
-        }
+        Post::new(job, layout, self.number, node, self.phase)
     }
 }

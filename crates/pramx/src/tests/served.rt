@@ -1,11 +1,9 @@
 //! A line served over a text.
 ghost use Rattle.std.specs.Prelude.{◌≡◌, false};
 
-use crate::device::Source;
-use crate::from_read::FromRead;
-use crate::into_write::IntoWrite;
 use crate::line::Line;
 use crate::server::serve;
+use pram_io::{FromRead, IntoWrite, Source};
 use std::alloc::Global;
 
 /// The job's file, as the lines of the tests name it.

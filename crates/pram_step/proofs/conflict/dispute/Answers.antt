@@ -1,6 +1,6 @@
 use Rattle.std.proofs.Common.{subst, arith}
 use Rattle.std.proofs.lemmas.List.{take_all}
-use Rattle.pram_step.specs.Marks.{IsVerdict}
+use Rattle.pram_step.specs.Steps.{IsVerdict}
 use Rattle.pram_step.proofs.conflict.dispute.Goals as goal
 
 pub returns : goal.returns

@@ -1,5 +1,6 @@
 use Rattle.std.proofs.Common.{◌≡◌, take, vec_len}
-use Rattle.pram_step.specs.Marks.{AreMarked, IsVerdict}
+use Rattle.pram_step.specs.Inner.Marks.{AreMarked}
+use Rattle.pram_step.specs.Steps.{IsVerdict}
 use Rattle.pram_step.proofs.conflict.dispute.Given as goal
 
 abbrev pub invariant-loop-processor : goal.invariant-loop-processor

@@ -2,7 +2,7 @@ use Rattle.std.proofs.Common.{◌≢◌, ℕ, ◌<◌, take, MatchOption, sym, �
 use Rattle.std.proofs.lemmas.Option.{some_pair_parts}
 use Rattle.pram_step.specs.declared.answer.Dispute.{Dispute}
 use Rattle.pram_step.specs.Steps.{Forbids}
-use Rattle.pram_step.specs.Marks.{IsVerdict}
+use Rattle.pram_step.specs.Steps.{IsVerdict}
 use Rattle.pram_step.proofs.Passing.{AreMarked_next_no_cell, AreMarked_next_first, AreMarked_next_lost, IsVerdict_next_no_cell, IsVerdict_next_first, IsVerdict_next_allowed, IsVerdict_next_later, IsVerdict_next_new}
 use Rattle.pram_step.proofs.conflict.judge.Goals as goal
 

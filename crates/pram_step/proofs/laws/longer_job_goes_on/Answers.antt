@@ -1,5 +1,5 @@
-use Rattle.pram_step.proofs.LawAnswers.{longer_final}
+use Rattle.pram_step.proofs.LawAnswers.{steps_state_after}
 use Rattle.pram_step.proofs.laws.longer_job_goes_on.Goals as goal
 
 pub returns : goal.returns
-returns c = longer_final
+returns c = steps_state_after

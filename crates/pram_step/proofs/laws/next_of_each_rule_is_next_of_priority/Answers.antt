@@ -2,4 +2,4 @@ use Rattle.pram_step.proofs.LawRules.{next_for_priority}
 use Rattle.pram_step.proofs.laws.next_of_each_rule_is_next_of_priority.Goals as goal
 
 pub returns : goal.returns
-returns c = λ job rule. next_for_priority job rule job.steps job.steps
+returns c = next_for_priority

@@ -1,12 +1,13 @@
 use Rattle.std.proofs.Common.{◌≡◌, ℕ, ◌<◌, take}
-use Rattle.pram_step.specs.Machine.{request_of}
-use Rattle.pram_step.specs.Marks.{AreMarked, IsVerdict}
+use Rattle.pram_step.specs.Instructions.{request_in}
+use Rattle.pram_step.specs.Inner.Marks.{AreMarked}
+use Rattle.pram_step.specs.Steps.{IsVerdict}
 use Rattle.pram_step.proofs.Passing.{request_at}
 use Rattle.pram_step.proofs.pass.ask.Given as goal
 
 abbrev pub invariant-loop-processor : goal.invariant-loop-processor
 invariant-loop-processor l = record {
-  asked : (k : ℕ) → k < l.processor → request_at l.requests k ≡ request_of l.job l.places k;
+  asked : (k : ℕ) → k < l.processor → request_at l.requests k ≡ request_in l.job l.places k;
   marked : AreMarked l.job.cells (take l.processor l.requests) l.marks;
   found : IsVerdict l.job (take l.processor l.requests) l.found;
 }

@@ -1,32 +1,23 @@
-use Rattle.std.proofs.Common.{◌≡◌, sym, ap, ◌∙◌, subst, arith}
-use Rattle.pram_step.specs.Machine.{requests_of}
-use Rattle.pram_step.specs.Steps.{Agrees, next_state}
-use Rattle.pram_step.specs.Runs.{state_after, IsReached}
-use Rattle.pram_step.proofs.Running.{state_after-zero, state_after-add-one, IsReached_none, IsReached_more, state_after_still, IsReached_still}
+use Rattle.std.proofs.Common.{◌≡◌, ◌+◌, ◌-◌, sym, subst, ◌∙◌, arith}
+use Rattle.pram_step.specs.Runs.{IsStateAfter}
+use Rattle.pram_step.proofs.LawFixed.{start_after, next_after, unchanged_later}
 use Rattle.pram_step.proofs.pass.make_steps.Goals as goal
 
 pub loop-done-init : goal.loop-done-init
-loop-done-init c = record { state = c.requires.places ∙ sym (state_after-zero c.args.job.now); reached = IsReached_none c.args.job.now }
+loop-done-init c = subst (IsStateAfter c.args.job.now 0) (sym c.requires.places) (start_after c.args.job.now)
 
 pub loop-done-preserved : goal.loop-done-preserved
-loop-done-preserved c = record {
-  state = c.in-Ok-true.ensures.next ∙ ap (next_state c.args.job.now) c.loop-done.invariant.state ∙ sym (state_after-add-one c.args.job.now c.loop-done.done);
-  reached = IsReached_more c.args.job.now c.loop-done.done c.loop-done.invariant.reached (subst (λ s. Agrees c.args.job.now (requests_of c.args.job.now s)) c.loop-done.invariant.state c.in-Ok-true.ensures.agrees);
-}
+loop-done-preserved c =
+    subst (IsStateAfter c.args.job.now (c.loop-done.done + 1)) (sym c.in-Ok-true.ensures.next) (next_after c.args.job.now c.loop-done.done c.loop-done.places c.loop-done.invariant c.in-Ok-true.ensures.agrees)
 
 pub returns : goal.returns
-returns c =
-    let over : c.loop-done.done ≡ c.args.job.now.steps = omega arith in
-    record { reached = subst (IsReached c.args.job.now) over c.loop-done.invariant.reached; state = c.loop-done.invariant.state ∙ ap (state_after c.args.job.now) over }
+returns c = let over : c.loop-done.done ≡ c.args.job.now.steps = omega arith in subst (λ n. IsStateAfter c.args.job.now n c.loop-done.places) over c.loop-done.invariant
 
 pub returns-in-Ok-false : goal.returns-in-Ok-false
 returns-in-Ok-false c =
     let job = c.args.job.now in
     let idle = c.in-Ok-false.ensures.idle in
     let same : c.advance.new.places ≡ c.loop-done.places = rw c.in-Ok-false.field-0-test at idle in
-    let still = subst (λ s. next_state job s ≡ s) c.loop-done.invariant.state (sym c.in-Ok-false.ensures.next ∙ same) in
-    let agrees = subst (λ s. Agrees job (requests_of job s)) c.loop-done.invariant.state c.in-Ok-false.ensures.agrees in
-    record {
-      reached = IsReached_still job c.loop-done.done agrees still job.steps c.loop-done.invariant.reached;
-      state = same ∙ c.loop-done.invariant.state ∙ sym (state_after_still job c.loop-done.done agrees still job.steps (omega arith));
-    }
+    let left : c.loop-done.done + (job.steps - c.loop-done.done) ≡ job.steps = omega arith in
+    let last = unchanged_later job c.loop-done.done (job.steps - c.loop-done.done) c.loop-done.places c.loop-done.invariant c.in-Ok-false.ensures.agrees (sym c.in-Ok-false.ensures.next ∙ same) in
+    subst (IsStateAfter job job.steps) (sym same) (subst (λ n. IsStateAfter job n c.loop-done.places) left last)

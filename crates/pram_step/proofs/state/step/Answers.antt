@@ -1,8 +1,8 @@
 use Rattle.std.proofs.Common.{◌∙◌, subst}
-use Rattle.pram_step.specs.Machine.{requests_of}
+use Rattle.pram_step.specs.Instructions.{requests_in}
 use Rattle.pram_step.specs.Steps.{Agrees}
 use Rattle.pram_step.proofs.state.step.Goals as goal
 
 pub returns-clause-agrees : goal.returns-clause-agrees
 returns-clause-agrees c =
-    subst (λ s. Agrees c.args.job.now (requests_of c.args.job.now s)) (c.deref_mut.ensures.value ∙ c.state.view_is) c.in_ok-advance.ensures.agrees
+    subst (λ s. Agrees c.args.job.now (requests_in c.args.job.now s)) (c.deref_mut.ensures.value ∙ c.state.view_is) c.in_ok-advance.ensures.agrees

@@ -1,4 +1,4 @@
-use Rattle.pram_text.proofs.LawJob.{spells_lawful}
+use Rattle.pram_text.proofs.Lawful.{spells_lawful}
 use Rattle.pram_text.proofs.laws.spelled_job_is_lawful.Goals as goal
 
 pub returns : goal.returns

@@ -1,7 +1,7 @@
 use Rattle.std.proofs.Common.{◌≡◌, ◌∙◌, sym, ap, refl, true, None, option_copied}
 use Rattle.std.proofs.lemmas.Map.Text.{btree_map_updates_str}
 use Rattle.pram_text.specs.Judgement.{is_name}
-use Rattle.pram_text.specs.Reading.{place_at}
+use Rattle.pram_text.specs.Inner.Reading.{place_at}
 use Rattle.pram_text.proofs.program.define.Goals as goal
 
 pub returns-in-None : goal.returns-in-None

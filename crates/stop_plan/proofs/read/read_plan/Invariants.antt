@@ -1,5 +1,5 @@
 use Rattle.std.proofs.Common.{List, Some}
-use Rattle.stop_plan.specs.Reading.{HasRead, IsPlanReader, bytes_left}
+use Rattle.stop_plan.specs.Inner.Reading.{HasRead, IsPlanReader, bytes_left}
 use Rattle.stop_plan.specs.Records.{Record, records_of}
 use Rattle.stop_plan.proofs.Faults.{Judged}
 use Rattle.stop_plan.proofs.read.read_plan.Given as goal

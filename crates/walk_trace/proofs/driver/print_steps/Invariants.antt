@@ -1,4 +1,4 @@
-use Rattle.walkx.specs.Stages.{Serves}
+use Rattle.walkx.specs.Serving.{Serves}
 use Rattle.walk_trace.specs.Words.{AllAdmitted}
 use Rattle.walk_trace.proofs.driver.print_steps.Given as goal
 

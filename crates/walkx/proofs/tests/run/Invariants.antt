@@ -1,4 +1,4 @@
-use Rattle.walkx.specs.Stages.{Serves}
+use Rattle.walkx.specs.Serving.{Serves}
 use Rattle.walkx.proofs.tests.run.Given as goal
 
 abbrev pub invariant-loop-made : goal.invariant-loop-made

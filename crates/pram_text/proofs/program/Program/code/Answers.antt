@@ -1,8 +1,8 @@
 use Rattle.std.proofs.Common.{◌∙◌, sym, ap, refl, map, take_all}
 use Rattle.std.proofs.lemmas.List.{get_or-map}
 use Rattle.pram_text.specs.declared.program.Written.{Written}
-use Rattle.pram_text.specs.Reading.{place_at}
-use Rattle.pram_text.specs.Statement.{resolved}
+use Rattle.pram_text.specs.Inner.Reading.{place_at}
+use Rattle.pram_text.specs.Inner.Statement.{resolved}
 use Rattle.pram_text.proofs.Coded.{coded_more, first_wrong}
 use Rattle.pram_text.proofs.program.Program.code.Goals as goal
 

@@ -1,6 +1,6 @@
 use Rattle.std.proofs.Common.{◌≡◌, Ok, map, take}
-use Rattle.pram_text.specs.Reading.{place_at}
-use Rattle.pram_text.specs.Statement.{resolved}
+use Rattle.pram_text.specs.Inner.Reading.{place_at}
+use Rattle.pram_text.specs.Inner.Statement.{resolved}
 use Rattle.pram_text.proofs.program.Program.code.Given as goal
 
 -- the statements so far

@@ -1,8 +1,7 @@
-use Rattle.std.proofs.Common.{◌∙◌, sym, refl, subst, inl, inr, arith}
-use Rattle.std.proofs.lemmas.Bool.{eqb-true, eqb-false}
-use Rattle.std.proofs.lemmas.Result.{err_from_is_err_and}
-use Rattle.pram_text.specs.Reading.{HoldsAt}
-use Rattle.pram_text.proofs.Finishing.{end_fault-header, end_fault-empty, end_fault-none, body_is, first_unknown, IsJob-held, SpellsLines-held}
+use Rattle.std.proofs.Common.{◌∙◌, sym, refl, subst, inl, arith}
+use Rattle.std.proofs.lemmas.Bool.{eqb-true}
+use Rattle.pram_text.specs.Inner.Reading.{HoldsAt}
+use Rattle.pram_text.proofs.Finishing.{end_fault-header, end_fault-empty}
 use Rattle.pram_text.proofs.reader.Reader.finish.Goals as goal
 
 pub returns-in_default : goal.returns-in_default
@@ -14,23 +13,5 @@ returns-then-is_empty-clause-told c = λ before h _.
     let none = eqb-true _ _ (sym c.is_empty.ensures ∙ c.if-is_empty.true) in
     inl (end_fault-empty before c.args.self held (omega (arith, c.args.self.program.written.ok.0)), refl)
 
-pub returns-in_err-code-clause-told : goal.returns-in_err-code-clause-told
-returns-in_err-code-clause-told c = λ before h.
-    let p = err_from_is_err_and c.from_residual.result c.from_residual.ensures.1 in
-    let held = subst (λ n. HoldsAt n before c.args.self) c.in-Code.is h in
-    let some = eqb-false _ _ (sym c.is_empty.ensures ∙ c.if-is_empty.false) in
-    rw (p.1, p.2) (λ other.
-    let first = c.in_err-code.ensures.told other in
-    inr (end_fault-none before c.args.self held (omega (arith, c.args.self.program.written.ok.0)), first.0, first.1, rw (body_is before c.args.self held) (first_unknown held.2 c.args.self.program first.0 _ held.6 first.2)))
-
-pub new-requires : goal.new-requires
-new-requires c =
-    let held = subst (λ n. HoldsAt n c.requires.0 c.args.self) c.in-Code.is c.requires.1 in
-    let some = eqb-false _ _ (sym c.is_empty.ensures ∙ c.if-is_empty.false) in
-    IsJob-held c.requires.0 c.args.self _ _ held (rw c.deref.ensures.value at c.in_ok-init.ensures) c.in_ok-code.ensures.told (omega (arith, c.args.self.program.written.ok.0))
-
 pub returns-clause-told : goal.returns-clause-told
-returns-clause-told c = λ before h.
-    let held = subst (λ n. HoldsAt n before c.args.self) c.in-Code.is h in
-    let some = eqb-false _ _ (sym c.is_empty.ensures ∙ c.if-is_empty.false) in
-    rw c.new.ensures (SpellsLines-held before c.args.self _ _ held (rw c.deref.ensures.value at c.in_ok-init.ensures) c.in_ok-code.ensures.told (omega (arith, c.args.self.program.written.ok.0)))
+returns-clause-told c = λ before h. c.job.ensures.told before c.args.last (subst (λ n. HoldsAt n before c.args.self) c.in-Code.is h)

@@ -1,14 +1,14 @@
 use Rattle.std.proofs.Common.{◌∙◌, sym, subst}
 use Rattle.std.proofs.lemmas.Result.{err_from_is_err_and}
-use Rattle.pram_text.specs.Reading.{HoldsAt}
-use Rattle.pram_text.proofs.LineLimits.{named_number-Ok}
+use Rattle.pram_text.specs.Inner.Reading.{HoldsAt}
+use Rattle.pram_text.proofs.Lawful.{value_keeps, named_number-keeps}
 use Rattle.pram_text.proofs.Taking.{HoldsAt-front, TakesWords-front, TakesWords-code_line, TakesWords-start, TakesWords-code}
 use Rattle.pram_text.proofs.reader.Reader.take_words.Goals as goal
 
 pub take_start-requires : goal.take_start-requires
 take_start-requires c =
     let h = subst (λ n. HoldsAt n c.requires.0 c.args.self.now) c.in-Start.is c.requires.1 in
-    (named_number-Ok _ _ _ _ _ h.3.sized.cells).0
+    (value_keeps _ (named_number-keeps _ _ _ _) h.3.cells_said).0
 
 pub returns-in-Code : goal.returns-in-Code
 returns-in-Code c = λ before h.

@@ -1,6 +1,6 @@
 use Rattle.std.proofs.Common.{arith, ◌<◌, length}
 use Rattle.walkx.specs.declared.stage.Step.TheVariants as step
-use Rattle.walkx.proofs.Tells.{doing_stays, hears_by, newest-push, most_heard_small}
+use Rattle.walkx.proofs.Tells.{doing_stays, hears_by, newest-push}
 use Rattle.walkx.proofs.worker.Worker.tell.Goals as goal
 
 pub returns-in-On-clause-told : goal.returns-in-On-clause-told
@@ -8,9 +8,9 @@ returns-in-On-clause-told c =
     let job = c.args.job.now in
     let y = c.args.layout.now in
     let s = step.On c.in-On.stage in
-    let h = hears_by job y _ _ _ c.args.answer s c.self.view_is c.at-at.ensures.value c.requires.serves c.requires.admitted c.in-On.ensures.rest c.in-On.ensures.fits in
-    let same = doing_stays job y _ _ _ c.in-On.stage c.self.view_is c.at-at.ensures.value c.in-On.ensures.fits in
-    let room : c.self.inside.count < length c.self.inside.heard = omega (arith, c.self.invariant, most_heard_small c.self.inside.stage) in
+    let h = hears_by job y _ _ _ c.args.answer s c.self.view_is c.post.ensures.value c.post.ensures.board c.requires.serves c.requires.admitted c.in-On.ensures.rest c.in-On.ensures.fits in
+    let same = doing_stays job y _ _ _ c.in-On.stage c.self.view_is c.post.ensures.value c.in-On.ensures.fits in
+    let room : c.self.inside.count < length c.self.inside.heard = omega (arith, c.self.invariant) in
     rw (newest-push c.self.inside.count c.args.answer c.self.inside.heard room, same) h.told
 
 pub returns-in-On-clause-serves : goal.returns-in-On-clause-serves
@@ -18,21 +18,21 @@ returns-in-On-clause-serves c =
     let job = c.args.job.now in
     let y = c.args.layout.now in
     let s = step.On c.in-On.stage in
-    let h = hears_by job y _ _ _ c.args.answer s c.self.view_is c.at-at.ensures.value c.requires.serves c.requires.admitted c.in-On.ensures.rest c.in-On.ensures.fits in
-    let same = doing_stays job y _ _ _ c.in-On.stage c.self.view_is c.at-at.ensures.value c.in-On.ensures.fits in
-    let room : c.self.inside.count < length c.self.inside.heard = omega (arith, c.self.invariant, most_heard_small c.self.inside.stage) in
+    let h = hears_by job y _ _ _ c.args.answer s c.self.view_is c.post.ensures.value c.post.ensures.board c.requires.serves c.requires.admitted c.in-On.ensures.rest c.in-On.ensures.fits in
+    let same = doing_stays job y _ _ _ c.in-On.stage c.self.view_is c.post.ensures.value c.in-On.ensures.fits in
+    let room : c.self.inside.count < length c.self.inside.heard = omega (arith, c.self.invariant) in
     rw (newest-push c.self.inside.count c.args.answer c.self.inside.heard room, same) h.serves
 
 pub returns-in-Begins-clause-serves : goal.returns-in-Begins-clause-serves
 returns-in-Begins-clause-serves c =
     let job = c.args.job.now in
     let y = c.args.layout.now in
-    let h = hears_by job y _ _ _ c.args.answer (step.Begins c.in-Begins.node) c.self.view_is c.at-at.ensures.value c.requires.serves c.requires.admitted c.in-Begins.ensures.rest c.in-Begins.ensures.fits in
+    let h = hears_by job y _ _ _ c.args.answer (step.Begins c.in-Begins.node) c.self.view_is c.post.ensures.value c.post.ensures.board c.requires.serves c.requires.admitted c.in-Begins.ensures.rest c.in-Begins.ensures.fits in
     h.serves
 
 pub returns-in-Turns-clause-serves : goal.returns-in-Turns-clause-serves
 returns-in-Turns-clause-serves c =
     let job = c.args.job.now in
     let y = c.args.layout.now in
-    let h = hears_by job y _ _ _ c.args.answer (step.Turns c.in-Turns.node c.in-Turns.phase) c.self.view_is c.at-at.ensures.value c.requires.serves c.requires.admitted c.in-Turns.ensures.rest c.in-Turns.ensures.fits in
+    let h = hears_by job y _ _ _ c.args.answer (step.Turns c.in-Turns.node c.in-Turns.phase) c.self.view_is c.post.ensures.value c.post.ensures.board c.requires.serves c.requires.admitted c.in-Turns.ensures.rest c.in-Turns.ensures.fits in
     h.serves

@@ -1,0 +1,4 @@
+pub mod Faults
+pub mod Plain
+pub mod Printed
+pub mod Transfer

@@ -1,0 +1,47 @@
+-- What a pass over the requests knows of those that it has looked at.
+use Rattle.std.specs.Prelude.{◌≡◌, ℕ, ◌+◌, ◌<◌, ◌≤◌, List, length, take, slice_get, slice_index, Option, Some, MatchOption}
+use Rattle.pram_text.specs.Job.{JobData}
+use Rattle.pram_step.specs.declared.answer.Fault.{Fault}
+use Rattle.pram_step.specs.declared.requests.Request.{Request}
+use Rattle.pram_step.specs.Machine.{State, place_count, IsDataPlace}
+use Rattle.pram_step.specs.Steps.{Agrees, IsNext, after_requests}
+use Rattle.pram_step.specs.Instructions.{requests_in}
+use Rattle.pram_step.specs.Runs.{IsStateAfter, IsFault}
+
+-- processor i's data goes to the place, and is v
+pub record Puts (requests : List Request) (place i v : ℕ) : Type 0 where
+  pub request : Request
+  pub asked : slice_get requests i ≡ Some request
+  pub puts : request.put ≡ Some (place, v)
+
+-- processor i is the least whose data goes to the place, and v is its value
+pub record PutsFirst (requests : List Request) (place i v : ℕ) : Type 0 where
+  pub puts : Puts requests place i v
+  pub least : (j w : ℕ) → Puts requests place j w → i ≤ j
+
+-- no data goes to the place
+abbrev pub PutsNone : List Request → ℕ → Type 0
+PutsNone requests place = (i v : ℕ) → Puts requests place i v → ⊥
+
+-- Of each cell that these requests write to, the mark names the least processor that does.
+pub record AreMarked (cells : ℕ) (requests : List Request) (marks : List ℕ) : Type 0 where
+  pub writes : (cell i v : ℕ) → cell < cells → Puts requests cell i v → (w : ℕ) × Puts requests cell (slice_index marks cell) w
+  pub least : (cell i v : ℕ) → cell < cells → Puts requests cell i v → slice_index marks cell ≤ i
+
+-- all data goes to cells and registers of the processor's own
+pub record AreOwn (job : JobData) (requests : List Request) : Type 0 where
+  pub own : (i place v : ℕ) → Puts requests place i v → IsDataPlace job i place
+
+-- Where the requests before processor i's were obeyed, from some start, it is obeyed then too.
+abbrev pub ObeysNext : JobData → List Request → ℕ → State → State → Type 0
+ObeysNext job requests i old new =
+    (start : State) → length start ≡ place_count job → old ≡ after_requests job (take i requests) start
+    → new ≡ after_requests job (take (i + 1) requests) start
+
+-- The run of the job ended in this state, or by this fault.
+abbrev pub IsRun : JobData → State → Option Fault → Type 0
+IsRun job s fault = MatchOption fault (IsStateAfter job job.steps s) (IsFault job)
+
+-- where the step agrees, the new state is a next one
+abbrev pub BringsNext : JobData → State → State → Type 0
+BringsNext job old new = Agrees job (requests_in job old) → IsNext job (requests_in job old) old new

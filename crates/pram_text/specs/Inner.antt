@@ -1,0 +1,4 @@
+-- Definitions that private contracts alone cite.
+pub mod Words
+pub mod Statement
+pub mod Reading

@@ -1,0 +1,74 @@
+-- An instruction line whose jump still names its label.
+use Rattle.std.specs.Prelude.{◌≡◌, ℕ, List, codes, Option, Some, None, Result, Ok}
+use Rattle.std.specs.Borrow.{Bor}
+use Rattle.pram_text.specs.declared.fault.TextKind.{TextKind}
+use Rattle.pram_text.specs.declared.instr.Instr.{Instr}
+use Rattle.pram_text.specs.declared.instr.Instr.TheVariants.{Jz, Jmp}
+use Rattle.pram_text.specs.declared.statement.Mnemonic.{Mnemonic}
+use Rattle.pram_text.specs.declared.statement.Mnemonic.TheVariants as m
+use Rattle.pram_text.specs.declared.statement.Statement.{Statement}
+use Rattle.pram_text.specs.Lines.{Word, Line}
+use Rattle.pram_text.specs.Judgement.{no_operand, one_register, two_registers, three_registers, register_number, register_label, one_label, place_in, instr_of, ◌>>=◌}
+
+-- ---- operands
+
+-- What was read of the operands is what the definitions say of them, whatever instruction they make.
+abbrev pub ReadsNone : Line → Result (Unit {0}) TextKind → Type 0
+ReadsNone operands result = (instr : Instr) → no_operand instr operands ≡ (result >>= λ _. Ok instr)
+
+abbrev pub ReadsOne : Line → Result ℕ TextKind → Type 0
+ReadsOne operands result = (make : ℕ → Instr) → one_register make operands ≡ (result >>= λ r. Ok (make r))
+
+abbrev pub ReadsTwo : Line → Result (ℕ × ℕ) TextKind → Type 0
+ReadsTwo operands result = (make : ℕ → ℕ → Instr) → two_registers make operands ≡ (result >>= λ p. Ok (make p.0 p.1))
+
+abbrev pub ReadsThree : Line → Result (ℕ × ℕ × ℕ) TextKind → Type 0
+ReadsThree operands result = (make : ℕ → ℕ → ℕ → Instr) → three_registers make operands ≡ (result >>= λ p. Ok (make p.0 p.1 p.2))
+
+abbrev pub ReadsNumber : Line → Result (ℕ × ℕ) TextKind → Type 0
+ReadsNumber operands result = (make : ℕ → ℕ → Instr) → register_number make operands ≡ (result >>= λ p. Ok (make p.0 p.1))
+
+abbrev pub ReadsJump : Line → Result (ℕ × Bor (List ℕ)) TextKind → Type 0
+ReadsJump operands result =
+    (find : Word → Option ℕ) (make : ℕ → ℕ → Instr)
+    → register_label find make operands ≡ (result >>= λ p. place_in find p.1.now >>= λ place. Ok (make p.0 place))
+
+abbrev pub ReadsLabel : Line → Result (Bor (List ℕ)) TextKind → Type 0
+ReadsLabel operands result =
+    (find : Word → Option ℕ) (make : ℕ → Instr)
+    → one_label find make operands ≡ (result >>= λ label. place_in find label.now >>= λ place. Ok (make place))
+
+-- ---- names of instructions
+
+abbrev pub name_of : Mnemonic → Word
+name_of m.Set = codes "set"
+name_of m.Pid = codes "pid"
+name_of m.Add = codes "add"
+name_of m.Sub = codes "sub"
+name_of m.Mul = codes "mul"
+name_of m.And = codes "and"
+name_of m.Or = codes "or"
+name_of m.Xor = codes "xor"
+name_of m.Lt = codes "lt"
+name_of m.Eq = codes "eq"
+name_of m.Ld = codes "ld"
+name_of m.St = codes "st"
+name_of m.Jz = codes "jz"
+name_of m.Jmp = codes "jmp"
+name_of m.Halt = codes "halt"
+
+-- ---- statements
+
+-- a jump to this place; other instructions stay
+abbrev pub aimed : Instr → ℕ → Instr
+aimed (Jz r place) place' = Jz r place'
+aimed (Jmp place) place' = Jmp place'
+aimed instr place' = instr
+
+-- the statement's instruction, where `find` finds the place of its label
+abbrev pub resolved : (Word → Option ℕ) → Statement → Result Instr TextKind
+resolved find statement = elim statement.target [ None ↦ Ok statement.instr | Some label ↦ place_in find label.now >>= λ place. Ok (aimed statement.instr place) ]
+
+-- What was read of a line is what it says, wherever its label is.
+abbrev pub ReadsLine : Line → Result Statement TextKind → Type 0
+ReadsLine line result = (find : Word → Option ℕ) → instr_of find line ≡ (result >>= resolved find)

@@ -1,0 +1,85 @@
+-- What the laws say of a text.
+use Rattle.std.specs.Prelude.{◌≡◌, ◌⊎◌, ◌↔◌, ℕ, ◌+◌, ◌≤◌, ◌<◌, ◌==◌, List, [], ◌∷◌, ◌++◌, length, count_by, IsTrue, None}
+use Rattle.std.specs.List.{list_all, join_with_byte}
+use Rattle.pram_text.specs.declared.fault.TextKind.{TextKind}
+use Rattle.pram_text.specs.declared.fault.TextKind.TheVariants.{UnknownLabel}
+use Rattle.pram_text.specs.declared.limits.TheConstants.{MAX_CELLS, MAX_PROCS, MAX_CODE, REGISTERS}
+use Rattle.pram_text.specs.Job.{JobData, IsJob}
+use Rattle.pram_text.specs.Lines.{lines_of, words_of, is_allowed, is_blank}
+use Rattle.pram_text.specs.Text.{Spells, Bears, fault_at}
+
+-- cells, processors, instructions and registers
+abbrev pub LimitsAre : Type 0
+LimitsAre = (MAX_CELLS ≡ 65536) × (MAX_PROCS ≡ 1024) × (MAX_CODE ≡ 4096) × (REGISTERS ≡ 4)
+
+-- the lines, joined by line feeds, are the text
+abbrev pub LinesAreJoined : Type 0
+LinesAreJoined = (text : List ℕ) → join_with_byte 10 (lines_of text) ≡ text
+
+-- one line more than line feeds
+abbrev pub LinesAreCounted : Type 0
+LinesAreCounted = (text : List ℕ) → length (lines_of text) ≡ count_by (λ b. b == 10) text + 1
+
+abbrev pub OneJob : Type 0
+OneJob = (text : List ℕ) (a b : JobData) → Spells text a → Spells text b → a ≡ b
+
+abbrev pub SpelledJobIsLawful : Type 0
+SpelledJobIsLawful = (text : List ℕ) (job : JobData) → Spells text job → IsJob job
+
+abbrev pub SpelledBearsNothing : Type 0
+SpelledBearsNothing =
+    (text : List ℕ) (job : JobData) (line : ℕ) (kind : TextKind) → Spells text job → Bears text line kind → ⊥
+
+abbrev pub OneFault : Type 0
+OneFault =
+    (text : List ℕ) (line other_line : ℕ) (kind other_kind : TextKind)
+    → Bears text line kind → Bears text other_line other_kind → (line ≡ other_line) × (kind ≡ other_kind)
+
+abbrev pub JobOrFault : Type 0
+JobOrFault =
+    (text : List ℕ) → ((job : JobData) × Spells text job) ⊎ ((line : ℕ) × (kind : TextKind) × Bears text line kind)
+
+abbrev pub FaultIsWithin : Type 0
+FaultIsWithin =
+    (text : List ℕ) (line : ℕ) (kind : TextKind)
+    → Bears text line kind → (1 ≤ line) × (line ≤ length (lines_of text))
+
+-- where no line has another fault
+abbrev pub UnknownLabelComesLast : Type 0
+UnknownLabelComesLast =
+    (text : List ℕ) (line : ℕ) (kind : TextKind) → Bears text line kind
+    → ((k : ℕ) → k < length (lines_of text) → fault_at (lines_of text) k ≡ None) → kind ≡ UnknownLabel
+
+-- both texts spell the same jobs
+abbrev pub SpellsSame : List ℕ → List ℕ → Type 0
+SpellsSame text other = (job : JobData) → Spells text job ↔ Spells other job
+
+-- both texts bear the same faults
+abbrev pub BearsSame : List ℕ → List ℕ → Type 0
+BearsSame text other = (line : ℕ) (kind : TextKind) → Bears text line kind ↔ Bears other line kind
+
+-- `other` is `text` with another line in the place of this one
+pub record HasOtherLine (text other line other_line : List ℕ) : Type 0 where
+  pub before : List (List ℕ)
+  pub after : List (List ℕ)
+  pub lines : lines_of text ≡ before ++ line ∷ after
+  pub other_lines : lines_of other ≡ before ++ other_line ∷ after
+
+-- a comment goes from its `;` to the end of the line
+abbrev pub CommentsSayNothing : Type 0
+CommentsSayNothing =
+    (text other line comment : List ℕ) → HasOtherLine text other line (line ++ 59 ∷ comment)
+    → IsTrue (list_all is_allowed comment) → SpellsSame text other × BearsSame text other
+
+abbrev pub BlanksSayNothing : Type 0
+BlanksSayNothing =
+    (text other left line right : List ℕ) → HasOtherLine text other line (left ++ line ++ right)
+    → IsTrue (list_all is_blank left) → IsTrue (list_all is_blank right)
+    → SpellsSame text other × BearsSame text other
+
+-- a line without words can be left out
+abbrev pub WordlessLinesAreSkipped : Type 0
+WordlessLinesAreSkipped =
+    (text other : List ℕ) (before : List (List ℕ)) (line : List ℕ) (after : List (List ℕ))
+    → lines_of text ≡ before ++ line ∷ after → lines_of other ≡ before ++ after
+    → IsTrue (list_all is_allowed line) → words_of line ≡ [] → SpellsSame text other

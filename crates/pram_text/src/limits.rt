@@ -1,0 +1,13 @@
+//! The limits of jobs.
+
+/// How many cells a memory has at most.
+pub const MAX_CELLS: u32 = 65_536;
+
+/// How many processors there are at most.
+pub const MAX_PROCS: u32 = 1_024;
+
+/// How many instructions a job has at most.
+pub const MAX_CODE: usize = 4_096;
+
+/// How many registers a processor has.
+pub const REGISTERS: u8 = 4;

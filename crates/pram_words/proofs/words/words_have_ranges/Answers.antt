@@ -1,5 +1,0 @@
-use Rattle.pram_words.proofs.Numbering.{ranges}
-use Rattle.pram_words.proofs.words.words_have_ranges.Goals as goal
-
-pub returns : goal.returns
-returns c = ranges

@@ -1,5 +1,0 @@
-use Rattle.pram_words.proofs.Numbering.{numbering}
-use Rattle.pram_words.proofs.words.words_keep_apart.Goals as goal
-
-pub returns : goal.returns
-returns c = numbering

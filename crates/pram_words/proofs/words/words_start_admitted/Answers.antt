@@ -1,5 +1,0 @@
-use Rattle.pram_words.proofs.Starts.{starts_admitted}
-use Rattle.pram_words.proofs.words.words_start_admitted.Goals as goal
-
-pub returns : goal.returns
-returns c = starts_admitted

@@ -1,0 +1,4 @@
+-- What private contracts cite.
+pub mod Posts
+pub mod Stages
+pub mod Glances
