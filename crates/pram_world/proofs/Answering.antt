@@ -10,16 +10,16 @@ use Rattle.pram_step.specs.declared.answer.Dispute.{Dispute}
 use Rattle.pram_step.specs.declared.answer.Fault.{Fault}
 use Rattle.pram_step.specs.declared.answer.RunAnswer.TheVariants.{Conflict as Disputed}
 use Rattle.pram_step.specs.declared.requests.Request.{Request}
-use Rattle.pram_step.specs.Machine.{request_of, requests_of}
-use Rattle.pram_step.specs.Runs.{IsAnswer, IsFirstConflict, IsReached, state_after}
+use Rattle.pram_step.specs.History.{part_after}
+use Rattle.pram_step.specs.Instructions.{place_part, value_part, request_in, requests_in}
+use Rattle.pram_step.specs.Runs.{IsAnswer, IsFirstConflict, IsReached, requests_after, state_after}
 use Rattle.pram_step.specs.Steps.{Agrees, IsDispute}
 use Rattle.pram_words.specs.declared.words.Word.TheVariants.{Conflict, Node, Asked, Stored}
 use Rattle.pram_words.specs.Stamps.{stamp_of, payload_of}
 use Rattle.pram_words.specs.Words.{LayoutData, IsLayout, length_of, number_of, places_of}
 use Rattle.walkx.specs.Requests.{heard_request}
-use Rattle.walkx.specs.Tasks.{newer_payload, place_part, value_part}
+use Rattle.walkx.specs.Tasks.{newer_payload}
 use Rattle.lawful_words.specs.Board.{Stands, held, root, conflict, finished}
-use Rattle.lawful_words.specs.Steps.{requests_after, part_after}
 use Rattle.lawful_words.proofs.Facts.{facts}
 use Rattle.lawful_words.proofs.Values.{fin}
 
@@ -89,10 +89,10 @@ ap_three f a a' b b' c c' e g h = ap₂ (λ x y. f x y c) e g ∙ ap (λ z. f a'
 
 -- what the request words hold while word 0 names step s + 1
 heard_asked : (job : JobData) (y : LayoutData) (words : List ℕ) (s i : ℕ) → Stands job y words → conflict y words ≡ suc s → i < job.procs →
-    heard_request (held y words (Asked i 0)) (held y words (Asked i 1)) (held y words (Asked i 2)) ≡ request_of job (state_after job s) i
+    heard_request (held y words (Asked i 0)) (held y words (Asked i 1)) (held y words (Asked i 2)) ≡ request_in job (state_after job s) i
 heard_asked job y words s i stands named below =
     let procs = same_procs job y words stands in
-    let r = request_of job (state_after job s) i in
+    let r = request_in job (state_after job s) i in
     ap_three parted _ _ _ _ _ _ (part 0 (lit< tt) (omega arith)) (part 1 (lit< tt) (omega arith)) (part 2 (lit< tt) (omega arith)) ∙ parted_put r.put r.next
   where
     part : (j : ℕ) → j < 3 → i < y.procs → payload_of (held y words (Asked i j)) ≡ part_after job s i j
@@ -102,17 +102,17 @@ heard_asked job y words s i stands named below =
 
 -- one request more
 pub requests_more : (job : JobData) (y : LayoutData) (words : List ℕ) (sofar now : List Request) (i : ℕ) (place value next : ℕ) (r : Request) → Stands job y words → i < job.procs →
-    ((s : ℕ) → conflict y words ≡ suc s → sofar ≡ map (request_of job (state_after job s)) (range_with_len 0 i)) →
+    ((s : ℕ) → conflict y words ≡ suc s → sofar ≡ map (request_in job (state_after job s)) (range_with_len 0 i)) →
     place ≡ held y words (Asked i 0) → value ≡ held y words (Asked i 1) → next ≡ held y words (Asked i 2) → r ≡ heard_request place value next → now ≡ sofar ++ r ∷ [] →
-    (s : ℕ) → conflict y words ≡ suc s → now ≡ map (request_of job (state_after job s)) (range_with_len 0 (i + 1))
+    (s : ℕ) → conflict y words ≡ suc s → now ≡ map (request_in job (state_after job s)) (range_with_len 0 (i + 1))
 requests_more job y words sofar now i place value next r stands below are p v n is pushed s named =
     pushed
     ∙ ap₂ (λ xs x. xs ++ x ∷ []) (are s named) (is ∙ ap_three heard_request _ _ _ _ _ _ p v n ∙ heard_asked job y words s i stands named below)
-    ∙ sym (map-range_with_len_more (request_of job (state_after job s)) 0 i i (omega arith))
+    ∙ sym (map-range_with_len_more (request_in job (state_after job s)) 0 i i (omega arith))
 
-pub requests_all : (job : JobData) (s n : ℕ) → n ≡ job.procs → map (request_of job (state_after job s)) (range_with_len 0 n) ≡ requests_after job s
-unfolding requests_of
-requests_all job s n is = ap (λ m. map (request_of job (state_after job s)) (range_with_len 0 m)) is
+pub requests_all : (job : JobData) (s n : ℕ) → n ≡ job.procs → map (request_in job (state_after job s)) (range_with_len 0 n) ≡ requests_after job s
+unfolding requests_in
+requests_all job s n is = ap (λ m. map (request_in job (state_after job s)) (range_with_len 0 m)) is
 
 -- the step before the one that word 0 names
 before : (u : ℕ) → u ≢ 0 → (s : ℕ) × (u ≡ suc s)
@@ -132,7 +132,7 @@ is_answer job y words requests d step stands some are dispute is =
       reached = (stands.lawful.named.first b.0 b.1).0;
       dispute = subst (λ rs. IsDispute job rs d) (are b.0 b.1) dispute;
     } in
-    (first, omega arith)
+    record { first = first; within = omega arith }
 
 -- some of them disputes
 pub not_agrees : (job : JobData) (y : LayoutData) (words : List ℕ) (requests : List Request) → Stands job y words → conflict y words ≢ 0 →

@@ -6,13 +6,15 @@ use Rattle.std.proofs.lemmas.Option.{slice_get-map, slice_get_past}
 use Rattle.std.specs.Option.{option_map}
 use Rattle.std.specs.List.{range_with_len}
 use Rattle.pram_text.specs.Job.{JobData, IsJob}
+use Rattle.pram_words.specs.declared.layout.Form.TheVariants.{Compact}
 use Rattle.pram_words.specs.Words.{LayoutData, layout_of}
 use Rattle.pram_words.specs.Start.{start_words}
 use Rattle.walkx.specs.declared.operation.Op.{Op}
 use Rattle.walkx.specs.Operations.{words_after, answer}
 use Rattle.walkx.specs.Records.{empty, after}
-use Rattle.walkx.specs.Stages.{Kept, Serves}
-use Rattle.walkx.specs.Walk.{IsAdmitted, ask_of, told, started, come_back}
+use Rattle.walkx.specs.Inner.Stages.{WorkerData}
+use Rattle.walkx.specs.Serving.{Serves}
+use Rattle.walkx.specs.Walk.{HearsAdmitted, ask_of, told, started, come_back}
 use Rattle.pram_world.specs.declared.event.Effect.{Effect}
 use Rattle.pram_world.specs.declared.event.Event.TheVariants.{Go, Stop, Back}
 use Rattle.pram_world.specs.declared.world.Runner.{Runner}
@@ -26,18 +28,18 @@ use Rattle.pram_world.proofs.Keeping.{Held, holds_start, holds_step, holds_repla
 pub body_at : (runners : List Runner) (b : ℕ) (r : Runner) → slice_get runners b ≡ Some r → slice_get (map body_of runners) b ≡ Some (body_of r)
 body_at runners b r is = slice_get-map body_of runners b ∙ ap (option_map body_of) is
 
-same_kept : (j k : Kept) → runner.Walks j ≡ runner.Walks k → j ≡ k
+same_kept : (j k : WorkerData) → runner.Walks j ≡ runner.Walks k → j ≡ k
 same_kept j k e = cc
 
-not_kept : (n : ℕ) (k : Kept) → runner.Walks k ≡ runner.Stopped n → ⊥
+not_kept : (n : ℕ) (k : WorkerData) → runner.Walks k ≡ runner.Stopped n → ⊥
 not_kept n k e = cc
 
 -- ---- one body replaced, or one more
 
-set_serve : (job : JobData) (y : LayoutData) (runners : List Runner) (b : ℕ) (r : Runner) → AllServe job y runners → ((k : Kept) → runner.Walks k ≡ r → Serves job y k) → AllServe job y (slice_set runners b r)
+set_serve : (job : JobData) (y : LayoutData) (runners : List Runner) (b : ℕ) (r : Runner) → AllServe job y runners → ((k : WorkerData) → runner.Walks k ≡ r → Serves job y k) → AllServe job y (slice_set runners b r)
 set_serve job y runners b r all new = λ at k e. elim (get_set runners b at r (runner.Walks k) e) [ inl same ↦ new k same | inr old ↦ all at k old ]
 
-push_serve : (job : JobData) (y : LayoutData) (runners : List Runner) (r : Runner) → AllServe job y runners → ((k : Kept) → runner.Walks k ≡ r → Serves job y k) → AllServe job y (runners ++ r ∷ [])
+push_serve : (job : JobData) (y : LayoutData) (runners : List Runner) (r : Runner) → AllServe job y runners → ((k : WorkerData) → runner.Walks k ≡ r → Serves job y k) → AllServe job y (runners ++ r ∷ [])
 push_serve job y runners r all new = λ at k e. elim (get_push runners at r (runner.Walks k) e) [ inl same ↦ new k same | inr old ↦ all at k old ]
 
 set_world : (job : JobData) (y : LayoutData) (words : List ℕ) (runners : List Runner) (b : ℕ) (r : Runner) → world_of job y words (slice_set runners b r) ≡ record (world_of job y words runners) { bodies = slice_set (map body_of runners) b (body_of r) }
@@ -46,7 +48,7 @@ set_world job y words runners b r = ap (λ (bodies : List Body). record { job = 
 -- ---- a step
 
 -- what the code of a step comes to
-pub record Stepped (job : JobData) (y : LayoutData) (words : List ℕ) (runners : List Runner) (b : ℕ) (old : Kept) (effect : Effect) (now : List ℕ) (new : Kept) : Type 0 where
+pub record Stepped (job : JobData) (y : LayoutData) (words : List ℕ) (runners : List Runner) (b : ℕ) (old : WorkerData) (effect : Effect) (now : List ℕ) (new : WorkerData) : Type 0 where
   pub op : Op
   pub at : slice_get runners b ≡ Some (runner.Walks old)
   pub asked : op ≡ ask_of job y old.walking
@@ -55,7 +57,7 @@ pub record Stepped (job : JobData) (y : LayoutData) (words : List ℕ) (runners 
   pub became : new.walking ≡ told job y old.walking (answer words op)
   pub serves : Serves job y new
 
-module _ (job : JobData) (y : LayoutData) (words : List ℕ) (runners : List Runner) (b : ℕ) (old : Kept) (effect : Effect) (now : List ℕ) (new : Kept)
+module _ (job : JobData) (y : LayoutData) (words : List ℕ) (runners : List Runner) (b : ℕ) (old : WorkerData) (effect : Effect) (now : List ℕ) (new : WorkerData)
     (s : Stepped job y words runners b old effect now new) where
   pub step_world : world_of job y now (slice_set runners b (runner.Walks new)) ≡ happens (world_of job y words runners) (Go b)
   step_world =
@@ -79,14 +81,14 @@ module _ (job : JobData) (y : LayoutData) (words : List ℕ) (runners : List Run
       }
 
 -- a worker serves, and what it hears is admitted
-pub serves_at : (job : JobData) (y : LayoutData) (words : List ℕ) (runners : List Runner) (b : ℕ) (k : Kept) → IsWorld job y words runners → slice_get runners b ≡ Some (runner.Walks k) → Serves job y k
+pub serves_at : (job : JobData) (y : LayoutData) (words : List ℕ) (runners : List Runner) (b : ℕ) (k : WorkerData) → IsWorld job y words runners → slice_get runners b ≡ Some (runner.Walks k) → Serves job y k
 serves_at job y words runners b k h at = h.serve b k at
 
-pub hears_at : (job : JobData) (y : LayoutData) (words : List ℕ) (runners : List Runner) (b : ℕ) (k : Kept) (found : ℕ) → IsWorld job y words runners → slice_get runners b ≡ Some (runner.Walks k) →
-    found ≡ answer words (ask_of job y k.walking) → IsAdmitted job y (ask_of job y k.walking) found
+pub hears_at : (job : JobData) (y : LayoutData) (words : List ℕ) (runners : List Runner) (b : ℕ) (k : WorkerData) (found : ℕ) → IsWorld job y words runners → slice_get runners b ≡ Some (runner.Walks k) →
+    found ≡ answer words (ask_of job y k.walking) → HearsAdmitted job y (ask_of job y k.walking) found
 hears_at job y words runners b k found h at is =
     let known = (h.holds).known b k.walking (body_at runners b (runner.Walks k) at) in
-    subst (IsAdmitted job y (ask_of job y k.walking)) (sym is) (hears_admitted job y words k.walking (h.holds).stands known.1)
+    subst (HearsAdmitted job y (ask_of job y k.walking)) (sym is) (hears_admitted job y words k.walking (h.holds).stands known.1)
 
 -- ---- stopped, come back, and twinned
 
@@ -100,7 +102,7 @@ stop_keeps job y words runners b n h below = record {
   serve = set_serve job y runners b (runner.Stopped n) h.serve (λ k e. absurd (not_kept n k e));
 }
 
-pub back_keeps : (job : JobData) (y : LayoutData) (words : List ℕ) (runners : List Runner) (b n : ℕ) (k : Kept) → IsWorld job y words runners → n < y.workers → k.walking ≡ come_back n → Serves job y k → IsWorld job y words (slice_set runners b (runner.Walks k))
+pub back_keeps : (job : JobData) (y : LayoutData) (words : List ℕ) (runners : List Runner) (b n : ℕ) (k : WorkerData) → IsWorld job y words runners → n < y.workers → k.walking ≡ come_back n → Serves job y k → IsWorld job y words (slice_set runners b (runner.Walks k))
 back_keeps job y words runners b n k h below is serves = record {
   made = h.made;
   holds = subst (λ (x : WorldData). Holds x h.made) (sym (set_world job y words runners b (runner.Walks k) ∙ ap (λ w. record (world_of job y words runners) { bodies = slice_set (map body_of runners) b (walks w) }) is))
@@ -108,11 +110,11 @@ back_keeps job y words runners b n k h below is serves = record {
   serve = set_serve job y runners b (runner.Walks k) h.serve (λ j e. subst (Serves job y) (sym (same_kept j k e)) serves);
 }
 
-pub twin_world : (job : JobData) (y : LayoutData) (words : List ℕ) (runners : List Runner) (n : ℕ) (k : Kept) → k.walking ≡ started n → world_of job y words (runners ++ runner.Walks k ∷ []) ≡ twinned (world_of job y words runners) n
+pub twin_world : (job : JobData) (y : LayoutData) (words : List ℕ) (runners : List Runner) (n : ℕ) (k : WorkerData) → k.walking ≡ started n → world_of job y words (runners ++ runner.Walks k ∷ []) ≡ twinned (world_of job y words runners) n
 twin_world job y words runners n k is =
     ap (λ (bodies : List Body). record { job = job; layout = y; words = words; bodies = bodies }) (map-append body_of runners (runner.Walks k ∷ []) ∙ ap (λ w. map body_of runners ++ walks w ∷ []) is)
 
-pub twin_keeps : (job : JobData) (y : LayoutData) (words : List ℕ) (runners : List Runner) (n : ℕ) (k : Kept) → IsWorld job y words runners → n < y.workers → k.walking ≡ started n → Serves job y k → IsWorld job y words (runners ++ runner.Walks k ∷ [])
+pub twin_keeps : (job : JobData) (y : LayoutData) (words : List ℕ) (runners : List Runner) (n : ℕ) (k : WorkerData) → IsWorld job y words runners → n < y.workers → k.walking ≡ started n → Serves job y k → IsWorld job y words (runners ++ runner.Walks k ∷ [])
 twin_keeps job y words runners n k h below is serves = record {
   made = h.made;
   holds = subst (λ (x : WorldData). Holds x h.made) (sym (twin_world job y words runners n k is)) (holds_twinned (world_of job y words runners) h.made n h.holds below);
@@ -126,7 +128,7 @@ stop_world job y words runners b n r at is =
     ∙ ap (λ m. record (world_of job y words runners) { bodies = slice_set (map body_of runners) b (stopped m) }) is
     ∙ ap (replaced (world_of job y words runners) b stopped) (sym (body_at runners b r at))
 
-pub back_world : (job : JobData) (y : LayoutData) (words : List ℕ) (runners : List Runner) (b n : ℕ) (k : Kept) (r : Runner) → slice_get runners b ≡ Some r → n ≡ number (body_of r) → k.walking ≡ come_back n →
+pub back_world : (job : JobData) (y : LayoutData) (words : List ℕ) (runners : List Runner) (b n : ℕ) (k : WorkerData) (r : Runner) → slice_get runners b ≡ Some r → n ≡ number (body_of r) → k.walking ≡ come_back n →
     world_of job y words (slice_set runners b (runner.Walks k)) ≡ happens (world_of job y words runners) (Back b)
 back_world job y words runners b n k r at is walks_is =
     set_world job y words runners b (runner.Walks k)
@@ -157,23 +159,23 @@ pub none_serve : (job : JobData) (y : LayoutData) → AllServe job y []
 none_serve job y at k e = absurd (cc)
 
 -- one more worker, newly started
-pub starts_serve : (job : JobData) (y : LayoutData) (runners now : List Runner) (k : Kept) → AllServe job y runners → now ≡ runners ++ runner.Walks k ∷ [] → Serves job y k → AllServe job y now
+pub starts_serve : (job : JobData) (y : LayoutData) (runners now : List Runner) (k : WorkerData) → AllServe job y runners → now ≡ runners ++ runner.Walks k ∷ [] → Serves job y k → AllServe job y now
 starts_serve job y runners now k all is serves =
     subst (AllServe job y) (sym is) (push_serve job y runners (runner.Walks k) all (λ j e. subst (Serves job y) (sym (same_kept j k e)) serves))
 
-pub starts_bodies : (runners now : List Runner) (k : Kept) (n : ℕ) → map body_of runners ≡ map (λ w. walks (started w)) (range_with_len 0 n) → now ≡ runners ++ runner.Walks k ∷ [] → k.walking ≡ started n →
+pub starts_bodies : (runners now : List Runner) (k : WorkerData) (n : ℕ) → map body_of runners ≡ map (λ w. walks (started w)) (range_with_len 0 n) → now ≡ runners ++ runner.Walks k ∷ [] → k.walking ≡ started n →
     map body_of now ≡ map (λ w. walks (started w)) (range_with_len 0 (n + 1))
 starts_bodies runners now k n bodies is started_is =
     ap (map body_of) is ∙ map-append body_of runners (runner.Walks k ∷ []) ∙ ap₂ (λ xs w. xs ++ walks w ∷ []) bodies started_is
     ∙ sym (map-range_with_len_more (λ (w : ℕ). walks (started w)) 0 n n (omega arith))
 
-pub start_world : (job : JobData) (y : LayoutData) (workers : ℕ) (words : List ℕ) (runners : List Runner) → y ≡ layout_of job workers → words ≡ start_words y job →
+pub start_world : (job : JobData) (y : LayoutData) (workers : ℕ) (words : List ℕ) (runners : List Runner) → y ≡ layout_of job Compact workers → words ≡ start_words y job →
     map body_of runners ≡ map (λ w. walks (started w)) (range_with_len 0 workers) → world_of job y words runners ≡ start job workers
 start_world job y workers words runners is words_is bodies =
     ap₂ (λ ws (bs : List Body). record { job = job; layout = y; words = ws; bodies = bs }) words_is bodies
     ∙ ap (λ (z : LayoutData). record { job = job; layout = z; words = start_words z job; bodies = map (λ w. walks (started w)) (range_with_len 0 workers) }) is
 
-pub start_is_world : (job : JobData) (y : LayoutData) (workers : ℕ) (words : List ℕ) (runners : List Runner) → IsJob job → 1 ≤ workers → workers ≤ 64 → y ≡ layout_of job workers → words ≡ start_words y job →
+pub start_is_world : (job : JobData) (y : LayoutData) (workers : ℕ) (words : List ℕ) (runners : List Runner) → IsJob job → 1 ≤ workers → workers ≤ 64 → y ≡ layout_of job Compact workers → words ≡ start_words y job →
     map body_of runners ≡ map (λ w. walks (started w)) (range_with_len 0 workers) → AllServe job y runners → IsWorld job y words runners
 start_is_world job y workers words runners limits some most is words_is bodies serve = record {
   made = empty;

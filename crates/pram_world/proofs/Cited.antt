@@ -1,29 +1,30 @@
 -- What the worlds' lemmas rest on, of the walk and of lawful words.
-use Rattle.std.proofs.Common.{◌≡◌, ◌≢◌, ℕ, ◌+◌, ◌*◌, ◌<◌, ◌≤◌, List, [], ◌∷◌, length, slice_index, None, inl, refl, sym, ◌∙◌, arith}
+use Rattle.std.proofs.Common.{◌≡◌, ◌≢◌, ℕ, ◌+◌, ◌*◌, ◌<◌, ◌≤◌, List, [], ◌∷◌, length, slice_index, None, inl, refl, sym, subst, ◌∙◌, arith}
 use Rattle.pram_text.specs.Job.{JobData, IsJob}
-use Rattle.pram_words.specs.Words.{LayoutData, layout_of}
-use Rattle.walkx.proofs.BoundSteps.{steps_bounded}
+use Rattle.pram_words.specs.Words.{LayoutData, IsInRange, Admits, length_of, number_of, word_at}
+use Rattle.pram_words.proofs.Numbering.{numbering}
+use Rattle.walkx.proofs.Asking.{all_ask}
+use Rattle.walkx.proofs.BoundSteps.{own_steps as bound}
+use Rattle.walkx.proofs.Fitting.{fits_told, new_workers_fit}
+use Rattle.walkx.proofs.Going.{told_over}
+use Rattle.walkx.proofs.Knowing.{has_earlier, has_more, knows_next}
 use Rattle.walkx.specs.declared.operation.Ended.{Ended}
 use Rattle.walkx.specs.declared.operation.Ended.TheVariants as ended
 use Rattle.walkx.specs.declared.operation.Op.{Op}
 use Rattle.walkx.specs.declared.operation.Op.TheVariants.{Load, Store, Max, Swap, Over}
-use Rattle.walkx.specs.declared.worker.Doing.TheVariants as doing
+use Rattle.walkx.specs.Doing.{Doing}
+use Rattle.walkx.specs.Doing as doing
 use Rattle.walkx.specs.Scripts.{behind}
 use Rattle.walkx.specs.Bound.{told_all, history_of, most_steps}
 use Rattle.walkx.specs.Operations.{words_after, answer}
 use Rattle.walkx.specs.Records.{Record, empty, after, Has, Knows}
-use Rattle.walkx.specs.Stages.{IsBoard}
-use Rattle.walkx.specs.Walk.{Walking, Fits, IsAdmitted, ask_of, told, rest_of, end_of, heard_of, started, come_back}
+use Rattle.walkx.specs.Walk.{Walking, Fits, IsBoard, IsGoing, AsksAdmitted, HearsAdmitted, ask_of, told, rest_of, end_of, heard_of, started, come_back}
 use Rattle.lawful_words.specs.Board.{Stands, root, conflict}
 use Rattle.lawful_words.specs.Moments.{Backed}
 use Rattle.lawful_words.specs.Walks.{Moves}
 use Rattle.lawful_words.proofs.Bounding.{backed_is_heard}
 use Rattle.lawful_words.proofs.Ending.{done_well, conflict_well}
-use Rattle.lawful_words.proofs.Happening.{LoadsOnBoard, word_admitted}
 use Rattle.lawful_words.proofs.Knowing.{root_now, conflict_now}
-use Rattle.lawful_words.proofs.Loading.{all_ask}
-use Rattle.lawful_words.proofs.Moments.{has_more}
-use Rattle.lawful_words.proofs.Telling.{knows_next, fits_told, started_fits, told_over, has_earlier}
 use Rattle.lawful_words.proofs.Turns.{all_f}
 use Rattle.pram_world.specs.Inner.Holding.{Fitting}
 
@@ -32,11 +33,11 @@ board_of job y words stands = record { limits = stands.limits; layout = stands.s
 
 -- the next step of a worker that a record knows
 pub moves : (job : JobData) (y : LayoutData) (r : Record) (w : Walking) (words : List ℕ) → Stands job y words → Backed job y r words → Knows job y r w → Fitting job y w → Moves job y r w words
-moves job y r w words stands backed knows fits = all_f job y r w words stands fits.fits knows backed
+moves job y r w words stands backed knows fits = all_f job y r w words stands fits knows backed
 
 -- it stays known
 pub known_on : (job : JobData) (y : LayoutData) (r : Record) (w : Walking) (found : ℕ) → Knows job y r w → Fitting job y w → Knows job y (after r (ask_of job y w) found) (told job y w found)
-known_on job y r w found knows fits = knows_next job y r w found fits.fits knows
+known_on job y r w found knows fits = knows_next job y r w found fits knows
 
 -- other workers stay known
 pub more : (job : JobData) (y : LayoutData) (r : Record) (op : Op) (found : ℕ) (w : Walking) → Knows job y r w → Knows job y (after r op found) w
@@ -45,35 +46,48 @@ more job y r op found w knows = has_more r op found (heard_of job y w) knows
 pub has_on : (r : Record) (op : Op) (found : ℕ) (es : List (Op × ℕ)) → Has r es → Has (after r op found) es
 has_on = has_more
 
+-- each standing word is admitted at its number
+pub word_admitted : (job : JobData) (y : LayoutData) (words : List ℕ) (k : ℕ) → Stands job y words → k < length_of y → Admits y job k (slice_index words k)
+word_admitted job y words k stands below =
+    let w = (numbering y stands.sizes).word k below in
+    let range : IsInRange y job (word_at y k) (slice_index words (number_of y (word_at y k))) = stands.admitted.in_range (word_at y k) w.0 in
+    (below, subst (λ (n : ℕ). IsInRange y job (word_at y k) (slice_index words n)) w.1 range)
+
 -- what standing words answer is admitted
-answer_admitted : (job : JobData) (y : LayoutData) (words : List ℕ) (op : Op) → Stands job y words → LoadsOnBoard y op → IsAdmitted job y op (answer words op)
+answer_admitted : (job : JobData) (y : LayoutData) (words : List ℕ) (op : Op) → Stands job y words → AsksAdmitted job y op → HearsAdmitted job y op (answer words op)
 answer_admitted job y words (Load k) stands below = word_admitted job y words k stands below
 answer_admitted job y words (Store k v) stands below = tt
 answer_admitted job y words (Max k v) stands below = tt
 answer_admitted job y words (Swap k old new) stands below = tt
 answer_admitted job y words (Over e) stands below = tt
 
-pub hears_admitted : (job : JobData) (y : LayoutData) (words : List ℕ) (w : Walking) → Stands job y words → Fitting job y w → IsAdmitted job y (ask_of job y w) (answer words (ask_of job y w))
-hears_admitted job y words w stands fits = answer_admitted job y words (ask_of job y w) stands (all_ask job y w (board_of job y words stands) fits.fits)
+pub hears_admitted : (job : JobData) (y : LayoutData) (words : List ℕ) (w : Walking) → Stands job y words → Fitting job y w → HearsAdmitted job y (ask_of job y w) (answer words (ask_of job y w))
+hears_admitted job y words w stands fits = answer_admitted job y words (ask_of job y w) stands (all_ask job y w (board_of job y words stands) fits)
 
 -- so it fits on
 pub fits_on : (job : JobData) (y : LayoutData) (words : List ℕ) (w : Walking) → Stands job y words → Fitting job y w → Fitting job y (told job y w (answer words (ask_of job y w)))
 fits_on job y words w stands fits = fits_told job y w (answer words (ask_of job y w)) (board_of job y words stands) fits (hears_admitted job y words w stands fits)
 
 pub start_fits : (job : JobData) (y : LayoutData) (n : ℕ) → n < y.workers → Fitting job y (started n)
-start_fits job y n below = (started_fits job y n below).0
+start_fits job y n below = (new_workers_fit job y n below).0
 
 pub back_fits : (job : JobData) (y : LayoutData) (n : ℕ) → n < y.workers → Fitting job y (come_back n)
-back_fits job y n below = (started_fits job y n below).1
+back_fits job y n below = (new_workers_fit job y n below).1
 
 pub in_workers : (job : JobData) (y : LayoutData) (w : Walking) → Fitting job y w → w.number < y.workers
-in_workers job y w fits = (fits.fits).number
+in_workers job y w fits = fits.number
+
+going_of : (d : Doing) → end_of d ≡ None → IsGoing d
+going_of doing.Back e = tt
+going_of doing.Begin e = tt
+going_of (doing.Turn q) e = tt
+going_of (doing.Over x) e = absurd (cc)
 
 -- A worker that is going has made fewer steps than the bound since a record knew it.
 pub own_steps : (job : JobData) (y : LayoutData) (r : Record) (w : Walking) (answers words : List ℕ) → Stands job y words → Backed job y r words → Has r (history_of job y w answers) → Fitting job y w →
     end_of (told_all job y w answers).now ≡ None → length answers < most_steps job y
 own_steps job y r w answers words stands backed has fits going =
-    (steps_bounded job y w (stands.sizes.leaves).0 fits.fits).bound answers going (backed_is_heard job y w.number r (history_of job y w answers) words (in_workers job y w fits) backed has)
+    bound.0 job y w stands.layout fits answers (going_of (told_all job y w answers).now going) (backed_is_heard job y w.number r (history_of job y w answers) words fits.number backed has)
 
 -- a worker that is over stays so
 pub told_still : (job : JobData) (y : LayoutData) (w : Walking) (found : ℕ) (e : Ended) → w.now ≡ doing.Over e → told job y w found ≡ w
@@ -90,6 +104,6 @@ pub ended_conflict : (job : JobData) (y : LayoutData) (r : Record) (w : Walking)
 ended_conflict job y r w u words stands backed knows fits is =
     let c = conflict_well job y r w u words stands backed fits knows is in
     let step = (c.1).step in
-    let first = ((c.1).first).step in
+    let first = (((c.1).is).first).step in
     let some : u ≢ 0 = λ e. absurd (omega arith) in
     λ none. some (sym (conflict_now job y r u words backed c.0 some) ∙ none)

@@ -2,6 +2,7 @@
 use Rattle.std.proofs.Common.{◌≡◌, ◌≢◌, ◌⊎◌, ℕ, zero, suc, ◌+◌, ◌<◌, ◌≤◌, List, [], ◌∷◌, ◌++◌, map, slice_get, slice_set, Option, Some, None, refl, sym, ap, subst, ◌∙◌, inl, inr, arith}
 use Rattle.std.specs.List.{range_with_len}
 use Rattle.pram_text.specs.Job.{JobData, IsJob}
+use Rattle.pram_words.specs.declared.layout.Form.TheVariants.{Compact}
 use Rattle.pram_words.specs.declared.words.Word.{Word}
 use Rattle.pram_words.specs.declared.words.Word.TheVariants.{Position}
 use Rattle.pram_words.specs.Words.{IsWord, layout_of}
@@ -54,13 +55,13 @@ starts_at low (suc n) (suc at) body e = let s = starts_at (low + 1) n at body e 
 
 pub holds_start : (job : JobData) (workers : ℕ) → IsJob job → 1 ≤ workers → workers ≤ 64 → Holds (start job workers) empty
 holds_start job workers limits some most = record {
-  stands = starts_stand job workers limits some most;
+  stands = starts_stand job Compact workers limits some most;
   backed = tt;
   known = λ b w is.
       let s = starts_at 0 workers b (walks w) is in
       let e : w ≡ started s.worker = same_walking w (started s.worker) s.is in
       let below = s.below in
-      (subst (λ (v : Walking). Knows job (layout_of job workers) empty v) (sym e) tt, subst (Fitting job (layout_of job workers)) (sym e) (start_fits job (layout_of job workers) s.worker (omega arith)));
+      (subst (λ (v : Walking). Knows job (layout_of job Compact workers) empty v) (sym e) tt, subst (Fitting job (layout_of job Compact workers)) (sym e) (start_fits job (layout_of job Compact workers) s.worker (omega arith)));
   numbers = λ b body is. let s = starts_at 0 workers b body is in let below = s.below in subst (λ (x : Body). number x < workers) (sym s.is) (omega arith);
 }
 

@@ -8,8 +8,8 @@ use Rattle.walkx.specs.declared.operation.Ended.{Ended}
 use Rattle.walkx.specs.declared.operation.Ended.TheVariants as ended
 use Rattle.walkx.specs.declared.operation.Op.{Op}
 use Rattle.walkx.specs.declared.operation.Op.TheVariants.{Over}
-use Rattle.walkx.specs.declared.worker.Doing.{Doing}
-use Rattle.walkx.specs.declared.worker.Doing.TheVariants as doing
+use Rattle.walkx.specs.Doing.{Doing}
+use Rattle.walkx.specs.Doing as doing
 use Rattle.walkx.specs.Operations.{words_after, answer}
 use Rattle.walkx.specs.Records.{Record, Knows}
 use Rattle.walkx.specs.Walk.{Walking, ask_of, told, next_op, rest_of, end_of}

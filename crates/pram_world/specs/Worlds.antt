@@ -3,6 +3,7 @@ use Rattle.std.specs.Prelude.{◌≡◌, ◌≢◌, ℕ, ◌≤◌, Bool, false,
 use Rattle.std.specs.List.{range_with_len}
 use Rattle.std.specs.Option.{is_none}
 use Rattle.pram_text.specs.Job.{JobData}
+use Rattle.pram_words.specs.declared.layout.Form.TheVariants.{Compact}
 use Rattle.pram_words.specs.declared.words.Word.{Word}
 use Rattle.pram_words.specs.declared.words.Word.TheVariants.{Position}
 use Rattle.pram_words.specs.Start.{start_words}
@@ -36,8 +37,8 @@ pub record WorldData : Type 0 where
 abbrev pub start : JobData → ℕ → WorldData
 start job workers = record {
   job = job;
-  layout = layout_of job workers;
-  words = start_words (layout_of job workers) job;
+  layout = layout_of job Compact workers;
+  words = start_words (layout_of job Compact workers) job;
   bodies = map (λ w. walks (started w)) (range_with_len 0 workers);
 }
 

@@ -1,12 +1,11 @@
 //! What the words of a board answer.
 ghost use Rattle.std.specs.Prelude.{◌≡◌, ◌≢◌, ℕ, suc, ◌*◌, ◌<◌, length, take, IfOk};
-ghost use Rattle.pram_step.specs.Runs.{IsAnswer, state_after};
+ghost use Rattle.pram_step.specs.Runs.{IsAnswer, requests_after, state_after};
 ghost use Rattle.pram_step.specs.declared.answer.RunAnswer.TheVariants.{Conflict as Disputed};
 ghost use Rattle.pram_words.specs.Words.{length_of, places_of};
 ghost use Rattle.pram_words.specs.declared.words.Word.TheVariants.{Asked, Stored};
 ghost use Rattle.walkx.specs.Tasks.{newer_payload};
 ghost use Rattle.lawful_words.specs.Board.{Stands, conflict as conflict_in, held, root};
-ghost use Rattle.lawful_words.specs.Steps.{requests_after};
 ghost use Rattle.pram_world.specs.Outcomes.{IsTold};
 
 use pram_step::{Cells, Fault, Request, RunAnswer, dispute};
@@ -117,12 +116,13 @@ fn asked(layout: &Layout, words: &[u64], i: u32, j: u32) -> u64
 }
 
 // Word 0 and the root.
-#[tactic(auto, unfolding(pram_words::specs::Words::number_of, pram_words::specs::Words::length_of))]
 fn glance(layout: &Layout, words: &[u64]) -> (u64, u64)
     requires { length words.now ≡ length_of layout.now }
     ensures conflict { result.0 ≡ conflict_in layout.now words.now }
     ensures root { result.1 ≡ root layout.now words.now }
 {
     let _ = layout.leaves();
-    (words[0], words[1])
+    let named = words[layout.conflict_word() as usize];
+    let root = words[layout.node_word(1) as usize];
+    (named, root)
 }

@@ -4,6 +4,7 @@ ghost use Rattle.std.specs.Prelude.{◌≡◌, IfOk};
 use super::*;
 use pram_step::{Fault, RunAnswer};
 use pram_text::read_job;
+use pram_words::Layout;
 use std::process::Abort;
 use std::test::Fail;
 use walkx::{Ended, Op};
@@ -123,7 +124,9 @@ fn twins_take_turns(rt: HostRuntime) -> Result<(), Fail> {
 
 #[test]
 fn events_and_effects(rt: HostRuntime) -> Result<(), Fail> {
-    let mut world = world(&rt, SWAP)?;
+    let job = read_job(rt.alloc(), SWAP.as_bytes())?;
+    let layout = Layout::new(&job, 2);
+    let mut world = World::new(rt.alloc(), &job, 2)?;
     let nothing = Effect {
         op: None,
         before: 0,
@@ -139,7 +142,7 @@ fn events_and_effects(rt: HostRuntime) -> Result<(), Fail> {
     assert_eq!(rt; world.event(Event::Stop(0)), nothing);
     assert_eq!(rt; world.event(Event::Go(0)), nothing);
     assert_eq!(rt; world.finish(7), None);
-    assert_eq!(rt; world.load(1), 0);
+    assert_eq!(rt; world.load(layout.node_word(1)), 0);
     match world.outcome()? {
         RunAnswer::Unfinished { step } => assert_eq!(rt; step, 0),
         _ => panic!(rt; "finished"),

@@ -64,7 +64,7 @@ impl World {
         requires most { workers ≤ 64 }
         ensures { IfOk result (λ w. w ≡ start job.now workers) }
     {
-        let job = job.try_clone(alloc)?;
+        let job = job.try_clone()?;
         let layout = Layout::new(&job, workers);
         let words = start_words(alloc, &job, &layout)?;
         let bodies = start_bodies(alloc, workers)?;

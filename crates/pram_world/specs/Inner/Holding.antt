@@ -5,17 +5,17 @@ use Rattle.pram_words.specs.Words.{LayoutData}
 use Rattle.walkx.specs.declared.operation.Op.{Op}
 use Rattle.walkx.specs.declared.operation.Op.TheVariants.{Load, Store, Max, Swap, Over}
 use Rattle.walkx.specs.Records.{Record, Knows}
-use Rattle.walkx.specs.Stages.{Kept, Serves}
-use Rattle.walkx.specs.Walk.{Walking}
+use Rattle.walkx.specs.Inner.Stages.{WorkerData}
+use Rattle.walkx.specs.Serving.{Serves}
+use Rattle.walkx.specs.Walk.{Walking, Fits}
 use Rattle.lawful_words.specs.Board.{Stands}
 use Rattle.lawful_words.specs.Moments.{Backed}
-use Rattle.lawful_words.specs.Told.{FitsWell}
 use Rattle.pram_world.specs.declared.world.Runner.{Runner}
 use Rattle.pram_world.specs.declared.world.Runner.TheVariants as runner
 use Rattle.pram_world.specs.Worlds.{Body, walks, stopped, number, WorldData, Walks}
 
 abbrev pub Fitting : JobData → LayoutData → Walking → Type 0
-Fitting = FitsWell
+Fitting = Fits
 
 -- The words stand, and bear out one record of all steps, which knows every worker; each body has the number of a worker.
 pub record Holds (s : WorldData) (made : Record) : Type 0 where
@@ -34,7 +34,7 @@ world_of job y words runners = record { job = job; layout = y; words = words; bo
 
 -- the bodies keep their stages
 abbrev pub AllServe : JobData → LayoutData → List Runner → Type 0
-AllServe job y runners = (b : ℕ) (k : Kept) → slice_get runners b ≡ Some (runner.Walks k) → Serves job y k
+AllServe job y runners = (b : ℕ) (k : WorkerData) → slice_get runners b ≡ Some (runner.Walks k) → Serves job y k
 
 pub record IsWorld (job : JobData) (y : LayoutData) (words : List ℕ) (runners : List Runner) : Type 0 where
   pub made : Record

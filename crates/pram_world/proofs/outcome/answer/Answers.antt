@@ -1,5 +1,5 @@
-use Rattle.std.proofs.Common.{◌≡◌, ◌≢◌, ◌*◌, ◌/◌, ◌≤◌, ◌<◌, subst, sym, ap, ◌∙◌, arith}
-use Rattle.pram_step.specs.Runs.{IsReached}
+use Rattle.std.proofs.Common.{◌≡◌, ◌≢◌, ◌*◌, ◌/◌, ◌≤◌, ◌<◌, subst, refl, sym, ap, ◌∙◌, arith}
+use Rattle.pram_step.specs.Runs.{IsReached, state_after}
 use Rattle.lawful_words.specs.Board.{conflict, root}
 use Rattle.pram_world.proofs.Answering.{root_most, finished_clear, finished_last}
 use Rattle.pram_world.proofs.outcome.answer.Goals as goal
@@ -17,7 +17,7 @@ pub returns-in_ok-cells : goal.returns-in_ok-cells
 returns-in_ok-cells c =
     let none : conflict c.args.layout.now c.args.words.now ≡ 0 = sym c.glance-named.ensures.conflict ∙ c.if-named-ne0.false in
     let full : root c.args.layout.now c.args.words.now ≡ 3 * c.args.job.now.steps = omega (arith, c.glance-named.ensures.root, c.if-root-from.true, c.steps.ensures.value, c.from.ensures) in
-    (none, full, (finished_last c.args.job.now c.args.layout.now c.args.words.now c.requires none full, c.in_ok-cells.ensures))
+    (none, full, (state_after c.args.job.now c.args.job.now.steps, record { reached = finished_last c.args.job.now c.args.layout.now c.args.words.now c.requires none full; state = refl }, c.in_ok-cells.ensures))
 
 pub returns-else-root-from : goal.returns-else-root-from
 returns-else-root-from c =

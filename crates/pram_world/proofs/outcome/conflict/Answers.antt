@@ -1,14 +1,14 @@
 use Rattle.std.proofs.Common.{◌≡◌, ◌≤◌, ◌<◌, ◌^◌, List, Option, subst, sym, ap, ◌∙◌, arith, MatchOption, None, Some}
 use Rattle.pram_step.specs.declared.answer.Dispute.{Dispute}
 use Rattle.pram_step.specs.declared.requests.Request.{Request}
-use Rattle.pram_step.specs.Steps.{Agrees, IsDispute}
+use Rattle.pram_step.specs.Steps.{Agrees, IsDispute, IsVerdict}
 use Rattle.lawful_words.specs.Board.{conflict}
 use Rattle.pram_world.proofs.Answering.{is_answer, not_agrees, conflict_most}
 use Rattle.pram_world.proofs.outcome.conflict.Goals as goal
 
 pub unreachable-requires : goal.unreachable-requires
 unreachable-requires c =
-    let agrees : Agrees c.args.job.now c.as_slice.result.now = subst (λ (o : Option Dispute). MatchOption o (Agrees c.args.job.now c.as_slice.result.now) (IsDispute c.args.job.now c.as_slice.result.now)) c.in_default.is c.in_ok-found.ensures in
+    let agrees : Agrees c.args.job.now c.as_slice.result.now = subst (λ (o : Option Dispute). IsVerdict c.args.job.now c.as_slice.result.now o) c.in_default.is c.in_ok-found.ensures in
     not_agrees c.args.job.now c.args.layout.now c.args.words.now c.in_ok-requests.requests.items c.requires.stands c.requires.some c.in_ok-requests.ensures.are (subst (Agrees c.args.job.now) c.as_slice.ensures.value agrees)
 
 pub overflow_cast-result : goal.overflow_cast-result
@@ -19,6 +19,6 @@ overflow_cast-result c =
 
 pub returns : goal.returns
 returns c =
-    let dispute : IsDispute c.args.job.now c.as_slice.result.now c.in-Some.found = subst (λ (o : Option Dispute). MatchOption o (Agrees c.args.job.now c.as_slice.result.now) (IsDispute c.args.job.now c.as_slice.result.now)) c.in-Some.is c.in_ok-found.ensures in
+    let dispute : IsDispute c.args.job.now c.as_slice.result.now c.in-Some.found = subst (λ (o : Option Dispute). IsVerdict c.args.job.now c.as_slice.result.now o) c.in-Some.is c.in_ok-found.ensures in
     is_answer c.args.job.now c.args.layout.now c.args.words.now c.in_ok-requests.requests.items c.in-Some.found _ c.requires.stands c.requires.some c.in_ok-requests.ensures.are
     (subst (λ (rs : List Request). IsDispute c.args.job.now rs c.in-Some.found) c.as_slice.ensures.value dispute) c.glance-named.ensures.conflict
