@@ -2,6 +2,7 @@
 use Rattle.std.proofs.Common.{◌≡◌, ◌≢◌, ◌⊎◌, ℕ, zero, suc, ◌+◌, ◌^◌, ◌<◌, ◌≤◌, Bool, true, false, if◌then◌else◌, List, [], ◌∷◌, ◌++◌, slice_get, Option, Some, None, refl, sym, ap, subst, ◌∙◌, inl, inr, arith}
 use Rattle.std.proofs.lemmas.Bool.{cases_Bool, cases_lt}
 use Rattle.pram_text.specs.Job.{JobData, IsJob}
+use Rattle.pram_words.specs.declared.layout.Form.TheVariants.{Compact}
 use Rattle.pram_words.specs.Words.{LayoutData, layout_of}
 use Rattle.stop_plan.specs.Schedule.{after_turns, after_rounds}
 use Rattle.walkx.specs.Bound.{most_steps}
@@ -115,7 +116,7 @@ module _ (job : JobData) (workers : ℕ) where
       (subst (λ (xs : List Event). Tracks (After xs) b (n + 1)) (sym (rounds_more job workers n es)) next)
 
   -- so there are fewer rounds than the own-step bound before one in which some worker goes
-  pub rounds_fewer : (b n : ℕ) (es : List Event) → IsJob job → 1 ≤ workers → workers ≤ 64 → b < workers → running job workers (after_rounds world_events (running job workers) workers n es) b ≡ true → n < most_steps job (layout_of job workers)
+  pub rounds_fewer : (b n : ℕ) (es : List Event) → IsJob job → 1 ≤ workers → workers ≤ 64 → b < workers → running job workers (after_rounds world_events (running job workers) workers n es) b ≡ true → n < most_steps job (layout_of job Compact workers)
   rounds_fewer b n es limits some most below runs =
       let h : Held (After es) = run_holds (start job workers) es (record { made = empty; holds = holds_start job workers limits some most }) in
       let all = after_rounds world_events (running job workers) workers n es in
@@ -125,5 +126,5 @@ module _ (job : JobData) (workers : ℕ) where
       subst (λ (y : LayoutData). n < most_steps job y) board.1 (subst (λ (j : JobData). n < most_steps j (After all).layout) board.0 less)
 
   -- the bound fits 64 bits
-  pub rounds_small : IsJob job → 1 ≤ workers → workers ≤ 64 → most_steps job (layout_of job workers) < 2 ^ 63
-  rounds_small limits some most = bound_small job (layout_of job workers) (start job workers).words (holds_start job workers limits some most).stands
+  pub rounds_small : IsJob job → 1 ≤ workers → workers ≤ 64 → most_steps job (layout_of job Compact workers) < 2 ^ 63
+  rounds_small limits some most = bound_small job (layout_of job Compact workers) (start job workers).words (holds_start job workers limits some most).stands

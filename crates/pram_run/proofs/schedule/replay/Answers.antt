@@ -1,5 +1,6 @@
 use Rattle.std.proofs.Common.{◌≡◌, ◌<◌, ◌≤◌, ◌+◌, ◌^◌, ℕ, List, true, false, ◌++◌, get_or, take, length, refl, sym, subst, ap, ◌∙◌, arith}
 use Rattle.std.proofs.lemmas.List.{take_all}
+use Rattle.pram_words.specs.declared.layout.Form.TheVariants.{Compact}
 use Rattle.pram_words.specs.Words.{layout_of}
 use Rattle.stop_plan.specs.declared.plan.Row.{Row}
 use Rattle.stop_plan.specs.declared.plan.Act.TheVariants.{Go as GoOn}
@@ -43,7 +44,7 @@ loop-world-init c = record {
 }
 
 -- in a round that is made some worker goes
-fewer : (c : goal.In_ok-make_round) → c.loop-world.rounds < most_steps c.args.job.now (layout_of c.args.job.now c.args.workers)
+fewer : (c : goal.In_ok-make_round) → c.loop-world.rounds < most_steps c.args.job.now (layout_of c.args.job.now Compact c.args.workers)
 fewer c =
     let some = c.some_goes.ensures.some c.loop-world-test.true in
     let runs : running c.args.job.now c.args.workers (after_rounds world_events (running c.args.job.now c.args.workers) c.args.workers c.loop-world.rounds (events_of_rows world_events c.args.plan.now.rows)) some.0 ≡ true =
