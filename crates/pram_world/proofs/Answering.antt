@@ -1,5 +1,5 @@
 -- What the words of a board tell of its job.
-use Rattle.std.proofs.Common.{◌≡◌, ◌≢◌, ◌⊎◌, ℕ, zero, suc, ◌+◌, ◌-◌, ◌*◌, ◌/◌, ◌<◌, ◌≤◌, ◌==◌, if◌then◌else◌, List, [], ◌∷◌, ◌++◌, length, map, take, slice_index, Option, Some, None, refl, sym, ap, ap₂, subst, ◌∙◌, lit<, inl, inr, arith}
+use Rattle.std.proofs.Common.{◌≡◌, ◌≢◌, ℕ, zero, suc, ◌+◌, ◌-◌, ◌*◌, ◌/◌, ◌<◌, ◌≤◌, ◌==◌, if◌then◌else◌, List, [], ◌∷◌, ◌++◌, map, take, slice_index, Option, Some, None, refl, sym, ap, ap₂, subst, ◌∙◌, lit<, arith}
 use Rattle.std.proofs.lemmas.Bool.{cond_both, eqb-true}
 use Rattle.std.proofs.lemmas.List.{take_more}
 use Rattle.std.proofs.lemmas.List.FromFn.{map-range_with_len_more}
@@ -7,21 +7,19 @@ use Rattle.std.specs.List.{range_with_len}
 use Rattle.pram_text.specs.Job.{JobData}
 use Rattle.pram_step.proofs.LawFixed.{length-state_after}
 use Rattle.pram_step.specs.declared.answer.Dispute.{Dispute}
-use Rattle.pram_step.specs.declared.answer.Fault.{Fault}
 use Rattle.pram_step.specs.declared.answer.RunAnswer.TheVariants.{Conflict as Disputed}
 use Rattle.pram_step.specs.declared.requests.Request.{Request}
 use Rattle.pram_step.specs.History.{part_after}
 use Rattle.pram_step.specs.Instructions.{place_part, value_part, request_in, requests_in}
 use Rattle.pram_step.specs.Runs.{IsAnswer, IsFirstConflict, IsReached, requests_after, state_after}
 use Rattle.pram_step.specs.Steps.{Agrees, IsDispute}
-use Rattle.pram_words.specs.declared.words.Word.TheVariants.{Conflict, Node, Asked, Stored}
+use Rattle.pram_words.specs.declared.words.Word.TheVariants.{Conflict, Asked, Stored}
 use Rattle.pram_words.specs.Stamps.{stamp_of, payload_of}
-use Rattle.pram_words.specs.Words.{LayoutData, IsLayout, length_of, number_of, places_of}
+use Rattle.pram_words.specs.Words.{LayoutData, places_of}
 use Rattle.walkx.specs.Requests.{heard_request}
 use Rattle.walkx.specs.Tasks.{newer_payload}
 use Rattle.lawful_words.specs.Board.{Stands, held, root, conflict, finished}
 use Rattle.lawful_words.proofs.Facts.{facts}
-use Rattle.lawful_words.proofs.Values.{fin}
 
 -- ---- the board's sizes
 

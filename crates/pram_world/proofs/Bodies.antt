@@ -1,5 +1,5 @@
 -- What the code does to its bodies is what the definitions say.
-use Rattle.std.proofs.Common.{◌≡◌, ℕ, zero, suc, ◌+◌, ◌<◌, ◌≤◌, List, [], ◌∷◌, ◌++◌, length, map, slice_get, slice_index, slice_set, None, Some, refl, sym, ap, ap₂, subst, ◌∙◌, inl, inr, arith}
+use Rattle.std.proofs.Common.{◌≡◌, ℕ, zero, suc, ◌+◌, ◌<◌, ◌≤◌, List, [], ◌∷◌, ◌++◌, length, map, slice_get, slice_set, None, Some, refl, sym, ap, ap₂, subst, ◌∙◌, inl, inr, arith}
 use Rattle.std.proofs.lemmas.List.{map-append, map-set}
 use Rattle.std.proofs.lemmas.List.FromFn.{map-range_with_len_more}
 use Rattle.std.proofs.lemmas.Option.{slice_get-map, slice_get_past}
@@ -20,9 +20,9 @@ use Rattle.pram_world.specs.declared.event.Event.TheVariants.{Go, Stop, Back}
 use Rattle.pram_world.specs.declared.world.Runner.{Runner}
 use Rattle.pram_world.specs.declared.world.Runner.TheVariants as runner
 use Rattle.pram_world.specs.Inner.Holding.{Holds, IsWorld, AllServe, body_of, world_of}
-use Rattle.pram_world.specs.Worlds.{Body, walks, stopped, number, WorldData, start, twinned, went, replaced, happens, shown, shown_by, effect_of, nothing, Walks}
+use Rattle.pram_world.specs.Worlds.{Body, walks, stopped, number, WorldData, start, twinned, went, replaced, happens, shown, shown_by, effect_of, nothing}
 use Rattle.pram_world.proofs.Cited.{hears_admitted}
-use Rattle.pram_world.proofs.Keeping.{Held, holds_start, holds_step, holds_replaced, holds_twinned, stopped_known, started_known, back_known, get_set, get_push}
+use Rattle.pram_world.proofs.Keeping.{holds_start, holds_step, holds_replaced, holds_twinned, stopped_known, back_known, get_set, get_push}
 
 -- a body as contracts see it
 pub body_at : (runners : List Runner) (b : ℕ) (r : Runner) → slice_get runners b ≡ Some r → slice_get (map body_of runners) b ≡ Some (body_of r)

@@ -1,6 +1,6 @@
 -- What the worlds' lemmas rest on, of the walk and of lawful words.
-use Rattle.std.proofs.Common.{◌≡◌, ◌≢◌, ℕ, ◌+◌, ◌*◌, ◌<◌, ◌≤◌, List, [], ◌∷◌, length, slice_index, None, inl, refl, sym, subst, ◌∙◌, arith}
-use Rattle.pram_text.specs.Job.{JobData, IsJob}
+use Rattle.std.proofs.Common.{◌≡◌, ◌≢◌, ℕ, ◌*◌, ◌<◌, ◌≤◌, List, [], ◌∷◌, length, slice_index, None, sym, subst, ◌∙◌, arith}
+use Rattle.pram_text.specs.Job.{JobData}
 use Rattle.pram_words.specs.Words.{LayoutData, IsInRange, Admits, length_of, number_of, word_at}
 use Rattle.pram_words.proofs.Numbering.{numbering}
 use Rattle.walkx.proofs.Asking.{all_ask}
@@ -16,9 +16,9 @@ use Rattle.walkx.specs.Doing.{Doing}
 use Rattle.walkx.specs.Doing as doing
 use Rattle.walkx.specs.Scripts.{behind}
 use Rattle.walkx.specs.Bound.{told_all, history_of, most_steps}
-use Rattle.walkx.specs.Operations.{words_after, answer}
-use Rattle.walkx.specs.Records.{Record, empty, after, Has, Knows}
-use Rattle.walkx.specs.Walk.{Walking, Fits, IsBoard, IsGoing, AsksAdmitted, HearsAdmitted, ask_of, told, rest_of, end_of, heard_of, started, come_back}
+use Rattle.walkx.specs.Operations.{answer}
+use Rattle.walkx.specs.Records.{Record, after, Has, Knows}
+use Rattle.walkx.specs.Walk.{Walking, IsBoard, IsGoing, AsksAdmitted, HearsAdmitted, ask_of, told, rest_of, end_of, heard_of, started, come_back}
 use Rattle.lawful_words.specs.Board.{Stands, root, conflict}
 use Rattle.lawful_words.specs.Moments.{Backed}
 use Rattle.lawful_words.specs.Walks.{Moves}

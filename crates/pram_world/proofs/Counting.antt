@@ -1,5 +1,5 @@
 -- How many steps a body has made: fewer than the bound while it is going.
-use Rattle.std.proofs.Common.{◌≡◌, ◌≢◌, ◌⊎◌, ℕ, zero, suc, ◌+◌, ◌<◌, ◌≤◌, ◌*◌, ◌^◌, List, [], ◌∷◌, length, slice_get, slice_set, Option, Some, None, true, refl, sym, ap, subst, ◌∙◌, inl, inr, mul-le-mul, arith}
+use Rattle.std.proofs.Common.{◌≡◌, ◌≢◌, ℕ, zero, suc, ◌+◌, ◌<◌, ◌≤◌, ◌*◌, ◌^◌, List, [], ◌∷◌, length, slice_get, slice_set, Option, Some, None, true, refl, sym, ap, subst, ◌∙◌, inl, inr, mul-le-mul, arith}
 use Rattle.std.proofs.lemmas.Bool.{cases_lt}
 use Rattle.std.specs.Option.{is_none}
 use Rattle.pram_text.specs.Job.{JobData}
@@ -15,7 +15,7 @@ use Rattle.pram_world.specs.Ends.{steps_of}
 use Rattle.pram_world.specs.Inner.Holding.{Fitting, Holds}
 use Rattle.pram_world.specs.Worlds.{Body, walks, stopped, WorldData, Walks, going, goes, went, replaced, happens}
 use Rattle.pram_world.proofs.Cited.{has_on, own_steps}
-use Rattle.pram_world.proofs.Keeping.{Held, holds_step, same_walking}
+use Rattle.pram_world.proofs.Keeping.{Held, holds_step}
 
 -- a body that is going is a worker that is not over
 pub record IsGoing (s : WorldData) (b : ℕ) : Type 0 where

@@ -1,5 +1,5 @@
 -- Bodies that are not going: they stay, and one that is over tells how the job ended.
-use Rattle.std.proofs.Common.{◌≡◌, ◌≢◌, ◌⊎◌, ℕ, ◌*◌, ◌≤◌, false, List, slice_get, slice_set, Option, Some, None, refl, sym, ap, ap₂, ◌∙◌, inl, inr, arith}
+use Rattle.std.proofs.Common.{◌≡◌, ◌≢◌, ◌⊎◌, ℕ, ◌*◌, false, List, slice_get, slice_set, Option, Some, None, refl, sym, ap, ap₂, ◌∙◌, inl, inr, arith}
 use Rattle.std.specs.Option.{is_none}
 use Rattle.pram_text.specs.Job.{JobData}
 use Rattle.pram_words.specs.Words.{LayoutData}

@@ -1,4 +1,4 @@
-use Rattle.std.proofs.Common.{◌≡◌, ◌≢◌, ◌*◌, ◌/◌, ◌≤◌, ◌<◌, subst, refl, sym, ap, ◌∙◌, arith}
+use Rattle.std.proofs.Common.{◌≡◌, ◌*◌, ◌/◌, subst, refl, sym, ap, ◌∙◌, arith}
 use Rattle.pram_step.specs.Runs.{IsReached, state_after}
 use Rattle.lawful_words.specs.Board.{conflict, root}
 use Rattle.pram_world.proofs.Answering.{root_most, finished_clear, finished_last}

@@ -1,8 +1,7 @@
-use Rattle.std.proofs.Common.{◌≡◌, ◌≤◌, ◌<◌, ◌^◌, List, Option, subst, sym, ap, ◌∙◌, arith, MatchOption, None, Some}
+use Rattle.std.proofs.Common.{List, Option, subst, arith}
 use Rattle.pram_step.specs.declared.answer.Dispute.{Dispute}
 use Rattle.pram_step.specs.declared.requests.Request.{Request}
 use Rattle.pram_step.specs.Steps.{Agrees, IsDispute, IsVerdict}
-use Rattle.lawful_words.specs.Board.{conflict}
 use Rattle.pram_world.proofs.Answering.{is_answer, not_agrees, conflict_most}
 use Rattle.pram_world.proofs.outcome.conflict.Goals as goal
 

@@ -1,8 +1,8 @@
-use Rattle.std.proofs.Common.{sym, subst, ◌∙◌}
+use Rattle.std.proofs.Common.{sym, subst}
 use Rattle.lawful_words.specs.Board.{Stands}
 use Rattle.pram_world.specs.declared.event.Event.{Event}
 use Rattle.pram_world.specs.declared.event.Event.TheVariants.{Go, Stop, Back}
-use Rattle.pram_world.specs.Worlds.{WorldData, happens, StaleChangesNothing}
+use Rattle.pram_world.specs.Worlds.{WorldData, StaleChangesNothing}
 use Rattle.pram_world.proofs.Keeping.{Held, happens_holds, stale_changes_nothing}
 use Rattle.pram_world.proofs.world.World.event.Goals as goal
 

@@ -1,8 +1,7 @@
-use Rattle.std.proofs.Common.{◌≡◌, ℕ, Some, slice_get, rules, sym, ap, ◌∙◌, subst}
+use Rattle.std.proofs.Common.{◌≡◌, Some, slice_get, rules, ap, ◌∙◌}
 use Rattle.std.proofs.lemmas.Option.{slice_get_read}
 use Rattle.walkx.specs.Operations.{answer}
-use Rattle.walkx.specs.Walk.{ask_of, told}
-use Rattle.pram_world.specs.declared.world.Runner.TheVariants as runner
+use Rattle.walkx.specs.Walk.{told}
 use Rattle.pram_world.specs.declared.event.Event.TheVariants.{Go}
 use Rattle.pram_world.specs.Worlds.{WorldData, happens, shown}
 use Rattle.pram_world.proofs.Bodies.{Stepped, step_world, step_shown, step_keeps, serves_at, hears_at, still_world, still_shown}

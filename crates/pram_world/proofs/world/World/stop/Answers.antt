@@ -1,8 +1,8 @@
 use Rattle.std.proofs.Common.{◌≡◌, Some, slice_get, length, ◌≤◌, ◌<◌, rules, sym, ap, ◌∙◌, subst, arith}
 use Rattle.std.proofs.lemmas.Option.{slice_get_read}
 use Rattle.pram_world.specs.declared.event.Event.TheVariants.{Stop}
-use Rattle.pram_world.specs.Worlds.{WorldData, number, stopped, happens, replaced}
-use Rattle.pram_world.specs.Inner.Holding.{body_of, world_of}
+use Rattle.pram_world.specs.Worlds.{WorldData, stopped, happens, replaced}
+use Rattle.pram_world.specs.Inner.Holding.{world_of}
 use Rattle.pram_world.proofs.Bodies.{number_below, stop_keeps, stop_world, no_body}
 use Rattle.pram_world.proofs.world.World.stop.Goals as goal
 
