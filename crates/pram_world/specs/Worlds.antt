@@ -1,5 +1,5 @@
 -- The model world: words, bodies that walk on them, and events.
-use Rattle.std.specs.Prelude.{◌≡◌, ◌≢◌, ℕ, ◌≤◌, Bool, false, List, [], ◌∷◌, ◌++◌, map, slice_get, slice_index, slice_set, Option, Some, None}
+use Rattle.std.specs.Prelude.{◌≡◌, ◌≢◌, ℕ, ◌≤◌, Bool, false, List, [], ◌∷◌, ◌++◌, length, map, take, slice_get, slice_index, slice_set, Option, Some, None}
 use Rattle.std.specs.List.{range_with_len}
 use Rattle.std.specs.Option.{is_none}
 use Rattle.pram_text.specs.Job.{JobData}
@@ -12,7 +12,7 @@ use Rattle.walkx.specs.declared.operation.Op.{Op}
 use Rattle.walkx.specs.declared.operation.Op.TheVariants.{Load, Store, Max, Swap, Over}
 use Rattle.walkx.specs.Operations.{words_after, answer}
 use Rattle.walkx.specs.Walk.{Walking, ask_of, told, end_of, started, come_back}
-use Rattle.lawful_words.specs.Board.{held, root}
+use Rattle.lawful_words.specs.Board.{Stands, held, root}
 use Rattle.lawful_words.specs.Walks.{phase_now}
 use Rattle.pram_world.specs.declared.event.Effect.{Effect}
 use Rattle.pram_world.specs.declared.event.Event.{Event}
@@ -46,6 +46,10 @@ start job workers = record {
 abbrev pub twinned : WorldData → ℕ → WorldData
 twinned s w = record s { bodies = s.bodies ++ walks (started w) ∷ [] }
 
+-- b is the body that was added
+abbrev pub IsTwinned : WorldData → ℕ → ℕ → WorldData → Type 0
+IsTwinned s w b now = (b ≡ length s.bodies) × (now ≡ twinned s w)
+
 -- ---- what happens
 
 -- The body's next operation is made, and it hears the answer. One that is over asks for nothing, and hears nothing.
@@ -70,6 +74,14 @@ happens s (Back b) = replaced s b (λ n. walks (come_back n)) (slice_get s.bodie
 abbrev pub run : WorldData → List Event → WorldData
 run s [] = s
 run s (e ∷ es) = run (happens s e) es
+
+-- the words stand: they are admitted and lawful
+abbrev pub IsLawful : WorldData → Type 0
+IsLawful s = Stands s.job s.layout s.words
+
+-- so they do between the events
+abbrev pub IsLawfulThroughout : WorldData → List Event → Type 0
+IsLawfulThroughout s events = (k : ℕ) → IsLawful (run s (take k events))
 
 -- ---- what an event shows
 

@@ -12,7 +12,8 @@ pub enum Event {
     Back(usize),
 }
 
-/// The atomic step that was made, with the whole word before it and after it; no step, 0 and 0 where none was made.
+/// The atomic step that was made, with the whole word before it and after it; no step, 0 and 0
+/// where none was made.
 #[derive(Clone, Copy, Debug, PartialEq, Eq)]
 pub struct Effect {
     pub op: Option<Op>,

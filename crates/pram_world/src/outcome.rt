@@ -1,11 +1,11 @@
 //! What the words of a board answer.
-ghost use Rattle.std.specs.Prelude.{◌≡◌, ◌≢◌, ℕ, suc, ◌*◌, ◌<◌, length, take, IfOk};
-ghost use Rattle.pram_step.specs.Runs.{IsAnswer, requests_after, state_after};
+ghost use Rattle.std.specs.Prelude.{◌≡◌, ◌≢◌, ◌*◌, ◌<◌, length, IfOk};
+ghost use Rattle.pram_step.specs.Runs.{IsAnswer};
 ghost use Rattle.pram_step.specs.declared.answer.RunAnswer.TheVariants.{Conflict as Disputed};
 ghost use Rattle.pram_words.specs.Words.{length_of, places_of};
-ghost use Rattle.pram_words.specs.declared.words.Word.TheVariants.{Asked, Stored};
-ghost use Rattle.walkx.specs.Tasks.{newer_payload};
+ghost use Rattle.pram_words.specs.declared.words.Word.TheVariants.{Asked};
 ghost use Rattle.lawful_words.specs.Board.{Stands, conflict as conflict_in, held, root};
+ghost use Rattle.pram_world.specs.Inner.Telling.{AreNamed, last_cells, newest_of};
 ghost use Rattle.pram_world.specs.Outcomes.{IsTold};
 
 use pram_step::{Cells, Fault, Request, RunAnswer, dispute};
@@ -40,7 +40,7 @@ fn cells(alloc: Global, job: &Job, layout: &Layout, words: &[u64]) -> Result<Cel
     requires stands { Stands job.now layout.now words.now }
     requires clear { conflict_in layout.now words.now ≡ 0 }
     requires done { root layout.now words.now ≡ 3 * job.now.steps }
-    ensures { IfOk result (λ cells. cells ≡ take job.now.cells (state_after job.now job.now.steps)) }
+    ensures { IfOk result (λ cells. cells ≡ last_cells job.now) }
 {
     let mut values = Vec::with_capacity(alloc, job.cells() as usize)?;
     for cell in 0..job.cells() {
@@ -53,7 +53,7 @@ fn cells(alloc: Global, job: &Job, layout: &Layout, words: &[u64]) -> Result<Cel
 fn newest(layout: &Layout, words: &[u64], place: u32) -> u32
     requires words { length words.now ≡ length_of layout.now }
     requires place { place < places_of layout.now }
-    ensures { result ≡ newer_payload (held layout.now words.now (Stored place 0)) (held layout.now words.now (Stored place 1)) }
+    ensures { result ≡ newest_of layout.now words.now place }
 {
     let word = layout.place_word(place);
     let first = words[word as usize];
@@ -93,7 +93,7 @@ fn requests(
 ) -> Result<Vec<Request>, AllocError>
     requires { Stands job.now layout.now words.now }
     ensures each { IfOk result (λ requests. length requests.items ≡ job.now.procs) }
-    ensures are { IfOk result (λ requests. (s : ℕ) → conflict_in layout.now words.now ≡ suc s → requests.items ≡ requests_after job.now s) }
+    ensures are { IfOk result (λ requests. AreNamed job.now layout.now words.now requests.items) }
 {
     let mut requests = Vec::with_capacity(alloc, job.procs() as usize)?;
     for i in 0..job.procs() {

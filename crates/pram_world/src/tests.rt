@@ -9,8 +9,8 @@ use std::process::Abort;
 use std::test::Fail;
 use walkx::{Ended, Op};
 
-const SWAP: &str =
-    "pram 1\ncells 2\nprocs 2\nsteps 5\ninit 0 7\ninit 1 9\ncode\npid r0\nset r1 1\nsub r1 r1 r0\nld r2 r1\nst r0 r2\n";
+const SWAP: &str = "pram 1\ncells 2\nprocs 2\nsteps 5\ninit 0 7\ninit 1 9\ncode\n\
+    pid r0\nset r1 1\nsub r1 r1 r0\nld r2 r1\nst r0 r2\n";
 
 // A world of two workers.
 fn world(rt: &impl AllocGlobal, text: &str) -> Result<World, Fail>

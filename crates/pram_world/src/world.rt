@@ -1,18 +1,15 @@
 //! The world.
-ghost use Rattle.std.specs.Prelude.{◌≡◌, ℕ, ◌<◌, ◌≤◌, List, IfOk, IfErr, IsTrue, ◌↔◌, length, map, slice_get, slice_index, take};
-ghost use Rattle.std.specs.List.{range_with_len};
+ghost use Rattle.std.specs.Prelude.{◌≡◌, ℕ, ◌<◌, ◌≤◌, IfOk, IfErr, length, slice_index};
 ghost use Rattle.pram_words.specs.Start.{start_words as first_words};
-ghost use Rattle.pram_words.specs.Words.{LayoutData, length_of};
-ghost use Rattle.walkx.specs.Operations.{words_after, answer as answer_of};
-ghost use Rattle.walkx.specs.declared.operation.Op.{Op};
-ghost use Rattle.walkx.specs.Walk.{started};
-ghost use Rattle.pram_text.specs.Job.{JobData};
-ghost use Rattle.lawful_words.specs.Board.{Stands};
+ghost use Rattle.pram_words.specs.Words.{length_of};
+ghost use Rattle.walkx.specs.Operations.{words_after};
 ghost use Rattle.pram_world.specs.declared.event.Event.TheVariants.{Go, Stop, Back};
 ghost use Rattle.pram_world.specs.Ends.{Finishes, end_in};
-ghost use Rattle.pram_world.specs.Inner.Holding.{AllServe, IsOnBoard, body_of};
+ghost use Rattle.pram_world.specs.Inner.Holding.{AreStarted, IsHeard, IsOnBoard, body_of};
 ghost use Rattle.pram_world.specs.Outcomes.{IsOutcome};
-ghost use Rattle.pram_world.specs.Worlds.{StaleChangesNothing, effect_of, going, happens, number as number_of, nothing, run, shown, start, twinned, walks};
+ghost use Rattle.pram_world.specs.Worlds.{IsLawful, IsLawfulThroughout, IsTwinned};
+ghost use Rattle.pram_world.specs.Worlds.{StaleChangesNothing, effect_of, going, happens};
+ghost use Rattle.pram_world.specs.Worlds.{number as number_of, run, shown, start};
 
 use crate::event::{Effect, Event};
 use crate::outcome::answer;
@@ -30,7 +27,8 @@ pub enum Runner {
     Stopped(u32),
 }
 
-/// Words, and bodies that walk on them: any number of workers in any order, one atomic step at a time.
+/// Words, and bodies that walk on them: any number of workers in any order, one atomic step at a
+/// time.
 #[derive(Drop)]
 pub struct World {
     alloc: Global,
@@ -58,7 +56,8 @@ const NOTHING: Effect = Effect {
 };
 
 impl World {
-    /// A world with the words of the start and so many bodies, each the worker of its number, newly started.
+    /// A world with the words of the start and so many bodies, each the worker of its number, newly
+    /// started. It takes memory for the words and the bodies, and for a copy of the job.
     pub fn new(alloc: Global, job: &Job, workers: u32) -> Result<World, AllocError>
         requires some { 1 ≤ workers }
         requires most { workers ≤ 64 }
@@ -80,7 +79,7 @@ impl World {
     /// Adds a body that is worker w newly started, and gives its number.
     pub fn twin(&mut self, w: u32) -> Result<usize, AllocError>
         requires { w < self.old.layout.workers }
-        ensures added { IfOk result (λ b. (b ≡ length self.old.bodies) × (self.new ≡ twinned self.old w)) }
+        ensures added { IfOk result (λ b. IsTwinned self.old w b self.new) }
         ensures refused { IfErr result (λ _. self.new ≡ self.old) }
     {
         let number = self.bodies.len();
@@ -92,7 +91,7 @@ impl World {
     pub fn event(&mut self, event: Event) -> Effect
         ensures world { self.new ≡ happens self.old event }
         ensures effect { result ≡ shown self.old event }
-        ensures lawful { Stands self.new.job self.new.layout self.new.words }
+        ensures lawful { IsLawful self.new }
         ensures stale { StaleChangesNothing self.old event self.new }
     {
         let _ = &self.words;
@@ -112,7 +111,7 @@ impl World {
     /// One event after the other.
     pub fn run_events(&mut self, events: &[Event])
         ensures world { self.new ≡ run self.old events.now }
-        ensures lawful { (k : ℕ) → let now = run self.old (take k events.now) in Stands now.job now.layout now.words }
+        ensures lawful { IsLawfulThroughout self.old events.now }
     {
         let _ = &self.words;
         for event in events {
@@ -138,14 +137,16 @@ impl World {
         }
     }
 
-    /// The conflict that word 0 names, or the cells once the root shows the last step, or the number of finished steps.
+    /// The conflict that word 0 names, or the cells once the root shows the last step, or the
+    /// number of finished steps.
     pub fn outcome(&self) -> Result<RunAnswer, AllocError>
         ensures { IfOk result (IsOutcome self.now) }
     {
         answer(self.alloc, &self.job, &self.layout, self.words.as_slice())
     }
 
-    /// Lets this body make atomic steps until it is over, and gives its end; `None` where no body has the number, or it is stopped.
+    /// Lets this body make atomic steps until it is over, and gives its end; `None` where no body
+    /// has the number, or it is stopped. It takes no memory.
     pub fn finish(&mut self, b: usize) -> Option<Ended>
         ensures { Finishes self.old b self.new result }
     {
@@ -260,7 +261,7 @@ fn shows(op: Op, before: u64, after: u64) -> Effect
 
 // What a worker hears of its step.
 fn heard(effect: Effect) -> u64
-    ensures { (words : List ℕ) (op : Op) → effect ≡ effect_of words op → result ≡ answer_of words op }
+    ensures { IsHeard effect result }
 {
     match effect.op {
         None | Some(Op::Store(_, _)) => 0,
@@ -282,8 +283,7 @@ fn start_words(alloc: Global, job: &Job, layout: &Layout) -> Result<Vec<u64>, Al
 
 // So many workers, newly started.
 fn start_bodies(alloc: Global, workers: u32) -> Result<Vec<Runner>, AllocError>
-    ensures bodies { IfOk result (λ bodies. map body_of bodies.items ≡ map (λ w. walks (started w)) (range_with_len 0 workers)) }
-    ensures serve { IfOk result (λ bodies. (job : JobData) (y : LayoutData) → workers ≤ y.workers → AllServe job y bodies.items) }
+    ensures { IfOk result (λ bodies. AreStarted workers bodies.items) }
 {
     let mut bodies = Vec::with_capacity(alloc, workers as usize)?;
     for w in 0..workers {

@@ -1,18 +1,21 @@
 -- What holds of a world between any two events.
-use Rattle.std.specs.Prelude.{◌≡◌, ℕ, ◌<◌, List, map, slice_get, Some}
+use Rattle.std.specs.Prelude.{◌≡◌, ℕ, ◌<◌, ◌≤◌, List, map, slice_get, Some}
+use Rattle.std.specs.List.{range_with_len}
 use Rattle.pram_text.specs.Job.{JobData}
 use Rattle.pram_words.specs.Words.{LayoutData}
 use Rattle.walkx.specs.declared.operation.Op.{Op}
 use Rattle.walkx.specs.declared.operation.Op.TheVariants.{Load, Store, Max, Swap, Over}
+use Rattle.walkx.specs.Operations.{answer}
 use Rattle.walkx.specs.Records.{Record, Knows}
 use Rattle.walkx.specs.Inner.Stages.{WorkerData}
 use Rattle.walkx.specs.Serving.{Serves}
-use Rattle.walkx.specs.Walk.{Walking, Fits}
+use Rattle.walkx.specs.Walk.{Walking, Fits, started}
 use Rattle.lawful_words.specs.Board.{Stands}
 use Rattle.lawful_words.specs.Moments.{Backed}
+use Rattle.pram_world.specs.declared.event.Effect.{Effect}
 use Rattle.pram_world.specs.declared.world.Runner.{Runner}
 use Rattle.pram_world.specs.declared.world.Runner.TheVariants as runner
-use Rattle.pram_world.specs.Worlds.{Body, walks, stopped, number, WorldData, Walks}
+use Rattle.pram_world.specs.Worlds.{Body, walks, stopped, number, WorldData, Walks, effect_of}
 
 abbrev pub Fitting : JobData → LayoutData → Walking → Type 0
 Fitting = Fits
@@ -48,3 +51,12 @@ IsOnBoard most (Store k value) = k < most
 IsOnBoard most (Max k value) = k < most
 IsOnBoard most (Swap k old new) = k < most
 IsOnBoard most (Over ended) = Unit {0}
+
+-- what a worker hears of a step that had this effect
+abbrev pub IsHeard : Effect → ℕ → Type 0
+IsHeard effect found = (words : List ℕ) (op : Op) → effect ≡ effect_of words op → found ≡ answer words op
+
+-- so many workers, newly started, on any board that has them
+pub record AreStarted (workers : ℕ) (runners : List Runner) : Type 0 where
+  pub bodies : map body_of runners ≡ map (λ w. walks (started w)) (range_with_len 0 workers)
+  pub serve : (job : JobData) (y : LayoutData) → workers ≤ y.workers → AllServe job y runners
