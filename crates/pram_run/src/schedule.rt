@@ -1,10 +1,9 @@
 //! A plan obeyed on one thread, over a world.
-ghost use Rattle.std.specs.Prelude.{◌≡◌, ℕ, ◌<◌, ◌≤◌, Bool, true, false, ◌++◌, ◌∷◌, [], IfOk, OnOk, IsTrue, ◌↔◌, replicate};
-ghost use Rattle.stop_plan.specs.Schedule.{after_turns, events_of_act};
-ghost use Rattle.pram_world.specs.declared.event.Event.TheVariants.{Go};
+ghost use Rattle.std.specs.Prelude.{◌≡◌, ℕ, ◌<◌, ◌≤◌, true, false, IfOk, OnOk, IsTrue};
 ghost use Rattle.pram_world.specs.Worlds.{going};
-ghost use Rattle.pram_run.specs.Inner.Progress.{Makes, turn};
-ghost use Rattle.pram_run.specs.Replays.{IsReplay, running, world_events};
+ghost use Rattle.pram_run.specs.Inner.Progress.{Makes, go_on, one_round, one_step, one_turn};
+ghost use Rattle.pram_run.specs.Inner.Progress.{row_events};
+ghost use Rattle.pram_run.specs.Replays.{IsReplay};
 
 use crate::trace::Trace;
 use pram_step::RunAnswer;
@@ -13,7 +12,8 @@ use pram_world::{Event, World};
 use std::alloc::{AllocError, Global};
 use stop_plan::{Act, Plan, Row};
 
-/// The outcome of a world of so many workers after the plan's schedule, and the atomic steps that were made.
+/// The outcome of a world of so many workers after the plan's schedule, and the atomic steps that
+/// were made. It costs constant time for an atomic step, and memory for a row of the trace.
 pub fn replay(
     alloc: Global,
     job: &Job,
@@ -42,7 +42,7 @@ pub fn replay(
 
 // Makes the events of a row.
 fn obey(world: &mut World, trace: &mut Trace, row: &Row) -> Result<(), AllocError>
-    ensures { OnOk result (Makes world.old trace.old world.new trace.new (λ job workers events. events ++ events_of_act world_events row.now.worker row.now.ticks row.now.act)) }
+    ensures { OnOk result (Makes world.old trace.old world.new trace.new (row_events row.now)) }
 {
     let body = row.worker as usize;
     match row.act {
@@ -60,7 +60,7 @@ fn obey(world: &mut World, trace: &mut Trace, row: &Row) -> Result<(), AllocErro
 
 // Makes up to so many steps of a worker.
 fn go(world: &mut World, trace: &mut Trace, worker: u32, ticks: u32) -> Result<(), AllocError>
-    ensures { OnOk result (Makes world.old trace.old world.new trace.new (λ job workers events. events ++ replicate ticks (Go worker))) }
+    ensures { OnOk result (Makes world.old trace.old world.new trace.new (go_on worker ticks)) }
 {
     for _ in 0..ticks {
         if !world.is_going(worker as usize) {
@@ -73,7 +73,7 @@ fn go(world: &mut World, trace: &mut Trace, worker: u32, ticks: u32) -> Result<(
 
 // One step of a worker.
 fn step(world: &mut World, trace: &mut Trace, worker: u32) -> Result<(), AllocError>
-    ensures { OnOk result (Makes world.old trace.old world.new trace.new (λ job workers events. events ++ Go worker ∷ [])) }
+    ensures { OnOk result (Makes world.old trace.old world.new trace.new (one_step worker)) }
 {
     let effect = world.event(Event::Go(worker as usize));
     trace.note(worker, effect)
@@ -81,7 +81,7 @@ fn step(world: &mut World, trace: &mut Trace, worker: u32) -> Result<(), AllocEr
 
 // One step of each worker that is neither stopped nor over.
 fn make_round(world: &mut World, trace: &mut Trace, workers: u32) -> Result<(), AllocError>
-    ensures { OnOk result (Makes world.old trace.old world.new trace.new (λ job of events. after_turns world_events (running job of) 0 workers events)) }
+    ensures { OnOk result (Makes world.old trace.old world.new trace.new (one_round workers)) }
 {
     for worker in 0..workers {
         take_turn(world, trace, worker)?;
@@ -91,7 +91,7 @@ fn make_round(world: &mut World, trace: &mut Trace, workers: u32) -> Result<(), 
 
 // One step of a worker that is neither stopped nor over.
 fn take_turn(world: &mut World, trace: &mut Trace, worker: u32) -> Result<(), AllocError>
-    ensures { OnOk result (Makes world.old trace.old world.new trace.new (λ job of events. turn job of worker events)) }
+    ensures { OnOk result (Makes world.old trace.old world.new trace.new (one_turn worker)) }
 {
     if world.is_going(worker as usize) {
         step(world, trace, worker)

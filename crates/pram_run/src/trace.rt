@@ -19,7 +19,8 @@ pub enum StepKind {
     Swap,
 }
 
-/// One atomic step: its worker, its kind, the number of its word, and the whole word before it and after it.
+/// One atomic step: its worker, its kind, the number of its word, and the whole word before it and
+/// after it.
 #[derive(Clone, Copy, Debug, PartialEq, Eq)]
 pub struct TraceRow {
     pub before: u64,
@@ -107,8 +108,8 @@ fn fault_of(error: Error) -> OutFault {
     }
 }
 
-/// Writes a trace with `csv`: a header, then one record for each atomic step, the ticks counted from 1. After a fault a
-/// beginning of it may stand written. It takes no memory.
+/// Writes a trace with `csv`: a header, then one record for each atomic step, the ticks counted
+/// from 1. After a fault a beginning of it may stand written. It takes no memory.
 pub fn write_trace<W: Write + Drop>(trace: &Trace, out: W) -> Result<W, OutFault> {
     let mut writer = Writer::from_writer(out);
     write_records(&mut writer, trace).map_err(fault_of)?;
