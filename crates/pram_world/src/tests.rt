@@ -147,6 +147,7 @@ fn events_and_effects(rt: HostRuntime) -> Result<(), Fail> {
         RunAnswer::Unfinished { step } => assert_eq!(rt; step, 0),
         _ => panic!(rt; "finished"),
     }
+    world.facts();
     laws::every_run_is_lawful();
     Ok(())
 }

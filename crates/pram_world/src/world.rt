@@ -137,6 +137,13 @@ impl World {
         }
     }
 
+    /// The words of a world are admitted and lawful, whatever happened to it. It does nothing.
+    pub fn facts(&self)
+        ensures { IsLawful self.now }
+    {
+        let _ = &self.words;
+    }
+
     /// The conflict that word 0 names, or the cells once the root shows the last step, or the
     /// number of finished steps.
     pub fn outcome(&self) -> Result<RunAnswer, AllocError>
