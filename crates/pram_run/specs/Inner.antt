@@ -1,0 +1,2 @@
+-- How far a replay has come, for the contracts of its parts.
+pub mod Progress

@@ -1,0 +1,34 @@
+-- What a replay answers.
+use Rattle.std.specs.Prelude.{◌≡◌, ℕ, List}
+use Rattle.pram_text.specs.Job.{JobData}
+use Rattle.pram_step.specs.declared.answer.RunAnswer.{RunAnswer}
+use Rattle.pram_step.specs.declared.answer.RunAnswer.TheVariants.{Final, Conflict, Unfinished}
+use Rattle.stop_plan.specs.Plan.{PlanData, StopsAll}
+use Rattle.stop_plan.specs.Schedule.{Events, IsSchedule, Running}
+use Rattle.pram_world.specs.declared.event.Event.{Event}
+use Rattle.pram_world.specs.declared.event.Event.TheVariants.{Go, Stop, Back}
+use Rattle.pram_world.specs.Outcomes.{IsOutcome}
+use Rattle.pram_world.specs.Worlds.{start, run, going}
+use Rattle.pram_run.specs.declared.trace.TraceRow.{TraceRow}
+use Rattle.pram_run.specs.Traces.{trace_of}
+
+-- a world's events
+abbrev pub world_events : Events Event
+world_events = record { go = λ b. Go b; stop = λ b. Stop b; back = λ b. Back b }
+
+-- whether a worker still runs behind these events
+abbrev pub running : JobData → ℕ → Running Event
+running job workers events b = going (run (start job workers) events) b
+
+abbrev pub IsUnfinished : RunAnswer → Type 0
+IsUnfinished (Final cells) = ⊥
+IsUnfinished (Conflict fault) = ⊥
+IsUnfinished (Unfinished step) = Unit {0}
+
+-- The outcome of the world after the plan's schedule, and the atomic steps of that run. It is unfinished only where the plan stops every worker.
+pub record IsReplay (job : JobData) (plan : PlanData) (answer : RunAnswer) (trace : List TraceRow) : Type 0 where
+  pub schedule : List Event
+  pub is : IsSchedule world_events (running job plan.workers) plan schedule
+  pub outcome : IsOutcome (run (start job plan.workers) schedule) answer
+  pub steps : trace ≡ trace_of (start job plan.workers) schedule
+  pub stops : IsUnfinished answer → StopsAll plan

@@ -1,0 +1,44 @@
+-- The atomic steps of a run.
+use Rattle.std.specs.Prelude.{ℕ, List, [], ◌∷◌, ◌++◌, Option, Some, None}
+use Rattle.walkx.specs.declared.operation.Op.{Op}
+use Rattle.walkx.specs.declared.operation.Op.TheVariants as op
+use Rattle.pram_world.specs.declared.event.Effect.{Effect}
+use Rattle.pram_world.specs.declared.event.Event.{Event}
+use Rattle.pram_world.specs.declared.event.Event.TheVariants.{Go, Stop, Back}
+use Rattle.pram_world.specs.Worlds.{WorldData, happens, shown}
+use Rattle.pram_run.specs.declared.trace.StepKind.{StepKind}
+use Rattle.pram_run.specs.declared.trace.StepKind.TheVariants.{Load, Store, Max, Swap}
+use Rattle.pram_run.specs.declared.trace.TraceRow.{TraceRow}
+
+abbrev pub row_with : ℕ → StepKind → ℕ → ℕ → ℕ → TraceRow
+row_with worker kind word before after = record { before = before; after = after; word = word; worker = worker; kind = kind }
+
+-- the row of a step on these words, if it is an atomic step
+abbrev pub row_by : ℕ → ℕ → ℕ → Op → Option TraceRow
+row_by worker before after (op.Load k) = Some (row_with worker Load k before after)
+row_by worker before after (op.Store k value) = Some (row_with worker Store k before after)
+row_by worker before after (op.Max k value) = Some (row_with worker Max k before after)
+row_by worker before after (op.Swap k old new) = Some (row_with worker Swap k before after)
+row_by worker before after (op.Over ended) = None
+
+abbrev pub row_of : ℕ → Option Op → ℕ → ℕ → Option TraceRow
+row_of worker None before after = None
+row_of worker (Some op) before after = row_by worker before after op
+
+abbrev pub listed : Option TraceRow → List TraceRow
+listed None = []
+listed (Some row) = row ∷ []
+
+-- the rows of what an event of this worker showed: one for an atomic step, else none
+abbrev pub rows_of : ℕ → Effect → List TraceRow
+rows_of worker e = listed (row_of worker e.op e.before e.after)
+
+abbrev pub body_of : Event → ℕ
+body_of (Go b) = b
+body_of (Stop b) = b
+body_of (Back b) = b
+
+-- the atomic steps of a run, in order
+unfoldable pub trace_of : WorldData → List Event → List TraceRow
+trace_of s [] = []
+trace_of s (e ∷ es) = rows_of (body_of e) (shown s e) ++ trace_of (happens s e) es

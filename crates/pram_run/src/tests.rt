@@ -1,0 +1,200 @@
+//! Worked rows by replay, and traces written and cut short.
+ghost use Rattle.std.specs.Prelude.{◌≤◌};
+
+use super::*;
+use pram_step::{Fault, RunAnswer};
+use pram_text::read_job;
+use std::io;
+use std::io::Write;
+use std::process::Abort;
+use std::test::Fail;
+use stop_plan::read_plan;
+
+const SET: &str = "pram 1\ncells 1\nprocs 1\nsteps 1\ncode\nset r0 7\n";
+
+const SWAP: &str = "pram 1\ncells 2\nprocs 2\nsteps 5\ninit 0 7\ninit 1 9\ncode\n\
+    pid r0\nset r1 1\nsub r1 r1 r0\nld r2 r1\nst r0 r2\n";
+
+const TWO: &str = "pram 1\ncells 2\nprocs 2\nsteps 1\ncode\npid r0\n";
+
+// A replay of a text under rows of a plan.
+fn replayed(
+    rt: &(impl AllocGlobal + Abort),
+    text: &str,
+    workers: u32,
+    rows: &str,
+) -> Result<(RunAnswer, Trace), Fail>
+    requires some { 1 ≤ workers }
+    requires most { workers ≤ 64 }
+{
+    let alloc = rt.alloc();
+    let job = read_job(alloc, text.as_bytes())?;
+    let text = format!(in alloc; "worker,act,ticks\n{rows}")?;
+    let plan = read_plan(alloc, text.as_bytes(), workers)?;
+    assert!(rt; plan.workers() == workers);
+    Ok(replay(alloc, &job, workers, &plan)?)
+}
+
+// The cells that a replay ends with.
+fn ends_with(
+    rt: &(impl AllocGlobal + Abort),
+    text: &str,
+    workers: u32,
+    rows: &str,
+    cells: &[u32],
+) -> Result<Trace, Fail>
+    requires some { 1 ≤ workers }
+    requires most { workers ≤ 64 }
+{
+    let (answer, trace) = replayed(rt, text, workers, rows)?;
+    match answer {
+        RunAnswer::Final(found) => assert_eq!(rt; found.as_slice(), cells, "{text}"),
+        _ => panic!(rt; "{text}"),
+    }
+    Ok(trace)
+}
+
+fn row(worker: u32, kind: StepKind, word: u32, before: u64, after: u64) -> TraceRow {
+    TraceRow {
+        before,
+        after,
+        word,
+        worker,
+        kind,
+    }
+}
+
+#[test]
+fn two_workers_at_a_job_without_steps(rt: HostRuntime) -> Result<(), Fail> {
+    let text = "pram 1\ncells 1\nprocs 1\nsteps 0\ninit 0 5\ncode\nhalt\n";
+    let trace = ends_with(&rt, text, 2, "", &[5])?;
+    let bytes = write_trace(&trace, Vec::new(rt.alloc()));
+    let wanted =
+        b"tick,worker,op,word,before,after\n1,0,load,1,0,0\n2,1,load,1,0,0\n3,0,load,0,0,0\n4,1,load,0,0,0\n";
+    match bytes {
+        Ok(bytes) => assert_eq!(rt; bytes.as_slice(), wanted.as_slice()),
+        Err(_) => panic!(rt; "not written"),
+    }
+    Ok(())
+}
+
+#[test]
+fn late_swap_changes_nothing(rt: HostRuntime) -> Result<(), Fail> {
+    assert_eq!(rt; ends_with(&rt, SET, 1, "", &[0])?.rows().len(), 33);
+    let trace = ends_with(&rt, SET, 2, "0,go,17\n1,go,23\n0,go,1\n", &[0])?;
+    assert_eq!(rt; trace.rows().len(), 47);
+    let late = row(0, StepKind::Swap, 9, 4294967303, 4294967303);
+    let next = row(0, StepKind::Load, 17, 4294967297, 4294967297);
+    assert_eq!(rt; trace.rows().get(40), Some(&late));
+    assert_eq!(rt; trace.rows().get(41), Some(&next));
+    Ok(())
+}
+
+#[test]
+fn worker_comes_back_where_its_position_says(rt: HostRuntime) -> Result<(), Fail> {
+    assert_eq!(rt; ends_with(&rt, TWO, 1, "", &[0, 0])?.rows().len(), 101);
+    let trace = ends_with(&rt, TWO, 1, "0,go,15\n0,back,0\n", &[0, 0])?;
+    assert_eq!(rt; trace.rows().len(), 104);
+    let stored = row(0, StepKind::Store, 10, 1, 3);
+    let loaded = row(0, StepKind::Load, 10, 3, 3);
+    assert_eq!(rt; trace.rows().get(14), Some(&stored));
+    assert_eq!(rt; trace.rows().get(15), Some(&loaded));
+    Ok(())
+}
+
+#[test]
+fn stopped_worker_leaves_the_job_unfinished(rt: HostRuntime) -> Result<(), Fail> {
+    let later = "pram 1\ncells 1\nprocs 1\nsteps 2\ninit 0 4\ncode\nset r1 7\nst r0 r1\n";
+    let rows = [
+        (SET, "0,go,8\n0,stop,0\n", 0),
+        (later, "0,go,30\n0,stop,0\n", 1),
+    ];
+    for (text, plan, wanted) in rows {
+        match replayed(&rt, text, 1, plan)?.0 {
+            RunAnswer::Unfinished { step } => assert_eq!(rt; step, wanted, "{plan}"),
+            _ => panic!(rt; "{plan}"),
+        }
+    }
+    Ok(())
+}
+
+// Processors 1 and 3 write to cell 4 in step 5.
+#[test]
+fn one_cell_under_each_rule(rt: HostRuntime) -> Result<(), Fail> {
+    let jobs = [
+        ("common", "r1", None),
+        ("common", "r0", Some((1, 3))),
+        ("priority", "r0", None),
+        ("crew", "r1", Some((1, 3))),
+    ];
+    for (rule, value, disputed) in jobs {
+        let text = format!(in rt.alloc();
+            "pram 2\ncells 5\nprocs 4\nsteps 5\nrule {rule}\ninit 1 1\ninit 3 1\ncode\npid r0\nld r1 r0\njz r1 end\nset r2 4\nst r2 {value}\nend: halt\n"
+        )?;
+        for workers in [1, 2, 4] {
+            match (replayed(&rt, text.as_str(), workers, "")?.0, disputed) {
+                (RunAnswer::Final(cells), None) => {
+                    assert_eq!(rt; cells.as_slice(), [0, 1, 0, 1, 1].as_slice())
+                }
+                (RunAnswer::Conflict(found), Some((first, second))) => {
+                    let fault = Fault {
+                        step: 5,
+                        cell: 4,
+                        first,
+                        second,
+                    };
+                    assert_eq!(rt; found, fault);
+                }
+                _ => panic!(rt; "{rule}"),
+            }
+        }
+    }
+    Ok(())
+}
+
+#[test]
+fn loads_come_before_stores(rt: HostRuntime) -> Result<(), Fail> {
+    for workers in [1, 2, 3] {
+        let _ = ends_with(&rt, SWAP, workers, "0,go,50\n0,sleep,9\n", &[9, 7])?;
+    }
+    Ok(())
+}
+
+// Fails at the write of this number, counted from 0.
+#[derive(Drop)]
+struct Failing {
+    left: u32,
+}
+
+impl Write for Failing {
+    fn write(&mut self, buf: &[u8]) -> io::Result<usize> {
+        if self.left == 0 {
+            return Err(io::Error::from(io::ErrorKind::Other));
+        }
+        self.left -= 1;
+        Ok(buf.len())
+    }
+
+    fn flush(&mut self) -> io::Result<()> {
+        Ok(())
+    }
+}
+
+#[test]
+fn a_write_that_fails_is_told(rt: HostRuntime) -> Result<(), Fail> {
+    let trace = ends_with(&rt, SWAP, 2, "", &[9, 7])?;
+    let mut has_failed = false;
+    let mut was_written = false;
+    for left in 0..100 {
+        match write_trace(&trace, Failing { left }) {
+            Ok(_) => was_written = true,
+            Err(fault) => {
+                has_failed = true;
+                assert_eq!(rt; fault, OutFault::Device);
+                assert!(rt; !was_written);
+            }
+        }
+    }
+    assert!(rt; has_failed && was_written);
+    Ok(())
+}

@@ -1,0 +1,28 @@
+use Rattle.std.proofs.Common.{sym, subst}
+use Rattle.lawful_words.specs.Board.{Stands}
+use Rattle.pram_world.specs.declared.event.Event.{Event}
+use Rattle.pram_world.specs.declared.event.Event.TheVariants.{Go, Stop, Back}
+use Rattle.pram_world.specs.Worlds.{WorldData, StaleChangesNothing}
+use Rattle.pram_world.proofs.Keeping.{Held, happens_holds, stale_changes_nothing}
+use Rattle.pram_world.proofs.world.World.event.Goals as goal
+
+pub returns-in-Go-clause-lawful : goal.returns-in-Go-clause-lawful
+returns-in-Go-clause-lawful c =
+    let h : Held c.args.self.now = subst Held c.self.view_is (record { made = c.self.invariant.made; holds = c.self.invariant.holds }) in
+    subst (λ (x : WorldData). Stands x.job x.layout x.words) (sym c.go.ensures.world) ((happens_holds c.args.self.now (Go c.in-Go.b) h).holds).stands
+
+pub returns-in-Go-clause-stale : goal.returns-in-Go-clause-stale
+returns-in-Go-clause-stale c =
+    let h : Held c.args.self.now = subst Held c.self.view_is (record { made = c.self.invariant.made; holds = c.self.invariant.holds }) in
+    subst (λ (e : Event). StaleChangesNothing c.args.self.now e c.go.new.self) (sym c.in-Go.is)
+    (subst (StaleChangesNothing c.args.self.now (Go c.in-Go.b)) (sym c.go.ensures.world) (stale_changes_nothing c.args.self.now (Go c.in-Go.b) h))
+
+pub returns-in-Stop-clause-lawful : goal.returns-in-Stop-clause-lawful
+returns-in-Stop-clause-lawful c =
+    let h : Held c.args.self.now = subst Held c.self.view_is (record { made = c.self.invariant.made; holds = c.self.invariant.holds }) in
+    subst (λ (x : WorldData). Stands x.job x.layout x.words) (sym c.stop.ensures) ((happens_holds c.args.self.now (Stop c.in-Stop.b) h).holds).stands
+
+pub returns-in-Back-clause-lawful : goal.returns-in-Back-clause-lawful
+returns-in-Back-clause-lawful c =
+    let h : Held c.args.self.now = subst Held c.self.view_is (record { made = c.self.invariant.made; holds = c.self.invariant.holds }) in
+    subst (λ (x : WorldData). Stands x.job x.layout x.words) (sym c.back.ensures) ((happens_holds c.args.self.now (Back c.in-Back.b) h).holds).stands

@@ -1,0 +1,21 @@
+-- What is read off the words of a board.
+use Rattle.std.specs.Prelude.{◌≡◌, ℕ, suc, List, take}
+use Rattle.pram_text.specs.Job.{JobData}
+use Rattle.pram_step.specs.declared.requests.Request.{Request}
+use Rattle.pram_step.specs.Runs.{requests_after, state_after}
+use Rattle.pram_words.specs.declared.words.Word.TheVariants.{Stored}
+use Rattle.pram_words.specs.Words.{LayoutData}
+use Rattle.walkx.specs.Tasks.{newer_payload}
+use Rattle.lawful_words.specs.Board.{conflict, held}
+
+-- the payload of the newer of the two words of a place
+abbrev pub newest_of : LayoutData → List ℕ → ℕ → ℕ
+newest_of y words p = newer_payload (held y words (Stored p 0)) (held y words (Stored p 1))
+
+-- the cells after the last step
+abbrev pub last_cells : JobData → List ℕ
+last_cells job = take job.cells (state_after job job.steps)
+
+-- the requests of the step that word 0 names
+abbrev pub AreNamed : JobData → LayoutData → List ℕ → List Request → Type 0
+AreNamed job y words requests = (s : ℕ) → conflict y words ≡ suc s → requests ≡ requests_after job s

@@ -1,0 +1,5 @@
+pub mod Worlds
+pub mod Outcomes
+pub mod Ends
+pub mod Laws
+pub mod Inner

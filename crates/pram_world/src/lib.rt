@@ -1,0 +1,12 @@
+//! The model world: words and bodies under events, one atomic step at a time.
+#![tactic(auto)]
+
+mod event;
+pub mod laws;
+mod outcome;
+#[cfg(test)]
+mod tests;
+mod world;
+
+pub use event::{Effect, Event};
+pub use world::World;

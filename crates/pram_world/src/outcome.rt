@@ -1,0 +1,128 @@
+//! What the words of a board answer.
+ghost use Rattle.std.specs.Prelude.{◌≡◌, ◌≢◌, ◌*◌, ◌<◌, length, IfOk};
+ghost use Rattle.pram_step.specs.Runs.{IsAnswer};
+ghost use Rattle.pram_step.specs.declared.answer.RunAnswer.TheVariants.{Conflict as Disputed};
+ghost use Rattle.pram_words.specs.Words.{length_of, places_of};
+ghost use Rattle.pram_words.specs.declared.words.Word.TheVariants.{Asked};
+ghost use Rattle.lawful_words.specs.Board.{Stands, conflict as conflict_in, held, root};
+ghost use Rattle.pram_world.specs.Inner.Telling.{AreNamed, last_cells, newest_of};
+ghost use Rattle.pram_world.specs.Outcomes.{IsTold};
+
+use pram_step::{Cells, Fault, Request, RunAnswer, dispute};
+use pram_text::Job;
+use pram_words::{Layout, payload, stamp};
+use std::alloc::{AllocError, Global};
+use walkx::request_of;
+
+pub(crate) fn answer(
+    alloc: Global,
+    job: &Job,
+    layout: &Layout,
+    words: &[u64],
+) -> Result<RunAnswer, AllocError>
+    requires { Stands job.now layout.now words.now }
+    ensures { IfOk result (IsTold job.now layout.now words.now) }
+{
+    let (named, root) = glance(layout, words);
+    if named != 0 {
+        Ok(RunAnswer::Conflict(conflict(alloc, job, layout, words)?))
+    } else if root == 3 * u64::from(job.steps()) {
+        Ok(RunAnswer::Final(cells(alloc, job, layout, words)?))
+    } else {
+        Ok(RunAnswer::Unfinished {
+            step: (root / 3) as u32,
+        })
+    }
+}
+
+// What each cell holds after the last step.
+fn cells(alloc: Global, job: &Job, layout: &Layout, words: &[u64]) -> Result<Cells, AllocError>
+    requires stands { Stands job.now layout.now words.now }
+    requires clear { conflict_in layout.now words.now ≡ 0 }
+    requires done { root layout.now words.now ≡ 3 * job.now.steps }
+    ensures { IfOk result (λ cells. cells ≡ last_cells job.now) }
+{
+    let mut values = Vec::with_capacity(alloc, job.cells() as usize)?;
+    for cell in 0..job.cells() {
+        values.push(newest(layout, words, cell))?;
+    }
+    Ok(Cells::new(values))
+}
+
+// The payload of the newer of the two words of a place.
+fn newest(layout: &Layout, words: &[u64], place: u32) -> u32
+    requires words { length words.now ≡ length_of layout.now }
+    requires place { place < places_of layout.now }
+    ensures { result ≡ newest_of layout.now words.now place }
+{
+    let word = layout.place_word(place);
+    let first = words[word as usize];
+    let second = words[word as usize + 1];
+    if stamp(first) <= stamp(second) {
+        payload(second)
+    } else {
+        payload(first)
+    }
+}
+
+// The conflict that word 0 names.
+fn conflict(alloc: Global, job: &Job, layout: &Layout, words: &[u64]) -> Result<Fault, AllocError>
+    requires stands { Stands job.now layout.now words.now }
+    requires some { conflict_in layout.now words.now ≢ 0 }
+    ensures { IfOk result (λ fault. IsAnswer job.now (Disputed fault)) }
+{
+    let (named, _) = glance(layout, words);
+    let requests = requests(alloc, job, layout, words)?;
+    let Some(found) = dispute(alloc, job, requests.as_slice())? else {
+        unreachable!()
+    };
+    Ok(Fault {
+        step: named as u32,
+        cell: found.cell,
+        first: found.first,
+        second: found.second,
+    })
+}
+
+// The requests of the step that word 0 names.
+fn requests(
+    alloc: Global,
+    job: &Job,
+    layout: &Layout,
+    words: &[u64],
+) -> Result<Vec<Request>, AllocError>
+    requires { Stands job.now layout.now words.now }
+    ensures each { IfOk result (λ requests. length requests.items ≡ job.now.procs) }
+    ensures are { IfOk result (λ requests. AreNamed job.now layout.now words.now requests.items) }
+{
+    let mut requests = Vec::with_capacity(alloc, job.procs() as usize)?;
+    for i in 0..job.procs() {
+        let place = asked(layout, words, i, 0);
+        let value = asked(layout, words, i, 1);
+        let next = asked(layout, words, i, 2);
+        requests.push(request_of(place, value, next))?;
+    }
+    Ok(requests)
+}
+
+// The word of part j of the request of processor i.
+fn asked(layout: &Layout, words: &[u64], i: u32, j: u32) -> u64
+    requires words { length words.now ≡ length_of layout.now }
+    requires processor { i < layout.now.procs }
+    requires part { j < 3 }
+    ensures { result ≡ held layout.now words.now (Asked i j) }
+{
+    words[layout.request_word(i, j) as usize]
+}
+
+// Word 0 and the root.
+fn glance(layout: &Layout, words: &[u64]) -> (u64, u64)
+    requires { length words.now ≡ length_of layout.now }
+    ensures conflict { result.0 ≡ conflict_in layout.now words.now }
+    ensures root { result.1 ≡ root layout.now words.now }
+{
+    let _ = layout.leaves();
+    let named = words[layout.conflict_word() as usize];
+    let root = words[layout.node_word(1) as usize];
+    (named, root)
+}

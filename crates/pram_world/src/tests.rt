@@ -1,0 +1,153 @@
+//! A worker lost at each of its atomic steps, come back, and twinned; and each public call once.
+ghost use Rattle.std.specs.Prelude.{◌≡◌, IfOk};
+
+use super::*;
+use pram_step::{Fault, RunAnswer};
+use pram_text::read_job;
+use pram_words::Layout;
+use std::process::Abort;
+use std::test::Fail;
+use walkx::{Ended, Op};
+
+const SWAP: &str = "pram 1\ncells 2\nprocs 2\nsteps 5\ninit 0 7\ninit 1 9\ncode\n\
+    pid r0\nset r1 1\nsub r1 r1 r0\nld r2 r1\nst r0 r2\n";
+
+// A world of two workers.
+fn world(rt: &impl AllocGlobal, text: &str) -> Result<World, Fail>
+    ensures { IfOk result (λ w. w.layout.workers ≡ 2) }
+{
+    let job = read_job(rt.alloc(), text.as_bytes())?;
+    Ok(World::new(rt.alloc(), &job, 2)?)
+}
+
+// Processors 1 and 3 write to cell 4 in step 5.
+fn one_cell(rt: &impl AllocGlobal, rule: &str, value: &str) -> Result<String, Fail> {
+    Ok(format!(in rt.alloc();
+        "pram 2\ncells 5\nprocs 4\nsteps 5\nrule {rule}\ninit 1 1\ninit 3 1\ncode\npid r0\nld r1 r0\njz r1 end\nset r2 4\nst r2 {value}\nend: halt\n"
+    )?)
+}
+
+// Lets a body make so many steps, and tells whether it is over before.
+fn go(world: &mut World, body: usize, steps: u32) -> bool {
+    for _ in 0..steps {
+        if !world.is_going(body) {
+            return true;
+        }
+        world.event(Event::Go(body));
+    }
+    false
+}
+
+fn is_answer(world: &World, cells: &[u32], conflict: Option<Fault>) -> Result<bool, Fail> {
+    Ok(match (world.outcome()?, conflict) {
+        (RunAnswer::Final(found), None) => found.as_slice() == cells,
+        (RunAnswer::Conflict(found), Some(fault)) => found == fault,
+        _ => false,
+    })
+}
+
+const AT_STEP_FIVE: Option<Fault> = Some(Fault {
+    step: 5,
+    cell: 4,
+    first: 1,
+    second: 3,
+});
+
+fn survives(
+    rt: &(impl AllocGlobal + Abort),
+    text: &str,
+    cells: &[u32],
+    conflict: Option<Fault>,
+) -> Result<(), Fail> {
+    let end = match conflict {
+        None => Ended::Done,
+        Some(fault) => Ended::Conflict(fault.step),
+    };
+    for steps in 0..2000 {
+        let mut lost = world(rt, text)?;
+        if go(&mut lost, 0, steps) {
+            return Ok(());
+        }
+        lost.event(Event::Stop(0));
+        assert_eq!(rt; lost.finish(0), None);
+        assert_eq!(rt; lost.finish(1), Some(end), "{steps} steps");
+        assert!(rt; is_answer(&lost, cells, conflict)?, "{steps} steps");
+        lost.event(Event::Back(0));
+        assert_eq!(rt; lost.finish(0), Some(end), "{steps} steps");
+        let mut twins = world(rt, text)?;
+        let twin = twins.twin(0)?;
+        for _ in 0..steps {
+            twins.event(Event::Go(0));
+            twins.event(Event::Go(twin));
+        }
+        twins.event(Event::Stop(0));
+        assert_eq!(rt; twins.finish(twin), Some(end), "{steps} steps");
+        assert!(rt; is_answer(&twins, cells, conflict)?, "{steps} steps");
+    }
+    panic!(rt; "not over")
+}
+
+#[test]
+fn a_worker_lost_at_each_step(rt: HostRuntime) -> Result<(), Fail> {
+    survives(&rt, SWAP, &[9, 7], None)?;
+    survives(
+        &rt,
+        one_cell(&rt, "common", "r0")?.as_str(),
+        &[],
+        AT_STEP_FIVE,
+    )?;
+    survives(
+        &rt,
+        one_cell(&rt, "priority", "r0")?.as_str(),
+        &[0, 1, 0, 1, 1],
+        None,
+    )?;
+    survives(
+        &rt,
+        one_cell(&rt, "crew", "r1")?.as_str(),
+        &[],
+        AT_STEP_FIVE,
+    )
+}
+
+#[test]
+fn twins_take_turns(rt: HostRuntime) -> Result<(), Fail> {
+    let mut world = world(&rt, SWAP)?;
+    assert_eq!(rt; world.twin(0)?, 2);
+    for _ in 0..2000 {
+        world.run_events(&[Event::Go(0), Event::Go(2)]);
+    }
+    assert!(rt; !world.is_going(0) && !world.is_going(2));
+    assert!(rt; is_answer(&world, &[9, 7], None)?);
+    Ok(())
+}
+
+#[test]
+fn events_and_effects(rt: HostRuntime) -> Result<(), Fail> {
+    let job = read_job(rt.alloc(), SWAP.as_bytes())?;
+    let layout = Layout::new(&job, 2);
+    let mut world = World::new(rt.alloc(), &job, 2)?;
+    let nothing = Effect {
+        op: None,
+        before: 0,
+        after: 0,
+    };
+    let load = Effect {
+        op: Some(Op::Load(1)),
+        before: 0,
+        after: 0,
+    };
+    assert_eq!(rt; world.event(Event::Go(2)), nothing);
+    assert_eq!(rt; world.event(Event::Go(0)), load);
+    assert_eq!(rt; world.event(Event::Stop(0)), nothing);
+    assert_eq!(rt; world.event(Event::Go(0)), nothing);
+    assert_eq!(rt; world.finish(7), None);
+    assert_eq!(rt; world.load(layout.node_word(1)), 0);
+    match world.outcome()? {
+        RunAnswer::Unfinished { step } => assert_eq!(rt; step, 0),
+        _ => panic!(rt; "finished"),
+    }
+    world.facts();
+    laws::every_run_is_lawful();
+    Ok(())
+}

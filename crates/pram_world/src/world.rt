@@ -1,0 +1,300 @@
+//! The world.
+ghost use Rattle.std.specs.Prelude.{◌≡◌, ℕ, ◌<◌, ◌≤◌, IfOk, IfErr, length, slice_index};
+ghost use Rattle.pram_words.specs.Start.{start_words as first_words};
+ghost use Rattle.pram_words.specs.Words.{length_of};
+ghost use Rattle.walkx.specs.Operations.{words_after};
+ghost use Rattle.pram_world.specs.declared.event.Event.TheVariants.{Go, Stop, Back};
+ghost use Rattle.pram_world.specs.Ends.{Finishes, end_in};
+ghost use Rattle.pram_world.specs.Inner.Holding.{AreStarted, IsHeard, IsOnBoard, body_of};
+ghost use Rattle.pram_world.specs.Outcomes.{IsOutcome};
+ghost use Rattle.pram_world.specs.Worlds.{IsLawful, IsLawfulThroughout, IsTwinned};
+ghost use Rattle.pram_world.specs.Worlds.{StaleChangesNothing, effect_of, going, happens};
+ghost use Rattle.pram_world.specs.Worlds.{number as number_of, run, shown, start};
+
+use crate::event::{Effect, Event};
+use crate::outcome::answer;
+use pram_step::RunAnswer;
+use pram_text::Job;
+use pram_words::Layout;
+use std::alloc::{AllocError, Global};
+use std::marker::Model;
+use walkx::{Ended, Op, Worker};
+
+/// A worker, or one that was stopped, of which the number is left.
+#[derive(Drop)]
+pub enum Runner {
+    Walks(Worker),
+    Stopped(u32),
+}
+
+/// Words, and bodies that walk on them: any number of workers in any order, one atomic step at a
+/// time.
+#[derive(Drop)]
+pub struct World {
+    alloc: Global,
+    job: Job,
+    layout: Layout,
+    words: Vec<u64>,
+    bodies: Vec<Runner>,
+}
+
+impl Model for World {
+    ghost use Rattle.pram_world.specs.Worlds.{WorldData};
+    ghost use Rattle.pram_world.specs.Inner.Holding.{IsWorld, world_of};
+
+    ghost Value = { WorldData };
+
+    ghost view = { λ w. world_of w.job w.layout w.words.items w.bodies.items };
+
+    ghost invariant = { λ w. IsWorld w.job w.layout w.words.items w.bodies.items };
+}
+
+const NOTHING: Effect = Effect {
+    op: None,
+    before: 0,
+    after: 0,
+};
+
+impl World {
+    /// A world with the words of the start and so many bodies, each the worker of its number, newly
+    /// started. It takes memory for the words and the bodies, and for a copy of the job.
+    pub fn new(alloc: Global, job: &Job, workers: u32) -> Result<World, AllocError>
+        requires some { 1 ≤ workers }
+        requires most { workers ≤ 64 }
+        ensures { IfOk result (λ w. w ≡ start job.now workers) }
+    {
+        let job = job.try_clone()?;
+        let layout = Layout::new(&job, workers);
+        let words = start_words(alloc, &job, &layout)?;
+        let bodies = start_bodies(alloc, workers)?;
+        Ok(World {
+            alloc,
+            job,
+            layout,
+            words,
+            bodies,
+        })
+    }
+
+    /// Adds a body that is worker w newly started, and gives its number.
+    pub fn twin(&mut self, w: u32) -> Result<usize, AllocError>
+        requires { w < self.old.layout.workers }
+        ensures added { IfOk result (λ b. IsTwinned self.old w b self.new) }
+        ensures refused { IfErr result (λ _. self.new ≡ self.old) }
+    {
+        let number = self.bodies.len();
+        self.bodies.push(Runner::Walks(Worker::start(w)))?;
+        Ok(number)
+    }
+
+    /// What happens. It takes constant time and no memory.
+    pub fn event(&mut self, event: Event) -> Effect
+        ensures world { self.new ≡ happens self.old event }
+        ensures effect { result ≡ shown self.old event }
+        ensures lawful { IsLawful self.new }
+        ensures stale { StaleChangesNothing self.old event self.new }
+    {
+        let _ = &self.words;
+        match event {
+            Event::Go(b) => self.go(b),
+            Event::Stop(b) => {
+                self.stop(b);
+                NOTHING
+            }
+            Event::Back(b) => {
+                self.back(b);
+                NOTHING
+            }
+        }
+    }
+
+    /// One event after the other.
+    pub fn run_events(&mut self, events: &[Event])
+        ensures world { self.new ≡ run self.old events.now }
+        ensures lawful { IsLawfulThroughout self.old events.now }
+    {
+        let _ = &self.words;
+        for event in events {
+            self.event(*event);
+        }
+    }
+
+    /// Word k.
+    pub fn load(&self, k: u32) -> u64
+        requires { k < length_of self.now.layout }
+        ensures { result ≡ slice_index self.now.words k }
+    {
+        self.words[k as usize]
+    }
+
+    /// Whether this body is neither stopped nor over.
+    pub fn is_going(&self, b: usize) -> bool
+        ensures { result ≡ going self.now b }
+    {
+        match self.bodies.get(b) {
+            Some(Runner::Walks(worker)) => worker.ended().is_none(),
+            Some(Runner::Stopped(_)) | None => false,
+        }
+    }
+
+    /// The words of a world are admitted and lawful, whatever happened to it. It does nothing.
+    pub fn facts(&self)
+        ensures { IsLawful self.now }
+    {
+        let _ = &self.words;
+    }
+
+    /// The conflict that word 0 names, or the cells once the root shows the last step, or the
+    /// number of finished steps.
+    pub fn outcome(&self) -> Result<RunAnswer, AllocError>
+        ensures { IfOk result (IsOutcome self.now) }
+    {
+        answer(self.alloc, &self.job, &self.layout, self.words.as_slice())
+    }
+
+    /// Lets this body make atomic steps until it is over, and gives its end; `None` where no body
+    /// has the number, or it is stopped. It takes no memory.
+    pub fn finish(&mut self, b: usize) -> Option<Ended>
+        ensures { Finishes self.old b self.new result }
+    {
+        let _ = &self.words;
+        let mut made: u64 = 0;
+        loop {
+            if !self.is_going(b) {
+                return self.ended(b);
+            }
+            self.go(b);
+            made += 1;
+        }
+    }
+
+    fn ended(&self, b: usize) -> Option<Ended>
+        ensures { result ≡ end_in self.now b }
+    {
+        match self.bodies.get(b) {
+            Some(Runner::Walks(worker)) => worker.ended(),
+            Some(Runner::Stopped(_)) | None => None,
+        }
+    }
+
+    fn go(&mut self, b: usize) -> Effect
+        ensures world { self.new ≡ happens self.old (Go b) }
+        ensures effect { result ≡ shown self.old (Go b) }
+    {
+        if b >= self.bodies.len() {
+            return NOTHING;
+        }
+        match &mut self.bodies[b] {
+            Runner::Stopped(_) => NOTHING,
+            Runner::Walks(worker) => {
+                let op = worker.ask(&self.job, &self.layout);
+                let effect = make(&mut self.words, op);
+                worker.tell(&self.job, &self.layout, heard(effect));
+                effect
+            }
+        }
+    }
+
+    fn stop(&mut self, b: usize)
+        ensures { self.new ≡ happens self.old (Stop b) }
+    {
+        if b < self.bodies.len() {
+            let number = number(&self.bodies[b]);
+            self.bodies[b] = Runner::Stopped(number);
+        }
+    }
+
+    fn back(&mut self, b: usize)
+        ensures { self.new ≡ happens self.old (Back b) }
+    {
+        if b < self.bodies.len() {
+            let number = number(&self.bodies[b]);
+            self.bodies[b] = Runner::Walks(Worker::back(number));
+        }
+    }
+}
+
+// The number of the worker that a body is, or was.
+fn number(body: &Runner) -> u32
+    ensures { result ≡ number_of (body_of body.now) }
+{
+    match body {
+        Runner::Walks(worker) => worker.number(),
+        Runner::Stopped(number) => *number,
+    }
+}
+
+// Makes an operation on the words.
+fn make(words: &mut Vec<u64>, op: Op) -> Effect
+    requires { IsOnBoard (length words.old.items) op }
+    ensures words { words.new.items ≡ words_after words.old.items op }
+    ensures effect { result ≡ effect_of words.old.items op }
+{
+    match op {
+        Op::Load(k) => {
+            let found = words[k as usize];
+            shows(op, found, found)
+        }
+        Op::Store(k, value) => {
+            let before = words[k as usize];
+            words[k as usize] = value;
+            shows(op, before, value)
+        }
+        Op::Max(k, value) => {
+            let before = words[k as usize];
+            let after = before.max(value);
+            words[k as usize] = after;
+            shows(op, before, after)
+        }
+        Op::Swap(k, old, new) => {
+            let before = words[k as usize];
+            let after = if before == old { new } else { before };
+            words[k as usize] = after;
+            shows(op, before, after)
+        }
+        Op::Over(_) => NOTHING,
+    }
+}
+
+fn shows(op: Op, before: u64, after: u64) -> Effect
+    ensures { result ≡ record { op = Some op; before = before; after = after } }
+{
+    Effect {
+        op: Some(op),
+        before,
+        after,
+    }
+}
+
+// What a worker hears of its step.
+fn heard(effect: Effect) -> u64
+    ensures { IsHeard effect result }
+{
+    match effect.op {
+        None | Some(Op::Store(_, _)) => 0,
+        Some(_) => effect.before,
+    }
+}
+
+// The words that a board starts with.
+#[tactic(auto, unfolding(pram_words::specs::Start::start_words))]
+fn start_words(alloc: Global, job: &Job, layout: &Layout) -> Result<Vec<u64>, AllocError>
+    ensures { IfOk result (λ words. words.items ≡ first_words layout.now job.now) }
+{
+    let mut words = Vec::with_capacity(alloc, layout.length() as usize)?;
+    for k in 0..layout.length() {
+        words.push(layout.start_word(job, k))?;
+    }
+    Ok(words)
+}
+
+// So many workers, newly started.
+fn start_bodies(alloc: Global, workers: u32) -> Result<Vec<Runner>, AllocError>
+    ensures { IfOk result (λ bodies. AreStarted workers bodies.items) }
+{
+    let mut bodies = Vec::with_capacity(alloc, workers as usize)?;
+    for w in 0..workers {
+        bodies.push(Runner::Walks(Worker::start(w)))?;
+    }
+    Ok(bodies)
+}
