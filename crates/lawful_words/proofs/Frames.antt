@@ -12,9 +12,15 @@ use Rattle.pram_words.proofs.Numbering.{numbering}
 use Rattle.walkx.specs.declared.operation.Op.TheVariants.{Max, Store, Swap}
 use Rattle.walkx.specs.Operations.{words_after}
 use Rattle.lawful_words.specs.Writes.{Does}
-use Rattle.lawful_words.specs.Board.{held, root, Up, Grows, Only, Stands, Lawful}
+use Rattle.lawful_words.specs.Board.{held, root, Up, Grows, Stands, Lawful}
 use Rattle.lawful_words.specs.Moments.{Keeps}
 use Rattle.lawful_words.proofs.Moments.{same}
+
+-- the later words differ in this one at most, which holds v
+pub record Only (y : LayoutData) (a : Word) (v : ℕ) (words later : List ℕ) : Type 0 where
+  pub len : length later ≡ length words
+  pub at : held y later a ≡ v
+  pub rest : (b : Word) → IsWord y b → b ≢ a → held y later b ≡ held y words b
 
 -- one word is set
 pub only_set : (y : LayoutData) (a : Word) (v : ℕ) (words : List ℕ) → IsLayout y → length words ≡ length_of y → IsWord y a → Only y a v words (slice_set words (number_of y a) v)

@@ -17,7 +17,7 @@ use Rattle.lawful_words.specs.Board.{held, root, conflict, stamp_at, finished, S
 use Rattle.lawful_words.specs.Moments.{Backed}
 use Rattle.lawful_words.specs.Seen.{Hears, Heard, HeardThen, Shows, KnowsStep}
 use Rattle.lawful_words.proofs.Values.{phase_low}
-use Rattle.lawful_words.proofs.Moments.{onward, backed_later, find}
+use Rattle.lawful_words.proofs.Moments.{onward, find}
 use Rattle.lawful_words.proofs.Facts.{facts}
 use Rattle.lawful_words.proofs.Growths.{root_up, all_c}
 
@@ -148,7 +148,3 @@ known_now job y r t now stands backed knows =
         let m = heard_then job y r (Stored s.0 s.1) s.2 now backed s.5 in
         let e : stamp_at y m.words s.0 s.1 ≡ suc t = sym (ap stamp_of m.is) ∙ s.4 in
         fin_then job y m.words now t m.stands stands m.since (stamp_known job y s.0 s.1 t m.words m.stands s.3 e)
-
-pub known_later : (job : JobData) (y : LayoutData) (r : Record) (t : ℕ) (words later : List ℕ) → Stands job y later → Backed job y r words →
-    Grows y words later → KnowsStep y r t → IsReached job t × (t ≤ finished y later)
-known_later job y r t words later stands backed up knows = known_now job y r t later stands (backed_later job y r words later backed up) knows

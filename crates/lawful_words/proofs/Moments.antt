@@ -1,5 +1,5 @@
 -- Growth, and records that the words bear out. Nothing here knows the walk.
-use Rattle.std.proofs.Common.{ℕ, zero, suc, ◌≤◌, List, ◌∷◌, refl, sym, ap, subst, ◌∙◌, inl, inr, le_refl, le_trans, lit<, arith}
+use Rattle.std.proofs.Common.{ℕ, zero, suc, ◌≤◌, List, ◌∷◌, refl, sym, subst, ◌∙◌, inl, inr, le_refl, le_trans, lit<, arith}
 use Rattle.pram_text.specs.Job.{JobData}
 use Rattle.pram_words.specs.declared.words.Word.TheVariants.{Conflict, Node, Asked, Position, Stored, Claim, Spare}
 use Rattle.pram_words.specs.Stamps.{stamp_of}
@@ -8,9 +8,8 @@ use Rattle.walkx.specs.declared.operation.Op.{Op}
 use Rattle.walkx.specs.declared.operation.Op.TheVariants.{Load}
 use Rattle.walkx.specs.Operations.{words_after, answer}
 use Rattle.walkx.specs.Records.{Record, empty, after, both, Has}
-use Rattle.lawful_words.specs.Writes.{Does}
 use Rattle.lawful_words.specs.Board.{Stands, Up, Grows, held, stamp_at}
-use Rattle.lawful_words.specs.Moments.{Moment, Backed, Keeps, Goes}
+use Rattle.lawful_words.specs.Moments.{Moment, Backed, Keeps}
 
 -- ---- words that grow
 
@@ -73,13 +72,6 @@ backs job y r op words stands b keeps = record { words = words; stands = stands;
 
 pub load_keeps : (job : JobData) (y : LayoutData) (k : ℕ) (words : List ℕ) → Stands job y words → Keeps job y (Load k) words
 load_keeps job y k words stands = record { stands = stands; grows = same y words }
-
-pub load_goes : (job : JobData) (y : LayoutData) (w q k : ℕ) (words : List ℕ) → Stands job y words → Goes job y w q (Load k) words
-load_goes job y w q k words stands = record { keeps = load_keeps job y k words stands; stale = λ h a is other. refl }
-
--- what lemmas E say of an operation
-pub goes_of : (job : JobData) (y : LayoutData) (w q : ℕ) (op : Op) (words : List ℕ) → Does job y q op words → Goes job y w q op words
-goes_of job y w q op words does = record { keeps = does.keeps; stale = λ h a is other. ap (λ (l : List ℕ). held y l a) (does.still h) }
 
 -- the moment of a step that stands in a record, and the record before it
 pub record Found (job : JobData) (y : LayoutData) (now : List ℕ) (op : Op) (found : ℕ) (es : List (Op × ℕ)) : Type 0 where

@@ -12,9 +12,9 @@ use Rattle.walkx.specs.declared.operation.Op.TheVariants.{Max}
 use Rattle.pram_step.specs.History.{last_write}
 use Rattle.pram_step.proofs.Past.{last_most, before_most}
 use Rattle.lawful_words.specs.Writes.{Floor, Does}
-use Rattle.lawful_words.specs.Board.{held, root, conflict, leaf, stamp_at, finished, Done, phase_in, IsTree, IsAsked, IsNamed, IsPair, IsClaimed, LawfulFor, Lawful, Only, Stands, Grows}
+use Rattle.lawful_words.specs.Board.{held, root, conflict, leaf, stamp_at, finished, Done, phase_in, IsTree, IsAsked, IsNamed, IsPair, IsClaimed, LawfulFor, Lawful, Stands, Grows}
 use Rattle.lawful_words.proofs.Values.{WordIs, is_settled, is_before, is_new}
-use Rattle.lawful_words.proofs.Frames.{only_grows, does_max}
+use Rattle.lawful_words.proofs.Frames.{Only, only_grows, does_max}
 use Rattle.lawful_words.proofs.Facts.{facts, procs_fit, word_is, stamp_settled, stamp_before, B}
 use Rattle.lawful_words.proofs.Keeping.{done_later, pair_up, claimed_up, settle}
 

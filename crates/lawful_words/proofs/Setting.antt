@@ -26,10 +26,10 @@ use Rattle.pram_step.specs.History.{Asks, Wins, last_write, write_before, part_a
 use Rattle.pram_step.proofs.Past.{last_most, last_least, conflict_above, before_most, asks_fit}
 use Rattle.lawful_words.specs.Writes.{PlaceAsHeard, Floor, Does}
 use Rattle.lawful_words.specs.Steps.{phase_written, word_of_step, settled, settled_before}
-use Rattle.lawful_words.specs.Board.{held, root, conflict, leaf, stamp_at, finished, phase_in, IsTree, IsAsked, IsNew, IsPair, newer_first, newer_second, new_first, new_second, IsClaimed, claimed_now, IsNamed, Lawful, Only, Stands, Grows}
+use Rattle.lawful_words.specs.Board.{held, root, conflict, leaf, stamp_at, finished, phase_in, IsTree, IsAsked, IsNew, IsPair, newer_first, newer_second, new_first, new_second, IsClaimed, claimed_now, IsNamed, Lawful, Stands, Grows}
 use Rattle.lawful_words.specs.Moments.{Keeps}
 use Rattle.lawful_words.proofs.Values.{before_less, stamp_step}
-use Rattle.lawful_words.proofs.Frames.{only_grows, does_max, does_swap, keeps_store, same_or_other}
+use Rattle.lawful_words.proofs.Frames.{Only, only_grows, does_max, does_swap, keeps_store, same_or_other}
 use Rattle.lawful_words.proofs.Facts.{facts, board, procs_fit, late_of, claim_fits, B}
 use Rattle.lawful_words.proofs.Keeping.{done_later, settle}
 use Rattle.lawful_words.proofs.Raising.{behind, alive}

@@ -1,5 +1,5 @@
 -- Lawful words, and words that grow.
-use Rattle.std.specs.Prelude.{◌≡◌, ◌≢◌, ◌⊎◌, ℕ, suc, ◌+◌, ◌*◌, ◌≤◌, ◌<◌, List, length, slice_index}
+use Rattle.std.specs.Prelude.{◌≡◌, ◌≢◌, ◌⊎◌, ℕ, suc, ◌+◌, ◌*◌, ◌≤◌, ◌<◌, List, slice_index}
 use Rattle.pram_text.specs.Job.{JobData, IsJob}
 use Rattle.pram_text.specs.declared.instr.Rule.{Rule}
 use Rattle.pram_text.specs.declared.instr.Rule.TheVariants.{Common, Priority, Crew}
@@ -177,9 +177,3 @@ Up y words (Spare k) a b = a ≡ b
 
 abbrev pub Grows : LayoutData → List ℕ → List ℕ → Type 0
 Grows y words later = (a : Word) → IsWord y a → Up y words a (held y words a) (held y later a)
-
--- the later words differ in this one at most, which holds v
-pub record Only (y : LayoutData) (a : Word) (v : ℕ) (words later : List ℕ) : Type 0 where
-  pub len : length later ≡ length words
-  pub at : held y later a ≡ v
-  pub rest : (b : Word) → IsWord y b → b ≢ a → held y later b ≡ held y words b

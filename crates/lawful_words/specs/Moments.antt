@@ -1,13 +1,11 @@
 -- Which records the words bear out.
-use Rattle.std.specs.Prelude.{◌≡◌, ◌≢◌, ℕ, ◌≤◌, List, [], ◌∷◌}
+use Rattle.std.specs.Prelude.{◌≡◌, ℕ, List, [], ◌∷◌}
 use Rattle.pram_text.specs.Job.{JobData}
-use Rattle.pram_words.specs.Words.{LayoutData, IsWord}
-use Rattle.pram_words.specs.declared.words.Word.{Word}
-use Rattle.pram_words.specs.declared.words.Word.TheVariants.{Position}
+use Rattle.pram_words.specs.Words.{LayoutData}
 use Rattle.walkx.specs.declared.operation.Op.{Op}
 use Rattle.walkx.specs.Operations.{words_after, answer}
 use Rattle.walkx.specs.Records.{Record, empty, after, both}
-use Rattle.lawful_words.specs.Board.{Stands, Grows, held, root}
+use Rattle.lawful_words.specs.Board.{Stands, Grows}
 
 -- the moment of a step: words that stood then gave this answer, and have grown to those of now; Earlier holds of them
 pub record Moment (job : JobData) (y : LayoutData) (op : Op) (found : ℕ) (Earlier : List ℕ → Type 0) (now : List ℕ) : Type 0 where
@@ -44,8 +42,3 @@ afters r (e ∷ es) = after (afters r es) e.0 e.1
 pub record Keeps (job : JobData) (y : LayoutData) (op : Op) (words : List ℕ) : Type 0 where
   pub stands : Stands job y (words_after words op)
   pub grows : Grows y words (words_after words op)
-
--- Besides, where the phase q is behind them, no word but worker w's position changes: q = 0 for a script of loads.
-pub record Goes (job : JobData) (y : LayoutData) (w q : ℕ) (op : Op) (words : List ℕ) : Type 0 where
-  pub keeps : Keeps job y op words
-  pub stale : q ≤ root y words → (a : Word) → IsWord y a → a ≢ Position w → held y (words_after words op) a ≡ held y words a
