@@ -103,7 +103,9 @@ both_old a b x low also = or_from (nat_le (suc x) a) (nat_le (suc x) b) (lt-leb 
 pub finished_held : FinishedStepsAreHeld
 finished_held job y words x p stands place h =
     let low = (facts job y words stands).b2_low in
-    let up = same y words in
-    (first_value job y words x p stands place h, second_value job y words x p stands place h,
-    λ first second. (all_c5 job y x p _ _ words words words stands stands stands up up place (reached_down job x (finished y words) h stands.lawful.reached) (omega arith) refl refl
-    (both_old (stamp_at y words p 0) (stamp_at y words p 1) x first second)).value)
+    let up = same y words in (
+      first_value job y words x p stands place h,
+      second_value job y words x p stands place h,
+      λ first second. (all_c5 job y x p _ _ words words words stands stands stands up up place (reached_down job x (finished y words) h stands.lawful.reached) (omega arith) refl refl
+          (both_old (stamp_at y words p 0) (stamp_at y words p 1) x first second)).value,
+    )
