@@ -12,7 +12,7 @@ use Rattle.pram_step.proofs.Past.{last_most, last_least, last_rises, value_betwe
 use Rattle.lawful_words.specs.Writes.{PlaceAsHeard}
 use Rattle.lawful_words.specs.Steps.{word_of_step, settled, settled_before}
 use Rattle.lawful_words.specs.Board.{held, root, stamp_at, finished, IsLate, IsPair, newer_first, newer_second, new_first, new_second, Stands, Grows}
-use Rattle.lawful_words.proofs.Values.{payload_step, before_less, before_rises, has_settled, newer_is_first, newer_is_second}
+use Rattle.lawful_words.proofs.Values.{stamp_step, payload_step, before_less, before_rises, has_settled, newer_is_first, newer_is_second}
 use Rattle.lawful_words.proofs.Moments.{onward, stamps_rise}
 use Rattle.lawful_words.proofs.Facts.{facts, place_below, stamp_settled, stamp_before}
 
@@ -115,26 +115,26 @@ all_c job y words later stands after up = grown job y words later stands after u
 -- ---- PlaceAsHeard
 
 -- a word beside one with a stamp above x is of the last write up to x, at least
-beside : (job : JobData) (y : LayoutData) (words : List ℕ) (x p a b : ℕ) → Stands job y words → IsPair job (finished y words) (root y words) p a b → x ≤ finished y words →
+pub beside : (job : JobData) (y : LayoutData) (words : List ℕ) (x p a b : ℕ) → Stands job y words → IsPair job (finished y words) (root y words) p a b → x ≤ finished y words →
     (x < stamp_of b → last_write job x p ≤ stamp_of a) × (x < stamp_of a → last_write job x p ≤ stamp_of b)
 beside job y words x p a b stands (newer_first e g) h =
-    let s : stamp_of a ≡ last_write job (finished y words) p = ap stamp_of e ∙ stamp_settled job y words (finished y words) stands.limits stands.sizes stands.layout stands.lawful (facts job y words stands).b2_low (facts job y words stands).b2_high (finished y words) p in
-    let o : stamp_of b ≡ write_before job (last_write job (finished y words) p) p = ap stamp_of g ∙ stamp_before job y words (finished y words) stands.limits stands.sizes stands.layout stands.lawful (facts job y words stands).b2_low (facts job y words stands).b2_high (finished y words) p in
+    let s : stamp_of a ≡ last_write job (finished y words) p = ap stamp_of e ∙ stamp_step job (last_write job (finished y words) p) p stands.limits in
+    let o : stamp_of b ≡ write_before job (last_write job (finished y words) p) p = ap stamp_of g ∙ stamp_step job (write_before job (last_write job (finished y words) p) p) p stands.limits in
     let r = last_rises job x (finished y words) p h in
     (λ late. omega arith, λ late. (let m = before_rises job x (last_write job (finished y words) p) p (omega arith) in omega arith))
 beside job y words x p a b stands (newer_second e g some) h =
-    let s : stamp_of b ≡ last_write job (finished y words) p = ap stamp_of e ∙ stamp_settled job y words (finished y words) stands.limits stands.sizes stands.layout stands.lawful (facts job y words stands).b2_low (facts job y words stands).b2_high (finished y words) p in
-    let o : stamp_of a ≡ write_before job (last_write job (finished y words) p) p = ap stamp_of g ∙ stamp_before job y words (finished y words) stands.limits stands.sizes stands.layout stands.lawful (facts job y words stands).b2_low (facts job y words stands).b2_high (finished y words) p in
+    let s : stamp_of b ≡ last_write job (finished y words) p = ap stamp_of e ∙ stamp_step job (last_write job (finished y words) p) p stands.limits in
+    let o : stamp_of a ≡ write_before job (last_write job (finished y words) p) p = ap stamp_of g ∙ stamp_step job (write_before job (last_write job (finished y words) p) p) p stands.limits in
     let r = last_rises job x (finished y words) p h in
     (λ late. (let m = before_rises job x (last_write job (finished y words) p) p (omega arith) in omega arith), λ late. omega arith)
 beside job y words x p a b stands (new_first n e) h =
-    let s : stamp_of b ≡ last_write job (finished y words) p = ap stamp_of e ∙ stamp_settled job y words (finished y words) stands.limits stands.sizes stands.layout stands.lawful (facts job y words stands).b2_low (facts job y words stands).b2_high (finished y words) p in
+    let s : stamp_of b ≡ last_write job (finished y words) p = ap stamp_of e ∙ stamp_step job (last_write job (finished y words) p) p stands.limits in
     let r = last_rises job x (finished y words) p h in
     let f = n.stamp in
     let m = last_most job (finished y words) p in
     (λ late. omega arith, λ late. omega arith)
 beside job y words x p a b stands (new_second n e some) h =
-    let s : stamp_of a ≡ last_write job (finished y words) p = ap stamp_of e ∙ stamp_settled job y words (finished y words) stands.limits stands.sizes stands.layout stands.lawful (facts job y words stands).b2_low (facts job y words stands).b2_high (finished y words) p in
+    let s : stamp_of a ≡ last_write job (finished y words) p = ap stamp_of e ∙ stamp_step job (last_write job (finished y words) p) p stands.limits in
     let r = last_rises job x (finished y words) p h in
     let f = n.stamp in
     let m = last_most job (finished y words) p in

@@ -1,20 +1,21 @@
 -- What the two words of a place hold: the values of the steps that their stamps tell.
-use Rattle.std.proofs.Common.{◌≡◌, ℕ, suc, ◌<◌, ◌≤◌, nat_le, false, ◌||◌, List, slice_index, refl, sym, ap, ◌∙◌, inl, inr, lit<, arith}
+use Rattle.std.proofs.Common.{◌≡◌, ℕ, suc, ◌<◌, ◌≤◌, nat_le, false, List, slice_index, refl, sym, ap, ◌∙◌, inl, inr, lit<, arith}
 use Rattle.std.proofs.lemmas.Bool.{lt-leb, or_from}
 use Rattle.pram_text.specs.Job.{JobData}
 use Rattle.pram_step.specs.Runs.{IsReached, state_after}
 use Rattle.pram_step.specs.History.{last_write, write_before}
 use Rattle.pram_step.proofs.LawFixed.{reached_down}
-use Rattle.pram_step.proofs.Past.{last_most, last_rises, value_between, written_value}
+use Rattle.pram_step.proofs.Past.{value_between, written_value}
 use Rattle.pram_words.specs.declared.words.Word.TheVariants.{Stored}
 use Rattle.pram_words.specs.Stamps.{stamp_of, payload_of}
 use Rattle.pram_words.specs.Words.{LayoutData, IsWord, places_of}
-use Rattle.lawful_words.specs.Board.{held, root, stamp_at, finished, IsPair, newer_first, newer_second, new_first, new_second, Stands, Grows}
+use Rattle.walkx.specs.Tasks.{is_late}
+use Rattle.lawful_words.specs.Board.{held, root, stamp_at, finished, Stands, Grows}
 use Rattle.lawful_words.specs.Laws.{FinishedStepsAreHeld}
-use Rattle.lawful_words.proofs.Values.{WordIs, is_settled, is_before, is_new, stamp_step, payload_step, before_rises}
+use Rattle.lawful_words.proofs.Values.{WordIs, is_settled, is_before, is_new, stamp_step, payload_step}
 use Rattle.lawful_words.proofs.Moments.{same}
 use Rattle.lawful_words.proofs.Facts.{facts, place_below, word_is}
-use Rattle.lawful_words.proofs.Growths.{all_c5}
+use Rattle.lawful_words.proofs.Growths.{beside, all_c5}
 
 -- a word with the stamp of a step that is reached
 pub word_value : (job : JobData) (y : LayoutData) (words : List ℕ) (x p k : ℕ) → Stands job y words → IsWord y (Stored p k) → stamp_at y words p k ≡ x →
@@ -35,32 +36,6 @@ word_value job y words x p k stands is e reached =
         let z : suc (finished y words) ≡ x = sym n.stamp ∙ s in
         let below = place_below job y words (finished y words) stands.limits stands.sizes stands.layout stands.lawful (facts job y words stands).b2_low (facts job y words stands).b2_high p is.0 in
         sym (written_value job f p n.writer (payload_of word) stands.limits below (reached f (omega arith)) n.asks n.wins) ∙ ap (λ (n : ℕ). slice_index (state_after job n) p) z
-
--- a word beside one with a stamp above x is of the last write up to x, at least
-beside : (job : JobData) (y : LayoutData) (words : List ℕ) (x p a b : ℕ) → Stands job y words → IsPair job (finished y words) (root y words) p a b → x ≤ finished y words →
-    (x < stamp_of b → last_write job x p ≤ stamp_of a) × (x < stamp_of a → last_write job x p ≤ stamp_of b)
-beside job y words x p a b stands (newer_first e g) h =
-    let s : stamp_of a ≡ last_write job (finished y words) p = ap stamp_of e ∙ stamp_step job (last_write job (finished y words) p) p stands.limits in
-    let o : stamp_of b ≡ write_before job (last_write job (finished y words) p) p = ap stamp_of g ∙ stamp_step job (write_before job (last_write job (finished y words) p) p) p stands.limits in
-    let r = last_rises job x (finished y words) p h in
-    (λ late. omega arith, λ late. (let m = before_rises job x (last_write job (finished y words) p) p (omega arith) in omega arith))
-beside job y words x p a b stands (newer_second e g some) h =
-    let s : stamp_of b ≡ last_write job (finished y words) p = ap stamp_of e ∙ stamp_step job (last_write job (finished y words) p) p stands.limits in
-    let o : stamp_of a ≡ write_before job (last_write job (finished y words) p) p = ap stamp_of g ∙ stamp_step job (write_before job (last_write job (finished y words) p) p) p stands.limits in
-    let r = last_rises job x (finished y words) p h in
-    (λ late. (let m = before_rises job x (last_write job (finished y words) p) p (omega arith) in omega arith), λ late. omega arith)
-beside job y words x p a b stands (new_first n e) h =
-    let s : stamp_of b ≡ last_write job (finished y words) p = ap stamp_of e ∙ stamp_step job (last_write job (finished y words) p) p stands.limits in
-    let r = last_rises job x (finished y words) p h in
-    let f = n.stamp in
-    let m = last_most job (finished y words) p in
-    (λ late. omega arith, λ late. omega arith)
-beside job y words x p a b stands (new_second n e some) h =
-    let s : stamp_of a ≡ last_write job (finished y words) p = ap stamp_of e ∙ stamp_step job (last_write job (finished y words) p) p stands.limits in
-    let r = last_rises job x (finished y words) p h in
-    let f = n.stamp in
-    let m = last_most job (finished y words) p in
-    (λ late. omega arith, λ late. omega arith)
 
 old_value : (job : JobData) (y : LayoutData) (words : List ℕ) (x p k : ℕ) → Stands job y words → IsWord y (Stored p k) → x ≤ finished y words →
     stamp_at y words p k ≤ x → last_write job x p ≤ stamp_at y words p k → payload_of (held y words (Stored p k)) ≡ slice_index (state_after job x) p
@@ -97,13 +72,15 @@ apart_back job y words later p stands place up e = elim (up (Stored p 0) (place,
 
 -- ---- a finished step
 
-both_old : (a b x : ℕ) → a ≤ x → b ≤ x → nat_le (suc x) a || nat_le (suc x) b ≡ false
-both_old a b x low also = or_from (nat_le (suc x) a) (nat_le (suc x) b) (lt-leb (suc x) a (omega arith)) (lt-leb (suc x) b (omega arith))
+pub is_early : (x a b : ℕ) → stamp_of a ≤ x → stamp_of b ≤ x → is_late (suc x) a b ≡ false
+is_early x a b low also = or_from (nat_le (suc x) (stamp_of a)) (nat_le (suc x) (stamp_of b)) (lt-leb (suc x) (stamp_of a) (omega arith)) (lt-leb (suc x) (stamp_of b) (omega arith))
 
 pub finished_held : FinishedStepsAreHeld
 finished_held job y words x p stands place h =
     let low = (facts job y words stands).b2_low in
-    let up = same y words in
-    (first_value job y words x p stands place h, second_value job y words x p stands place h,
-    λ first second. (all_c5 job y x p _ _ words words words stands stands stands up up place (reached_down job x (finished y words) h stands.lawful.reached) (omega arith) refl refl
-    (both_old (stamp_at y words p 0) (stamp_at y words p 1) x first second)).value)
+    let up = same y words in (
+      first_value job y words x p stands place h,
+      second_value job y words x p stands place h,
+      λ first second. (all_c5 job y x p _ _ words words words stands stands stands up up place (reached_down job x (finished y words) h stands.lawful.reached) (omega arith) refl refl
+          (is_early x (held y words (Stored p 0)) (held y words (Stored p 1)) first second)).value,
+    )

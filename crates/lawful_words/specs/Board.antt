@@ -142,6 +142,8 @@ pub record IsNamed (job : JobData) (u root : ℕ) : Type 0 where
   pub first : (s : ℕ) → u ≡ suc s → IsReached job s × (AgreesAfter job s → ⊥)
   pub near : (s : ℕ) → u ≡ suc s → (root ≡ 3 * s + 2) ⊎ (root ≡ 3 * s + 3)
 
+-- Words with f finished steps: step f is reached; no node is above its children, nor far above the root; request words, places and claims
+-- are of the steps up to f or of the one behind it; what the raised leaves stand for is done; word 0 names the first conflict, if any.
 pub record LawfulFor (job : JobData) (y : LayoutData) (f : ℕ) (words : List ℕ) : Type 0 where
   pub reached : IsReached job f
   pub tree : IsTree job y words

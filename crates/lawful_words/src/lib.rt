@@ -1,4 +1,4 @@
-//! Lawful words, and the lemmas on them: what holds of a board's words between any two atomic steps.
+//! Lawful words and the lemmas on them: what holds of the words between any two atomic steps.
 #![tactic(auto)]
 
 pub mod laws;

@@ -1,5 +1,5 @@
 -- What a worker of a backed record hears may be heard: the premise of the bound on its own steps.
-use Rattle.std.proofs.Common.{sym, subst, ℕ, ◌<◌, List, [], ◌∷◌, lit<, arith}
+use Rattle.std.proofs.Common.{sym, subst, ℕ, ◌<◌, List, [], ◌∷◌, refl, inl, lit<, arith}
 use Rattle.pram_text.specs.Job.{JobData}
 use Rattle.pram_words.proofs.Numbering.{numbering}
 use Rattle.pram_words.specs.declared.words.Word.TheVariants.{Node, Position}
@@ -11,6 +11,7 @@ use Rattle.walkx.specs.Records.{Record, Has}
 use Rattle.walkx.proofs.BoundHeard.{NodesRise, IsShownBelow, shown_below_none, shown_below_later, shown_below_more, may_hear}
 use Rattle.lawful_words.specs.Board.{Grows}
 use Rattle.lawful_words.specs.Moments.{Moment, Backed}
+use Rattle.walk_laws.specs.Laws.{HistoriesAreKept}
 use Rattle.walk_laws.proofs.Sees.{Chain, chain_of_has}
 
 -- nodes of words that grow only rise
@@ -43,3 +44,8 @@ chain_is_heard job y w (e ∷ es) now worker m = (heard_may job y w es e.0 e.1 n
 pub backed_is_heard : (job : JobData) (y : LayoutData) (w : ℕ) (r : Record) (history : List (Op × ℕ)) (now : List ℕ) → w < y.workers → Backed job y r now →
     Has r history → IsHeard job y w history
 backed_is_heard job y w r history now worker backed has = chain_is_heard job y w history now worker (chain_of_has job y r history now backed has)
+
+-- the record that knew a worker, lengthened by its steps, has its whole history
+pub history_known : HistoriesAreKept
+history_known job y r w [] knows = knows
+history_known job y r w (found ∷ earlier) knows = inl (refl, history_known job y r w earlier knows)

@@ -1,6 +1,5 @@
 -- What loads of a cell's words give once the last step is shown, and loads of request words once word 0 was heard.
-use Rattle.std.proofs.Common.{◌≡◌, ℕ, suc, ◌<◌, ◌≤◌, nat_le, false, List, slice_index, sym, ap, ◌∙◌, lit<, arith}
-use Rattle.std.proofs.lemmas.Bool.{lt-leb, or_from}
+use Rattle.std.proofs.Common.{◌≡◌, ℕ, suc, ◌<◌, ◌≤◌, false, List, slice_index, sym, ap, ◌∙◌, lit<, arith}
 use Rattle.pram_text.specs.Job.{JobData}
 use Rattle.pram_step.specs.Runs.{state_after}
 use Rattle.pram_words.specs.declared.words.Word.TheVariants.{Conflict, Asked, Stored}
@@ -15,6 +14,7 @@ use Rattle.lawful_words.specs.Moments.{Backed}
 use Rattle.lawful_words.specs.Seen.{Heard, KnowsStep}
 use Rattle.lawful_words.proofs.Facts.{facts}
 use Rattle.lawful_words.proofs.Growths.{all_c5}
+use Rattle.lawful_words.proofs.Places.{is_early}
 use Rattle.lawful_words.proofs.Knowing.{known_now, conflict_now}
 
 -- ---- memory
@@ -34,7 +34,7 @@ final_place job y r p a b words stands knows place m =
     let most_b = stamps_most job y m.words p 1 m.stands (place, lit< tt) in
     let ea : stamp_of a ≡ stamp_at y first.words p 0 = ap stamp_of first.heard in
     let eb : stamp_of b ≡ stamp_at y m.words p 1 = ap stamp_of m.heard in
-    let early : is_late (suc job.steps) a b ≡ false = or_from (nat_le (suc job.steps) (stamp_of a)) (nat_le (suc job.steps) (stamp_of b)) (lt-leb (suc job.steps) (stamp_of a) (omega arith)) (lt-leb (suc job.steps) (stamp_of b) (omega arith)) in
+    let early : is_late (suc job.steps) a b ≡ false = is_early job.steps a b (omega arith) (omega arith) in
     (all_c5 job y job.steps p a b first.words m.words words first.stands m.stands stands first.since m.since place k.0 (let f = k.1 in omega arith) first.heard m.heard early).value
 
 -- ---- fault

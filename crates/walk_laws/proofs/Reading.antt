@@ -1,6 +1,6 @@
 -- Readers: each answer of the reader's script is a lawful read.
 use Rattle.std.proofs.Common.{◌≡◌, ◌≢◌, ℕ, zero, suc, ◌+◌, ◌*◌, ◌%◌, ◌<◌, ◌≤◌, ◌==◌, nat_le, false, List, [], ◌∷◌, ◌++◌, length, slice_index, refl, sym, ap, subst, ◌∙◌, inl, inr, lit<, arith}
-use Rattle.std.proofs.lemmas.Bool.{cond_both, cases_lt, eqb-true, eqb-false, leb-true, leb-false, lt-leb, or_from}
+use Rattle.std.proofs.lemmas.Bool.{cond_both, cases_lt, eqb-true, eqb-false, leb-true, leb-false}
 use Rattle.pram_text.specs.Job.{JobData}
 use Rattle.pram_step.specs.Runs.{IsReached, state_after}
 use Rattle.pram_words.specs.declared.words.Word.{Word}
@@ -22,7 +22,7 @@ use Rattle.lawful_words.specs.Moments.{Moment, Backed, afters}
 use Rattle.lawful_words.specs.Seen.{Hears, Heard, Shows, KnowsStep}
 use Rattle.walk_laws.specs.Walks.{IsLawfulRead}
 use Rattle.lawful_words.proofs.Values.{fin}
-use Rattle.lawful_words.proofs.Places.{word_value, first_value, second_value, apart_on, apart_back}
+use Rattle.lawful_words.proofs.Places.{word_value, first_value, second_value, is_early, apart_on, apart_back}
 use Rattle.lawful_words.proofs.Moments.{same, onward, stamps_rise, backed_later}
 use Rattle.lawful_words.proofs.Facts.{facts}
 use Rattle.lawful_words.proofs.Growths.{all_c, changed, all_c5}
@@ -326,7 +326,7 @@ module _ (job : JobData) (y : LayoutData) (before r : Record) (c s : ℕ) (cell 
       let f = fin_of first.words first.stands first.earlier in
       let low = (facts job y first.words first.stands).b2_low in
       let leaves = stands.sizes.leaves in
-      let early : is_late (suc s) a b ≡ false = or_from (nat_le (suc s) (stamp_of a)) (nat_le (suc s) (stamp_of b)) (lt-leb (suc s) (stamp_of a) (omega arith)) (lt-leb (suc s) (stamp_of b) (omega arith)) in
+      let early : is_late (suc s) a b ≡ false = is_early s a b (omega arith) (omega arith) in
       seen_read job y before r (Two a b) c s (newer_payload a b) (glance first.words first.stands first.earlier) (extends_two a b stands.sizes) f.0
       (all_c5 job y s c a b first.words m.words words first.stands m.stands stands first.since m.since place f.0 (let g = f.1 in omega arith) first.heard m.heard early).value
 

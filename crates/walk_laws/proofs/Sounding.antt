@@ -15,7 +15,7 @@ use Rattle.walkx.proofs.Ends.{heard_root, heard_both}
 use Rattle.walkx.proofs.Knowing.{has_newest}
 use Rattle.lawful_words.specs.Moments.{WasBacked, Sound}
 use Rattle.lawful_words.specs.Seen.{Heard}
-use Rattle.walk_laws.specs.Laws.{BackedRecordsAreSound, KnownStepsAreReached, OwnStepsAreBounded, EndsAreTrue, ReadsAreLawful, ProgressIsTrue, MemoryIsFinal, FaultsAreRequested}
+use Rattle.walk_laws.specs.Laws.{BackedRecordsAreSound, KnownStepsAreReached, OwnStepsAreBounded, EndsAreTrue, ReadsAreLawful, ProgressIsTrue, FinalValuesAreHeld, ConflictRequestsAreHeld}
 use Rattle.walk_laws.specs.Walks.{DoneWell, IsConflict}
 use Rattle.lawful_words.proofs.Knowing.{known_now}
 use Rattle.walk_laws.proofs.Reading.{read_is_lawful, loads_few}
@@ -104,10 +104,10 @@ was_read job y before c step value answers cell is was = (read_is_lawful job y b
 pub was_progress : ProgressIsTrue
 was_progress job y before r u was = progress_well job y before r u was.words was.stands was.backed
 
-pub was_place : MemoryIsFinal
+pub was_place : FinalValuesAreHeld
 was_place job y r p a b knows place was = final_place job y r p a b was.words was.stands knows place was.backed
 
-pub was_part : FaultsAreRequested
+pub was_part : ConflictRequestsAreHeld
 was_part job y r s i j found heard proc part was = final_part job y r s i j found was.words was.stands heard proc part was.backed
 
 -- what the own-step bound asks of any steps of a sound record

@@ -36,9 +36,11 @@ answer_admitted job y words (Over e) stands below = tt
 pub known_stays : KnownWorkersStayKnown
 known_stays job y r w words stands fits knows =
     let op = ask_of job y w in
-    let board : IsBoard job y = record { limits = stands.limits; layout = stands.sizes; is = stands.layout } in
-    (fits_told job y w (answer words op) board fits (answer_admitted job y words op stands (all_ask job y w board fits)),
-    knows_next job y r w (answer words op) fits knows, λ other. has_more r op (answer words op) (heard_of job y other))
+    let board : IsBoard job y = record { limits = stands.limits; layout = stands.sizes; is = stands.layout } in (
+      fits_told job y w (answer words op) board fits (answer_admitted job y words op stands (all_ask job y w board fits)),
+      knows_next job y r w (answer words op) fits knows,
+      λ other. has_more r op (answer words op) (heard_of job y other),
+    )
 
 pub late_changes_nothing : LateWorkersChangeNothing
 late_changes_nothing job y r w words stands fits knows backed = ((all_f job y r w words stands fits knows backed).goes).stale

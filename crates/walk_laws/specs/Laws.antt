@@ -22,7 +22,7 @@ use Rattle.walkx.specs.Walk.{Walking, Fits, IsGoing, IsLayoutOf, ask_of, told}
 use Rattle.lawful_words.specs.Board.{Stands, Grows, held, root, finished}
 use Rattle.lawful_words.specs.Moments.{Backed, WasBacked, Sound, afters}
 use Rattle.lawful_words.specs.Seen.{Heard, KnowsStep}
-use Rattle.walk_laws.specs.Walks.{Moves, IsLawfulRead, DoneWell, IsConflict, ProgressWell, phase_now}
+use Rattle.walk_laws.specs.Walks.{Moves, IsLawfulRead, DoneWell, IsConflict, ProgressWell, phase_now, steps_of}
 
 -- ---- a worker that a record knows, where the words bear the record out
 
@@ -46,6 +46,11 @@ KnownWorkersStayKnown = (job : JobData) (y : LayoutData) (r : Record) (w : Walki
 abbrev pub OwnStepsAreBounded : Type 0
 OwnStepsAreBounded = (job : JobData) (y : LayoutData) (r : Record) (w : Walking) (answers : List ℕ) → IsLayoutOf job y → Fits job y w →
     Sound job y r → Has r (history_of job y w answers) → IsGoing (told_all job y w answers).now → length answers < most_steps job y
+
+-- with these steps the record has them, behind what the worker had heard
+abbrev pub HistoriesAreKept : Type 0
+HistoriesAreKept = (job : JobData) (y : LayoutData) (r : Record) (w : Walking) (answers : List ℕ) → Knows job y r w →
+    Has (afters r (steps_of job y w answers)) (history_of job y w answers)
 
 -- it is over
 abbrev pub EndsAreTrue : Type 0
@@ -87,11 +92,11 @@ ProgressIsTrue = (job : JobData) (y : LayoutData) (before : Record) (a u : ℕ) 
     WasBacked job y behind → ProgressWell job y before behind (step_seen a u) u
 
 -- both words of a place, the last step being known
-abbrev pub MemoryIsFinal : Type 0
-MemoryIsFinal = (job : JobData) (y : LayoutData) (r : Record) (p a b : ℕ) → KnowsStep y r job.steps → p < places_of y →
+abbrev pub FinalValuesAreHeld : Type 0
+FinalValuesAreHeld = (job : JobData) (y : LayoutData) (r : Record) (p a b : ℕ) → KnowsStep y r job.steps → p < places_of y →
     WasBacked job y (after (after r (Load (number_of y (Stored p 0))) a) (Load (number_of y (Stored p 1))) b) → newer_payload a b ≡ slice_index (state_after job job.steps) p
 
 -- a request word, word 0 having been heard as s + 1
-abbrev pub FaultsAreRequested : Type 0
-FaultsAreRequested = (job : JobData) (y : LayoutData) (r : Record) (s i j found : ℕ) → Heard y r Conflict (suc s) → i < y.procs → j < 3 →
+abbrev pub ConflictRequestsAreHeld : Type 0
+ConflictRequestsAreHeld = (job : JobData) (y : LayoutData) (r : Record) (s i j found : ℕ) → Heard y r Conflict (suc s) → i < y.procs → j < 3 →
     WasBacked job y (after r (Load (number_of y (Asked i j))) found) → (stamp_of found ≡ suc s) × (payload_of found ≡ part_after job s i j)

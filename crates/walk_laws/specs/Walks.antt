@@ -1,11 +1,12 @@
 -- What a worker that a record knows does next, and what a read answers.
-use Rattle.std.specs.Prelude.{◌≡◌, ◌≢◌, ℕ, suc, ◌*◌, ◌≤◌, List, slice_index}
+use Rattle.std.specs.Prelude.{◌≡◌, ◌≢◌, ℕ, suc, ◌*◌, ◌≤◌, List, [], ◌∷◌, slice_index}
 use Rattle.pram_text.specs.Job.{JobData}
 use Rattle.pram_step.specs.Runs.{IsReached, state_after, IsFault}
 use Rattle.pram_words.specs.declared.words.Word.{Word}
 use Rattle.pram_words.specs.declared.words.Word.TheVariants.{Conflict, Node, Position}
 use Rattle.pram_words.specs.Words.{LayoutData, IsWord}
 use Rattle.walkx.specs.declared.operation.Op.{Op}
+use Rattle.walkx.specs.Bound.{told_all}
 use Rattle.walkx.specs.Doing.{Doing}
 use Rattle.walkx.specs.Doing as doing
 use Rattle.walkx.specs.Operations.{words_after, answer}
@@ -31,8 +32,12 @@ pub record Moves (job : JobData) (y : LayoutData) (r : Record) (w : Walking) (wo
   pub goes : Goes job y w.number (phase_now w.now) (ask_of job y w) words
   pub backed : Backed job y (after r (ask_of job y w) (answer words (ask_of job y w))) (words_after words (ask_of job y w))
 
--- an answer of a read, the record before the read and the one behind it being these
+-- its steps with these answers, the newest first
+abbrev pub steps_of : JobData → LayoutData → Walking → List ℕ → List (Op × ℕ)
+steps_of job y w [] = []
+steps_of job y w (found ∷ earlier) = (ask_of job y (told_all job y w earlier), found) ∷ steps_of job y w earlier
 
+-- an answer of a read, the record before the read and the one behind it being these
 pub record IsLawfulRead (job : JobData) (y : LayoutData) (before behind : Record) (c step value : ℕ) : Type 0 where
   pub reached : IsReached job step
   pub holds : value ≡ slice_index (state_after job step) c

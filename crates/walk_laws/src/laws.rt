@@ -1,26 +1,34 @@
 //! Laws of workers and readers: each function here does nothing, and its contract is the law.
 ghost use Rattle.walk_laws.specs.Laws.{WorkersKeepWordsLawful, LateWorkersChangeNothing};
-ghost use Rattle.walk_laws.specs.Laws.{KnownWorkersStayKnown, OwnStepsAreBounded, EndsAreTrue};
+ghost use Rattle.walk_laws.specs.Laws.{KnownWorkersStayKnown, HistoriesAreKept};
+ghost use Rattle.walk_laws.specs.Laws.{OwnStepsAreBounded, EndsAreTrue};
 ghost use Rattle.walk_laws.specs.Laws.{RecordsOutliveGrowth, LoadsKeepRecords};
 ghost use Rattle.walk_laws.specs.Laws.{BackedRecordsAreSound, KnownStepsAreReached, KnownStepsLast};
 ghost use Rattle.walk_laws.specs.Laws.{ReadsAreLawful, ProgressIsTrue};
-ghost use Rattle.walk_laws.specs.Laws.{MemoryIsFinal, FaultsAreRequested};
+ghost use Rattle.walk_laws.specs.Laws.{FinalValuesAreHeld, ConflictRequestsAreHeld};
 
-/// Whatever a worker does next that a record knows, lawful words stay lawful and grow, and they bear
-/// out the record with this step.
+/// Whatever a worker that a record knows does next, lawful words stay lawful and grow, and bear out
+/// the record with this step.
 pub fn worker_keeps_words_lawful()
     ensures { WorkersKeepWordsLawful }
 {}
 
-/// A late worker's step, its phase being at most the root, changes no word but its own position.
+/// A late worker, whose phase is at most the root, changes no word but its own position.
 #[tactic(auto, using(crate::proofs::Staying::late_changes_nothing))]
 pub fn late_worker_changes_nothing()
     ensures { LateWorkersChangeNothing }
 {}
 
-/// A known worker that hears what the words answer stays known, and so does each other one.
+/// A worker that hears what lawful words answer still fits the job, and the record with this step
+/// knows it, and whomever it knew.
 pub fn known_workers_stay_known()
     ensures { KnownWorkersStayKnown }
+{}
+
+/// A record that knew a worker, and has its steps since, has all that the worker has heard.
+#[tactic(auto, using(crate::proofs::Bounding::history_known))]
+pub fn histories_are_kept()
+    ensures { HistoriesAreKept }
 {}
 
 /// A worker that is still going has made fewer than 300 L T + 8 steps, L being the leaves and T the
@@ -30,15 +38,15 @@ pub fn own_steps_are_bounded()
     ensures { OwnStepsAreBounded }
 {}
 
-/// A worker that is over tells the truth: the last step is reached, or its step is the first
-/// conflict.
+/// A worker that is over tells the truth: the last step is reached, or the step that it names is
+/// the first conflict.
 #[tactic(auto, using(crate::proofs::Sounding::sound_ends))]
 pub fn ends_are_true()
     ensures { EndsAreTrue }
 {}
 
-/// A record that the words bear out is borne out by all words that they grow to, and so are two such
-/// records joined.
+/// A record that the words bear out is borne out by whatever they grow to, and so it is joined with
+/// another one.
 #[tactic(auto, using(crate::proofs::Staying::records_outlive))]
 pub fn records_outlive_growth()
     ensures { RecordsOutliveGrowth }
@@ -56,7 +64,7 @@ pub fn backed_records_are_sound()
     ensures { BackedRecordsAreSound }
 {}
 
-/// Each step that a sound record knows is reached: no step before it is a conflict.
+/// A step that a sound record knows is reached: no step up to it is a conflict.
 pub fn known_steps_are_reached()
     ensures { KnownStepsAreReached }
 {}
@@ -72,20 +80,20 @@ pub fn reads_are_lawful()
     ensures { ReadsAreLawful }
 {}
 
-/// A load of the root and then one of word 0 show a step that is reached, none that was known before
-/// being later, and name no conflict but the first.
+/// A load of the root and then one of word 0 show a step that is reached, none that was known
+/// before being later, and name no conflict but the first.
 pub fn progress_is_true()
     ensures { ProgressIsTrue }
 {}
 
-/// Where the last step is known, the newer one of a place's two words, loaded one after the other,
-/// has what the place holds in the end.
-pub fn memory_is_final()
-    ensures { MemoryIsFinal }
+/// Where the last step is known, the newer of a place's two words, loaded one after the other, has
+/// what the place holds in the end.
+pub fn final_values_are_held()
+    ensures { FinalValuesAreHeld }
 {}
 
-/// Where word 0 was heard as a step, each request word that is loaded has its part of a request of
-/// that step, by which the conflict's details are found.
-pub fn faults_are_requested()
-    ensures { FaultsAreRequested }
+/// Where word 0 was heard as a step, a request word has its part of the request that its processor
+/// makes in that step.
+pub fn conflict_requests_are_held()
+    ensures { ConflictRequestsAreHeld }
 {}

@@ -1,5 +1,5 @@
 use Rattle.walk_laws.proofs.Sounding.{was_place}
-use Rattle.walk_laws.proofs.laws.memory_is_final.Goals as goal
+use Rattle.walk_laws.proofs.laws.final_values_are_held.Goals as goal
 
 pub returns : goal.returns
 returns c = was_place
