@@ -4,10 +4,10 @@ use Rattle.std.proofs.lemmas.Grind.{flat_map-append}
 use Rattle.std.proofs.lemmas.List.{append-nil, take_more}
 use Rattle.pram_text.specs.Job.{JobData}
 use Rattle.stop_plan.specs.declared.plan.Row.{Row}
-use Rattle.stop_plan.specs.Schedule.{Events, Running, after_turns, after_rounds, events_of_act, events_of_rows}
+use Rattle.stop_plan.specs.Schedule.{after_turns, after_rounds, events_of_act, events_of_rows}
 use Rattle.pram_world.specs.declared.event.Effect.{Effect}
 use Rattle.pram_world.specs.declared.event.Event.{Event}
-use Rattle.pram_world.specs.declared.event.Event.TheVariants.{Go, Stop, Back}
+use Rattle.pram_world.specs.declared.event.Event.TheVariants.{Go}
 use Rattle.pram_world.specs.Worlds.{WorldData, start, run, happens, shown, going, nothing}
 use Rattle.pram_world.proofs.Keeping.{run_more}
 use Rattle.pram_world.proofs.Overs.{idle}

@@ -1,5 +1,4 @@
-use Rattle.std.proofs.Common.{◌≡◌, ◌++◌, ◌≤◌, ◌<◌, List, replicate, true, false, refl, sym, subst, ap, ◌∙◌, arith}
-use Rattle.pram_world.specs.declared.event.Event.{Event}
+use Rattle.std.proofs.Common.{◌≡◌, ◌++◌, replicate, false, sym, ◌∙◌, arith}
 use Rattle.pram_world.specs.declared.event.Event.TheVariants.{Go}
 use Rattle.pram_world.specs.Worlds.{going}
 use Rattle.pram_run.proofs.Behind.{behind_all, behind_next, behind_none}

@@ -1,4 +1,4 @@
-use Rattle.std.proofs.Common.{◌≡◌, ◌++◌, List, sym, subst, ap, ◌∙◌, refl}
+use Rattle.std.proofs.Common.{List, sym, subst}
 use Rattle.stop_plan.specs.Schedule.{after_turns}
 use Rattle.pram_world.specs.declared.event.Event.{Event}
 use Rattle.pram_run.specs.Inner.Progress.{IsBehind}

@@ -1,7 +1,6 @@
-use Rattle.std.proofs.Common.{◌≡◌, ◌++◌, List, sym, subst, ap, ◌∙◌, refl}
+use Rattle.std.proofs.Common.{◌++◌, sym, subst, refl}
 use Rattle.stop_plan.specs.declared.plan.Act.{Act}
 use Rattle.stop_plan.specs.Schedule.{events_of_act}
-use Rattle.pram_world.specs.declared.event.Event.{Event}
 use Rattle.pram_world.specs.declared.event.Event.TheVariants.{Stop, Back}
 use Rattle.pram_run.specs.Inner.Progress.{IsBehind}
 use Rattle.pram_run.specs.Replays.{world_events}

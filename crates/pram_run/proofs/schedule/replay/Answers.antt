@@ -1,4 +1,4 @@
-use Rattle.std.proofs.Common.{◌≡◌, ◌<◌, ◌≤◌, ◌+◌, ◌^◌, ℕ, List, true, false, ◌++◌, get_or, take, length, refl, sym, subst, ap, ◌∙◌, arith}
+use Rattle.std.proofs.Common.{◌≡◌, ◌<◌, ◌≤◌, List, true, ◌++◌, get_or, take, length, sym, subst, ap, ◌∙◌, arith}
 use Rattle.std.proofs.lemmas.List.{take_all}
 use Rattle.pram_words.specs.declared.layout.Form.TheVariants.{Compact}
 use Rattle.pram_words.specs.Words.{layout_of}
@@ -12,7 +12,7 @@ use Rattle.pram_run.specs.Inner.Progress.{IsBehind}
 use Rattle.pram_run.specs.Replays.{running, world_events}
 use Rattle.pram_run.specs.Traces.{trace_of}
 use Rattle.pram_run.proofs.Behind.{rows_more, rounds_more}
-use Rattle.pram_run.proofs.Rounds.{rounds_fewer, rounds_small}
+use Rattle.pram_run.proofs.Rounds.{rounds_fewer}
 use Rattle.pram_run.proofs.Stops.{replayed}
 use Rattle.pram_run.proofs.schedule.replay.Goals as goal
 
