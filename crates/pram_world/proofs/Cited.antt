@@ -1,31 +1,28 @@
 -- What the worlds' lemmas rest on, of the walk and of lawful words.
-use Rattle.std.proofs.Common.{◌≡◌, ◌≢◌, ℕ, ◌*◌, ◌<◌, ◌≤◌, List, [], ◌∷◌, length, slice_index, None, sym, subst, ◌∙◌, arith}
+use Rattle.std.proofs.Common.{◌≡◌, ◌≢◌, ℕ, ◌*◌, ◌<◌, ◌≤◌, List, [], ◌∷◌, length, None, sym, ◌∙◌, arith}
 use Rattle.pram_text.specs.Job.{JobData}
-use Rattle.pram_words.specs.Words.{LayoutData, IsInRange, Admits, length_of, number_of, word_at}
-use Rattle.pram_words.proofs.Numbering.{numbering}
+use Rattle.pram_words.specs.Words.{LayoutData}
 use Rattle.walkx.proofs.Asking.{all_ask}
-use Rattle.walkx.proofs.BoundSteps.{own_steps as bound}
 use Rattle.walkx.proofs.Fitting.{fits_told, new_workers_fit}
 use Rattle.walkx.proofs.Going.{told_over}
 use Rattle.walkx.proofs.Knowing.{has_earlier, has_more, knows_next}
 use Rattle.walkx.specs.declared.operation.Ended.{Ended}
 use Rattle.walkx.specs.declared.operation.Ended.TheVariants as ended
 use Rattle.walkx.specs.declared.operation.Op.{Op}
-use Rattle.walkx.specs.declared.operation.Op.TheVariants.{Load, Store, Max, Swap, Over}
 use Rattle.walkx.specs.Doing.{Doing}
 use Rattle.walkx.specs.Doing as doing
 use Rattle.walkx.specs.Scripts.{behind}
 use Rattle.walkx.specs.Bound.{told_all, history_of, most_steps}
 use Rattle.walkx.specs.Operations.{answer}
 use Rattle.walkx.specs.Records.{Record, after, Has, Knows}
-use Rattle.walkx.specs.Walk.{Walking, IsBoard, IsGoing, AsksAdmitted, HearsAdmitted, ask_of, told, rest_of, end_of, heard_of, started, come_back}
+use Rattle.walkx.specs.Walk.{Walking, IsBoard, IsGoing, HearsAdmitted, ask_of, told, rest_of, end_of, heard_of, started, come_back}
 use Rattle.lawful_words.specs.Board.{Stands, root, conflict}
 use Rattle.lawful_words.specs.Moments.{Backed}
-use Rattle.lawful_words.specs.Walks.{Moves}
-use Rattle.lawful_words.proofs.Bounding.{backed_is_heard}
-use Rattle.lawful_words.proofs.Ending.{done_well, conflict_well}
+use Rattle.walk_laws.specs.Walks.{Moves}
+use Rattle.walk_laws.proofs.Sounding.{sound_of, sound_steps, sound_ends}
+use Rattle.walk_laws.proofs.Staying.{answer_admitted}
 use Rattle.lawful_words.proofs.Knowing.{root_now, conflict_now}
-use Rattle.lawful_words.proofs.Turns.{all_f}
+use Rattle.walk_laws.proofs.Turns.{all_f}
 use Rattle.pram_world.specs.Inner.Holding.{Fitting}
 
 pub board_of : (job : JobData) (y : LayoutData) (words : List ℕ) → Stands job y words → IsBoard job y
@@ -46,21 +43,7 @@ more job y r op found w knows = has_more r op found (heard_of job y w) knows
 pub has_on : (r : Record) (op : Op) (found : ℕ) (es : List (Op × ℕ)) → Has r es → Has (after r op found) es
 has_on = has_more
 
--- each standing word is admitted at its number
-pub word_admitted : (job : JobData) (y : LayoutData) (words : List ℕ) (k : ℕ) → Stands job y words → k < length_of y → Admits y job k (slice_index words k)
-word_admitted job y words k stands below =
-    let w = (numbering y stands.sizes).word k below in
-    let range : IsInRange y job (word_at y k) (slice_index words (number_of y (word_at y k))) = stands.admitted.in_range (word_at y k) w.0 in
-    (below, subst (λ (n : ℕ). IsInRange y job (word_at y k) (slice_index words n)) w.1 range)
-
 -- what standing words answer is admitted
-answer_admitted : (job : JobData) (y : LayoutData) (words : List ℕ) (op : Op) → Stands job y words → AsksAdmitted job y op → HearsAdmitted job y op (answer words op)
-answer_admitted job y words (Load k) stands below = word_admitted job y words k stands below
-answer_admitted job y words (Store k v) stands below = tt
-answer_admitted job y words (Max k v) stands below = tt
-answer_admitted job y words (Swap k old new) stands below = tt
-answer_admitted job y words (Over e) stands below = tt
-
 pub hears_admitted : (job : JobData) (y : LayoutData) (words : List ℕ) (w : Walking) → Stands job y words → Fitting job y w → HearsAdmitted job y (ask_of job y w) (answer words (ask_of job y w))
 hears_admitted job y words w stands fits = answer_admitted job y words (ask_of job y w) stands (all_ask job y w (board_of job y words stands) fits)
 
@@ -87,7 +70,7 @@ going_of (doing.Over x) e = absurd (cc)
 pub own_steps : (job : JobData) (y : LayoutData) (r : Record) (w : Walking) (answers words : List ℕ) → Stands job y words → Backed job y r words → Has r (history_of job y w answers) → Fitting job y w →
     end_of (told_all job y w answers).now ≡ None → length answers < most_steps job y
 own_steps job y r w answers words stands backed has fits going =
-    bound.0 job y w stands.layout fits answers (going_of (told_all job y w answers).now going) (backed_is_heard job y w.number r (history_of job y w answers) words fits.number backed has)
+    sound_steps job y r w answers stands.layout fits (sound_of job y r words stands backed) has (going_of (told_all job y w answers).now going)
 
 -- a worker that is over stays so
 pub told_still : (job : JobData) (y : LayoutData) (w : Walking) (found : ℕ) (e : Ended) → w.now ≡ doing.Over e → told job y w found ≡ w
@@ -96,13 +79,13 @@ told_still job y w found e is = told_over w found (behind (rest_of job y w) foun
 -- Done: the root shows the last step; Conflict: word 0 is not 0
 pub ended_root : (job : JobData) (y : LayoutData) (r : Record) (w : Walking) (words : List ℕ) → Stands job y words → Backed job y r words → Knows job y r w → Fitting job y w → w.now ≡ doing.Over ended.Done → 3 * job.steps ≤ root y words
 ended_root job y r w words stands backed knows fits is =
-    let done = done_well job y r w words stands backed fits knows is in
+    let done = (sound_ends job y r w (sound_of job y r words stands backed) fits knows).0 is in
     let h = done.heard in
     root_now job y r (3 * job.steps) words backed (record { op = h.op; hears = h.hears; has = has_earlier r (h.next, 0) ((h.op, 3 * job.steps) ∷ []) h.has })
 
 pub ended_conflict : (job : JobData) (y : LayoutData) (r : Record) (w : Walking) (u : ℕ) (words : List ℕ) → Stands job y words → Backed job y r words → Knows job y r w → Fitting job y w → w.now ≡ doing.Over (ended.Conflict u) → conflict y words ≢ 0
 ended_conflict job y r w u words stands backed knows fits is =
-    let c = conflict_well job y r w u words stands backed fits knows is in
+    let c = (sound_ends job y r w (sound_of job y r words stands backed) fits knows).1 u is in
     let step = (c.1).step in
     let first = (((c.1).is).first).step in
     let some : u ≢ 0 = λ e. absurd (omega arith) in

@@ -10,7 +10,7 @@ use Rattle.walkx.specs.Operations.{answer}
 use Rattle.walkx.specs.Records.{Record, empty, after, Knows}
 use Rattle.walkx.specs.Walk.{Walking, ask_of, told, started, come_back}
 use Rattle.lawful_words.specs.Board.{held, root}
-use Rattle.lawful_words.specs.Walks.{phase_now}
+use Rattle.walk_laws.specs.Walks.{phase_now}
 use Rattle.lawful_words.proofs.Starting.{starts_stand}
 use Rattle.pram_world.specs.declared.event.Event.{Event}
 use Rattle.pram_world.specs.declared.event.Event.TheVariants.{Go, Stop, Back}

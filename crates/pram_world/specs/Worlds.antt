@@ -13,7 +13,7 @@ use Rattle.walkx.specs.declared.operation.Op.TheVariants.{Load, Store, Max, Swap
 use Rattle.walkx.specs.Operations.{words_after, answer}
 use Rattle.walkx.specs.Walk.{Walking, ask_of, told, end_of, started, come_back}
 use Rattle.lawful_words.specs.Board.{Stands, held, root}
-use Rattle.lawful_words.specs.Walks.{phase_now}
+use Rattle.walk_laws.specs.Walks.{phase_now}
 use Rattle.pram_world.specs.declared.event.Effect.{Effect}
 use Rattle.pram_world.specs.declared.event.Event.{Event}
 use Rattle.pram_world.specs.declared.event.Event.TheVariants.{Go, Stop, Back}
