@@ -2,8 +2,7 @@
 use Rattle.std.proofs.Common.{◌≡◌, ◌≢◌, ℕ, zero, suc, ◌*◌, ◌≤◌, List, [], ◌∷◌, refl, sym, subst, inl, inr, lit<, arith}
 use Rattle.std.proofs.lemmas.Bool.{cases_lt}
 use Rattle.pram_text.specs.Job.{JobData}
-use Rattle.pram_step.specs.declared.answer.Fault.{Fault}
-use Rattle.pram_step.specs.Runs.{IsReached, AgreesAfter, IsFirstConflict}
+use Rattle.pram_step.specs.Runs.{IsReached, AgreesAfter}
 use Rattle.pram_step.proofs.LawAnswer.{conflict_ends}
 use Rattle.pram_step.proofs.LawDisputes.{reached_or_conflict}
 use Rattle.pram_words.specs.declared.words.Word.TheVariants.{Conflict, Node}
@@ -24,7 +23,7 @@ use Rattle.lawful_words.specs.Laws.{EndsAreTrue}
 use Rattle.lawful_words.specs.Walks.{DoneWell, IsConflict}
 use Rattle.lawful_words.specs.Board.{Stands}
 use Rattle.lawful_words.specs.Moments.{Backed}
-use Rattle.lawful_words.specs.Seen.{Heard, HeardThen, Shows, KnowsStep}
+use Rattle.lawful_words.specs.Seen.{Heard, Shows, KnowsStep}
 use Rattle.lawful_words.proofs.Facts.{facts}
 use Rattle.lawful_words.proofs.Knowing.{conflict_now, conflict_fin, conflict_first, known_now}
 use Rattle.lawful_words.proofs.Reading.{load_root, load_conflict, glanced_both}

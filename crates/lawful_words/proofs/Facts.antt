@@ -1,5 +1,5 @@
 -- Lemmas B: what lawful words show.
-use Rattle.std.proofs.Common.{◌≡◌, ◌≢◌, ◌⊎◌, ℕ, zero, suc, ◌+◌, ◌-◌, ◌*◌, ◌<◌, ◌≤◌, ◌^◌, IsTrue, List, slice_index, refl, sym, ap, subst, ◌∙◌, inl, inr, arith, false}
+use Rattle.std.proofs.Common.{◌≡◌, ◌≢◌, ◌⊎◌, ℕ, zero, suc, ◌+◌, ◌-◌, ◌*◌, ◌<◌, ◌≤◌, ◌^◌, IsTrue, List, slice_index, refl, sym, ap, subst, ◌∙◌, inl, inr, arith}
 use Rattle.std.proofs.lemmas.Bool.{cases_eq, cases_lt, cases_order}
 use Rattle.pram_text.specs.Job.{JobData, IsJob}
 use Rattle.pram_text.specs.declared.instr.Rule.{Rule}
@@ -10,22 +10,18 @@ use Rattle.pram_step.specs.Runs.{IsReached, AgreesAfter, state_after, requests_a
 use Rattle.pram_step.proofs.LawWriters.{writer_cases}
 use Rattle.pram_step.proofs.LawPlaces.{writer_is}
 use Rattle.pram_words.specs.declared.phases.Kind.TheVariants.{Compute, Apply, Verify}
-use Rattle.pram_words.specs.declared.words.Word.TheVariants.{Node, Asked, Stored, Claim, Conflict}
+use Rattle.pram_words.specs.declared.words.Word.TheVariants.{Node, Asked, Stored, Claim}
 use Rattle.pram_words.specs.Stamps.{stamp_of, payload_of, stamped_word}
-use Rattle.pram_words.specs.Words.{LayoutData, IsLayout, IsWord, has_claims, places_of, number_of}
+use Rattle.pram_words.specs.Words.{LayoutData, IsLayout, IsWord, has_claims, places_of}
 use Rattle.pram_words.proofs.Halvings.{leaves_least}
-use Rattle.walkx.specs.Tasks.{claim_of, newer_payload, is_late, first_is_older, older, older_word}
+use Rattle.walkx.specs.Tasks.{claim_of, newer_payload}
 use Rattle.walkx.specs.Walk.{IsLayoutOf, IsBoard}
 use Rattle.walkx.proofs.Boards.{same_cells, same_procs}
-use Rattle.pram_step.specs.History.{Asks, Wins, IsWritten, last_write, write_before, part_after}
+use Rattle.pram_step.specs.History.{Asks, Wins, IsWritten, last_write, write_before}
 use Rattle.pram_step.proofs.LawFixed.{reached_down}
 use Rattle.pram_step.proofs.Past.{last_most, last_is, last_least, last_between, value_between, before_most}
-use Rattle.pram_words.specs.Phases.{kind_at, step_at}
-use Rattle.walkx.specs.declared.operation.Op.{Op}
-use Rattle.walkx.specs.declared.operation.Op.TheVariants.{Max, Swap}
-use Rattle.walkx.specs.Operations.{words_after}
 use Rattle.lawful_words.specs.Steps.{phase_written, word_of_step, settled, settled_before}
-use Rattle.lawful_words.specs.Board.{held, root, conflict, leaf, stamp_at, finished, IsLate, HoldsNew, Raised, Claimed, Done, IsNew, IsPair, newer_first, newer_second, new_first, new_second, IsClaimed, claimed_before, claimed_now, LawfulFor, Stands, Grows}
+use Rattle.lawful_words.specs.Board.{held, root, conflict, leaf, stamp_at, finished, IsLate, HoldsNew, Raised, Claimed, Done, IsNew, IsPair, newer_first, newer_second, new_first, new_second, IsClaimed, claimed_before, claimed_now, LawfulFor, Stands}
 use Rattle.lawful_words.proofs.Values.{IsFin, fin, conflict_is, fin_reached, phase_low, phase_high, tree_below, stamp_step, payload_step, before_is, before_less, before_between, WordIs, is_settled, is_before, is_new, first_is, second_is, has_settled, newer_is_first, newer_is_second}
 
 -- ---- what holds of words that stand

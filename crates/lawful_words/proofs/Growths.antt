@@ -1,22 +1,17 @@
 -- Lemmas C: lawful words that have grown, and the two words of a place heard at two moments.
-use Rattle.std.proofs.Common.{◌≡◌, ◌≢◌, ◌⊎◌, ℕ, zero, suc, ◌+◌, ◌*◌, ◌<◌, ◌≤◌, nat_le, true, false, List, slice_index, refl, sym, ap, subst, ◌∙◌, inl, inr, lit<, arith, ◌-◌}
+use Rattle.std.proofs.Common.{◌≡◌, ◌≢◌, ◌⊎◌, ℕ, zero, suc, ◌+◌, ◌*◌, ◌<◌, ◌≤◌, nat_le, true, false, List, slice_index, refl, sym, ap, subst, ◌∙◌, inl, inr, lit<, arith}
 use Rattle.std.proofs.lemmas.Bool.{cases_eq, cases_lt, cases_Bool, leb-false, le-leb, lt-leb}
 use Rattle.pram_text.specs.Job.{JobData}
-use Rattle.pram_step.specs.Runs.{IsReached, state_after, AgreesAfter}
-use Rattle.pram_words.specs.declared.words.Word.TheVariants.{Node, Asked, Stored, Conflict, Claim}
-use Rattle.pram_words.specs.Stamps.{stamp_of, payload_of, stamped_word}
-use Rattle.pram_words.specs.Words.{LayoutData, IsWord, places_of, number_of}
-use Rattle.walkx.specs.Tasks.{is_late, first_is_older, newer_payload, older, older_word, claim_of}
-use Rattle.pram_step.specs.History.{last_write, write_before, Asks, Wins, IsWritten, part_after}
+use Rattle.pram_step.specs.Runs.{IsReached, state_after}
+use Rattle.pram_words.specs.declared.words.Word.TheVariants.{Node, Asked, Stored}
+use Rattle.pram_words.specs.Stamps.{stamp_of, payload_of}
+use Rattle.pram_words.specs.Words.{LayoutData, IsWord, places_of}
+use Rattle.walkx.specs.Tasks.{is_late, first_is_older, newer_payload, older, older_word}
+use Rattle.pram_step.specs.History.{last_write, write_before}
 use Rattle.pram_step.proofs.Past.{last_most, last_least, last_rises, value_between, before_most}
-use Rattle.pram_words.specs.declared.phases.Kind.TheVariants.{Compute, Apply, Verify}
-use Rattle.pram_words.specs.Phases.{kind_at, step_at}
-use Rattle.walkx.specs.declared.operation.Op.{Op}
-use Rattle.walkx.specs.declared.operation.Op.TheVariants.{Max, Swap}
-use Rattle.walkx.specs.Operations.{words_after}
 use Rattle.lawful_words.specs.Writes.{PlaceAsHeard}
-use Rattle.lawful_words.specs.Steps.{word_of_step, settled, settled_before, phase_written}
-use Rattle.lawful_words.specs.Board.{held, root, stamp_at, finished, IsLate, IsPair, newer_first, newer_second, new_first, new_second, Stands, Grows, conflict, leaf, Done}
+use Rattle.lawful_words.specs.Steps.{word_of_step, settled, settled_before}
+use Rattle.lawful_words.specs.Board.{held, root, stamp_at, finished, IsLate, IsPair, newer_first, newer_second, new_first, new_second, Stands, Grows}
 use Rattle.lawful_words.proofs.Values.{payload_step, before_less, before_rises, has_settled, newer_is_first, newer_is_second}
 use Rattle.lawful_words.proofs.Moments.{onward, stamps_rise}
 use Rattle.lawful_words.proofs.Facts.{facts, place_below, stamp_settled, stamp_before}

@@ -9,7 +9,7 @@ use Rattle.walkx.specs.declared.operation.Op.TheVariants.{Over}
 use Rattle.walkx.specs.Doing.{Doing}
 use Rattle.walkx.specs.Doing as doing
 use Rattle.walkx.specs.Scripts.{Script, heard_in}
-use Rattle.walkx.specs.Walk.{Then, Walking, Fits, Matches, script_of, rest_of, next_op, ask_of, phase_begun, heard_of, turn_script, begin_script, back_script}
+use Rattle.walkx.specs.Walk.{Then, Walking, Fits, Matches, script_of, rest_of, next_op, ask_of, phase_begun, heard_of, turn_script}
 use Rattle.walkx.proofs.Asking.{all_left}
 use Rattle.lawful_words.specs.Laws.{WorkersKeepWordsLawful}
 use Rattle.lawful_words.specs.Writes.{Floor}

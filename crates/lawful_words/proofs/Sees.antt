@@ -4,10 +4,10 @@ use Rattle.pram_text.specs.Job.{JobData}
 use Rattle.pram_words.specs.Words.{LayoutData}
 use Rattle.walkx.specs.declared.operation.Op.{Op}
 use Rattle.walkx.specs.Operations.{words_after}
-use Rattle.walkx.specs.Records.{Record, after, Has}
+use Rattle.walkx.specs.Records.{Record, Has}
 use Rattle.lawful_words.specs.Board.{Stands, Grows}
 use Rattle.lawful_words.specs.Moments.{Moment, Backed, afters}
-use Rattle.lawful_words.proofs.Moments.{Found, find, moment_later, onward}
+use Rattle.lawful_words.proofs.Moments.{Found, find, onward}
 
 -- these steps were made one after the other, newest first, the first of them from words of which P holds
 abbrev pub Chain : JobData → LayoutData → (List ℕ → Type 0) → List (Op × ℕ) → List ℕ → Type 0

@@ -7,10 +7,9 @@ use Rattle.pram_words.specs.Words.{LayoutData}
 use Rattle.walkx.specs.Doing.{Doing}
 use Rattle.walkx.specs.Doing as doing
 use Rattle.walkx.specs.Operations.{words_after, answer}
-use Rattle.walkx.specs.Walk.{Walking, Fits, ask_of}
-use Rattle.walkx.specs.Records.{Record, after, Knows}
+use Rattle.walkx.specs.Walk.{Walking, ask_of}
+use Rattle.walkx.specs.Records.{Record, after}
 use Rattle.pram_step.specs.declared.answer.Fault.{Fault}
-use Rattle.lawful_words.specs.Board.{Stands}
 use Rattle.lawful_words.specs.Moments.{Backed, Goes}
 use Rattle.lawful_words.specs.Seen.{Heard, Shows, KnowsStep, HeardThen}
 

@@ -1,19 +1,19 @@
 -- What a worker may write while the words stand: q is its phase, of the step behind x steps.
-use Rattle.std.specs.Prelude.{◌≡◌, ◌≢◌, ◌⊎◌, ℕ, suc, ◌+◌, ◌-◌, ◌*◌, ◌≤◌, ◌<◌, false, List, slice_index}
+use Rattle.std.specs.Prelude.{◌≡◌, ◌≢◌, ℕ, suc, ◌+◌, ◌*◌, ◌≤◌, ◌<◌, List, slice_index}
 use Rattle.pram_text.specs.Job.{JobData}
 use Rattle.pram_step.specs.Runs.{IsReached, AgreesAfter, state_after}
 use Rattle.pram_words.specs.declared.phases.Kind.TheVariants.{Compute, Apply, Verify}
 use Rattle.pram_words.specs.declared.words.Word.TheVariants.{Conflict, Node, Asked, Stored, Claim}
-use Rattle.pram_words.specs.Stamps.{stamp_of, stamped_word}
-use Rattle.pram_words.specs.Phases.{kind_at, step_at}
-use Rattle.pram_words.specs.Words.{LayoutData, IsWord, number_of, places_of}
+use Rattle.pram_words.specs.Stamps.{stamped_word}
+use Rattle.pram_words.specs.Phases.{kind_at}
+use Rattle.pram_words.specs.Words.{LayoutData, IsWord, number_of}
 use Rattle.walkx.specs.declared.operation.Op.{Op}
 use Rattle.walkx.specs.declared.operation.Op.TheVariants.{Max, Swap}
 use Rattle.walkx.specs.Operations.{words_after}
-use Rattle.walkx.specs.Tasks.{is_late, first_is_older, newer_payload, claim_of, older, older_word}
-use Rattle.pram_step.specs.History.{Asks, Wins, IsWritten, last_write, part_after}
-use Rattle.lawful_words.specs.Steps.{phase_written, settled, settled_before}
-use Rattle.lawful_words.specs.Board.{held, root, conflict, leaf, stamp_at, finished, IsLate, Done, Stands, Grows}
+use Rattle.walkx.specs.Tasks.{first_is_older, newer_payload, claim_of, older, older_word}
+use Rattle.pram_step.specs.History.{Asks, Wins, part_after}
+use Rattle.lawful_words.specs.Steps.{phase_written}
+use Rattle.lawful_words.specs.Board.{held, root, stamp_at, IsLate, Done}
 use Rattle.lawful_words.specs.Moments.{Keeps}
 
 -- Of a place of which a and b were heard: the older one as heard still stands, or the place was written in step x + 1 or later.

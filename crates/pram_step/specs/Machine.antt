@@ -1,19 +1,20 @@
 -- The machine's places, and what they hold at the start.
 use Rattle.std.specs.Prelude.{ℕ, ◌+◌, ◌*◌, ◌<◌, ◌≤◌, ◌⊎◌, List, ◌++◌, length, replicate, slice_index}
 use Rattle.pram_text.specs.Job.{JobData}
+use Rattle.pram_text.specs.Places.{register_at, counters_at, places_in}
 
 -- The places: M cells, then four registers of each processor, then the counter of each.
 abbrev pub State : Type 0
 State = List ℕ
 
 abbrev pub register_place : JobData → ℕ → ℕ → ℕ
-register_place job i r = job.cells + 4 * i + r
+register_place job i r = register_at job.cells i r
 
 abbrev pub counter_place : JobData → ℕ → ℕ
-counter_place job i = job.cells + 4 * job.procs + i
+counter_place job i = counters_at job.cells job.procs + i
 
 abbrev pub place_count : JobData → ℕ
-place_count job = job.cells + 5 * job.procs
+place_count job = places_in job.cells job.procs
 
 -- the place is a cell, or a register of processor i
 abbrev pub IsDataPlace : JobData → ℕ → ℕ → Type 0

@@ -1,4 +1,5 @@
 pub mod Job
+pub mod Places
 pub mod Lines
 pub mod Judgement
 pub mod Text

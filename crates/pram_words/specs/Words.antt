@@ -1,6 +1,8 @@
 -- The words of a board: which there are, where each lies, and what each may hold.
 use Rattle.std.specs.Prelude.{◌≡◌, ◌≢◌, ◌↔◌, ℕ, Bool, true, false, IsTrue, ◌+◌, ◌-◌, ◌*◌, ◌/◌, ◌%◌, ◌^◌, ◌<◌, ◌≤◌, ◌==◌, ◌&&◌, nat_lt, List, length, slice_index, if◌then◌else◌}
 use Rattle.pram_text.specs.Job.{JobData}
+use Rattle.pram_text.specs.Places.{counters_at, places_in}
+use Rattle.pram_text.specs.declared.limits.TheConstants.{MAX_CELLS, MAX_PROCS}
 use Rattle.pram_text.specs.declared.instr.Rule.{Rule}
 use Rattle.pram_text.specs.declared.instr.Rule.TheVariants.{Common, Priority, Crew}
 use Rattle.pram_words.specs.declared.layout.Form.{Form}
@@ -21,10 +23,10 @@ pub record LayoutData : Type 0 where
 
 -- the limits of a layout
 pub record IsLayout (y : LayoutData) : Type 0 where
-  pub leaves : (1 ≤ y.leaves) × (y.leaves ≤ 1024)
+  pub leaves : (1 ≤ y.leaves) × (y.leaves ≤ MAX_PROCS)
   pub least : y.leaves ≡ leaves_of y.procs
-  pub cells : (1 ≤ y.cells) × (y.cells ≤ 65536)
-  pub procs : (1 ≤ y.procs) × (y.procs ≤ 1024)
+  pub cells : (1 ≤ y.cells) × (y.cells ≤ MAX_CELLS)
+  pub procs : (1 ≤ y.procs) × (y.procs ≤ MAX_PROCS)
   pub workers : (1 ≤ y.workers) × (y.workers ≤ 64)
 
 abbrev pub has_claims : Rule → Bool
@@ -38,11 +40,11 @@ layout_of job form workers = record { form = form; leaves = leaves_of job.procs;
 
 -- places: the cells, then four registers for each processor, then its counter
 abbrev pub places_of : LayoutData → ℕ
-places_of y = y.cells + 5 * y.procs
+places_of y = places_in y.cells y.procs
 
 -- the first counter's place: cells and registers lie below it
 abbrev pub counters_of : LayoutData → ℕ
-counters_of y = y.cells + 4 * y.procs
+counters_of y = counters_at y.cells y.procs
 
 -- the words that a board needs
 abbrev pub IsNeeded : LayoutData → Word → Type 0
@@ -153,7 +155,7 @@ length_of y = by_form y.form (claims_at y) (wide_claims_at y) + (if y.claims the
 
 -- and how many at most: for 1,024 processors, 65,536 cells and 64 workers
 abbrev pub most_length : LayoutData → ℕ
-most_length y = by_form y.form 146496 156160 + (if y.claims then 65536 else 0)
+most_length y = by_form y.form 146496 156160 + (if y.claims then MAX_CELLS else 0)
 
 -- the word of a number below the length
 unfoldable pub word_at : LayoutData → ℕ → Word

@@ -1,4 +1,5 @@
 //! Where the words of a board lie.
+ghost use Rattle.pram_text.specs.declared.limits.TheConstants.{MAX_CELLS, MAX_PROCS};
 ghost use Rattle.std.specs.Prelude.{◌≡◌, ℕ, ◌+◌, ◌*◌, ◌<◌, ◌≤◌, ◌↔◌, IsTrue, if◌then◌else◌};
 ghost use Rattle.pram_words.specs.declared.layout.Form.TheVariants.{Compact, Wide};
 ghost use Rattle.pram_words.specs.declared.words.Word.TheVariants.{Asked, Claim, Conflict};
@@ -99,8 +100,8 @@ impl Layout {
 
     // The layout from plain numbers.
     pub(crate) fn of(form: Form, rule: Rule, cells: u32, procs: u32, workers: u32) -> Layout
-        requires cells { (1 ≤ cells) × (cells ≤ 65536) }
-        requires procs { (1 ≤ procs) × (procs ≤ 1024) }
+        requires cells { (1 ≤ cells) × (cells ≤ MAX_CELLS) }
+        requires procs { (1 ≤ procs) × (procs ≤ MAX_PROCS) }
         requires workers { (1 ≤ workers) × (workers ≤ 64) }
         ensures value { result ≡ record {
           form = form;
@@ -427,7 +428,7 @@ impl Layout {
 
     // The first word of the block of leaf i in the wide form, or past the last leaf, of the cells.
     fn block(&self, i: u32) -> u32
-        requires { i ≤ 1024 }
+        requires { i ≤ MAX_PROCS }
         ensures value { result ≡ block_at self.now i }
         ensures below { i < self.now.procs → result + 16 ≤ cells_at self.now }
         ensures limits { IsLayout self.now }

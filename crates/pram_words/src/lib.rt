@@ -16,7 +16,7 @@ pub use laws::{
     workers_begin_at_leaves,
 };
 pub use layout::{Form, Layout};
-pub use phases::{Kind, kind_of, phase, step_of};
+pub use phases::{Kind, LAST_PHASE, kind_of, phase, step_of};
 pub use stamps::{payload, stamp, stamped};
 pub use tree::{first_leaf, goes_right, height, leaves, left, parent, right};
 pub use words::Word;

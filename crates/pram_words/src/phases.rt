@@ -2,6 +2,9 @@
 ghost use Rattle.std.specs.Prelude.{◌≡◌, ◌*◌, ◌≤◌};
 ghost use Rattle.pram_words.specs.Phases.{phase_of, step_at, kind_at};
 
+/// The last phase that a job can have: the third pass of step 4,294,967,295.
+pub const LAST_PHASE: u64 = 12_884_901_885;
+
 /// What a pass does, in the order of the passes of a step.
 #[derive(Clone, Copy, Debug, PartialEq, Eq)]
 pub enum Kind {
@@ -30,7 +33,7 @@ pub fn phase(step: u32, kind: Kind) -> u64
 
 /// The step of a phase.
 pub fn step_of(phase: u64) -> u32
-    requires { phase ≤ 12884901885 }
+    requires { phase ≤ LAST_PHASE }
     ensures { result ≡ step_at phase }
 {
     ((phase + 2) / 3) as u32

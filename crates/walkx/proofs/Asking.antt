@@ -10,7 +10,7 @@ use Rattle.pram_text.specs.declared.instr.Rule.TheVariants.{Common, Priority, Cr
 use Rattle.pram_text.specs.Job.{JobData, IsInstr}
 use Rattle.pram_step.specs.declared.requests.Request.{Request}
 use Rattle.pram_step.specs.Machine.{register_place, counter_place}
-use Rattle.pram_step.specs.Instructions.{operands_of, cell_read, decided, goes_to, place_part, value_part, HasShape}
+use Rattle.pram_step.specs.Instructions.{operands_of, cell_read, goes_to, place_part, value_part, HasShape}
 use Rattle.pram_step.proofs.Shapes.{decided_shape, instr_is}
 use Rattle.pram_words.specs.declared.phases.Kind.{Kind}
 use Rattle.pram_words.specs.declared.phases.Kind.TheVariants.{Compute, Apply, Verify}

@@ -2,10 +2,10 @@
 use Rattle.std.proofs.Common.{◌≡◌, ℕ, ◌<◌, nat_lt, Some, None, refl, inl, inr, arith}
 use Rattle.std.proofs.lemmas.Bool.{cases_Bool, ltb-true}
 use Rattle.pram_text.specs.declared.instr.Instr.{Instr}
-use Rattle.pram_text.specs.declared.instr.Instr.TheVariants.{Set, Pid, Add, Sub, Mul, And, Or, Xor, Lt, Eq, Ld, St, Jz, Jmp, Halt}
+use Rattle.pram_text.specs.declared.instr.Instr.TheVariants.{Ld}
 use Rattle.pram_text.specs.Job.{JobData}
 use Rattle.pram_step.specs.Instructions.{cell_read, decided}
-use Rattle.walkx.specs.Inner.Posts.{PostData, processor_of, step_of, then_marks}
+use Rattle.walkx.specs.Inner.Posts.{PostData, step_of, then_marks}
 use Rattle.walkx.specs.Inner.Stages.{reads_for, then_asks}
 use Rattle.walkx.specs.declared.stage.Want.TheVariants.{Cell}
 use Rattle.walkx.specs.Tasks.{reads_place}

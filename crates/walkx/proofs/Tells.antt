@@ -1,22 +1,18 @@
 -- A worker that hears an answer.
-use Rattle.std.proofs.Common.{◌≡◌, ◌≢◌, add-one, get_or-set_other, get_or-set_same, ℕ, zero, suc, ◌+◌, ◌<◌, ◌≤◌, List, [], ◌∷◌, length, Option, Some, None, refl, sym, ap, subst, ◌∙◌, arith}
+use Rattle.std.proofs.Common.{◌≡◌, ◌≢◌, add-one, get_or-set_other, get_or-set_same, ℕ, zero, suc, ◌+◌, ◌<◌, ◌≤◌, List, ◌∷◌, length, Some, None, refl, sym, ap, subst, ◌∙◌, arith}
 use Rattle.std.specs.Prelude.{slice_set}
 use Rattle.pram_text.specs.Job.{JobData}
 use Rattle.pram_words.specs.Phases.{kind_at}
 use Rattle.pram_words.specs.Words.{LayoutData}
-use Rattle.walkx.specs.declared.operation.Ended.{Ended}
-use Rattle.walkx.specs.declared.operation.Op.{Op}
-use Rattle.walkx.specs.Doing.{Doing}
-use Rattle.walkx.specs.Doing as doing
 use Rattle.walkx.specs.declared.stage.Stage.{Stage}
 use Rattle.walkx.specs.declared.stage.Stage.TheVariants as stage
 use Rattle.walkx.specs.declared.stage.Step.{Step}
 use Rattle.walkx.specs.declared.stage.Step.TheVariants as step
-use Rattle.walkx.specs.Scripts.{Script, asks, ends, behind, first_op}
+use Rattle.walkx.specs.Scripts.{Script, asks, ends, behind}
 use Rattle.walkx.specs.Inner.Posts.{PostData, processor_of, step_of, then_marks}
 use Rattle.walkx.specs.Inner.Stages.{IsStage, IsStep, WorkerData, post_of, doing_of, newest, script_at, script_behind, stepped}
 use Rattle.walkx.specs.Serving.{Serves}
-use Rattle.walkx.specs.Walk.{Then, Walking, Fits, IsBoard, IsGoing, HearsAdmitted, ask_of, told, goes_on, rest_of, begin_script, turn_script, begins, turns, stops, started, come_back}
+use Rattle.walkx.specs.Walk.{Then, Walking, Fits, IsBoard, IsGoing, HearsAdmitted, ask_of, told, goes_on, rest_of, begin_script, turn_script, started, come_back}
 use Rattle.walkx.proofs.Fitting.{fits_told, new_workers_fit}
 use Rattle.walkx.proofs.Going.{Asks, told_going}
 use Rattle.walkx.proofs.Hearing.{hears_first}

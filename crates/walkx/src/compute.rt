@@ -1,11 +1,13 @@
 //! The compute task: the places that a processor reads, and the request that comes of them.
-ghost use Rattle.std.specs.Prelude.{Some};
+ghost use Rattle.std.specs.Prelude.{◌≡◌, Some};
+ghost use Rattle.pram_step.specs.Instructions.{decided, place_part};
+ghost use Rattle.walkx.specs.Inner.Posts.{IsLeaf, IsPart, processor_of};
 ghost use Rattle.walkx.specs.Inner.Stages.{IsCode, StandsFor, then_asks, then_computes};
-ghost use Rattle.walkx.specs.Inner.Stages.{then_executes, then_fetches, then_raises};
+ghost use Rattle.walkx.specs.Inner.Stages.{then_executes, then_fetches};
 
 use crate::post::Leaf;
 use crate::stage::{Stage, Want};
-use pram_step::{Operands, cell_read, decided, goes_to, operands_of};
+use pram_step::{Operands, Request, cell_read, decided, goes_to, operands_of};
 use pram_text::Instr;
 
 /// The counter is read.
@@ -51,15 +53,17 @@ pub(crate) fn after_operands(leaf: &Leaf, instr: Instr, counter: u32, a: u32, b:
 {
     match cell_read(leaf.job(), instr, a) {
         Some(cell) => Stage::Place(cell, Want::Cell(instr, counter, a)),
-        None => asks_for(leaf, instr, counter, a, b, 0),
+        None => Stage::Ask(request(leaf, instr, counter, a, b, 0)),
     }
 }
 
-/// The request of an instruction is asked for: its operands hold a and b, the cell that it reads v.
+/// The request of an instruction: its operands hold a and b, the cell that it reads v.
 #[tactic(auto, using(crate::proofs::Boards::place_shape))]
-pub(crate) fn asks_for(leaf: &Leaf, instr: Instr, counter: u32, a: u32, b: u32, v: u32) -> Stage
+pub(crate) fn request(leaf: &Leaf, instr: Instr, counter: u32, a: u32, b: u32, v: u32) -> Request
     requires code { IsCode leaf.now.job instr counter }
-    ensures { StandsFor leaf.now 6 (then_raises leaf.now instr counter a b v) result }
+    ensures value { result ≡ decided leaf.now.job (processor_of leaf.now) counter instr a b v }
+    ensures fits { IsPart leaf.now.layout (place_part result) }
+    ensures limits { IsLeaf leaf.now }
 {
-    Stage::Ask(decided(leaf.job(), leaf.processor(), counter, instr, a, b, v))
+    decided(leaf.job(), leaf.processor(), counter, instr, a, b, v)
 }

@@ -6,7 +6,7 @@ ghost use Rattle.walkx.specs.Inner.Stages.{IsWant, StandsFor, follows_words, lef
 ghost use Rattle.walkx.specs.Inner.Stages.{then_counts};
 ghost use Rattle.walkx.specs.Tasks.{differs, is_late, newer_payload};
 
-use crate::compute::{after_counter, after_operands, asks_for};
+use crate::compute::{after_counter, after_operands, request};
 use crate::post::Leaf;
 use crate::stage::{Stage, Want};
 use crate::verify::values_compared;
@@ -36,9 +36,14 @@ pub(crate) fn after_words(leaf: &Leaf, place: u32, want: Want, first: u64, secon
             value,
             newer(first, second),
         ),
-        Want::Cell(instr, counter, address) => {
-            asks_for(leaf, instr, counter, address, 0, newer(first, second))
-        }
+        Want::Cell(instr, counter, address) => Stage::Ask(request(
+            leaf,
+            instr,
+            counter,
+            address,
+            0,
+            newer(first, second),
+        )),
     }
 }
 

@@ -9,7 +9,7 @@ ghost use Rattle.walkx.specs.Walk.{IsLayoutOf};
 use crate::{Ended, Op, ReadOp, Reader, Reading, Worker, request_of, seen_step};
 use pram_step::Request;
 use pram_text::{Job, read_job};
-use pram_words::{Kind, Layout, phase, stamped};
+use pram_words::{Kind, LAST_PHASE, Layout, phase, stamped};
 use std::alloc::{AllocError, Global};
 use std::process::Abort;
 use std::test::Fail;
@@ -396,7 +396,7 @@ fn a_read_looks_again(rt: HostRuntime) -> Result<(), Fail> {
 #[test]
 fn steps_are_seen_behind_a_conflict_or_none(rt: HostRuntime) {
     for (root, conflict, step) in [(0, 0, 0), (4, 0, 1), (5, 0, 1), (6, 0, 2), (6, 2, 1)] {
-        assert!(rt; root <= 12884901885);
+        assert!(rt; root <= LAST_PHASE);
         assert_eq!(rt; seen_step(root, conflict), step);
     }
 }

@@ -1,6 +1,7 @@
 //! What words say that were loaded.
 ghost use Rattle.std.specs.Prelude.{◌≡◌, ℕ, ◌≤◌};
 ghost use Rattle.pram_step.specs.declared.requests.Request.{Request};
+ghost use Rattle.pram_words.specs.declared.phases.TheConstants.{LAST_PHASE};
 ghost use Rattle.walkx.specs.Reads.{step_seen};
 ghost use Rattle.walkx.specs.Requests.{AreWordsOf, heard_request};
 
@@ -9,7 +10,7 @@ use pram_words::payload;
 
 /// The step that the root and then word 0 show to be finished.
 pub fn seen_step(root: u64, conflict: u64) -> u32
-    requires { root ≤ 12884901885 }
+    requires { root ≤ LAST_PHASE }
     ensures { result ≡ step_seen root conflict }
 {
     let step = (root / 3) as u32;

@@ -1,6 +1,7 @@
 -- What a stage of a reader stands for: the rest of its script.
 use Rattle.std.specs.Prelude.{◌≡◌, ℕ, ◌%◌, ◌<◌, ◌≤◌, ◌==◌, length, nat_le, if◌then◌else◌, List}
 use Rattle.pram_text.specs.Job.{JobData}
+use Rattle.pram_words.specs.declared.phases.TheConstants.{LAST_PHASE}
 use Rattle.pram_words.specs.Stamps.{stamp_of, payload_of}
 use Rattle.pram_words.specs.Words.{LayoutData, number_of}
 use Rattle.pram_words.specs.declared.words.Word.TheVariants.{Conflict, Stored}
@@ -39,9 +40,9 @@ HearsGlance job y c g answer = HeardAdmitted job y (looks_for (script_of_glance 
 abbrev pub StandsBehindGlance : LayoutData → ℕ → Glance → ℕ → Glance → Type 0
 StandsBehindGlance y c old answer new = script_of_glance y c new ≡ behind (script_of_glance y c old) answer
 
--- the greatest phase
+-- a root that was heard is a phase behind a step
 abbrev pub IsGlance : Glance → Type 0
-IsGlance (glance.Look root) = (root % 3 ≡ 0) × (root ≤ 12884901885)
+IsGlance (glance.Look root) = (root % 3 ≡ 0) × (root ≤ LAST_PHASE)
 IsGlance _ = Unit {0}
 
 -- how many answers were heard at most

@@ -4,7 +4,6 @@ use Rattle.pram_text.specs.declared.instr.Instr.{Instr}
 use Rattle.pram_text.specs.declared.instr.Rule.{Rule}
 use Rattle.pram_text.specs.declared.instr.Rule.TheVariants.{Common, Priority, Crew}
 use Rattle.pram_text.specs.Job.{JobData, IsInstr}
-use Rattle.pram_step.specs.declared.requests.Request.{Request}
 use Rattle.pram_step.specs.Instructions.{cell_read, decided, place_part, value_part}
 use Rattle.pram_step.specs.Machine.{register_place, counter_place}
 use Rattle.pram_words.specs.Phases.{kind_at}
