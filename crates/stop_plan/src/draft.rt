@@ -47,7 +47,7 @@ impl Draft {
     pub(crate) fn judge(&self, workers: u32, fields: &ByteRecord) -> Result<Row, PlanKind>
         ensures { MatchResult result
             (λ row. (row_of workers (fields_of fields.now) ≡ Ok row)
-                × (stops self.now row.worker ≡ false))
+            × (stops self.now row.worker ≡ false))
             (λ kind. fault_below (row_of workers (fields_of fields.now)) self.now ≡ Some kind) }
     {
         let row = row_of(workers, fields)?;
