@@ -6,6 +6,7 @@ use Rattle.pram_step.specs.declared.answer.RunAnswer.TheVariants.{Final, Conflic
 use Rattle.pram_text.specs.declared.fault.TextKind.{TextKind}
 use Rattle.pram_io.specs.Plain.{GivesFault, PrintsAnswer, PrintsSummary}
 use Rattle.pram_io.specs.Transfer.{GivesMoreThan}
+use Rattle.pramx.specs.Replayed.{GivesNoPlan, Replays}
 use Rattle.pram_io.specs.declared.transfer.TheConstants.{MOST}
 use Rattle.pramx.specs.declared.line.Line.{Line}
 use Rattle.pramx.specs.declared.line.Line.TheVariants.{Check, Plain, Run, Replay}
@@ -24,20 +25,47 @@ pub record PrintsWithStatus (source source' sink sink' : Option (List ℕ)) (sta
   pub prints : PrintsAnswer source source' sink sink' answer
   pub of_answer : status ≡ status_of answer
 
+-- The sources gave a job and a plan, the sink took their replay, and the status is that of its
+-- answer.
+pub record ReplaysWithStatus (source source' : Option (List ℕ))
+    (plan_source : Option (Option (List ℕ))) (workers : ℕ) (sink sink' : Option (List ℕ))
+    (status : ℕ) : Type 0 where
+  pub answer : RunAnswer
+  pub replays : Replays source source' plan_source workers sink sink' answer
+  pub of_answer : status ≡ status_of answer
+
 -- The line was done, and this is its status.
-abbrev pub IsDone : Line → (source source' sink sink' : Option (List ℕ)) → ℕ → Type 0
-IsDone (Check file) source source' sink sink' status =
+abbrev pub IsDone : Line → (source source' : Option (List ℕ)) → Option (Option (List ℕ))
+    → (sink sink' : Option (List ℕ)) → ℕ → Type 0
+IsDone (Check file) source source' plan_source sink sink' status =
     PrintsSummary source source' sink sink' × (status ≡ DONE)
-IsDone (Plain file) source source' sink sink' status =
+IsDone (Plain file) source source' plan_source sink sink' status =
     PrintsWithStatus source source' sink sink' status
-IsDone (Run file workers plan) source source' sink sink' status = ⊥
-IsDone (Replay file workers plan) source source' sink sink' status = ⊥
+IsDone (Run file workers plan) source source' plan_source sink sink' status = ⊥
+IsDone (Replay file workers plan) source source' plan_source sink sink' status =
+    ReplaysWithStatus source source' plan_source workers sink sink' status
+
+-- The line may stop before the job's end.
+abbrev pub MayStop : Line → Type 0
+MayStop (Check file) = ⊥
+MayStop (Plain file) = ⊥
+MayStop (Run file workers plan) = ⊥
+MayStop (Replay file workers plan) = ⊤
 
 -- The source gave a text that bears a fault.
 pub record GivesNoJob (source source' : Option (List ℕ)) : Type 0 where
   pub line : ℕ
   pub kind : TextKind
   pub gives : GivesFault source source' line kind
+
+-- The text of the line's job bears a fault, or, of a replay, that of its plan.
+abbrev pub IsRefused : Line → (source source' : Option (List ℕ)) → Option (Option (List ℕ))
+    → Type 0
+IsRefused (Check file) source source' plan_source = GivesNoJob source source'
+IsRefused (Plain file) source source' plan_source = GivesNoJob source source'
+IsRefused (Run file workers plan) source source' plan_source = ⊥
+IsRefused (Replay file workers plan) source source' plan_source =
+    GivesNoJob source source' ⊎ GivesNoPlan plan_source workers
 
 -- The fact holds, if the line is one that is served.
 abbrev pub IfServed : Line → Type 0 → Type 0

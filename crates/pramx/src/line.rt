@@ -59,7 +59,8 @@ impl<'a> Line<'a> {
 const EXAMPLES: &str = "\
 Examples:
   pramx check examples/prefix.pram
-  pramx plain examples/prefix.pram";
+  pramx plain examples/prefix.pram
+  pramx replay examples/prefix.pram --workers 4";
 
 /// The line that the words make, of which the first is the program's name. A call for help is an
 /// error too, as `clap` has it.
@@ -89,7 +90,7 @@ fn command<'a>(alloc: Global) -> Result<Command<'a>, AllocError>
     let replay = workers_command(
         alloc,
         "replay",
-        "Run a job on one thread, and print each step (not built yet)",
+        "Run a job on one thread, and print each step",
     )?;
     Command::new(alloc, "pramx")
         .about("Runs programs of a synchronous parallel machine with shared memory.")

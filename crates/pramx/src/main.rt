@@ -1,21 +1,25 @@
-//! Runs programs of a synchronous parallel machine: `pramx check FILE`, `pramx plain FILE`.
+//! Runs programs of a synchronous parallel machine: `pramx check FILE`, `pramx plain FILE`,
+//! `pramx replay FILE --workers W`.
 #![tactic(auto)]
 
 ghost use Rattle.std.specs.Prelude.{◌≡◌, ◌≤◌, false};
 
 mod input;
 mod line;
+mod plan;
 mod refusal;
+mod replay;
 mod server;
 #[cfg(test)]
 mod tests;
+mod trace;
 
 use crate::input::open_input;
 use crate::line::read_line;
 use crate::refusal::{DONE, FAILED, MEMORY, Refusal, tell};
 use crate::server::serve;
 use clap::error::ErrorKind;
-use pram_io::{IntoWrite, Sink};
+use pram_io::{FromRead, IntoWrite, Sink};
 use std::alloc::{AllocError, Global};
 use std::env::{self, Env};
 use std::io;
@@ -68,9 +72,17 @@ fn line_status<'a, R: Files + Print + Eprint, E: Sink>(
         Err(error) => return refusal_status(rt, alloc, &error, err),
     };
     let mut job = open_input(rt, line.file());
-    let mut plan = line.plan().map(|name| open_input(rt, name));
     let mut out = IntoWrite::new(io::writer(rt));
-    serve(alloc, &line, &mut job, plan.as_mut(), &mut out, err)
+    match line.plan() {
+        Some(name) => {
+            let mut plan = open_input(rt, name);
+            serve(alloc, &line, &mut job, Some(&mut plan), &mut out, err)
+        }
+        None => {
+            let plan: Option<&mut FromRead<io::Empty>> = None;
+            serve(alloc, &line, &mut job, plan, &mut out, err)
+        }
+    }
 }
 
 /// Prints what `read_line` answers in place of a line, and answers its status.

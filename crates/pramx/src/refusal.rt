@@ -6,6 +6,7 @@ use pram_io::{Sink, put};
 use pram_text::TextKind;
 use std::alloc::{AllocError, Global};
 use std::fmt;
+use stop_plan::PlanKind;
 
 /// The line was done, or help was asked for.
 pub const DONE: u8 = 0;
@@ -33,6 +34,8 @@ const MEMORY_LINE: &str = "memory\n";
 pub enum Refusal<'a> {
     /// A line of the text is bad.
     Text { line: u64, kind: TextKind },
+    /// A record of the plan is bad.
+    Plan { row: u64, kind: PlanKind },
     /// The file failed.
     File(&'a str),
     /// The output failed.
@@ -43,6 +46,8 @@ pub enum Refusal<'a> {
     Memory,
     /// A word is not UTF-8.
     Word,
+    /// The number of workers is out of its limits.
+    Workers,
     /// The line is none that is served.
     NotYet,
 }
@@ -52,12 +57,13 @@ impl Refusal<'_> {
         ensures { result ≡ refusal_status self.entry }
     {
         match self {
-            Refusal::Text { .. } => REFUSED,
+            Refusal::Text { .. } | Refusal::Plan { .. } => REFUSED,
             Refusal::Memory => MEMORY,
             Refusal::File(_)
             | Refusal::Output
             | Refusal::Size(_)
             | Refusal::Word
+            | Refusal::Workers
             | Refusal::NotYet => FAILED,
         }
     }
@@ -67,12 +73,14 @@ impl fmt::Display for Refusal<'_> {
     fn fmt<W: fmt::Write>(&self, f: &mut fmt::Formatter<W>) -> fmt::Result {
         match self {
             Refusal::Text { line, kind } => writeln!(f, "text line={line} kind={kind:?}"),
+            Refusal::Plan { row, kind } => writeln!(f, "plan row={row} kind={kind:?}"),
             Refusal::File(name) => writeln!(f, "file {name}"),
             Refusal::Output => writeln!(f, "file -"),
             Refusal::Size(name) => writeln!(f, "size {name}"),
             Refusal::Memory => write!(f, "{MEMORY_LINE}"),
             Refusal::Word => writeln!(f, "error: a word of the line is not UTF-8"),
-            Refusal::NotYet => writeln!(f, "run and replay are not built yet"),
+            Refusal::Workers => writeln!(f, "error: there are from 1 to 64 workers"),
+            Refusal::NotYet => writeln!(f, "run is not built yet"),
         }
     }
 }

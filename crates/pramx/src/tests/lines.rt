@@ -106,7 +106,7 @@ Commands:
   check   Say whether a text spells a job, and how large it is
   plain   Run a job on the plain machine
   run     Run a job on threads (not built yet)
-  replay  Run a job on one thread, and print each step (not built yet)
+  replay  Run a job on one thread, and print each step
   help    Print this message or the help of the given subcommand(s)
 
 Options:
@@ -115,6 +115,7 @@ Options:
 Examples:
   pramx check examples/prefix.pram
   pramx plain examples/prefix.pram
+  pramx replay examples/prefix.pram --workers 4
 ";
 
 #[test]

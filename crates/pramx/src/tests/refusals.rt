@@ -41,7 +41,7 @@ fn lines_that_are_not_built_say_so(rt: HostRuntime) {
     assert!(rt; served.out.is_empty());
     assert_eq!(rt;
         served.err.as_slice(),
-        "run and replay are not built yet\n".as_bytes()
+        "run is not built yet\n".as_bytes()
     );
 }
 

@@ -1,5 +1,6 @@
 //! A line served over a text.
 ghost use Rattle.std.specs.Prelude.{◌≡◌, false};
+ghost use Rattle.pramx.specs.Replayed.{some_failed};
 
 use crate::line::Line;
 use crate::server::serve;
@@ -25,9 +26,22 @@ pub struct Served {
 pub fn serve_source<J: Source>(alloc: Global, line: &Line<'_>, job: &mut J) -> Served
     requires { J.has_failed job.old ≡ false }
 {
+    let plan: Option<&mut FromRead<&[u8]>> = None;
+    serve_sources(alloc, line, job, plan)
+}
+
+/// Serves a line over the sources of its job and its plan.
+pub fn serve_sources<J: Source, P: Source>(
+    alloc: Global,
+    line: &Line<'_>,
+    job: &mut J,
+    plan: Option<&mut P>,
+) -> Served
+    requires job { J.has_failed job.old ≡ false }
+    requires plan { some_failed P.has_failed plan ≡ false }
+{
     let mut out = IntoWrite::new(Vec::new(alloc));
     let mut err = IntoWrite::new(Vec::new(alloc));
-    let plan: Option<&mut FromRead<&[u8]>> = None;
     let status = serve(alloc, line, job, plan, &mut out, &mut err);
     Served {
         out: out.into_inner(),
