@@ -33,7 +33,7 @@ pub fn replay<'a, J: Source, P: Source, O: Sink>(
         (bytes_before P.remaining plan.entry) workers (O.taken out.old) (O.taken out.new)) }
     ensures refused { IfErr result (λ refusal. refusal_status refusal ≡ REFUSED
         → (GivesNoJob (J.remaining job.old) (J.remaining job.new)
-            ⊎ GivesNoPlan (bytes_before P.remaining plan.entry) workers)
+        ⊎ GivesNoPlan (bytes_before P.remaining plan.entry) workers)
         × (out.new ≡ out.old)) }
     ensures source { IsTrue (J.has_failed job.new)
         → IsErrAnd result (λ refusal. FAILED ≤ refusal_status refusal) }

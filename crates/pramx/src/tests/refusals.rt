@@ -39,10 +39,7 @@ fn lines_that_are_not_built_say_so(rt: HostRuntime) {
     let served = serve_text(rt.alloc(), &line, &[]);
     assert_eq!(rt; served.status, 4);
     assert!(rt; served.out.is_empty());
-    assert_eq!(rt;
-        served.err.as_slice(),
-        "run is not built yet\n".as_bytes()
-    );
+    assert_eq!(rt; served.err.as_slice(), "run is not built yet\n".as_bytes());
 }
 
 const JOB: &[u8] = b"pram 1\ncells 1\nprocs 1\nsteps 0\ncode\nhalt\n";

@@ -133,8 +133,22 @@ fn answers_of_one_two_and_four_workers(rt: HostRuntime) -> Result<(), Fail> {
 fn plans_are_obeyed(rt: HostRuntime) -> Result<(), Fail> {
     let alloc = rt.alloc();
     let rows = [
-        (SET, 2, "0,go,17/1,go,23/0,go,1/", "done steps=1/0: 0/", 0, 48),
-        (TWO, 1, "0,go,15/0,back,0/", "done steps=1/0: 0/1: 0/", 0, 105),
+        (
+            SET,
+            2,
+            "0,go,17/1,go,23/0,go,1/",
+            "done steps=1/0: 0/",
+            0,
+            48,
+        ),
+        (
+            TWO,
+            1,
+            "0,go,15/0,back,0/",
+            "done steps=1/0: 0/1: 0/",
+            0,
+            105,
+        ),
         (SET, 1, "0,go,8/0,stop,0/", "unfinished step=0/", 3, 9),
     ];
     for (text, workers, plan, answer, status, lines) in rows {
@@ -167,7 +181,10 @@ fn plans_are_refused(rt: HostRuntime) -> Result<(), Fail> {
     }
     // the job is judged first
     let served = planned(alloc, "pram 1/cells 0/", 4, "4,go,1/")?;
-    assert_eq!(rt; served.err.as_slice(), "text line=2 kind=OutOfLimits\n".as_bytes());
+    assert_eq!(rt;
+        served.err.as_slice(),
+        "text line=2 kind=OutOfLimits\n".as_bytes()
+    );
     assert_eq!(rt; served.status, 2);
     Ok(())
 }

@@ -38,9 +38,12 @@ loop-place-preserved g c =
     let with_line = ap (λ l. (sent ++ string_bytes c.loop-place.text) ++ l) (sym next) ∙ whole in
     record {
       unfailed = c.in_ok-spill.ensures.failed;
-      put = (sent ++ more, Appends-trans _ _ _ _ _ appended put,
-          moved sent (string_bytes c.loop-place.text) (row_line (c.loop-place.place + 1) (slice_index_or c.args.rows.now c.loop-place.place no_row))
-              (row_lines (c.loop-place.place + 1) (drop (c.loop-place.place + 1) c.args.rows.now)) (trace_text c.args.rows.now) (string_bytes c.push_row.new.text) more (string_bytes c.spill.new.text) with_line c.in_ok-push_row.ensures spilt);
+      put = (
+        sent ++ more,
+        Appends-trans _ _ _ _ _ appended put,
+        moved sent (string_bytes c.loop-place.text) (row_line (c.loop-place.place + 1) (slice_index_or c.args.rows.now c.loop-place.place no_row))
+            (row_lines (c.loop-place.place + 1) (drop (c.loop-place.place + 1) c.args.rows.now)) (trace_text c.args.rows.now) (string_bytes c.push_row.new.text) more (string_bytes c.spill.new.text) with_line c.in_ok-push_row.ensures spilt,
+      );
     }
 
 pub returns-clause-ok : goal.returns-clause-ok

@@ -9,5 +9,5 @@ invariant-loop-place g l = record {
   unfailed : g.W.Sink.has_failed l.sink ≡ false;
   put : (sent : List ℕ) × Appends (g.W.Sink.taken l.fn.sink) (g.W.Sink.taken l.sink) sent
       × (sent ++ string_bytes l.text ++ row_lines l.place (drop l.place l.rows)
-          ≡ trace_text l.fn.rows);
+      ≡ trace_text l.fn.rows);
 }
