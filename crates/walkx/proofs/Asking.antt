@@ -23,18 +23,19 @@ use Rattle.walkx.specs.declared.operation.Op.{Op}
 use Rattle.walkx.specs.declared.operation.Op.TheVariants.{Load, Max, Swap}
 use Rattle.walkx.specs.Doing.{Doing}
 use Rattle.walkx.specs.Doing as doing
-use Rattle.walkx.specs.Laws.{WhatIsAskedIsAdmitted}
-use Rattle.walkx.specs.Scripts.{Script, asks, ends, behind, rest, op_with, heard_in}
+use Rattle.walkx.specs.Laws.{WhatIsAskedIsAdmitted, WhoIsGoingSteps}
+use Rattle.walkx.specs.Scripts.{Script, asks, ends, behind, rest, first_op, op_with, heard_in}
 use Rattle.walkx.specs.Tasks.{first_is_older, older, older_word, loads_both, reads_place, writes_place, reads_registers, reads_cell, claim_of, differs, raises_request, executes, compute_task, hears_part, claims, carries, apply_task, crew_apply_task, reports, verify_task, crew_verify_task, claim_task, priority_apply_task, task_of}
-use Rattle.walkx.specs.Walk.{Then, IsBoard, IsPhase, Matches, HearsAdmitted, AllAdmitted, AsksAdmitted, node_of, script_by, script_of, rest_of, next_op, phase_begun, marks, stands_at, way_down, begin_script, turn_script}
+use Rattle.walkx.specs.Walk.{Then, Walking, Fits, IsBoard, IsGoing, IsPhase, HearsAdmitted, AllAdmitted, AsksAdmitted, IsStepOn, node_of, script_by, script_of, rest_of, ask_of, next_op, end_of, phase_begun, marks, stands_at, way_down, begin_script, turn_script}
 use Rattle.walkx.proofs.Boards.{admits, in_range, is_below, place_shape, same_cells, same_procs, asked_part, stamps, step_most}
 use Rattle.walkx.proofs.Cells.{cell_is}
 use Rattle.walkx.proofs.Ends.{way_inside}
 use Rattle.walkx.proofs.Fitting.{node_range}
+use Rattle.walkx.proofs.Going.{Asks, asks_of, going_or_over, next_of}
 
--- whatever admitted answers it hears, what the script asks is admitted
+-- whatever admitted answers it hears, what the script asks is an atomic step on the board, and admitted
 unfoldable pub AllAsk : {R : Type 0} → JobData → LayoutData → Script R → Type 0
-AllAsk job y (asks op next) = AsksAdmitted job y op × ((found : ℕ) → HearsAdmitted job y op found → AllAsk job y (next found))
+AllAsk job y (asks op next) = (IsStepOn y op × AsksAdmitted job y op) × ((found : ℕ) → HearsAdmitted job y op found → AllAsk job y (next found))
 AllAsk job y (ends r) = Unit {0}
 
 -- ---- the request of an instruction
@@ -82,15 +83,15 @@ at_index (x ∷ xs) (suc k) all = at_index xs k all.1
 module _ (job : JobData) (y : LayoutData) (board : IsBoard job y) where
   load_of : {R : Type 0} (a : Word) (next : ℕ → Script R) → IsWord y a → ((found : ℕ) → Admits y job (number_of y a) found → AllAsk job y (next found)) → AllAsk job y (asks (Load (number_of y a)) next)
   unfolding AllAsk
-  load_of a next is each = (is_below job y a board is, each)
+  load_of a next is each = let k = is_below job y a board is in ((k, k), each)
 
   max_of : {R : Type 0} (a : Word) (v : ℕ) (after : Script R) → IsWord y a → IsInRange y job a v → AllAsk job y after → AllAsk job y (asks (Max (number_of y a) v) (λ found. after))
   unfolding AllAsk
-  max_of a v after is range late = (admits job y a v board is range, λ found ok. late)
+  max_of a v after is range late = let k = admits job y a v board is range in ((k.0, k), λ found ok. late)
 
   swap_of : {R : Type 0} (a : Word) (old new : ℕ) (after : Script R) → IsWord y a → IsInRange y job a old → IsInRange y job a new → AllAsk job y after → AllAsk job y (asks (Swap (number_of y a) old new) (λ found. after))
   unfolding AllAsk
-  swap_of a old new after is held range late = ((admits job y a old board is held, admits job y a new board is range), λ found ok. late)
+  swap_of a old new after is held range late = let k = admits job y a old board is held in ((k.0, (k, admits job y a new board is range)), λ found ok. late)
 
   ends_of : {R : Type 0} (r : R) → AllAsk job y (ends r)
   unfolding AllAsk
@@ -280,7 +281,7 @@ module _ (job : JobData) (y : LayoutData) (board : IsBoard job y) where
 
   stands_ask : (w n q : ℕ) → w < y.workers → 1 ≤ n → n < 2 * y.leaves → AllAsk job y (stands_at y w n q)
   unfolding AllAsk
-  stands_ask w n q worker low high = (admits job y (Position w) n board worker (low, high), λ found ok. tt)
+  stands_ask w n q worker low high = let k = admits job y (Position w) n board worker (low, high) in ((k.0, k), λ found ok. tt)
 
   turn_asks : (w n q : ℕ) → w < y.workers → 1 ≤ n → n < 2 * y.leaves → q ≤ 3 * job.steps → AllAsk job y (turn_script job y w n q)
   unfolding turn_script
@@ -328,21 +329,33 @@ asks_behind job y script [] all each = each
 asks_behind job y script (found ∷ earlier) all each =
     asks_next job y (rest script earlier) found (heard_in script earlier) all (asks_behind job y script earlier (admitted_earlier job y (rest script earlier) found (heard_in script earlier) all) each)
 
--- the next operation
-first_asks : (job : JobData) (y : LayoutData) (d : Doing) (script : Script Then) → Matches d script → AllAsk job y script → AsksAdmitted job y (next_op d script)
-unfolding AllAsk
-first_asks job y (doing.Over e) script matches each = tt
-first_asks job y doing.Back (asks op next) matches each = each.0
-first_asks job y doing.Back (ends r) matches each = absurd (let e = matches.1 in cc)
-first_asks job y doing.Begin (asks op next) matches each = each.0
-first_asks job y doing.Begin (ends r) matches each = absurd (let e = matches.1 in cc)
-first_asks job y (doing.Turn q) (asks op next) matches each = each.0
-first_asks job y (doing.Turn q) (ends r) matches each = absurd (let e = matches.1 in cc)
-
-pub all_ask : WhatIsAskedIsAdmitted
-all_ask job y w board fits =
+-- the rest of a worker's script
+rest_asks : (job : JobData) (y : LayoutData) (w : Walking) → IsBoard job y → Fits job y w → AllAsk job y (rest_of job y w)
+rest_asks job y w board fits =
     let leaves = board.layout.leaves in
     let at = node_range job y w leaves.0 fits in
-    first_asks job y w.now (rest_of job y w) fits.matches
-    (asks_behind job y (script_of job y w) w.heard (all_left job y (heard_in (script_of job y w) w.heard) (phase_begun y w.now) fits.admitted)
-    (doing_asks job y board w.number (node_of y w) w.now fits.number at.0 at.1 fits.phase))
+    asks_behind job y (script_of job y w) w.heard (all_left job y (heard_in (script_of job y w) w.heard) (phase_begun y w.now) fits.admitted)
+    (doing_asks job y board w.number (node_of y w) w.now fits.number at.0 at.1 fits.phase)
+
+-- the next operation
+first_asks : (job : JobData) (y : LayoutData) (d : Doing) (script : Script Then) (op : Op) → IsGoing d → first_op script ≡ Some op → AllAsk job y script → IsStepOn y (next_op d script) × AsksAdmitted job y (next_op d script)
+unfolding AllAsk
+first_asks job y d (asks o next) op going first each = rw (next_of d (asks o next) o going refl) each.0
+first_asks job y d (ends r) op going first each = absurd (cc)
+
+going_asks : (job : JobData) (y : LayoutData) (w : Walking) → IsBoard job y → Fits job y w → IsGoing w.now → IsStepOn y (ask_of job y w) × AsksAdmitted job y (ask_of job y w)
+going_asks job y w board fits going =
+    let a : Asks (rest_of job y w) = asks_of w.now (rest_of job y w) going fits.matches in
+    first_asks job y w.now (rest_of job y w) a.op going a.first (rest_asks job y w board fits)
+
+pub all_ask : WhatIsAskedIsAdmitted
+all_ask job y w board fits = elim (going_or_over w.now) [
+  | inl going ↦ (going_asks job y w board fits going).1
+  | inr over ↦ rw over.1 tt
+]
+
+pub going_steps : WhoIsGoingSteps
+going_steps job y w board fits none = elim (going_or_over w.now) [
+  | inl going ↦ (going_asks job y w board fits going).0
+  | inr over ↦ let e : end_of w.now ≡ Some over.0 = ap end_of over.1 in absurd (cc)
+]

@@ -1,10 +1,10 @@
 -- What the laws of the walk say.
-use Rattle.std.specs.Prelude.{ℕ, ◌<◌, List, length}
+use Rattle.std.specs.Prelude.{◌≡◌, ℕ, ◌<◌, List, length, None}
 use Rattle.pram_text.specs.Job.{JobData}
 use Rattle.pram_words.specs.Words.{LayoutData}
 use Rattle.walkx.specs.Bound.{told_all, history_of, IsHeard, most_steps}
 use Rattle.walkx.specs.Records.{Record, after, Knows}
-use Rattle.walkx.specs.Walk.{Walking, Fits, IsBoard, IsLayoutOf, IsGoing, HearsAdmitted, AsksAdmitted, ask_of, told, started, come_back}
+use Rattle.walkx.specs.Walk.{Walking, Fits, IsBoard, IsLayoutOf, IsGoing, HearsAdmitted, AsksAdmitted, IsStepOn, ask_of, told, end_of, started, come_back}
 
 -- those fit that are newly started or come back
 abbrev pub NewWorkersFit : Type 0
@@ -23,6 +23,10 @@ KnownStayKnown = (job : JobData) (y : LayoutData) (r : Record) (w : Walking) (fo
 -- what a worker asks is on the board, and admitted
 abbrev pub WhatIsAskedIsAdmitted : Type 0
 WhatIsAskedIsAdmitted = (job : JobData) (y : LayoutData) (w : Walking) → IsBoard job y → Fits job y w → AsksAdmitted job y (ask_of job y w)
+
+-- one that is not over asks for an atomic step on a word of the board
+abbrev pub WhoIsGoingSteps : Type 0
+WhoIsGoingSteps = (job : JobData) (y : LayoutData) (w : Walking) → IsBoard job y → Fits job y w → end_of w.now ≡ None → IsStepOn y (ask_of job y w)
 
 -- A worker that is still going has heard fewer answers than the bound, whatever it heard, if only it may be heard.
 abbrev pub OwnStepsAreBounded : Type 0

@@ -145,6 +145,14 @@ AsksAdmitted job y (Max k value) = Admits y job k value
 AsksAdmitted job y (Swap k old new) = Admits y job k old × Admits y job k new
 AsksAdmitted job y (Over e) = Unit {0}
 
+-- it is an atomic step on a word of the board
+abbrev pub IsStepOn : LayoutData → Op → Type 0
+IsStepOn y (Load k) = k < length_of y
+IsStepOn y (Store k value) = k < length_of y
+IsStepOn y (Max k value) = k < length_of y
+IsStepOn y (Swap k old new) = k < length_of y
+IsStepOn y (Over e) = ⊥
+
 -- the layout is the job's
 abbrev pub IsLayoutOf : JobData → LayoutData → Type 0
 IsLayoutOf job y = y ≡ layout_of job y.form y.workers

@@ -1,6 +1,6 @@
 //! Laws of the walk: each function here does nothing, and its contract is the law.
 ghost use Rattle.walkx.specs.Laws.{AnswersKeepFit, KnownStayKnown, NewWorkersFit};
-ghost use Rattle.walkx.specs.Laws.{OwnStepsAreBounded, WhatIsAskedIsAdmitted};
+ghost use Rattle.walkx.specs.Laws.{OwnStepsAreBounded, WhatIsAskedIsAdmitted, WhoIsGoingSteps};
 
 /// A worker that is newly started, or comes back, fits the job and the board.
 pub fn new_workers_fit()
@@ -20,6 +20,11 @@ pub fn known_stay_known()
 /// What a worker that fits asks is on the board, and what it writes is admitted there.
 pub fn what_is_asked_is_admitted()
     ensures { WhatIsAskedIsAdmitted }
+{}
+
+/// A worker that fits and is not over asks for an atomic step on a word of the board.
+pub fn who_is_going_steps()
+    ensures { WhoIsGoingSteps }
 {}
 
 /// A worker that is still going has made fewer than 300 L T + 8 steps, L being the leaves and T the

@@ -31,13 +31,13 @@ impl Model for Worker {
 }
 
 impl Worker {
-    ghost use Rattle.std.specs.Prelude.{◌≡◌, ◌<◌};
+    ghost use Rattle.std.specs.Prelude.{◌≡◌, ◌<◌, None};
     ghost use Rattle.pram_text.specs.Job.{JobData};
     ghost use Rattle.pram_words.specs.Words.{LayoutData};
     ghost use Rattle.walkx.specs.Inner.Stages.{post_of};
     ghost use Rattle.walkx.specs.Serving.{Serves};
-    ghost use Rattle.walkx.specs.Walk.{AsksAdmitted, HearsAdmitted, IsBoard, IsLayoutOf, ask_of};
-    ghost use Rattle.walkx.specs.Walk.{come_back, end_of, started, told};
+    ghost use Rattle.walkx.specs.Walk.{AsksAdmitted, HearsAdmitted, IsBoard, IsLayoutOf};
+    ghost use Rattle.walkx.specs.Walk.{IsStepOn, ask_of, come_back, end_of, started, told};
 
     /// Worker w, at its first leaf.
     pub fn start(w: u32) -> Worker
@@ -88,12 +88,13 @@ impl Worker {
 
     /// The worker's next atomic step, or how it ended.
     #[inline(always)]
-    #[tactic(auto, using(crate::proofs::Asking::all_ask))]
+    #[tactic(auto, using(crate::proofs::Asking::all_ask, crate::proofs::Asking::going_steps))]
     pub fn ask(&self, job: &Job, layout: &Layout) -> Op
         requires layout { IsLayoutOf job.now layout.now }
         requires serves { Serves job.now layout.now self.now }
         ensures asks { result ≡ ask_of job.now layout.now self.now.walking }
         ensures admitted { AsksAdmitted job.now layout.now result }
+        ensures step { end_of self.now.walking.now ≡ None → IsStepOn layout.now result }
     {
         operation(&self.post(job, layout), self.stage)
     }
