@@ -20,6 +20,9 @@ use Rattle.walkx.specs.Requests.{heard_request}
 use Rattle.walkx.specs.Tasks.{newer_payload}
 use Rattle.lawful_words.specs.Board.{Stands, held, root, conflict, finished}
 use Rattle.lawful_words.proofs.Facts.{facts}
+use Rattle.pram_world.specs.declared.outcome.Standing.{Standing}
+use Rattle.pram_world.specs.declared.outcome.Standing.TheVariants.{Disputed, Finished, Going}
+use Rattle.pram_world.specs.Inner.Telling.{Says}
 
 -- ---- the board's sizes
 
@@ -138,3 +141,14 @@ pub not_agrees : (job : JobData) (y : LayoutData) (words : List ℕ) (requests :
 not_agrees job y words requests stands some are agrees =
     let b = before (conflict y words) some in
     (stands.lawful.named.first b.0 b.1).1 (subst (Agrees job) (are b.0 b.1) agrees)
+
+-- ---- what word 0 and the root say
+
+pub disputed : (job : JobData) (named r : ℕ) (s : Standing) → s ≡ Disputed → Says job named r s → named ≢ 0
+disputed job named r s is says = subst (Says job named r) is says
+
+pub finished_so : (job : JobData) (named r : ℕ) (s : Standing) → s ≡ Finished → Says job named r s → (named ≡ 0) × (r ≡ 3 * job.steps)
+finished_so job named r s is says = subst (Says job named r) is says
+
+pub still : (job : JobData) (named r : ℕ) (s : Standing) → s ≡ Going → Says job named r s → (named ≡ 0) × (r ≢ 3 * job.steps)
+still job named r s is says = subst (Says job named r) is says
