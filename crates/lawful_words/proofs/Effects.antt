@@ -1,4 +1,4 @@
--- Lemmas E, all of them.
+-- What each kind of write does to words that stand.
 use Rattle.std.proofs.Common.{◌≡◌, ℕ, suc, ◌+◌, ◌*◌, ◌≤◌, sym, subst, ◌∙◌, inl, inr, arith}
 use Rattle.std.proofs.lemmas.Bool.{cases_eq}
 use Rattle.pram_words.specs.declared.phases.Kind.{Kind}
@@ -28,13 +28,13 @@ same_kind x q kind (phase_is k e) h = subst (λ (k : Kind). phase_in x k ≡ q) 
 pub phase_at : (x q : ℕ) (kind : Kind) → 1 ≤ q → step_at q ≡ suc x → kind_at q ≡ kind → phase_in x kind ≡ q
 phase_at x q kind some step e = same_kind x q kind (phase_of_step x q some step) e
 
-pub all_e : WritesKeepWordsLawful
-all_e job y words q x stands some most step floor = record {
+pub writes_keep : WritesKeepWordsLawful
+writes_keep job y words q x stands some most step floor = record {
   request = λ i j proc part kind. asked_does job y words q x stands some most step floor i j proc part (phase_at x q Compute some step kind);
   inner = inner_does job y words q x stands some most step floor;
   padded = padded_does job y words q x stands some most step floor;
   leaf = leaf_does job y words q x stands some most step floor;
-  place = λ p i v a b phase asks wins c5. stored_does job y words q x stands some most step floor p i v phase asks wins a b c5;
+  place = λ p i v a b phase asks wins as_heard. stored_does job y words q x stands some most step floor p i v phase asks wins a b as_heard;
   conflict = λ kind not. conflict_does job y words q x stands some most step floor kind not (phase_at x q Verify some step kind);
   claim = λ c i v is kind asks. claim_does job y words q x stands some most step floor c i v is (phase_at x q Apply some step kind) asks;
 }

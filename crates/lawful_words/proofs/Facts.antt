@@ -1,4 +1,4 @@
--- Lemmas B: what lawful words show.
+-- What lawful words show.
 use Rattle.std.proofs.Common.{◌≡◌, ◌≢◌, ◌⊎◌, ℕ, zero, suc, ◌+◌, ◌-◌, ◌*◌, ◌<◌, ◌≤◌, ◌^◌, IsTrue, List, slice_index, refl, sym, ap, subst, ◌∙◌, inl, inr, arith}
 use Rattle.std.proofs.lemmas.Bool.{cases_eq, cases_lt, cases_order}
 use Rattle.pram_text.specs.Job.{JobData, IsJob}
@@ -26,30 +26,30 @@ use Rattle.lawful_words.proofs.Values.{IsFin, fin, conflict_is, fin_reached, pha
 
 -- ---- what holds of words that stand
 
-pub record B (job : JobData) (y : LayoutData) (words : List ℕ) : Type 0 where
-  pub b1 : (n : ℕ) → IsWord y (Node n) → root y words ≤ held y words (Node n)
-  pub b2_low : 3 * finished y words ≤ root y words
-  pub b2_high : root y words ≤ 3 * finished y words + 3
-  pub b2_full : root y words ≡ 3 * finished y words + 3 → conflict y words ≡ suc (finished y words)
-  pub b2_conflict : (conflict y words ≡ 0) ⊎ (conflict y words ≡ suc (finished y words))
-  pub b3 : (t : ℕ) → 3 * t + 1 ≤ root y words → t ≤ finished y words
-  pub b3_reached : (t : ℕ) → 3 * t ≤ root y words → IsReached job t → t ≤ finished y words
-  pub b4 : (k i j : ℕ) → i < y.procs → j < 3 → 3 * k + 1 ≤ root y words → k < stamp_of (held y words (Asked i j))
-  pub b5_stored : (x p k : ℕ) → IsWord y (Stored p k) → stamp_at y words p k ≡ suc x →
+pub record WordsShow (job : JobData) (y : LayoutData) (words : List ℕ) : Type 0 where
+  pub root_below : (n : ℕ) → IsWord y (Node n) → root y words ≤ held y words (Node n)
+  pub root_low : 3 * finished y words ≤ root y words
+  pub root_high : root y words ≤ 3 * finished y words + 3
+  pub full_root : root y words ≡ 3 * finished y words + 3 → conflict y words ≡ suc (finished y words)
+  pub conflict_next : (conflict y words ≡ 0) ⊎ (conflict y words ≡ suc (finished y words))
+  pub root_finished : (t : ℕ) → 3 * t + 1 ≤ root y words → t ≤ finished y words
+  pub reached_finished : (t : ℕ) → 3 * t ≤ root y words → IsReached job t → t ≤ finished y words
+  pub requests_raised : (k i j : ℕ) → i < y.procs → j < 3 → 3 * k + 1 ≤ root y words → k < stamp_of (held y words (Asked i j))
+  pub stored_from : (x p k : ℕ) → IsWord y (Stored p k) → stamp_at y words p k ≡ suc x →
       IsReached job x × IsWritten job x p × (phase_written job.rule x ≤ root y words + 1)
-  pub b5_asked : (x i j : ℕ) → i < y.procs → j < 3 → stamp_of (held y words (Asked i j)) ≡ suc x →
+  pub asked_from : (x i j : ℕ) → i < y.procs → j < 3 → stamp_of (held y words (Asked i j)) ≡ suc x →
       IsReached job x × (3 * x ≤ root y words)
-  pub b5_claim : (x c : ℕ) → IsWord y (Claim c) → stamp_of (held y words (Claim c)) ≡ suc x →
+  pub claim_from : (x c : ℕ) → IsWord y (Claim c) → stamp_of (held y words (Claim c)) ≡ suc x →
       IsReached job x × IsWritten job x c × (3 * x + 1 ≤ root y words)
-  pub b6 : (t p k : ℕ) → IsWord y (Stored p k) → t ≤ finished y words → stamp_at y words p k ≤ t →
+  pub stored_upto : (t p k : ℕ) → IsWord y (Stored p k) → t ≤ finished y words → stamp_at y words p k ≤ t →
       (held y words (Stored p k) ≡ settled job t p) ⊎ ((held y words (Stored p k) ≡ settled_before job t p) × (last_write job t p ≤ stamp_at y words p (1 - k)))
-  pub b6_apart : (p : ℕ) → p < places_of y → stamp_at y words p 0 ≡ stamp_at y words p 1 → stamp_at y words p 0 ≡ 0
-  pub b7 : (x p : ℕ) → p < places_of y → phase_written job.rule x ≤ root y words → IsWritten job x p → IsLate y x p words
-  pub b8 : conflict y words ≡ 0 → ((i : ℕ) → i < y.procs → 3 * finished y words + 3 ≤ leaf y words i) → AgreesAfter job (finished y words)
-  pub b9_asked : (i j : ℕ) → i < y.procs → j < 3 → conflict y words ≢ 0 → stamp_of (held y words (Asked i j)) ≡ conflict y words
-  pub b9_final : (p : ℕ) → p < places_of y → root y words ≡ 3 * job.steps → conflict y words ≡ 0 →
+  pub stamps_apart : (p : ℕ) → p < places_of y → stamp_at y words p 0 ≡ stamp_at y words p 1 → stamp_at y words p 0 ≡ 0
+  pub written_late : (x p : ℕ) → p < places_of y → phase_written job.rule x ≤ root y words → IsWritten job x p → IsLate y x p words
+  pub leaves_agree : conflict y words ≡ 0 → ((i : ℕ) → i < y.procs → 3 * finished y words + 3 ≤ leaf y words i) → AgreesAfter job (finished y words)
+  pub conflict_asked : (i j : ℕ) → i < y.procs → j < 3 → conflict y words ≢ 0 → stamp_of (held y words (Asked i j)) ≡ conflict y words
+  pub final_held : (p : ℕ) → p < places_of y → root y words ≡ 3 * job.steps → conflict y words ≡ 0 →
       newer_payload (held y words (Stored p 0)) (held y words (Stored p 1)) ≡ slice_index (state_after job job.steps) p
-  pub b10 : (x c i v : ℕ) → IsWord y (Claim c) → 3 * x + 2 ≤ root y words → Asks job x c i v → stamped_word (suc x) (claim_of job i) ≤ held y words (Claim c)
+  pub claims_high : (x c i v : ℕ) → IsWord y (Claim c) → 3 * x + 2 ≤ root y words → Asks job x c i v → stamped_word (suc x) (claim_of job i) ≤ held y words (Claim c)
 
 -- what is done with a kind, by the rule
 pub done_raised : (rule : Rule) (job : JobData) (y : LayoutData) (s : ℕ) (words : List ℕ) (i : ℕ) → Done rule Compute job y s words i → Raised job y s words i
@@ -168,7 +168,7 @@ module _ (job : JobData) (y : LayoutData) (words : List ℕ) (gone : ℕ) (limit
       let same : gone ≡ x = omega arith in
       (subst (IsReached job) same lawful.reached, subst (λ (s : ℕ). IsWritten job s c) same (record { writer = claims.writer; value = claims.value; asks = claims.asks }), omega arith)
 
-  -- ---- B6
+  -- ---- a word of a place with a stamp up to a finished step
 
   upto_settled : (t p : ℕ) → t ≤ gone → last_write job (gone) p ≤ t → settled job (gone) p ≡ settled job t p
   upto_settled t p h low = ap (λ (s : ℕ). word_of_step job s p) (last_between job t (gone) p h low)
@@ -234,7 +234,7 @@ module _ (job : JobData) (y : LayoutData) (words : List ℕ) (gone : ℕ) (limit
   apart_of p a b (new_second n e some) same =
       absurd (let s : stamp_of a ≡ last_write job (gone) p = ap stamp_of e ∙ stamp_settled (gone) p in let m = last_most job (gone) p in let f = n.stamp in omega arith)
 
-  -- ---- B7
+  -- ---- the writes of each step whose phase of writing is over are made
 
   pub late_of : (x p : ℕ) → p < places_of y → x < last_write job (gone) p → IsLate y x p words
   late_of x p place less = elim (has_settled job _ _ p _ _ (lawful.stored p place)) [
@@ -263,7 +263,7 @@ module _ (job : JobData) (y : LayoutData) (words : List ℕ) (gone : ℕ) (limit
         | inr c ↦ elim c [ inl less ↦ late_of x p place (last_least job (gone) p x less w) | inr more ↦ absurd (omega arith) ]
       ]
 
-  -- ---- B10
+  -- ---- so are the claims
 
   pub claims_is : y.claims ≡ has_claims job.rule
   claims_is = ap (λ (z : LayoutData). z.claims) layout
@@ -295,7 +295,7 @@ module _ (job : JobData) (y : LayoutData) (words : List ℕ) (gone : ℕ) (limit
         | inr k ↦ elim k [ inl less ↦ claim_settled x c i v _ less asks (lawful.claimed c is) | inr more ↦ absurd (omega arith) ]
       ]
 
-  -- ---- B8
+  -- ---- where all leaves are verified and word 0 is 0, the step agrees
 
   pub one_new : (p v w : ℕ) → p < places_of y → HoldsNew y words p (suc (gone)) v → HoldsNew y words p (suc (gone)) w → v ≡ w
   one_new p v w place (zero, l, s, e) (zero, m, t, g) = sym e ∙ g
@@ -356,7 +356,7 @@ module _ (job : JobData) (y : LayoutData) (words : List ℕ) (stands : Stands jo
   fins : IsFin (root y words) (conflict y words) (finished y words)
   fins = fin (root y words) (conflict y words)
 
-  -- ---- B9
+  -- ---- the request words of a conflict, and the values of the end
 
   asked_conflict : (i j : ℕ) → i < y.procs → j < 3 → conflict y words ≢ 0 → stamp_of (held y words (Asked i j)) ≡ conflict y words
   asked_conflict i j proc part some = elim (conflict_is job (conflict y words) (root y words) (finished y words) stands.lawful.named fins) [
@@ -376,26 +376,26 @@ module _ (job : JobData) (y : LayoutData) (words : List ℕ) (stands : Stands jo
       let same : finished y words ≡ job.steps = (elim (cases_lt (root y words) (3 * finished y words + 3)) [ inl c ↦ omega arith | inr c ↦ absurd (let h = fins.high in let u = fins.full (omega arith) in omega arith) ]) in
       subst (λ (t : ℕ). newer_payload (held y words (Stored p 0)) (held y words (Stored p 1)) ≡ slice_index (state_after job t) p) same (final_of job y words (finished y words) stands.limits stands.sizes stands.layout stands.lawful fins.low fins.high p _ _ place (omega arith) (stands.lawful.stored p place))
 
-  -- ---- all of B
+  -- ---- all of these
 
-  pub facts : B job y words
+  pub facts : WordsShow job y words
   facts = record {
-    b1 = below job y words (finished y words) stands.limits stands.sizes stands.layout stands.lawful fins.low fins.high;
-    b2_low = fins.low;
-    b2_high = fins.high;
-    b2_full = fins.full;
-    b2_conflict = conflict_is job (conflict y words) (root y words) (finished y words) stands.lawful.named fins;
-    b3 = root_fin job y words (finished y words) stands.limits stands.sizes stands.layout stands.lawful fins.low fins.high;
-    b3_reached = λ t h reached. fin_reached job (conflict y words) (root y words) (finished y words) t stands.lawful.named fins h reached;
-    b4 = raised job y words (finished y words) stands.limits stands.sizes stands.layout stands.lawful fins.low fins.high;
-    b5_stored = λ x p k is e. stored_step job y words (finished y words) stands.limits stands.sizes stands.layout stands.lawful fins.low fins.high x p _ e (word_is job y words (finished y words) stands.limits stands.sizes stands.layout stands.lawful fins.low fins.high p k is);
-    b5_asked = asked_step job y words (finished y words) stands.limits stands.sizes stands.layout stands.lawful fins.low fins.high;
-    b5_claim = λ x c is e. claim_step job y words (finished y words) stands.limits stands.sizes stands.layout stands.lawful fins.low fins.high x c _ e (stands.lawful.claimed c is);
-    b6 = upto job y words (finished y words) stands.limits stands.sizes stands.layout stands.lawful fins.low fins.high;
-    b6_apart = λ p place e. apart_of job y words (finished y words) stands.limits stands.sizes stands.layout stands.lawful fins.low fins.high p _ _ (stands.lawful.stored p place) e;
-    b7 = late job y words (finished y words) stands.limits stands.sizes stands.layout stands.lawful fins.low fins.high;
-    b8 = λ none leaves. agrees_by job y words (finished y words) stands.limits stands.sizes stands.layout stands.lawful fins.low fins.high job.rule refl none (λ i proc. stands.lawful.done i Verify proc (leaves i proc));
-    b9_asked = asked_conflict;
-    b9_final = final;
-    b10 = claim_high job y words (finished y words) stands.limits stands.sizes stands.layout stands.lawful fins.low fins.high;
+    root_below = below job y words (finished y words) stands.limits stands.sizes stands.layout stands.lawful fins.low fins.high;
+    root_low = fins.low;
+    root_high = fins.high;
+    full_root = fins.full;
+    conflict_next = conflict_is job (conflict y words) (root y words) (finished y words) stands.lawful.named fins;
+    root_finished = root_fin job y words (finished y words) stands.limits stands.sizes stands.layout stands.lawful fins.low fins.high;
+    reached_finished = λ t h reached. fin_reached job (conflict y words) (root y words) (finished y words) t stands.lawful.named fins h reached;
+    requests_raised = raised job y words (finished y words) stands.limits stands.sizes stands.layout stands.lawful fins.low fins.high;
+    stored_from = λ x p k is e. stored_step job y words (finished y words) stands.limits stands.sizes stands.layout stands.lawful fins.low fins.high x p _ e (word_is job y words (finished y words) stands.limits stands.sizes stands.layout stands.lawful fins.low fins.high p k is);
+    asked_from = asked_step job y words (finished y words) stands.limits stands.sizes stands.layout stands.lawful fins.low fins.high;
+    claim_from = λ x c is e. claim_step job y words (finished y words) stands.limits stands.sizes stands.layout stands.lawful fins.low fins.high x c _ e (stands.lawful.claimed c is);
+    stored_upto = upto job y words (finished y words) stands.limits stands.sizes stands.layout stands.lawful fins.low fins.high;
+    stamps_apart = λ p place e. apart_of job y words (finished y words) stands.limits stands.sizes stands.layout stands.lawful fins.low fins.high p _ _ (stands.lawful.stored p place) e;
+    written_late = late job y words (finished y words) stands.limits stands.sizes stands.layout stands.lawful fins.low fins.high;
+    leaves_agree = λ none leaves. agrees_by job y words (finished y words) stands.limits stands.sizes stands.layout stands.lawful fins.low fins.high job.rule refl none (λ i proc. stands.lawful.done i Verify proc (leaves i proc));
+    conflict_asked = asked_conflict;
+    final_held = final;
+    claims_high = claim_high job y words (finished y words) stands.limits stands.sizes stands.layout stands.lawful fins.low fins.high;
   }

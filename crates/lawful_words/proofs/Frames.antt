@@ -78,7 +78,7 @@ swap_same words k old new e = rw (eq-eqb (slice_index words k) old e) refl
 pub swap_other : (words : List ℕ) (k old new : ℕ) → slice_index words k ≢ old → words_after words (Swap k old new) ≡ words
 swap_other words k old new n = rw (ne_eqb (slice_index words k) old n) (set-get_or words k 0)
 
--- ---- lemmas E come down to words that differ in one word
+-- ---- the lemmas on writes come down to words that differ in one word
 
 keeps_only : (job : JobData) (y : LayoutData) (a : Word) (v : ℕ) (words : List ℕ) → Stands job y words → IsWord y a → IsInRange y job a v → Up y words a (held y words a) v →
     ((later : List ℕ) → Only y a v words later → Lawful job y later) → Stands job y (slice_set words (number_of y a) v) × Grows y words (slice_set words (number_of y a) v)

@@ -1,4 +1,4 @@
--- Lemmas C: lawful words that have grown, and the two words of a place heard at two moments.
+-- Lawful words that have grown, and the two words of a place heard at two moments.
 use Rattle.std.proofs.Common.{◌≡◌, ◌≢◌, ◌⊎◌, ℕ, zero, suc, ◌+◌, ◌*◌, ◌<◌, ◌≤◌, nat_le, true, false, List, slice_index, refl, sym, ap, subst, ◌∙◌, inl, inr, lit<, arith}
 use Rattle.std.proofs.lemmas.Bool.{cases_eq, cases_lt, cases_Bool, leb-false, le-leb, lt-leb}
 use Rattle.pram_text.specs.Job.{JobData}
@@ -18,20 +18,20 @@ use Rattle.lawful_words.proofs.Facts.{facts, place_below, stamp_settled, stamp_b
 
 -- ---- what holds of words and later ones
 
-pub record C (job : JobData) (y : LayoutData) (words later : List ℕ) : Type 0 where
-  pub c1 : finished y words ≤ finished y later
-  pub c2 : (i j : ℕ) → i < y.procs → j < 3 → 1 ≤ stamp_of (held y words (Asked i j)) →
+pub record LaterWords (job : JobData) (y : LayoutData) (words later : List ℕ) : Type 0 where
+  pub finished_rises : finished y words ≤ finished y later
+  pub asked_same : (i j : ℕ) → i < y.procs → j < 3 → 1 ≤ stamp_of (held y words (Asked i j)) →
       stamp_of (held y words (Asked i j)) ≡ stamp_of (held y later (Asked i j)) → held y words (Asked i j) ≡ held y later (Asked i j)
-  pub c3 : (x q : ℕ) → IsReached job x → 3 * x < q → q ≤ 3 * x + 3 → q ≤ root y words + 1 → root y later + 1 ≡ q →
+  pub same_phase : (x q : ℕ) → IsReached job x → 3 * x < q → q ≤ 3 * x + 3 → q ≤ root y words + 1 → root y later + 1 ≡ q →
       (root y words + 1 ≡ q) × (finished y words ≡ x) × (finished y later ≡ x)
-  pub c4 : (p k : ℕ) → IsWord y (Stored p k) → finished y words ≡ finished y later →
+  pub stored_same : (p k : ℕ) → IsWord y (Stored p k) → finished y words ≡ finished y later →
       stamp_at y later p 0 ≤ finished y later → stamp_at y later p 1 ≤ finished y later → held y words (Stored p k) ≡ held y later (Stored p k)
 
-abbrev pub AllC : Type 0
-AllC = (job : JobData) (y : LayoutData) (words later : List ℕ) → Stands job y words → Stands job y later → Grows y words later → C job y words later
+abbrev pub GrowthShows : Type 0
+GrowthShows = (job : JobData) (y : LayoutData) (words later : List ℕ) → Stands job y words → Stands job y later → Grows y words later → LaterWords job y words later
 
-abbrev pub AllC5 : Type 0
-AllC5 = (job : JobData) (y : LayoutData) (x p a b : ℕ) (first second now : List ℕ) → Stands job y first → Stands job y second → Stands job y now →
+abbrev pub PlacesAreAsHeard : Type 0
+PlacesAreAsHeard = (job : JobData) (y : LayoutData) (x p a b : ℕ) (first second now : List ℕ) → Stands job y first → Stands job y second → Stands job y now →
     Grows y first second → Grows y second now →
     p < places_of y → IsReached job x → 3 * x ≤ root y first → a ≡ held y first (Stored p 0) →
     b ≡ held y second (Stored p 1) → is_late (suc x) a b ≡ false → PlaceAsHeard job y x p a b now
@@ -45,8 +45,8 @@ top_low : (job : JobData) (y : LayoutData) (words : List ℕ) (x p : ℕ) → St
 top_low job y words x p stands place h =
     let r = last_rises job x (finished y words) p h in
     elim (has_settled job _ _ p _ _ (stands.lawful.stored p place)) [
-      | inl e ↦ (let s : stamp_at y words p 0 ≡ last_write job (finished y words) p = ap stamp_of e ∙ stamp_settled job y words (finished y words) stands.limits stands.sizes stands.layout stands.lawful (facts job y words stands).b2_low (facts job y words stands).b2_high (finished y words) p in inl (omega arith))
-      | inr e ↦ (let s : stamp_at y words p 1 ≡ last_write job (finished y words) p = ap stamp_of e ∙ stamp_settled job y words (finished y words) stands.limits stands.sizes stands.layout stands.lawful (facts job y words stands).b2_low (facts job y words stands).b2_high (finished y words) p in inr (omega arith))
+      | inl e ↦ (let s : stamp_at y words p 0 ≡ last_write job (finished y words) p = ap stamp_of e ∙ stamp_settled job y words (finished y words) stands.limits stands.sizes stands.layout stands.lawful (facts job y words stands).root_low (facts job y words stands).root_high (finished y words) p in inl (omega arith))
+      | inr e ↦ (let s : stamp_at y words p 1 ≡ last_write job (finished y words) p = ap stamp_of e ∙ stamp_settled job y words (finished y words) stands.limits stands.sizes stands.layout stands.lawful (facts job y words stands).root_low (facts job y words stands).root_high (finished y words) p in inr (omega arith))
     ]
 
 -- a word of a place that has changed since has a stamp above each finished step of then
@@ -63,13 +63,13 @@ changed job y words later x p k stands after up is h other = elim (up (Stored p 
     changed_late : (s : ℕ) → stamp_at y later p k ≡ s → s ≤ x → stamp_at y words p 0 < s → stamp_at y words p 1 < s → ⊥
     changed_late zero e c one two = omega arith
     changed_late (suc s) e c one two =
-        let w = ((facts job y later after).b5_stored s p k is e).1 in
+        let w = ((facts job y later after).stored_from s p k is e).1 in
         let l = last_least job x p s c w in
         elim (top_low job y words x p stands is.0 h) [ inl t ↦ omega arith | inr t ↦ omega arith ]
 
 module _ (job : JobData) (y : LayoutData) (words later : List ℕ) (stands : Stands job y words) (after : Stands job y later) (up : Grows y words later) where
   fin_up : finished y words ≤ finished y later
-  fin_up = let r = root_up job y words later stands up in let l = (facts job y words stands).b2_low in (facts job y later after).b3_reached (finished y words) (omega arith) stands.lawful.reached
+  fin_up = let r = root_up job y words later stands up in let l = (facts job y words stands).root_low in (facts job y later after).reached_finished (finished y words) (omega arith) stands.lawful.reached
 
   asked_same : (i j s : ℕ) → i < y.procs → j < 3 → stamp_of (held y words (Asked i j)) ≡ suc s → stamp_of (held y later (Asked i j)) ≡ suc s →
       held y words (Asked i j) ≡ held y later (Asked i j)
@@ -87,10 +87,10 @@ module _ (job : JobData) (y : LayoutData) (words later : List ℕ) (stands : Sta
       (root y words + 1 ≡ q) × (finished y words ≡ x) × (finished y later ≡ x)
   live x q reached low high floor now =
       let r = root_up job y words later stands up in
-      let a = (facts job y words stands).b3_reached x (omega arith) reached in
-      let b = (facts job y words stands).b2_low in
-      let c = (facts job y later after).b3_reached x (omega arith) reached in
-      let d = (facts job y later after).b2_low in
+      let a = (facts job y words stands).reached_finished x (omega arith) reached in
+      let b = (facts job y words stands).root_low in
+      let c = (facts job y later after).reached_finished x (omega arith) reached in
+      let d = (facts job y later after).root_low in
       (omega arith, omega arith, omega arith)
 
   unwritten : (p k : ℕ) → IsWord y (Stored p k) → finished y words ≡ finished y later → stamp_at y later p k ≤ finished y later →
@@ -106,11 +106,11 @@ module _ (job : JobData) (y : LayoutData) (words later : List ℕ) (stands : Sta
   unwritten_each p (suc zero) is same a b = unwritten p (suc zero) is same b
   unwritten_each p (suc (suc k)) is same a b = absurd (let h = is.1 in omega arith)
 
-  grown : C job y words later
-  grown = record { c1 = fin_up; c2 = λ i j proc part some e. asked_by i j (stamp_of (held y words (Asked i j))) proc part some refl (sym e); c3 = live; c4 = unwritten_each }
+  grown : LaterWords job y words later
+  grown = record { finished_rises = fin_up; asked_same = λ i j proc part some e. asked_by i j (stamp_of (held y words (Asked i j))) proc part some refl (sym e); same_phase = live; stored_same = unwritten_each }
 
-pub all_c : AllC
-all_c job y words later stands after up = grown job y words later stands after up
+pub growth_shows : GrowthShows
+growth_shows job y words later stands after up = grown job y words later stands after up
 
 -- ---- PlaceAsHeard
 
@@ -144,8 +144,8 @@ beside job y words x p a b stands (new_second n e some) h =
 first_some : (job : JobData) (y : LayoutData) (words : List ℕ) (p a b : ℕ) → Stands job y words → IsPair job (finished y words) (root y words) p a b →
     1 ≤ stamp_of b → 1 ≤ stamp_of a
 first_some job y words p a b stands (newer_first e g) h =
-    let s : stamp_of a ≡ last_write job (finished y words) p = ap stamp_of e ∙ stamp_settled job y words (finished y words) stands.limits stands.sizes stands.layout stands.lawful (facts job y words stands).b2_low (facts job y words stands).b2_high (finished y words) p in
-    let o : stamp_of b ≡ write_before job (last_write job (finished y words) p) p = ap stamp_of g ∙ stamp_before job y words (finished y words) stands.limits stands.sizes stands.layout stands.lawful (facts job y words stands).b2_low (facts job y words stands).b2_high (finished y words) p in
+    let s : stamp_of a ≡ last_write job (finished y words) p = ap stamp_of e ∙ stamp_settled job y words (finished y words) stands.limits stands.sizes stands.layout stands.lawful (facts job y words stands).root_low (facts job y words stands).root_high (finished y words) p in
+    let o : stamp_of b ≡ write_before job (last_write job (finished y words) p) p = ap stamp_of g ∙ stamp_before job y words (finished y words) stands.limits stands.sizes stands.layout stands.lawful (facts job y words stands).root_low (facts job y words stands).root_high (finished y words) p in
     let m = before_most job (last_write job (finished y words) p) p in
     omega arith
 first_some job y words p a b stands (newer_second e g some) h = some
@@ -155,7 +155,7 @@ first_some job y words p a b stands (new_second n e some) h = some
 module _ (job : JobData) (y : LayoutData) (x p a b : ℕ) (first second now : List ℕ) (s1 : Stands job y first) (s2 : Stands job y second) (s3 : Stands job y now) (up : Grows y first second) (on : Grows y second now)
     (place : p < places_of y) (reached : IsReached job x) (low : 3 * x ≤ root y first) (is_a : a ≡ held y first (Stored p 0)) (is_b : b ≡ held y second (Stored p 1)) (early_a : stamp_of a ≤ x) (early_b : stamp_of b ≤ x) where
   fin_first : x ≤ finished y first
-  fin_first = (facts job y first s1).b3_reached x low reached
+  fin_first = (facts job y first s1).reached_finished x low reached
 
   fin_second : x ≤ finished y second
   fin_second = let f = fin_first in let g = fin_up job y first second s1 s2 up in omega arith
@@ -164,13 +164,13 @@ module _ (job : JobData) (y : LayoutData) (x p a b : ℕ) (first second now : Li
   fin_now = let f = fin_second in let g = fin_up job y second now s2 s3 on in omega arith
 
   stamp_x : stamp_of (settled job x p) ≡ last_write job x p
-  stamp_x = stamp_settled job y first (finished y first) s1.limits s1.sizes s1.layout s1.lawful (facts job y first s1).b2_low (facts job y first s1).b2_high x p
+  stamp_x = stamp_settled job y first (finished y first) s1.limits s1.sizes s1.layout s1.lawful (facts job y first s1).root_low (facts job y first s1).root_high x p
 
   stamp_x_before : stamp_of (settled_before job x p) ≡ write_before job (last_write job x p) p
-  stamp_x_before = stamp_before job y first (finished y first) s1.limits s1.sizes s1.layout s1.lawful (facts job y first s1).b2_low (facts job y first s1).b2_high x p
+  stamp_x_before = stamp_before job y first (finished y first) s1.limits s1.sizes s1.layout s1.lawful (facts job y first s1).root_low (facts job y first s1).root_high x p
 
   payload_x : payload_of (settled job x p) ≡ slice_index (state_after job x) p
-  payload_x = payload_step job (last_write job x p) p s1.limits ∙ sym (value_between job (last_write job x p) x p s1.limits (place_below job y first (finished y first) s1.limits s1.sizes s1.layout s1.lawful (facts job y first s1).b2_low (facts job y first s1).b2_high p place) (last_most job x p) (omega arith))
+  payload_x = payload_step job (last_write job x p) p s1.limits ∙ sym (value_between job (last_write job x p) x p s1.limits (place_below job y first (finished y first) s1.limits s1.sizes s1.layout s1.lawful (facts job y first s1).root_low (facts job y first s1).root_high p place) (last_most job x p) (omega arith))
 
   -- the word before the last one is the last one, where there is none
   before_none : last_write job x p ≡ 0 → settled_before job x p ≡ settled job x p
@@ -189,11 +189,11 @@ module _ (job : JobData) (y : LayoutData) (x p a b : ℕ) (first second now : Li
 
   upto_a : (a ≡ settled job x p) ⊎ ((a ≡ settled_before job x p) × (last_write job x p ≤ stamp_at y first p 1))
   upto_a = subst (λ (w : ℕ). (w ≡ settled job x p) ⊎ ((w ≡ settled_before job x p) × (last_write job x p ≤ stamp_at y first p 1))) (sym is_a)
-      ((facts job y first s1).b6 x p 0 (place, lit< tt) fin_first (let e = ap stamp_of is_a in omega arith))
+      ((facts job y first s1).stored_upto x p 0 (place, lit< tt) fin_first (let e = ap stamp_of is_a in omega arith))
 
   upto_b : (b ≡ settled job x p) ⊎ ((b ≡ settled_before job x p) × (last_write job x p ≤ stamp_at y second p 0))
   upto_b = subst (λ (w : ℕ). (w ≡ settled job x p) ⊎ ((w ≡ settled_before job x p) × (last_write job x p ≤ stamp_at y second p 0))) (sym is_b)
-      ((facts job y second s2).b6 x p 1 (place, lit< tt) fin_second (let e = ap stamp_of is_b in omega arith))
+      ((facts job y second s2).stored_upto x p 1 (place, lit< tt) fin_second (let e = ap stamp_of is_b in omega arith))
 
   heard_a : Heard a
   heard_a = heard_of a (stamp_at y first p 1) upto_a
@@ -220,7 +220,7 @@ module _ (job : JobData) (y : LayoutData) (x p a b : ℕ) (first second now : Li
       let fa : stamp_of a ≡ stamp_at y first p 0 = ap stamp_of is_a in
       let fb : stamp_of b ≡ stamp_at y second p 1 = ap stamp_of is_b in
       elim (cases_eq (stamp_at y first p 0) (stamp_at y first p 1)) [
-        | inl e ↦ (let z = (facts job y first s1).b6_apart p place e in omega arith)
+        | inl e ↦ (let z = (facts job y first s1).stamps_apart p place e in omega arith)
         | inr n ↦ elim (up (Stored p 1) (place, lit< tt)) [
           | inl e ↦ absurd (n (let g : stamp_at y first p 1 ≡ stamp_at y second p 1 = ap stamp_of e in omega arith))
           | inr more ↦ absurd (let m = more.0 in omega arith)
@@ -317,7 +317,7 @@ early_both x a b e = elim (cases_Bool (nat_le (suc x) (stamp_of a))) [
   | inr h ↦ (let f : nat_le (suc x) (stamp_of b) ≡ false = rw h at e in (let l = leb-false (suc x) (stamp_of a) h in omega arith, let l = leb-false (suc x) (stamp_of b) f in omega arith))
 ]
 
-pub all_c5 : AllC5
-all_c5 job y x p a b first second now s1 s2 s3 up on place reached low is_a is_b early =
+pub place_as_heard : PlacesAreAsHeard
+place_as_heard job y x p a b first second now s1 s2 s3 up on place reached low is_a is_b early =
     let h = early_both x a b early in
     two_moments job y x p a b first second now s1 s2 s3 up on place reached low is_a is_b h.0 h.1

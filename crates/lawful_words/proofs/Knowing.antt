@@ -19,7 +19,7 @@ use Rattle.lawful_words.specs.Seen.{Hears, Heard, HeardThen, Shows, KnowsStep}
 use Rattle.lawful_words.proofs.Values.{phase_low}
 use Rattle.lawful_words.proofs.Moments.{onward, find}
 use Rattle.lawful_words.proofs.Facts.{facts}
-use Rattle.lawful_words.proofs.Growths.{root_up, all_c}
+use Rattle.lawful_words.proofs.Growths.{root_up, growth_shows}
 
 -- ---- what was heard of a word is what it held
 
@@ -97,7 +97,7 @@ pub conflict_fin : (job : JobData) (y : LayoutData) (r : Record) (u : ℕ) (now 
     u ≢ 0 → u ≡ suc (finished y now)
 conflict_fin job y r u now stands backed heard some =
     let e = conflict_now job y r u now backed heard some in
-    elim (facts job y now stands).b2_conflict [ inl none ↦ absurd (some (sym e ∙ none)) | inr is ↦ sym e ∙ is ]
+    elim (facts job y now stands).conflict_next [ inl none ↦ absurd (some (sym e ∙ none)) | inr is ↦ sym e ∙ is ]
 
 -- it is the first conflict
 pub conflict_first : (job : JobData) (y : LayoutData) (r : Record) (s : ℕ) (now : List ℕ) → Stands job y now → Backed job y r now →
@@ -107,13 +107,13 @@ conflict_first job y r s now stands backed heard = stands.lawful.named.first s (
 -- ---- a step that is shown or known
 
 pub fin_then : (job : JobData) (y : LayoutData) (words now : List ℕ) (t : ℕ) → Stands job y words → Stands job y now → Grows y words now → t ≤ finished y words → t ≤ finished y now
-fin_then job y words now t stands stands_now up h = let c = (all_c job y words now stands stands_now up).c1 in omega arith
+fin_then job y words now t stands stands_now up h = let c = (growth_shows job y words now stands stands_now up).finished_rises in omega arith
 
 pub shown_now : (job : JobData) (y : LayoutData) (r : Record) (t : ℕ) (now : List ℕ) → Stands job y now → Backed job y r now → Shows y r t → t ≤ finished y now
 shown_now job y r t now stands backed (inl s) =
     let a = root_now job y r s.0 now backed s.2 in
     let low : 3 * t + 1 ≤ s.0 = s.1 in
-    (facts job y now stands).b3 t (omega arith)
+    (facts job y now stands).root_finished t (omega arith)
 shown_now job y r t now stands backed (inr (inl s)) =
     let h = s.2 in
     let m = held_then job y r h.next Conflict s.0 ((h.op, 3 * t) ∷ []) now backed h.hears_next h.has in
@@ -122,18 +122,18 @@ shown_now job y r t now stands backed (inr (inl s)) =
     let is : 3 * t ≡ root y n.words = n.is in
     let u : s.0 ≡ conflict y m.words = m.is in
     let f = facts job y m.words m.stands in
-    let high = f.b2_high in
+    let high = f.root_high in
     fin_then job y m.words now t m.stands stands m.since (elim (cases_lt (finished y m.words) t) [
       | inr c ↦ c
-      | inl c ↦ absurd (let full = f.b2_full (omega arith) in s.1 (u ∙ full ∙ (omega arith)))
+      | inl c ↦ absurd (let full = f.full_root (omega arith) in s.1 (u ∙ full ∙ (omega arith)))
     ])
 shown_now job y r t now stands backed (inr (inr s)) = let e : t ≡ 0 = s.0 in omega arith
 
 pub stamp_known : (job : JobData) (y : LayoutData) (p k t : ℕ) (now : List ℕ) → Stands job y now → IsWord y (Stored p k) → stamp_at y now p k ≡ suc t → t ≤ finished y now
 stamp_known job y p k t now stands is e =
-    let b = ((facts job y now stands).b5_stored t p k is e).2 in
+    let b = ((facts job y now stands).stored_from t p k is e).2 in
     let low = phase_low job.rule t in
-    (facts job y now stands).b3 t (omega arith)
+    (facts job y now stands).root_finished t (omega arith)
 
 -- Known steps are reached, and finished: now, and so whenever the words bear the record out.
 pub known_now : (job : JobData) (y : LayoutData) (r : Record) (t : ℕ) (now : List ℕ) → Stands job y now → Backed job y r now → KnowsStep y r t →

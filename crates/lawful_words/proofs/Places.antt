@@ -15,13 +15,13 @@ use Rattle.lawful_words.specs.Laws.{FinishedStepsAreHeld}
 use Rattle.lawful_words.proofs.Values.{WordIs, is_settled, is_before, is_new, stamp_step, payload_step}
 use Rattle.lawful_words.proofs.Moments.{same}
 use Rattle.lawful_words.proofs.Facts.{facts, place_below, word_is}
-use Rattle.lawful_words.proofs.Growths.{beside, all_c5}
+use Rattle.lawful_words.proofs.Growths.{beside, place_as_heard}
 
 -- a word with the stamp of a step that is reached
 pub word_value : (job : JobData) (y : LayoutData) (words : List ℕ) (x p k : ℕ) → Stands job y words → IsWord y (Stored p k) → stamp_at y words p k ≡ x →
     IsReached job x → payload_of (held y words (Stored p k)) ≡ slice_index (state_after job x) p
 word_value job y words x p k stands is e reached =
-    by (held y words (Stored p k)) e (word_is job y words (finished y words) stands.limits stands.sizes stands.layout stands.lawful (facts job y words stands).b2_low (facts job y words stands).b2_high p k is)
+    by (held y words (Stored p k)) e (word_is job y words (finished y words) stands.limits stands.sizes stands.layout stands.lawful (facts job y words stands).root_low (facts job y words stands).root_high p k is)
   where
     by : (word : ℕ) → stamp_of word ≡ x → WordIs job (finished y words) (root y words) p word → payload_of word ≡ slice_index (state_after job x) p
     by word s (is_settled w) =
@@ -34,14 +34,14 @@ word_value job y words x p k stands is e reached =
     by word s (is_new n) =
         let f = finished y words in
         let z : suc (finished y words) ≡ x = sym n.stamp ∙ s in
-        let below = place_below job y words (finished y words) stands.limits stands.sizes stands.layout stands.lawful (facts job y words stands).b2_low (facts job y words stands).b2_high p is.0 in
+        let below = place_below job y words (finished y words) stands.limits stands.sizes stands.layout stands.lawful (facts job y words stands).root_low (facts job y words stands).root_high p is.0 in
         sym (written_value job f p n.writer (payload_of word) stands.limits below (reached f (omega arith)) n.asks n.wins) ∙ ap (λ (n : ℕ). slice_index (state_after job n) p) z
 
 old_value : (job : JobData) (y : LayoutData) (words : List ℕ) (x p k : ℕ) → Stands job y words → IsWord y (Stored p k) → x ≤ finished y words →
     stamp_at y words p k ≤ x → last_write job x p ≤ stamp_at y words p k → payload_of (held y words (Stored p k)) ≡ slice_index (state_after job x) p
 old_value job y words x p k stands is h low last =
     let z = stamp_at y words p k in
-    let below = place_below job y words (finished y words) stands.limits stands.sizes stands.layout stands.lawful (facts job y words stands).b2_low (facts job y words stands).b2_high p is.0 in
+    let below = place_below job y words (finished y words) stands.limits stands.sizes stands.layout stands.lawful (facts job y words stands).root_low (facts job y words stands).root_high p is.0 in
     word_value job y words z p k stands is refl (reached_down job z (finished y words) (omega arith) stands.lawful.reached) ∙ sym (value_between job z x p stands.limits below low last)
 
 -- the first word is older than the step seen, the second one newer; and the other way
@@ -59,14 +59,14 @@ second_value job y words x p stands place h low high =
 pub apart_on : (job : JobData) (y : LayoutData) (words later : List ℕ) (p : ℕ) → Stands job y words → p < places_of y → Grows y words later →
     stamp_at y words p 0 ≡ stamp_at y later p 1 → stamp_at y words p 0 ≡ 0
 apart_on job y words later p stands place up e = elim (up (Stored p 1) (place, lit< tt)) [
-  | inl f ↦ (let g : stamp_at y words p 1 ≡ stamp_at y later p 1 = ap stamp_of f in (facts job y words stands).b6_apart p place (omega arith))
+  | inl f ↦ (let g : stamp_at y words p 1 ≡ stamp_at y later p 1 = ap stamp_of f in (facts job y words stands).stamps_apart p place (omega arith))
   | inr more ↦ absurd (let m = more.0 in omega arith)
 ]
 
 pub apart_back : (job : JobData) (y : LayoutData) (words later : List ℕ) (p : ℕ) → Stands job y words → p < places_of y → Grows y words later →
     stamp_at y words p 1 ≡ stamp_at y later p 0 → stamp_at y words p 1 ≡ 0
 apart_back job y words later p stands place up e = elim (up (Stored p 0) (place, lit< tt)) [
-  | inl f ↦ (let g : stamp_at y words p 0 ≡ stamp_at y later p 0 = ap stamp_of f in let z = (facts job y words stands).b6_apart p place (omega arith) in omega arith)
+  | inl f ↦ (let g : stamp_at y words p 0 ≡ stamp_at y later p 0 = ap stamp_of f in let z = (facts job y words stands).stamps_apart p place (omega arith) in omega arith)
   | inr more ↦ absurd (let m = more.1 in omega arith)
 ]
 
@@ -77,10 +77,10 @@ is_early x a b low also = or_from (nat_le (suc x) (stamp_of a)) (nat_le (suc x) 
 
 pub finished_held : FinishedStepsAreHeld
 finished_held job y words x p stands place h =
-    let low = (facts job y words stands).b2_low in
+    let low = (facts job y words stands).root_low in
     let up = same y words in (
       first_value job y words x p stands place h,
       second_value job y words x p stands place h,
-      λ first second. (all_c5 job y x p _ _ words words words stands stands stands up up place (reached_down job x (finished y words) h stands.lawful.reached) (omega arith) refl refl
+      λ first second. (place_as_heard job y x p _ _ words words words stands stands stands up up place (reached_down job x (finished y words) h stands.lawful.reached) (omega arith) refl refl
           (is_early x (held y words (Stored p 0)) (held y words (Stored p 1)) first second)).value,
     )

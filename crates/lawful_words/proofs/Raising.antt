@@ -1,4 +1,4 @@
--- Lemmas E2 to E6: a node is raised to a phase.
+-- A node is raised to a phase.
 use Rattle.std.proofs.Common.{◌≡◌, ◌⊎◌, ℕ, suc, ◌+◌, ◌*◌, ◌%◌, ◌<◌, ◌≤◌, List, refl, sym, ap, subst, ◌∙◌, inl, inr, lit<, arith}
 use Rattle.std.proofs.lemmas.Bool.{cases_eq, cases_lt, eq-eqb, ne_eqb}
 use Rattle.pram_text.specs.Job.{JobData}
@@ -15,7 +15,7 @@ use Rattle.lawful_words.specs.Writes.{Floor, Does}
 use Rattle.lawful_words.specs.Board.{held, root, conflict, leaf, stamp_at, finished, Done, phase_in, IsTree, IsAsked, IsNamed, IsPair, IsClaimed, LawfulFor, Lawful, Stands, Grows}
 use Rattle.lawful_words.proofs.Values.{WordIs, is_settled, is_before, is_new}
 use Rattle.lawful_words.proofs.Frames.{Only, only_grows, does_max}
-use Rattle.lawful_words.proofs.Facts.{facts, procs_fit, word_is, stamp_settled, stamp_before, B}
+use Rattle.lawful_words.proofs.Facts.{facts, procs_fit, word_is, stamp_settled, stamp_before, WordsShow}
 use Rattle.lawful_words.proofs.Keeping.{done_later, pair_up, claimed_up, settle}
 
 pub kind_of : (x q : ℕ) (kind : Kind) → phase_in x kind ≡ q → kind_at q ≡ kind
@@ -25,32 +25,32 @@ kind_of x q Verify e = rw (eq-eqb (q % 3) 0 (omega arith)) refl
 
 -- no stamp of a place is above the step behind the finished ones
 pub stamps_most : (job : JobData) (y : LayoutData) (words : List ℕ) → Stands job y words → (p k : ℕ) → IsWord y (Stored p k) → stamp_at y words p k ≤ suc (finished y words)
-stamps_most job y words stands p k is = most_of (held y words (Stored p k)) refl (word_is job y words (finished y words) stands.limits stands.sizes stands.layout stands.lawful (facts job y words stands).b2_low (facts job y words stands).b2_high p k is)
+stamps_most job y words stands p k is = most_of (held y words (Stored p k)) refl (word_is job y words (finished y words) stands.limits stands.sizes stands.layout stands.lawful (facts job y words stands).root_low (facts job y words stands).root_high p k is)
   where
     most_of : (word : ℕ) → word ≡ held y words (Stored p k) → WordIs job (finished y words) (root y words) p word → stamp_of word ≤ suc (finished y words)
-    most_of word here (is_settled e) = let s = ap stamp_of e ∙ stamp_settled job y words (finished y words) stands.limits stands.sizes stands.layout stands.lawful (facts job y words stands).b2_low (facts job y words stands).b2_high (finished y words) p in let m = last_most job (finished y words) p in omega arith
+    most_of word here (is_settled e) = let s = ap stamp_of e ∙ stamp_settled job y words (finished y words) stands.limits stands.sizes stands.layout stands.lawful (facts job y words stands).root_low (facts job y words stands).root_high (finished y words) p in let m = last_most job (finished y words) p in omega arith
     most_of word here (is_before e) =
-        let s = ap stamp_of e ∙ stamp_before job y words (finished y words) stands.limits stands.sizes stands.layout stands.lawful (facts job y words stands).b2_low (facts job y words stands).b2_high (finished y words) p in
+        let s = ap stamp_of e ∙ stamp_before job y words (finished y words) stands.limits stands.sizes stands.layout stands.lawful (facts job y words stands).root_low (facts job y words stands).root_high (finished y words) p in
         let m = last_most job (finished y words) p in
         let k = before_most job (last_write job (finished y words) p) p in
         omega arith
     most_of word here (is_new n) = let s = n.stamp in omega arith
 
 module _ (job : JobData) (y : LayoutData) (words : List ℕ) (q x : ℕ) (stands : Stands job y words) (some : 1 ≤ q) (most : q ≤ 3 * job.steps) (step : step_at q ≡ suc x) (floor : Floor job y q x words) where
-  b : B job y words
-  b = facts job y words stands
+  shown : WordsShow job y words
+  shown = facts job y words stands
 
   pub behind : x ≤ finished y words
-  behind = let l = floor.root in b.b3_reached x (omega arith) floor.reached
+  behind = let l = floor.root in shown.reached_finished x (omega arith) floor.reached
 
   pub alive : root y words + 1 ≡ q → finished y words ≡ x
-  alive e = let l = behind in let m = b.b2_low in omega arith
+  alive e = let l = behind in let m = shown.root_low in omega arith
 
   module _ (n : ℕ) (is : IsWord y (Node n)) (children : n < y.leaves → (q ≤ held y words (Node (2 * n))) × (q ≤ held y words (Node (2 * n + 1))))
       (ready : (i : ℕ) → i < y.procs → n ≡ y.leaves + i → root y words + 1 ≡ q → Done job.rule (kind_at q) job y x words i) where
     module _ (less : held y words (Node n) < q) (later : List ℕ) (only : Only y (Node n) q words later) where
       live : root y words + 1 ≡ q
-      live = let l = floor.root in let d = b.b1 n is in omega arith
+      live = let l = floor.root in let d = shown.root_below n is in omega arith
 
       gone : finished y words ≡ x
       gone = alive live
@@ -117,13 +117,13 @@ module _ (job : JobData) (y : LayoutData) (words : List ℕ) (q x : ℕ) (stands
       done_on i kind proc d = done_later job y words later (finished y words) stands.limits stands.sizes stands.layout up stamps kind (λ e c is_c. claim_same c is_c) i proc d
 
       leaf_is : (i : ℕ) → i < y.procs → IsWord y (Node (y.leaves + i))
-      leaf_is i proc = let l = stands.sizes.leaves in let f = procs_fit job y words (finished y words) stands.limits stands.sizes stands.layout stands.lawful b.b2_low b.b2_high in (omega arith, omega arith)
+      leaf_is i proc = let l = stands.sizes.leaves in let f = procs_fit job y words (finished y words) stands.limits stands.sizes stands.layout stands.lawful shown.root_low shown.root_high in (omega arith, omega arith)
 
       done : (i : ℕ) (kind : Kind) → i < y.procs → phase_in (finished y words) kind ≤ leaf y later i → Done job.rule kind job y (finished y words) later i
       done i kind proc h = elim (node_cases (y.leaves + i) (leaf_is i proc)) [
         | inl e ↦ done_on i kind proc (stands.lawful.done i kind proc (omega arith))
         | inr e ↦ elim (cases_lt (root y words) (phase_in (finished y words) kind)) [
-          | inr c ↦ done_on i kind proc (stands.lawful.done i kind proc (let l = b.b1 (y.leaves + i) (leaf_is i proc) in omega arith))
+          | inr c ↦ done_on i kind proc (stands.lawful.done i kind proc (let l = shown.root_below (y.leaves + i) (leaf_is i proc) in omega arith))
           | inl c ↦ (
               let g = e.1 in
               let l = live in
@@ -165,7 +165,7 @@ module _ (job : JobData) (y : LayoutData) (words : List ℕ) (q x : ℕ) (stands
           let l = live in
           let g = gone in
           let r = root_up in
-          let low = b.b2_low in
+          let low = shown.root_low in
           settle job y later (finished y words) stands.limits stands.sizes stands.layout lawful_for (omega arith)
           (elim (node_cases 1 root_is) [ inl e ↦ omega arith | inr e ↦ (let h = e.1 in omega arith) ])
           (λ full none i proc. elim (node_cases (y.leaves + i) (leaf_is i proc)) [
@@ -174,19 +174,19 @@ module _ (job : JobData) (y : LayoutData) (words : List ℕ) (q x : ℕ) (stands
           ])
 
     pub node_does : Does job y q (Max (number_of y (Node n)) q) words
-    node_does = does_max job y q (Node n) q words stands is most (λ h. let d = b.b1 n is in omega arith) (λ less. (omega arith, λ later only. node_lawful less later only))
+    node_does = does_max job y q (Node n) q words stands is most (λ h. let d = shown.root_below n is in omega arith) (λ less. (omega arith, λ later only. node_lawful less later only))
 
-  -- E2
+  -- an inner node
   pub inner_does : (n : ℕ) → 1 ≤ n → n < y.leaves → q ≤ held y words (Node (2 * n)) → q ≤ held y words (Node (2 * n + 1)) → Does job y q (Max (number_of y (Node n)) q) words
   inner_does n low high left right = node_does n (low, omega arith) (λ h. (left, right)) (λ i proc e live. absurd (omega arith))
 
-  -- E3
+  -- a leaf with no processor
   pub padded_does : (n : ℕ) → y.leaves + y.procs ≤ n → n < 2 * y.leaves → Does job y q (Max (number_of y (Node n)) q) words
   padded_does n low high = node_does n (let l = stands.sizes.leaves in omega arith, high) (λ h. absurd (omega arith)) (λ i proc e live. absurd (omega arith))
 
-  -- E4 to E6
+  -- a leaf whose work is done
   pub leaf_does : (i : ℕ) → i < y.procs → (root y words + 1 ≡ q → Done job.rule (kind_at q) job y x words i) → Does job y q (Max (number_of y (Node (y.leaves + i))) q) words
   leaf_does i proc ready =
       let l = stands.sizes.leaves in
-      let f = procs_fit job y words (finished y words) stands.limits stands.sizes stands.layout stands.lawful b.b2_low b.b2_high in
+      let f = procs_fit job y words (finished y words) stands.limits stands.sizes stands.layout stands.lawful shown.root_low shown.root_high in
       node_does (y.leaves + i) (omega arith, omega arith) (λ h. absurd (omega arith)) (λ j proc_j e live. subst (λ (k : ℕ). Done job.rule (kind_at q) job y x words k) (omega arith) (ready live))

@@ -1,4 +1,4 @@
--- Lemmas E1, E7 to E9 and positions: a word that is no node changes.
+-- A word that is no node changes: a position, word 0, a claim word, a word of a place, a request word.
 use Rattle.std.proofs.Common.{◌≡◌, ◌≢◌, ◌⊎◌, ℕ, zero, suc, ◌+◌, ◌*◌, ◌<◌, ◌≤◌, ◌^◌, List, Option, Some, None, refl, sym, ap, subst, ◌∙◌, inl, inr, lit<, arith}
 use Rattle.std.proofs.lemmas.Bool.{cases_eq, cases_lt, cases_Bool, eq-eqb, leb-true, leb-false, lt-ltb, le-ltb}
 use Rattle.pram_text.specs.Job.{JobData, IsJob}
@@ -30,7 +30,7 @@ use Rattle.lawful_words.specs.Board.{held, root, conflict, leaf, stamp_at, finis
 use Rattle.lawful_words.specs.Moments.{Keeps}
 use Rattle.lawful_words.proofs.Values.{before_less, stamp_step}
 use Rattle.lawful_words.proofs.Frames.{Only, only_grows, does_max, does_swap, keeps_store, same_or_other}
-use Rattle.lawful_words.proofs.Facts.{facts, board, procs_fit, late_of, claim_fits, B}
+use Rattle.lawful_words.proofs.Facts.{facts, board, procs_fit, late_of, claim_fits, WordsShow}
 use Rattle.lawful_words.proofs.Keeping.{done_later, settle}
 use Rattle.lawful_words.proofs.Raising.{behind, alive}
 
@@ -60,7 +60,7 @@ module _ (job : JobData) (y : LayoutData) (words later : List ℕ) (a : Word) (v
   root_same = nodes_same 1 (lit< tt, let l = stands.sizes.leaves in omega arith)
 
   leaf_same : (i : ℕ) → i < y.procs → leaf y later i ≡ leaf y words i
-  leaf_same i proc = nodes_same (y.leaves + i) (let l = stands.sizes.leaves in let f = procs_fit job y words (finished y words) stands.limits stands.sizes stands.layout stands.lawful (facts job y words stands).b2_low (facts job y words stands).b2_high in (omega arith, omega arith))
+  leaf_same i proc = nodes_same (y.leaves + i) (let l = stands.sizes.leaves in let f = procs_fit job y words (finished y words) stands.limits stands.sizes stands.layout stands.lawful (facts job y words stands).root_low (facts job y words stands).root_high in (omega arith, omega arith))
 
   tree_same : IsTree job y later
   tree_same = record {
@@ -88,7 +88,7 @@ module _ (job : JobData) (y : LayoutData) (words later : List ℕ) (a : Word) (v
   named_if same = subst (λ (u : ℕ). IsNamed job u (root y words)) (sym same) stands.lawful.named
 
   pub full_if : conflict y later ≡ conflict y words → root y words ≡ 3 * finished y words + 3 → conflict y later ≡ 0 → ⊥
-  full_if same e none = let u = (facts job y words stands).b2_full e in omega arith
+  full_if same e none = let u = (facts job y words stands).full_root e in omega arith
 
   pub set_lawful : ((i j : ℕ) → i < y.procs → j < 3 → IsAsked job (finished y words) i j (held y later (Asked i j))) →
       ((p : ℕ) → p < places_of y → IsPair job (finished y words) (root y words) p (held y later (Stored p 0)) (held y later (Stored p 1))) →
@@ -97,8 +97,8 @@ module _ (job : JobData) (y : LayoutData) (words later : List ℕ) (a : Word) (v
       IsNamed job (conflict y later) (root y words) → (root y words ≡ 3 * finished y words + 3 → conflict y later ≡ 0 → ⊥) → Lawful job y later
   set_lawful asked stored claimed still named full =
       let r = root_same in
-      let low = (facts job y words stands).b2_low in
-      let high = (facts job y words stands).b2_high in
+      let low = (facts job y words stands).root_low in
+      let high = (facts job y words stands).root_high in
       settle job y later (finished y words) stands.limits stands.sizes stands.layout (record {
         reached = stands.lawful.reached;
         tree = tree_same;
@@ -125,13 +125,13 @@ store_keeps job y w n words stands worker low high = keeps_store job y w n words
     (full_if job y words later (Position w) n stands up only (λ m e. absurd (cc)) (only.rest Conflict tt (λ e. absurd (cc)))))
 
 module _ (job : JobData) (y : LayoutData) (words : List ℕ) (q x : ℕ) (stands : Stands job y words) (some : 1 ≤ q) (most : q ≤ 3 * job.steps) (step : step_at q ≡ suc x) (floor : Floor job y q x words) where
-  b : B job y words
-  b = facts job y words stands
+  shown : WordsShow job y words
+  shown = facts job y words stands
 
   ahead : x ≤ finished y words
   ahead = behind job y words q x stands some most step floor
 
-  -- ---- E8
+  -- ---- word 0
 
   pub conflict_does : kind_at q ≡ Verify → (AgreesAfter job x → ⊥) → 3 * x + 3 ≡ q → Does job y q (Swap (number_of y Conflict) 0 (suc x)) words
   conflict_does kind not phase =
@@ -139,13 +139,13 @@ module _ (job : JobData) (y : LayoutData) (words : List ℕ) (q x : ℕ) (stands
       let l = ahead in
       let same : finished y words ≡ x = omega arith in
       does_swap job y q Conflict 0 (suc x) words stands tt (omega arith)
-      (λ h none. let high = b.b2_high in let u = b.b2_full (omega arith) in omega arith)
+      (λ h none. let high = shown.root_high in let u = shown.full_root (omega arith) in omega arith)
       (λ none. (
         λ other. absurd (other none),
         λ later only.
             let up = only_grows y Conflict (suc x) words later stands.sizes tt (λ other. absurd (other none)) only in
             let r = floor.root in
-            let high = b.b2_high in
+            let high = shown.root_high in
             set_lawful job y words later Conflict (suc x) stands up only (λ m e. absurd (cc))
             (asked_if job y words later Conflict (suc x) stands up only (λ m e. absurd (cc)) (λ i j proc part. only.rest (Asked i j) (proc, part) (λ e. absurd (cc))))
             (stored_if job y words later Conflict (suc x) stands up only (λ m e. absurd (cc)) (λ p k is. only.rest (Stored p k) is (λ e. absurd (cc))))
@@ -158,15 +158,15 @@ module _ (job : JobData) (y : LayoutData) (words : List ℕ) (q x : ℕ) (stands
             (λ e zero_now. let at = only.at in omega arith),
       ))
 
-  -- ---- E9
+  -- ---- a claim word
 
   pub claim_does : (c i v : ℕ) → IsWord y (Claim c) → 3 * x + 2 ≡ q → Asks job x c i v → Does job y q (Max (number_of y (Claim c)) (stamped_word (suc x) (claim_of job i))) words
   claim_does c i v is phase asks =
       let l = ahead in
-      let fits = claim_fits job y words (finished y words) stands.limits stands.sizes stands.layout stands.lawful b.b2_low b.b2_high i in
-      let procs = same_procs job y (board job y words (finished y words) stands.limits stands.sizes stands.layout stands.lawful b.b2_low b.b2_high) in
+      let fits = claim_fits job y words (finished y words) stands.limits stands.sizes stands.layout stands.lawful shown.root_low shown.root_high i in
+      let procs = same_procs job y (board job y words (finished y words) stands.limits stands.sizes stands.layout stands.lawful shown.root_low shown.root_high) in
       let range : IsStamped job.steps y.procs (stamped_word (suc x) (claim_of job i)) = (omega arith, omega arith) in
-      let stale : q ≤ root y words → stamped_word (suc x) (claim_of job i) ≤ held y words (Claim c) = λ h. b.b10 x c i v is (omega arith) asks in
+      let stale : q ≤ root y words → stamped_word (suc x) (claim_of job i) ≤ held y words (Claim c) = λ h. shown.claims_high x c i v is (omega arith) asks in
       does_max job y q (Claim c) (stamped_word (suc x) (claim_of job i)) words stands is range stale
       (λ less. (
         omega arith,
@@ -194,7 +194,7 @@ module _ (job : JobData) (y : LayoutData) (words : List ℕ) (q x : ℕ) (stands
       claims_same c d e = cc
 
       leaf_word : (i : ℕ) → i < y.procs → IsWord y (Node (y.leaves + i))
-      leaf_word i proc = let l = stands.sizes.leaves in let f = procs_fit job y words (finished y words) stands.limits stands.sizes stands.layout stands.lawful b.b2_low b.b2_high in (omega arith, omega arith)
+      leaf_word i proc = let l = stands.sizes.leaves in let f = procs_fit job y words (finished y words) stands.limits stands.sizes stands.layout stands.lawful shown.root_low shown.root_high in (omega arith, omega arith)
 
 -- ---- ranges of what is written
 
@@ -273,7 +273,7 @@ swapped_second job f r p a b word limits (new_first m e) la lb n less = absurd (
 swapped_second job f r p a b word limits (new_second m e some) la lb n less = absurd (let s = m.stamp in omega arith)
 
 module _ (job : JobData) (y : LayoutData) (words : List ℕ) (q x : ℕ) (stands : Stands job y words) (some : 1 ≤ q) (most : q ≤ 3 * job.steps) (step : step_at q ≡ suc x) (floor : Floor job y q x words) where
-  facts_of : B job y words
+  facts_of : WordsShow job y words
   facts_of = facts job y words stands
 
   upward : x ≤ finished y words
@@ -282,7 +282,7 @@ module _ (job : JobData) (y : LayoutData) (words : List ℕ) (q x : ℕ) (stands
   a_board : IsBoard job y
   a_board = record { limits = stands.limits; layout = stands.sizes; is = stands.layout }
 
-  -- ---- E7
+  -- ---- a word of a place
 
   module _ (p i v : ℕ) (phase : q ≡ phase_written job.rule x) (asks : Asks job x p i v) (wins : Wins job x p i) where
     place : p < places_of y
@@ -314,7 +314,7 @@ module _ (job : JobData) (y : LayoutData) (words : List ℕ) (q x : ℕ) (stands
         let e1 = early.1 in
         elim (cases_lt x (finished y words)) [
           | inr c ↦ omega arith
-          | inl c ↦ absurd (elim (late_of job y words (finished y words) stands.limits stands.sizes stands.layout stands.lawful facts_of.b2_low facts_of.b2_high x p place (last_least job (finished y words) p x c (record { writer = i; value = v; asks = asks }))) [ inl h ↦ omega arith | inr h ↦ omega arith ])
+          | inl c ↦ absurd (elim (late_of job y words (finished y words) stands.limits stands.sizes stands.layout stands.lawful facts_of.root_low facts_of.root_high x p place (last_least job (finished y words) p x c (record { writer = i; value = v; asks = asks }))) [ inl h ↦ omega arith | inr h ↦ omega arith ])
         ]
 
     not_early : q ≤ root y words → Early → ⊥
@@ -322,7 +322,7 @@ module _ (job : JobData) (y : LayoutData) (words : List ℕ) (q x : ℕ) (stands
     not_early h early =
         let e0 = early.0 in
         let e1 = early.1 in
-        elim (facts_of.b7 x p place (omega arith) (record { writer = i; value = v; asks = asks })) [ inl l ↦ omega arith | inr l ↦ omega arith ]
+        elim (facts_of.written_late x p place (omega arith) (record { writer = i; value = v; asks = asks })) [ inl l ↦ omega arith | inr l ↦ omega arith ]
 
     new : finished y words ≡ x → IsNew job (finished y words) (root y words) p value
     new same =
@@ -412,12 +412,12 @@ module _ (job : JobData) (y : LayoutData) (words : List ℕ) (q x : ℕ) (stands
 
     pub stored_does : (a b : ℕ) → PlaceAsHeard job y x p a b words → Does job y q (Swap (number_of y (Stored p (older a b))) (older_word a b) (stamped_word (suc x) v)) words
     unfolding value Early
-    stored_does a b c5 = elim (cases_Bool (first_is_older a b)) [
-      | inl e ↦ (let stays = c5.stands in rw e (first_does a (λ h. let s = (rw e at stays) h in ((s.0, s.1), leb-true _ _ s.2))))
-      | inr e ↦ (let stays = c5.stands in rw e (second_does b (λ h. let s = (rw e at stays) h in ((s.0, s.1), leb-false _ _ s.2))))
+    stored_does a b as_heard = elim (cases_Bool (first_is_older a b)) [
+      | inl e ↦ (let stays = as_heard.stands in rw e (first_does a (λ h. let s = (rw e at stays) h in ((s.0, s.1), leb-true _ _ s.2))))
+      | inr e ↦ (let stays = as_heard.stands in rw e (second_does b (λ h. let s = (rw e at stays) h in ((s.0, s.1), leb-false _ _ s.2))))
     ]
 
-  -- ---- E1
+  -- ---- a request word
 
   module _ (i j : ℕ) (proc : i < y.procs) (part : j < 3) (phase : 3 * x + 1 ≡ q) where
     asked_value : ℕ
@@ -477,4 +477,4 @@ module _ (job : JobData) (y : LayoutData) (words : List ℕ) (q x : ℕ) (stands
 
     pub asked_does : Does job y q (Max (number_of y (Asked i j)) (stamped_word (suc x) (part_after job x i j))) words
     unfolding asked_value
-    asked_does = does_max job y q (Asked i j) asked_value words stands (proc, part) asked_range (λ h. asked_low (facts_of.b4 x i j proc part (omega arith))) (λ less. (omega arith, asked_lawful less))
+    asked_does = does_max job y q (Asked i j) asked_value words stands (proc, part) asked_range (λ h. asked_low (facts_of.requests_raised x i j proc part (omega arith))) (λ less. (omega arith, asked_lawful less))

@@ -9,7 +9,7 @@ pub fn start_words_are_lawful()
 
 /// What a worker writes while the words stand leaves words that stand and have grown; where its
 /// phase is over it changes none.
-#[tactic(auto, using(crate::proofs::Effects::all_e))]
+#[tactic(auto, using(crate::proofs::Effects::writes_keep))]
 pub fn writes_keep_words_lawful()
     ensures { WritesKeepWordsLawful }
 {}

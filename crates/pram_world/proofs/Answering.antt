@@ -20,6 +20,9 @@ use Rattle.walkx.specs.Requests.{heard_request}
 use Rattle.walkx.specs.Tasks.{newer_payload}
 use Rattle.lawful_words.specs.Board.{Stands, held, root, conflict, finished}
 use Rattle.lawful_words.proofs.Facts.{facts}
+use Rattle.pram_world.specs.declared.outcome.Standing.{Standing}
+use Rattle.pram_world.specs.declared.outcome.Standing.TheVariants.{Disputed, Finished, Going}
+use Rattle.pram_world.specs.Inner.Telling.{Says}
 
 -- ---- the board's sizes
 
@@ -39,7 +42,7 @@ conflict_most job y words stands = stands.admitted.in_range Conflict tt
 
 pub final_value : (job : JobData) (y : LayoutData) (words : List ℕ) (p : ℕ) → Stands job y words → conflict y words ≡ 0 → root y words ≡ 3 * job.steps → p < places_of y →
     newer_payload (held y words (Stored p 0)) (held y words (Stored p 1)) ≡ slice_index (state_after job job.steps) p
-final_value job y words p stands clear done place = (facts job y words stands).b9_final p place done clear
+final_value job y words p stands clear done place = (facts job y words stands).final_held p place done clear
 
 -- one cell more
 pub final_more : (job : JobData) (y : LayoutData) (words values now : List ℕ) (cell value : ℕ) → Stands job y words → conflict y words ≡ 0 → root y words ≡ 3 * job.steps → cell < job.cells →
@@ -57,9 +60,9 @@ final_more job y words values now cell value stands clear done below so_far is p
 pub finished_clear : (job : JobData) (y : LayoutData) (words : List ℕ) → Stands job y words → conflict y words ≡ 0 → IsReached job (root y words / 3)
 finished_clear job y words stands clear =
     let b = facts job y words stands in
-    let low = b.b2_low in
-    let high = b.b2_high in
-    let full = b.b2_full in
+    let low = b.root_low in
+    let high = b.root_high in
+    let full = b.full_root in
     let less : root y words ≢ 3 * finished y words + 3 = λ e. absurd (let c = full e in let d : suc (finished y words) ≡ 0 = sym c ∙ clear in omega arith) in
     let is : finished y words ≡ root y words / 3 = omega arith in
     subst (IsReached job) is stands.lawful.reached
@@ -95,7 +98,7 @@ heard_asked job y words s i stands named below =
   where
     part : (j : ℕ) → j < 3 → i < y.procs → payload_of (held y words (Asked i j)) ≡ part_after job s i j
     part j few proc =
-        let e : stamp_of (held y words (Asked i j)) ≡ suc s = (facts job y words stands).b9_asked i j proc few (λ z. absurd (let g : suc s ≡ 0 = sym named ∙ z in omega arith)) ∙ named in
+        let e : stamp_of (held y words (Asked i j)) ≡ suc s = (facts job y words stands).conflict_asked i j proc few (λ z. absurd (let g : suc s ≡ 0 = sym named ∙ z in omega arith)) ∙ named in
         ((stands.lawful.asked i j proc few).part s e).1
 
 -- one request more
@@ -138,3 +141,14 @@ pub not_agrees : (job : JobData) (y : LayoutData) (words : List ℕ) (requests :
 not_agrees job y words requests stands some are agrees =
     let b = before (conflict y words) some in
     (stands.lawful.named.first b.0 b.1).1 (subst (Agrees job) (are b.0 b.1) agrees)
+
+-- ---- what word 0 and the root say
+
+pub disputed : (job : JobData) (named r : ℕ) (s : Standing) → s ≡ Disputed → Says job named r s → named ≢ 0
+disputed job named r s is says = subst (Says job named r) is says
+
+pub finished_so : (job : JobData) (named r : ℕ) (s : Standing) → s ≡ Finished → Says job named r s → (named ≡ 0) × (r ≡ 3 * job.steps)
+finished_so job named r s is says = subst (Says job named r) is says
+
+pub still : (job : JobData) (named r : ℕ) (s : Standing) → s ≡ Going → Says job named r s → (named ≡ 0) × (r ≢ 3 * job.steps)
+still job named r s is says = subst (Says job named r) is says

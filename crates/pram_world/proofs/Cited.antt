@@ -22,7 +22,7 @@ use Rattle.walk_laws.specs.Walks.{Moves}
 use Rattle.walk_laws.proofs.Sounding.{sound_of, sound_steps, sound_ends}
 use Rattle.walk_laws.proofs.Staying.{answer_admitted}
 use Rattle.lawful_words.proofs.Knowing.{root_now, conflict_now}
-use Rattle.walk_laws.proofs.Turns.{all_f}
+use Rattle.walk_laws.proofs.Turns.{workers_keep}
 use Rattle.pram_world.specs.Inner.Holding.{Fitting}
 
 pub board_of : (job : JobData) (y : LayoutData) (words : List ℕ) → Stands job y words → IsBoard job y
@@ -30,7 +30,7 @@ board_of job y words stands = record { limits = stands.limits; layout = stands.s
 
 -- the next step of a worker that a record knows
 pub moves : (job : JobData) (y : LayoutData) (r : Record) (w : Walking) (words : List ℕ) → Stands job y words → Backed job y r words → Knows job y r w → Fitting job y w → Moves job y r w words
-moves job y r w words stands backed knows fits = all_f job y r w words stands fits knows backed
+moves job y r w words stands backed knows fits = workers_keep job y r w words stands fits knows backed
 
 -- it stays known
 pub known_on : (job : JobData) (y : LayoutData) (r : Record) (w : Walking) (found : ℕ) → Knows job y r w → Fitting job y w → Knows job y (after r (ask_of job y w) found) (told job y w found)

@@ -2,6 +2,7 @@
 use Rattle.std.proofs.Common.{◌≡◌, ◌≢◌, ◌⊎◌, ℕ, zero, suc, ◌+◌, ◌<◌, ◌≤◌, List, [], ◌∷◌, ◌++◌, map, slice_get, slice_set, Option, Some, None, refl, sym, subst, inl, inr, arith}
 use Rattle.std.specs.List.{range_with_len}
 use Rattle.pram_text.specs.Job.{JobData, IsJob}
+use Rattle.pram_words.specs.declared.layout.Form.{Form}
 use Rattle.pram_words.specs.declared.layout.Form.TheVariants.{Compact}
 use Rattle.pram_words.specs.declared.words.Word.{Word}
 use Rattle.pram_words.specs.declared.words.Word.TheVariants.{Position}
@@ -15,8 +16,7 @@ use Rattle.lawful_words.proofs.Starting.{starts_stand}
 use Rattle.pram_world.specs.declared.event.Event.{Event}
 use Rattle.pram_world.specs.declared.event.Event.TheVariants.{Go, Stop, Back}
 use Rattle.pram_world.specs.Inner.Holding.{Fitting, Holds}
-use Rattle.pram_world.specs.Laws.{EveryRunIsLawful}
-use Rattle.pram_world.specs.Worlds.{Body, walks, stopped, number, WorldData, start, twinned, went, replaced, happens, run, Walks, StaleChangesNothing}
+use Rattle.pram_world.specs.Worlds.{Body, walks, stopped, number, WorldData, start, start_on, twinned, went, replaced, happens, run, Walks, StaleChangesNothing}
 use Rattle.pram_world.proofs.Cited.{moves, known_on, more, fits_on, start_fits, back_fits, in_workers}
 
 -- ---- lists of bodies
@@ -53,17 +53,20 @@ starts_at low (suc n) (suc at) body e = let s = starts_at (low + 1) n at body e 
 
 -- ---- the start
 
-pub holds_start : (job : JobData) (workers : ℕ) → IsJob job → 1 ≤ workers → workers ≤ 64 → Holds (start job workers) empty
-holds_start job workers limits some most = record {
-  stands = starts_stand job Compact workers limits some most;
+pub holds_start_on : (job : JobData) (form : Form) (workers : ℕ) → IsJob job → 1 ≤ workers → workers ≤ 64 → Holds (start_on job form workers) empty
+holds_start_on job form workers limits some most = record {
+  stands = starts_stand job form workers limits some most;
   backed = tt;
   known = λ b w is.
       let s = starts_at 0 workers b (walks w) is in
       let e : w ≡ started s.worker = same_walking w (started s.worker) s.is in
       let below = s.below in
-      (subst (λ (v : Walking). Knows job (layout_of job Compact workers) empty v) (sym e) tt, subst (Fitting job (layout_of job Compact workers)) (sym e) (start_fits job (layout_of job Compact workers) s.worker (omega arith)));
+      (subst (λ (v : Walking). Knows job (layout_of job form workers) empty v) (sym e) tt, subst (Fitting job (layout_of job form workers)) (sym e) (start_fits job (layout_of job form workers) s.worker (omega arith)));
   numbers = λ b body is. let s = starts_at 0 workers b body is in let below = s.below in subst (λ (x : Body). number x < workers) (sym s.is) (omega arith);
 }
+
+pub holds_start : (job : JobData) (workers : ℕ) → IsJob job → 1 ≤ workers → workers ≤ 64 → Holds (start job workers) empty
+holds_start job workers = holds_start_on job Compact workers
 
 -- ---- a step
 
@@ -164,9 +167,6 @@ run_holds s (e ∷ es) h = run_holds (happens s e) es (happens_holds s e h)
 pub run_more : (s : WorldData) (es : List Event) (e : Event) → run s (es ++ e ∷ []) ≡ happens (run s es) e
 run_more s [] e = refl
 run_more s (x ∷ es) e = run_more (happens s x) es e
-
-pub every_run_is_lawful : EveryRunIsLawful
-every_run_is_lawful job workers events limits some most = ((run_holds (start job workers) events (record { made = empty; holds = holds_start job workers limits some most })).holds).stands
 
 -- ---- stale steps
 

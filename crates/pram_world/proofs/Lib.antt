@@ -4,3 +4,7 @@ pub mod Bodies
 pub mod Answering
 pub mod Counting
 pub mod Overs
+pub mod Showing
+pub mod Interleaving
+pub mod Observing
+pub mod Bounds

@@ -40,7 +40,7 @@ same_step s b w v op e is same at =
     ap₂ (λ (o : Op) (u : Walking). record s { words = words_after s.words o; bodies = slice_set s.bodies b (walks u) }) is same
     ∙ ap (λ (bs : List Body). record s { bodies = bs }) (set_same s.bodies b (walks w) at)
 
-idle_went : (s : WorldData) (b : ℕ) (o : Option Body) → slice_get s.bodies b ≡ o → goes o ≡ false → went s b o ≡ s
+pub idle_went : (s : WorldData) (b : ℕ) (o : Option Body) → slice_get s.bodies b ≡ o → goes o ≡ false → went s b o ≡ s
 idle_went s b None is still = refl
 idle_went s b (Some (stopped n)) is still = refl
 idle_went s b (Some (walks w)) is still =

@@ -1,10 +1,42 @@
--- What holds of every world.
-use Rattle.std.specs.Prelude.{ℕ, ◌≤◌, List}
+-- What holds of every run: of each job, of its rule, and of boards of both forms.
+use Rattle.std.specs.Prelude.{◌≡◌, ℕ, ◌<◌, ◌≤◌, List, length}
 use Rattle.pram_text.specs.Job.{JobData, IsJob}
-use Rattle.pram_world.specs.declared.event.Event.{Event}
-use Rattle.pram_world.specs.Worlds.{IsLawful, start, run}
+use Rattle.pram_words.specs.declared.layout.Form.{Form}
+use Rattle.pram_words.specs.Words.{layout_of}
+use Rattle.walkx.specs.declared.operation.Reading.TheVariants.{At}
+use Rattle.walkx.specs.Bound.{most_steps}
+use Rattle.walkx.specs.Reads.{reader_script}
+use Rattle.walkx.specs.Scripts.{ends, rest, heard_in}
+use Rattle.walkx.specs.Walk.{Walking}
+use Rattle.lawful_words.specs.Moments.{Backed, afters}
+use Rattle.walk_laws.specs.Walks.{IsLawfulRead}
+use Rattle.pram_world.specs.Interleavings.{Interleaves}
+use Rattle.pram_world.specs.Runs.{Act, Run, begun, all_acted, TwinsFit, steps_in, AllLeave}
+use Rattle.pram_world.specs.Worlds.{Walks}
 
--- whatever happens, in any order, the words are admitted and lawful
-abbrev pub EveryRunIsLawful : Type 0
-EveryRunIsLawful = (job : JobData) (workers : ℕ) (events : List Event) → IsJob job → 1 ≤ workers → workers ≤ 64 →
-    IsLawful (run (start job workers) events)
+-- the job and the board stay, and the world is as said above, with the record of all atomic steps; the observer's record is borne out too
+pub record IsRun (job : JobData) (form : Form) (workers : ℕ) (r : Run) : Type 0 where
+  pub job_stays : r.world.job ≡ job
+  pub board_stays : r.world.layout ≡ layout_of job form workers
+  pub interleaves : Interleaves r.world r.made
+  pub observed : Backed r.world.job r.world.layout r.loads r.world.words
+
+-- *every interleaving*: each beginning of a run is a run, so this holds at every moment
+abbrev pub EveryInterleaving : Type 0
+EveryInterleaving = (job : JobData) (form : Form) (workers : ℕ) (acts : List Act) → IsJob job → 1 ≤ workers → workers ≤ 64 → TwinsFit workers acts →
+    IsRun job form workers (all_acted (begun job form workers) acts)
+
+-- Behind such acts, an observer that reads a cell, whatever happens between its loads, has a lawful read within five of them.
+abbrev pub EveryReadIsLawful : Type 0
+EveryReadIsLawful = (job : JobData) (form : Form) (workers : ℕ) (acts later : List Act) (c step value : ℕ) (answers : List ℕ) →
+    IsJob job → 1 ≤ workers → workers ≤ 64 → TwinsFit workers acts → TwinsFit workers later → c < job.cells →
+    let y = layout_of job form workers in let before = all_acted (begun job form workers) acts in let behind = all_acted before later in
+    rest (reader_script y c) answers ≡ ends (At step value) → behind.loads ≡ afters before.loads (heard_in (reader_script y c) answers) →
+    IsLawfulRead job y before.loads behind.loads c step value × (length (heard_in (reader_script y c) answers) ≤ 5)
+
+-- Behind such acts, a body makes no more atomic steps than the own-step bound, whatever happens, until it is stopped or brought back.
+abbrev pub EveryBodyIsBounded : Type 0
+EveryBodyIsBounded = (job : JobData) (form : Form) (workers : ℕ) (acts later : List Act) (b : ℕ) (w : Walking) →
+    IsJob job → 1 ≤ workers → workers ≤ 64 → TwinsFit workers acts → TwinsFit workers later →
+    let y = layout_of job form workers in let before = all_acted (begun job form workers) acts in
+    Walks before.world b w → AllLeave b later → steps_in before b later ≤ most_steps job y

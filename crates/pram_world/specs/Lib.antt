@@ -1,4 +1,6 @@
 pub mod Worlds
+pub mod Runs
+pub mod Interleavings
 pub mod Outcomes
 pub mod Ends
 pub mod Laws

@@ -3,6 +3,7 @@ use Rattle.std.specs.Prelude.{◌≡◌, ◌≢◌, ℕ, ◌≤◌, Bool, false,
 use Rattle.std.specs.List.{range_with_len}
 use Rattle.std.specs.Option.{is_none}
 use Rattle.pram_text.specs.Job.{JobData}
+use Rattle.pram_words.specs.declared.layout.Form.{Form}
 use Rattle.pram_words.specs.declared.layout.Form.TheVariants.{Compact}
 use Rattle.pram_words.specs.declared.words.Word.{Word}
 use Rattle.pram_words.specs.declared.words.Word.TheVariants.{Position}
@@ -33,14 +34,18 @@ pub record WorldData : Type 0 where
   pub words : List ℕ
   pub bodies : List Body
 
--- the words of the start, and each worker newly started
-abbrev pub start : JobData → ℕ → WorldData
-start job workers = record {
+-- the words of the start, and each worker newly started, on a board of this form
+abbrev pub start_on : JobData → Form → ℕ → WorldData
+start_on job form workers = record {
   job = job;
-  layout = layout_of job Compact workers;
-  words = start_words (layout_of job Compact workers) job;
+  layout = layout_of job form workers;
+  words = start_words (layout_of job form workers) job;
   bodies = map (λ w. walks (started w)) (range_with_len 0 workers);
 }
+
+-- the world of the code has the compact form
+abbrev pub start : JobData → ℕ → WorldData
+start job workers = start_on job Compact workers
 
 -- with one body more, worker w newly started
 abbrev pub twinned : WorldData → ℕ → WorldData

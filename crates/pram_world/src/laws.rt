@@ -1,8 +1,20 @@
 //! Laws of worlds: each function here does nothing, and its contract is the law.
-ghost use Rattle.pram_world.specs.Laws.{EveryRunIsLawful};
+ghost use Rattle.pram_world.specs.Laws.{EveryBodyIsBounded, EveryInterleaving, EveryReadIsLawful};
 
-/// Whatever happens in a world, in any order, its words are admitted and lawful.
-#[tactic(auto, using(crate::proofs::Keeping::every_run_is_lawful))]
-pub fn every_run_is_lawful()
-    ensures { EveryRunIsLawful }
+/// *Every interleaving*: whatever happens, in any order and with any twins, at every moment the
+/// words are lawful and show the machine, and there is one record of all atomic steps that they
+/// bear out and that knows every body.
+pub fn every_interleaving()
+    ensures { EveryInterleaving }
+{}
+
+/// Whoever reads a cell beside all this, by loads at any moments, has a lawful read.
+pub fn every_read_is_lawful()
+    ensures { EveryReadIsLawful }
+{}
+
+/// A body that nobody stops or brings back makes at most 300 L T + 8 atomic steps, L being the
+/// leaves and T the steps of the job, whatever the others do.
+pub fn every_body_is_bounded()
+    ensures { EveryBodyIsBounded }
 {}

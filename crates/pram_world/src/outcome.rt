@@ -5,7 +5,7 @@ ghost use Rattle.pram_step.specs.declared.answer.RunAnswer.TheVariants.{Conflict
 ghost use Rattle.pram_words.specs.Words.{length_of, places_of};
 ghost use Rattle.pram_words.specs.declared.words.Word.TheVariants.{Asked};
 ghost use Rattle.lawful_words.specs.Board.{Stands, conflict as conflict_in, held, root};
-ghost use Rattle.pram_world.specs.Inner.Telling.{AreNamed, last_cells, newest_of};
+ghost use Rattle.pram_world.specs.Inner.Telling.{AreNamed, Says, last_cells, newest_of};
 ghost use Rattle.pram_world.specs.Outcomes.{IsTold};
 
 use pram_step::{Cells, Fault, Request, RunAnswer, dispute};
@@ -24,14 +24,32 @@ pub(crate) fn answer(
     ensures { IfOk result (IsTold job.now layout.now words.now) }
 {
     let (named, root) = glance(layout, words);
-    if named != 0 {
-        Ok(RunAnswer::Conflict(conflict(alloc, job, layout, words)?))
-    } else if root == 3 * u64::from(job.steps()) {
-        Ok(RunAnswer::Final(cells(alloc, job, layout, words)?))
-    } else {
-        Ok(RunAnswer::Unfinished {
+    match standing_of(job, named, root) {
+        Standing::Disputed => Ok(RunAnswer::Conflict(conflict(alloc, job, layout, words)?)),
+        Standing::Finished => Ok(RunAnswer::Final(cells(alloc, job, layout, words)?)),
+        Standing::Going => Ok(RunAnswer::Unfinished {
             step: (root / 3) as u32,
-        })
+        }),
+    }
+}
+
+/// What word 0 and the root say of a run.
+#[derive(Clone, Copy)]
+pub enum Standing {
+    Disputed,
+    Finished,
+    Going,
+}
+
+fn standing_of(job: &Job, named: u64, root: u64) -> Standing
+    ensures { Says job.now named root result }
+{
+    if named != 0 {
+        Standing::Disputed
+    } else if root == 3 * u64::from(job.steps()) {
+        Standing::Finished
+    } else {
+        Standing::Going
     }
 }
 

@@ -148,6 +148,6 @@ fn events_and_effects(rt: HostRuntime) -> Result<(), Fail> {
         _ => panic!(rt; "finished"),
     }
     world.facts();
-    laws::every_run_is_lawful();
+    laws::every_interleaving();
     Ok(())
 }

@@ -2,10 +2,16 @@
 ghost use Rattle.std.specs.Prelude.{◌≡◌, ℕ, ◌<◌, ◌≤◌, IfOk, IfErr, length, slice_index};
 ghost use Rattle.pram_words.specs.Start.{start_words as first_words};
 ghost use Rattle.pram_words.specs.Words.{length_of};
+ghost use Rattle.pram_text.specs.Job.{JobData};
+ghost use Rattle.pram_words.specs.Words.{LayoutData};
 ghost use Rattle.walkx.specs.Operations.{words_after};
+ghost use Rattle.walkx.specs.Serving.{Serves};
+ghost use Rattle.walkx.specs.Walk.{come_back};
+ghost use Rattle.lawful_words.specs.Board.{Grows};
 ghost use Rattle.pram_world.specs.declared.event.Event.TheVariants.{Go, Stop, Back};
 ghost use Rattle.pram_world.specs.Ends.{Finishes, end_in};
 ghost use Rattle.pram_world.specs.Inner.Holding.{AreStarted, IsHeard, IsOnBoard, body_of};
+ghost use Rattle.pram_world.specs.Interleavings.{IsInterleaved};
 ghost use Rattle.pram_world.specs.Outcomes.{IsOutcome};
 ghost use Rattle.pram_world.specs.Worlds.{IsLawful, IsLawfulThroughout, IsTwinned};
 ghost use Rattle.pram_world.specs.Worlds.{StaleChangesNothing, effect_of, going, happens};
@@ -92,6 +98,7 @@ impl World {
         ensures world { self.new ≡ happens self.old event }
         ensures effect { result ≡ shown self.old event }
         ensures lawful { IsLawful self.new }
+        ensures grows { Grows self.old.layout self.old.words self.new.words }
         ensures stale { StaleChangesNothing self.old event self.new }
     {
         let _ = &self.words;
@@ -137,9 +144,12 @@ impl World {
         }
     }
 
-    /// The words of a world are admitted and lawful, whatever happened to it. It does nothing.
+    /// What holds of a world at every moment, whatever happened to it: its words are lawful and show
+    /// the machine, and there is a record of atomic steps that they bear out and that knows every
+    /// body. It does nothing.
     pub fn facts(&self)
-        ensures { IsLawful self.now }
+        ensures lawful { IsLawful self.now }
+        ensures interleaved { IsInterleaved self.now }
     {
         let _ = &self.words;
     }
@@ -208,8 +218,8 @@ impl World {
         ensures { self.new ≡ happens self.old (Back b) }
     {
         if b < self.bodies.len() {
-            let number = number(&self.bodies[b]);
-            self.bodies[b] = Runner::Walks(Worker::back(number));
+            let worker = returning(&self.bodies[b]);
+            self.bodies[b] = Runner::Walks(worker);
         }
     }
 }
@@ -222,6 +232,15 @@ fn number(body: &Runner) -> u32
         Runner::Walks(worker) => worker.number(),
         Runner::Stopped(number) => *number,
     }
+}
+
+// The worker of a body's number, coming back.
+fn returning(body: &Runner) -> Worker
+    ensures value { result.walking ≡ come_back (number_of (body_of body.now)) }
+    ensures serves { (job : JobData) (y : LayoutData) →
+        number_of (body_of body.now) < y.workers → Serves job y result }
+{
+    Worker::back(number(body))
 }
 
 // Makes an operation on the words.

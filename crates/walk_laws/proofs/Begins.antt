@@ -18,7 +18,7 @@ use Rattle.walk_laws.specs.Walks.{Goes}
 use Rattle.walk_laws.proofs.Scripts.{Safe, load_safe, goes_of}
 use Rattle.lawful_words.proofs.Frames.{only_set}
 use Rattle.lawful_words.proofs.Setting.{store_keeps}
-use Rattle.lawful_words.proofs.Effects.{all_e}
+use Rattle.lawful_words.proofs.Effects.{writes_keep}
 
 pub back_safe : (job : JobData) (y : LayoutData) (v w q : ℕ) (history : List (Op × ℕ)) → Safe job y w q (back_script y v) history
 back_safe job y v w q history = load_safe {R = Then} job y w q (number_of y (Position v)) (λ n. ends (begins n)) history (λ found ok. tt)
@@ -64,10 +64,10 @@ module _ (job : JobData) (y : LayoutData) (w q x : ℕ) (some : 1 ≤ q) (most :
         let v : held y m.words (Node (2 * n)) ≤ held y words (Node (2 * n)) = m.since (Node (2 * n)) (omega arith, omega arith) in
         let z : held y m.words (Node (2 * n + 1)) ≤ held y words (Node (2 * n + 1)) = m.since (Node (2 * n + 1)) (omega arith, omega arith) in
         let p = lasts m.words words m.stands stands m.since (lasts first.words m.words first.stands m.stands first.since first.earlier) in
-        goes_of job y w q (Max (number_of y (Node n)) q) words ((all_e job y words q x stands some most step (floor words p)).inner n low high (omega arith) (omega arith))) sees,
+        goes_of job y w q (Max (number_of y (Node n)) q) words ((writes_keep job y words q x stands some most step (floor words p)).inner n low high (omega arith) (omega arith))) sees,
     λ found ok. tt,
   )
 
   pub padded_safe : (n : ℕ) (history : List (Op × ℕ)) → y.leaves + y.procs ≤ n → n < 2 * y.leaves → Sees job y history P → Safe job y w q (marks y n q) history
   padded_safe n history low high sees =
-      (so job y history P (Goes job y w q (Max (number_of y (Node n)) q)) (λ words stands p. goes_of job y w q (Max (number_of y (Node n)) q) words ((all_e job y words q x stands some most step (floor words p)).padded n low high)) sees, λ found ok. tt)
+      (so job y history P (Goes job y w q (Max (number_of y (Node n)) q)) (λ words stands p. goes_of job y w q (Max (number_of y (Node n)) q) words ((writes_keep job y words q x stands some most step (floor words p)).padded n low high)) sees, λ found ok. tt)

@@ -22,9 +22,9 @@ use Rattle.walk_laws.proofs.Sees.{Sees, Lasts, so, heard}
 use Rattle.walk_laws.specs.Walks.{Goes}
 use Rattle.walk_laws.proofs.Scripts.{Safe, load_safe, both_safe, goes_of}
 use Rattle.lawful_words.proofs.Facts.{facts}
-use Rattle.lawful_words.proofs.Growths.{root_up, all_c5}
+use Rattle.lawful_words.proofs.Growths.{root_up, place_as_heard}
 use Rattle.lawful_words.proofs.Values.{phase_low}
-use Rattle.lawful_words.proofs.Effects.{all_e}
+use Rattle.lawful_words.proofs.Effects.{writes_keep}
 
 module _ (job : JobData) (y : LayoutData) (w q x : ℕ) (some : 1 ≤ q) (most : q ≤ 3 * job.steps) (step : step_at q ≡ suc x) (P : List ℕ → Type 0) (lasts : Lasts job y P) (floor : (words : List ℕ) → P words → Floor job y q x words) where
   -- ---- a request word, in the second or third pass
@@ -49,14 +49,14 @@ module _ (job : JobData) (y : LayoutData) (w q x : ℕ) (some : 1 ≤ q) (most :
       let fl = (floor m.words m.earlier).root in
       let up = root_up job y m.words words m.stands m.since in
       let s : stamp_of found ≡ stamp_of (held y m.words (Asked i j)) = ap stamp_of m.heard in
-      let more : x < stamp_of (held y m.words (Asked i j)) = b.b4 x i j proc part (omega arith) in
+      let more : x < stamp_of (held y m.words (Asked i j)) = b.requests_raised x i j proc part (omega arith) in
       stale_by (stamp_of (held y m.words (Asked i j))) refl (omega arith)
     where
       stale_by : (s : ℕ) → stamp_of (held y m.words (Asked i j)) ≡ s → suc (suc x) ≤ s → q ≤ root y words
       stale_by zero e h = absurd (omega arith)
       stale_by (suc t) e h =
           let b = facts job y m.words m.stands in
-          let l = (b.b5_asked t i j proc part e).1 in
+          let l = (b.asked_from t i j proc part e).1 in
           let up = root_up job y m.words words m.stands m.since in
           omega arith
 
@@ -86,7 +86,7 @@ module _ (job : JobData) (y : LayoutData) (w q x : ℕ) (some : 1 ≤ q) (most :
       stamp_at y words p k ≡ s → x < s → q ≤ 3 * x + 1 → q ≤ root y now
   stale_stamp p k zero words now is stands after up e h phase = absurd (omega arith)
   stale_stamp p k (suc t) words now is stands after up e h phase =
-      let l = ((facts job y words stands).b5_stored t p k is e).2 in
+      let l = ((facts job y words stands).stored_from t p k is e).2 in
       let r = root_up job y words now stands up in
       let low = phase_low job.rule t in
       omega arith
@@ -115,7 +115,7 @@ module _ (job : JobData) (y : LayoutData) (w q x : ℕ) (some : 1 ≤ q) (most :
           let first = m.earlier in
           let fl = floor first.words first.earlier in
           let low = fl.root in
-          (all_c5 job y x p a b first.words m.words words first.stands m.stands stands first.since m.since place fl.reached (omega arith) first.heard m.heard early).value
+          (place_as_heard job y x p a b first.words m.words words first.stands m.stands stands first.since m.since place fl.reached (omega arith) first.heard m.heard early).value
 
   -- ---- a leaf is marked, and a conflict is reported
 
@@ -124,7 +124,7 @@ module _ (job : JobData) (y : LayoutData) (w q x : ℕ) (some : 1 ≤ q) (most :
       Safe job y w q (marks y (y.leaves + i) q) history
   marks_safe i proc history sees = (
     so job y history (λ words. P words × (root y words + 1 ≡ q → Done job.rule (kind_at q) job y x words i)) (Goes job y w q (Max (number_of y (Node (y.leaves + i))) q))
-        (λ words stands h. goes_of job y w q (Max (number_of y (Node (y.leaves + i))) q) words ((all_e job y words q x stands some most step (floor words h.0)).leaf i proc h.1)) sees,
+        (λ words stands h. goes_of job y w q (Max (number_of y (Node (y.leaves + i))) q) words ((writes_keep job y words q x stands some most step (floor words h.0)).leaf i proc h.1)) sees,
     λ found ok. tt,
   )
 
@@ -132,6 +132,6 @@ module _ (job : JobData) (y : LayoutData) (w q x : ℕ) (some : 1 ≤ q) (most :
       ((found : ℕ) → Safe job y w q after ((Swap (number_of y Conflict) 0 (suc x), found) ∷ history)) → Safe job y w q (reports y (suc x) after) history
   reports_safe kind after history sees next = (
     so job y history (λ words. P words × (AgreesAfter job x → ⊥)) (Goes job y w q (Swap (number_of y Conflict) 0 (suc x)))
-        (λ words stands h. goes_of job y w q (Swap (number_of y Conflict) 0 (suc x)) words ((all_e job y words q x stands some most step (floor words h.0)).conflict kind h.1)) sees,
+        (λ words stands h. goes_of job y w q (Swap (number_of y Conflict) 0 (suc x)) words ((writes_keep job y words q x stands some most step (floor words h.0)).conflict kind h.1)) sees,
     λ found ok. next found,
   )

@@ -25,7 +25,7 @@ use Rattle.pram_step.specs.History.{part_after}
 use Rattle.lawful_words.specs.Writes.{Floor}
 use Rattle.lawful_words.specs.Board.{held, root, Raised, Grows}
 use Rattle.lawful_words.proofs.Raising.{kind_of}
-use Rattle.lawful_words.proofs.Effects.{all_e}
+use Rattle.lawful_words.proofs.Effects.{writes_keep}
 use Rattle.walk_laws.proofs.Sees.{Sees, Lasts, so}
 use Rattle.walk_laws.proofs.Scripts.{Safe}
 use Rattle.walk_laws.proofs.Known.{floor_lasts, both_last, StaleSafe, EndSafe, stale_end, raises_safe}
@@ -103,9 +103,9 @@ module _ (job : JobData) (y : LayoutData) (w q x i : ℕ) (some : 1 ≤ q) (most
   unfolding Low First Second
   raises history sees =
       let kind = kind_of x q Compute phase in
-      raises_safe job y w q (Asked i 0) (stamped_word (suc x) (part_after job x i 0)) (Floor job y q x) (floor_lasts job y q x) (proc, lit< tt) (asked_up 0 (lit< tt)) (λ words stands f. (all_e job y words q x stands some most step f).request i 0 proc (lit< tt) kind) (asks (Max (number_of y (Asked i 1)) (stamped_word (suc x) (part_after job x i 1))) (λ found. asks (Max (number_of y (Asked i 2)) (stamped_word (suc x) (part_after job x i 2))) (λ found. after))) history sees (λ longer more.
-      raises_safe job y w q (Asked i 1) (stamped_word (suc x) (part_after job x i 1)) First first_lasts (proc, lit< tt) (asked_up 1 (lit< tt)) (λ words stands f. (all_e job y words q x stands some most step f.0).request i 1 proc (lit< tt) kind) (asks (Max (number_of y (Asked i 2)) (stamped_word (suc x) (part_after job x i 2))) (λ found. after)) longer more (λ longer more.
-      raises_safe job y w q (Asked i 2) (stamped_word (suc x) (part_after job x i 2)) Second second_lasts (proc, lit< tt) (asked_up 2 (lit< tt)) (λ words stands f. (all_e job y words q x stands some most step f.0.0).request i 2 proc (lit< tt) kind) after longer more (λ longer more.
+      raises_safe job y w q (Asked i 0) (stamped_word (suc x) (part_after job x i 0)) (Floor job y q x) (floor_lasts job y q x) (proc, lit< tt) (asked_up 0 (lit< tt)) (λ words stands f. (writes_keep job y words q x stands some most step f).request i 0 proc (lit< tt) kind) (asks (Max (number_of y (Asked i 1)) (stamped_word (suc x) (part_after job x i 1))) (λ found. asks (Max (number_of y (Asked i 2)) (stamped_word (suc x) (part_after job x i 2))) (λ found. after))) history sees (λ longer more.
+      raises_safe job y w q (Asked i 1) (stamped_word (suc x) (part_after job x i 1)) First first_lasts (proc, lit< tt) (asked_up 1 (lit< tt)) (λ words stands f. (writes_keep job y words q x stands some most step f.0).request i 1 proc (lit< tt) kind) (asks (Max (number_of y (Asked i 2)) (stamped_word (suc x) (part_after job x i 2))) (λ found. after)) longer more (λ longer more.
+      raises_safe job y w q (Asked i 2) (stamped_word (suc x) (part_after job x i 2)) Second second_lasts (proc, lit< tt) (asked_up 2 (lit< tt)) (λ words stands f. (writes_keep job y words q x stands some most step f.0.0).request i 2 proc (lit< tt) kind) after longer more (λ longer more.
       done longer (so job y longer (λ words. Second words × (stamped_word (suc x) (part_after job x i 2) ≤ held y words (Asked i 2))) (λ words. Floor job y q x words × (root y words + 1 ≡ q → Raised job y x words i))
       (λ words stands h. (h.0.0.0, λ live. raised_by (part_after job x i 0) (part_after job x i 1) (part_after job x i 2) words h.0.0.1 h.0.1 h.1)) more))))
 

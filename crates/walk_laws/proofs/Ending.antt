@@ -8,18 +8,16 @@ use Rattle.pram_step.proofs.LawDisputes.{reached_or_conflict}
 use Rattle.pram_words.specs.declared.words.Word.TheVariants.{Conflict, Node}
 use Rattle.pram_words.specs.Words.{LayoutData, number_of}
 use Rattle.walkx.specs.declared.operation.Ended.{Ended}
-use Rattle.walkx.specs.declared.operation.Ended.TheVariants as ended
-use Rattle.walkx.specs.declared.operation.Op.{Op}
 use Rattle.walkx.specs.declared.operation.Op.TheVariants.{Load}
 use Rattle.walkx.specs.Doing.{Doing}
 use Rattle.walkx.specs.Doing as doing
 use Rattle.walkx.specs.Reads.{step_seen}
-use Rattle.walkx.specs.Records.{Record, Has, Knows}
+use Rattle.walkx.specs.Records.{Record, Has}
 use Rattle.walkx.specs.Scripts.{Script, ends}
 use Rattle.walkx.specs.Walk.{Then, stops, Walking, Fits, Matches, node_of, rest_of, heard_of}
 use Rattle.walkx.proofs.Ends.{AllEnds, Brings, BeginEnds, heard_both, worker_ends}
-use Rattle.walkx.proofs.Knowing.{has_earlier, has_newest}
-use Rattle.walk_laws.specs.Walks.{DoneWell, IsConflict, ProgressWell}
+use Rattle.walkx.proofs.Knowing.{has_earlier}
+use Rattle.walk_laws.specs.Walks.{IsConflict, ProgressWell}
 use Rattle.lawful_words.specs.Board.{Stands}
 use Rattle.lawful_words.specs.Moments.{Backed}
 use Rattle.lawful_words.specs.Seen.{Heard, Shows}
@@ -37,24 +35,13 @@ over_heard job y w e well is =
     subst (λ (d : Doing). Brings job y w.number (node_of y w) d (stops e) (heard_of job y w)) is
     (subst (λ (s : Script Then). AllEnds (Brings job y w.number (node_of y w) w.now) s (heard_of job y w)) (over_rest w.now e (rest_of job y w) is well.matches) (worker_ends job y w))
 
--- ---- Done
+-- ---- the end
 
 pub both_shows : (y : LayoutData) (r : Record) (t : ℕ) → Has r (heard_both y (3 * t) 0) → Shows y r t
 both_shows y r zero has = inr (inr (refl, record { op = Load (number_of y (Node 1)); hears = refl; has = has_earlier r (Load (number_of y Conflict), 0) ((Load (number_of y (Node 1)), 0) ∷ []) has }))
 both_shows y r (suc k) has = inr (inl (0, (λ e. absurd (omega arith)), record { op = Load (number_of y (Node 1)); next = Load (number_of y Conflict); hears = refl; hears_next = refl; has = has }))
 
-pub done_well : (job : JobData) (y : LayoutData) (r : Record) (w : Walking) (words : List ℕ) → Stands job y words → Backed job y r words → Fits job y w →
-    Knows job y r w → w.now ≡ doing.Over ended.Done → DoneWell job y r
-done_well job y r w words stands backed well knows is =
-    let has : Has r (heard_both y (3 * job.steps) 0) = subst (λ (es : List (Op × ℕ)). Has r es) (over_heard job y w ended.Done well is) knows in
-    let shows = both_shows y r job.steps has in
-    record {
-      shows = shows;
-      heard = record { op = Load (number_of y (Node 1)); next = Load (number_of y Conflict); hears = refl; hears_next = refl; has = has };
-      reached = (known_now job y r job.steps words stands backed (inl shows)).0;
-    }
-
--- ---- Conflict
+-- ---- the conflict
 
 is_first : (job : JobData) (s : ℕ) → IsReached job s → (AgreesAfter job s → ⊥) → suc s ≤ job.steps → IsConflict job (suc s)
 is_first job s reached not within = elim (reached_or_conflict job (suc s)) [
@@ -77,16 +64,8 @@ heard_conflict job y r (suc s) words stands backed heard some =
     let leaves = stands.sizes.leaves in
     let most = stands.lawful.tree.most 1 (lit< tt, omega arith) in
     let near = stands.lawful.named.near s (conflict_now job y r (suc s) words backed heard some) in
-    let low = (facts job y words stands).b2_low in
+    let low = (facts job y words stands).root_low in
     is_first job s c.0 c.1 (elim near [ inl e ↦ omega arith | inr e ↦ omega arith ])
-
-pub conflict_well : (job : JobData) (y : LayoutData) (r : Record) (w : Walking) (u : ℕ) (words : List ℕ) → Stands job y words → Backed job y r words →
-    Fits job y w → Knows job y r w → w.now ≡ doing.Over (ended.Conflict u) → Heard y r Conflict u × IsConflict job u
-conflict_well job y r w u words stands backed well knows is =
-    let h = over_heard job y w (ended.Conflict u) well is in
-    let has : Has r (heard_both y h.1.0 u) = subst (λ (es : List (Op × ℕ)). Has r es) h.1.1 knows in
-    let heard : Heard y r Conflict u = record { op = Load (number_of y Conflict); hears = refl; has = has_newest r (Load (number_of y Conflict), u) ((Load (number_of y (Node 1)), h.1.0) ∷ []) has } in
-    (heard, heard_conflict job y r u words stands backed heard h.0)
 
 -- ---- progress
 

@@ -13,7 +13,7 @@ use Rattle.lawful_words.specs.Board.{held, stamp_at, Stands}
 use Rattle.lawful_words.specs.Moments.{Backed}
 use Rattle.lawful_words.specs.Seen.{Heard, KnowsStep}
 use Rattle.lawful_words.proofs.Facts.{facts}
-use Rattle.lawful_words.proofs.Growths.{all_c5}
+use Rattle.lawful_words.proofs.Growths.{place_as_heard}
 use Rattle.lawful_words.proofs.Places.{is_early}
 use Rattle.lawful_words.proofs.Knowing.{known_now, conflict_now}
 
@@ -29,13 +29,13 @@ pub final_place : (job : JobData) (y : LayoutData) (r : Record) (p a b : ℕ) (w
 final_place job y r p a b words stands knows place m =
     let first = m.earlier in
     let k = known_now job y r job.steps first.words first.stands first.earlier knows in
-    let low = (facts job y first.words first.stands).b2_low in
+    let low = (facts job y first.words first.stands).root_low in
     let most_a = stamps_most job y first.words p 0 first.stands (place, lit< tt) in
     let most_b = stamps_most job y m.words p 1 m.stands (place, lit< tt) in
     let ea : stamp_of a ≡ stamp_at y first.words p 0 = ap stamp_of first.heard in
     let eb : stamp_of b ≡ stamp_at y m.words p 1 = ap stamp_of m.heard in
     let early : is_late (suc job.steps) a b ≡ false = is_early job.steps a b (omega arith) (omega arith) in
-    (all_c5 job y job.steps p a b first.words m.words words first.stands m.stands stands first.since m.since place k.0 (let f = k.1 in omega arith) first.heard m.heard early).value
+    (place_as_heard job y job.steps p a b first.words m.words words first.stands m.stands stands first.since m.since place k.0 (let f = k.1 in omega arith) first.heard m.heard early).value
 
 -- ---- fault
 
@@ -44,5 +44,5 @@ pub final_part : (job : JobData) (y : LayoutData) (r : Record) (s i j found : �
     Backed job y (after r (Load (number_of y (Asked i j))) found) words → (stamp_of found ≡ suc s) × (payload_of found ≡ part_after job s i j)
 final_part job y r s i j found words stands heard proc part m =
     let c = conflict_now job y r (suc s) m.words m.earlier heard (λ e. absurd (omega arith)) in
-    let e : stamp_of (held y m.words (Asked i j)) ≡ suc s = (facts job y m.words m.stands).b9_asked i j proc part (λ none. absurd (let g : suc s ≡ 0 = sym c ∙ none in omega arith)) ∙ c in
+    let e : stamp_of (held y m.words (Asked i j)) ≡ suc s = (facts job y m.words m.stands).conflict_asked i j proc part (λ none. absurd (let g : suc s ≡ 0 = sym c ∙ none in omega arith)) ∙ c in
     (ap stamp_of m.heard ∙ e, ap payload_of m.heard ∙ ((m.stands.lawful.asked i j proc part).part s e).1)

@@ -31,7 +31,7 @@ module _ (job : JobData) (y : LayoutData) (q x : ℕ) (some : 1 ≤ q) (step : s
   inside words stands other low =
       let facts = facts job y words stands in
       let h : 3 * x + 1 ≤ root y words = (elim (cases_lt (3 * x) (q - 1)) [ inl c ↦ omega arith | inr c ↦ absurd (other (omega arith)) ]) in
-      record { root = omega arith; reached = reached_down job x (finished y words) (facts.b3 x h) stands.lawful.reached }
+      record { root = omega arith; reached = reached_down job x (finished y words) (facts.root_finished x h) stands.lawful.reached }
 
   -- behind a third pass: word 0 was heard as 0 after it
   behind : (words : List ℕ) → Stands job y words → Moment job y (Load (number_of y Conflict)) 0 (λ then_words. q - 1 ≤ root y then_words) words → Floor job y q x words
@@ -42,7 +42,7 @@ module _ (job : JobData) (y : LayoutData) (q x : ℕ) (some : 1 ≤ q) (step : s
       let up = root_rises m.words words m.stands m.since in
       let f = finished y m.words in
       let reached : x ≤ finished y m.words = elim (cases_lt (finished y m.words) x) [
-        | inl c ↦ (let high = facts.b2_high in let full = facts.b2_full (omega arith) in absurd (omega arith))
+        | inl c ↦ (let high = facts.root_high in let full = facts.full_root (omega arith) in absurd (omega arith))
         | inr c ↦ c
       ] in
       record { root = omega arith; reached = reached_down job x (finished y m.words) reached m.stands.lawful.reached }

@@ -25,7 +25,7 @@ use Rattle.lawful_words.proofs.Moments.{onward}
 use Rattle.lawful_words.proofs.Frames.{swap_same, swap_other}
 use Rattle.lawful_words.proofs.Facts.{facts}
 use Rattle.lawful_words.proofs.Raising.{alive, kind_of}
-use Rattle.lawful_words.proofs.Effects.{all_e}
+use Rattle.lawful_words.proofs.Effects.{writes_keep}
 use Rattle.walk_laws.proofs.Sees.{Sees, Lasts, so, heard}
 use Rattle.walk_laws.proofs.Scripts.{Safe}
 use Rattle.walk_laws.proofs.Blocks.{hears_safe, reads_safe, reports_safe}
@@ -76,7 +76,7 @@ module _ (job : JobData) (y : LayoutData) (w q x i : ℕ) (some : 1 ≤ q) (most
   named_later : (words : List ℕ) → Stands job y words → Floor job y q x words → conflict y words ≢ 0 → root y words + 1 ≡ q → conflict y words ≡ suc x
   named_later words stands floor named live =
       let gone = alive job y words q x stands some most step floor live in
-      elim (facts job y words stands).b2_conflict [ inl e ↦ absurd (named e) | inr e ↦ e ∙ ap suc gone ]
+      elim (facts job y words stands).conflict_next [ inl e ↦ absurd (named e) | inr e ↦ e ∙ ap suc gone ]
 
   pub reports_end : 3 * x + 3 ≡ q → (AgreesAfter job x → ⊥) → (after : Script Then) (history : List (Op × ℕ)) → Sees job y history (Floor job y q x) →
       ((longer : List (Op × ℕ)) → Sees job y longer (λ words. Floor job y q x words × (root y words + 1 ≡ q → conflict y words ≡ suc x)) → Safe {R = Then} job y w q after longer) →
@@ -106,6 +106,6 @@ module _ (job : JobData) (y : LayoutData) (w q x i : ℕ) (some : 1 ≤ q) (most
       (λ e.
       let cell : p < y.cells = (let l = ltb-true p job.cells e in let c = same_cells job y board in omega arith) in
       raises_safe job y w q (Claim p) (stamped_word (suc x) (claim_of job i)) (Floor job y q x) (floor_lasts job y q x) (has, cell) (λ words later up. up (Claim p) (has, cell))
-      (λ words stands f. (all_e job y words q x stands some most step f).claim p i v (has, cell) (kind_of x q Apply phase) asked) after history sees (λ longer more.
+      (λ words stands f. (writes_keep job y words q x stands some most step f).claim p i v (has, cell) (kind_of x q Apply phase) asked) after history sees (λ longer more.
       on longer (so job y longer (λ words. Floor job y q x words × (stamped_word (suc x) (claim_of job i) ≤ held y words (Claim p))) (λ words. Floor job y q x words × (p < job.cells → stamped_word (suc x) (claim_of job i) ≤ held y words (Claim p))) (λ words stands h. (h.0, λ c. h.1)) more)))
       (λ e. on history (so job y history (Floor job y q x) (λ words. Floor job y q x words × (p < job.cells → stamped_word (suc x) (claim_of job i) ≤ held y words (Claim p))) (λ words stands f. (f, λ c. absurd (let l = ltb-false p job.cells e in omega arith))) sees))

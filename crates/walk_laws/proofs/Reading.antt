@@ -25,7 +25,7 @@ use Rattle.lawful_words.proofs.Values.{fin}
 use Rattle.lawful_words.proofs.Places.{word_value, first_value, second_value, is_early, apart_on, apart_back}
 use Rattle.lawful_words.proofs.Moments.{same, onward, stamps_rise, backed_later}
 use Rattle.lawful_words.proofs.Facts.{facts}
-use Rattle.lawful_words.proofs.Growths.{all_c, changed, all_c5}
+use Rattle.lawful_words.proofs.Growths.{growth_shows, changed, place_as_heard}
 use Rattle.lawful_words.proofs.Knowing.{root_now, conflict_fin, shown_now, known_now, heard_too, shows_too, fin_then}
 
 -- ---- the loads of the root and of word 0
@@ -95,8 +95,8 @@ glanced_root job y before r words part m =
     let fs = fin r 0 in
     let low = fs.low in
     let high = fs.high in
-    let low_then = (facts job y m.words m.stands).b2_low in
-    let high_then = (facts job y m.words m.stands).b2_high in
+    let low_then = (facts job y m.words m.stands).root_low in
+    let high_then = (facts job y m.words m.stands).root_high in
     let e : finished y m.words ≡ step_seen r 0 = elim (cases_lt (finished y m.words) (step_seen r 0)) [
       | inl c ↦ absurd (part (omega arith))
       | inr c ↦ elim (cases_lt (step_seen r 0) (finished y m.words)) [ inl d ↦ absurd (part (omega arith)) | inr d ↦ omega arith ]
@@ -130,7 +130,7 @@ module _ (job : JobData) (y : LayoutData) (before : Record) (r u : ℕ) (words :
   is_conflict = m.heard
 
   fin_on : finished y first.words ≤ finished y m.words
-  fin_on = (all_c job y first.words m.words first.stands m.stands first.since).c1
+  fin_on = (growth_shows job y first.words m.words first.stands m.stands first.since).finished_rises
 
   root_record : Backed job y (load_root y before r) first.words
   root_record = at_load job y (number_of y (Node 1)) r (Backed job y before) m.words first
@@ -139,7 +139,7 @@ module _ (job : JobData) (y : LayoutData) (before : Record) (r u : ℕ) (words :
   fin_low =
       let fs = fin r u in
       let high = fs.high in
-      let low_then = (facts job y first.words first.stands).b2_low in
+      let low_then = (facts job y first.words first.stands).root_low in
       let e = is_root in
       let on = fin_on in
       let c = is_conflict in
@@ -147,7 +147,7 @@ module _ (job : JobData) (y : LayoutData) (before : Record) (r u : ℕ) (words :
         | inr k ↦ k
         | inl k ↦ absurd (
             let full : u ≡ suc (step_seen r u) = fs.full (omega arith) in
-            elim (facts job y m.words m.stands).b2_conflict [ inl none ↦ (omega arith) | inr is ↦ (omega arith) ]
+            elim (facts job y m.words m.stands).conflict_next [ inl none ↦ (omega arith) | inr is ↦ (omega arith) ]
             )
       ]
 
@@ -324,11 +324,11 @@ module _ (job : JobData) (y : LayoutData) (before r : Record) (c s : ℕ) (cell 
   both_old a b low_a low_b words stands m =
       let first = m.earlier in
       let f = fin_of first.words first.stands first.earlier in
-      let low = (facts job y first.words first.stands).b2_low in
+      let low = (facts job y first.words first.stands).root_low in
       let leaves = stands.sizes.leaves in
       let early : is_late (suc s) a b ≡ false = is_early s a b (omega arith) (omega arith) in
       seen_read job y before r (Two a b) c s (newer_payload a b) (glance first.words first.stands first.earlier) (extends_two a b stands.sizes) f.0
-      (all_c5 job y s c a b first.words m.words words first.stands m.stands stands first.since m.since place f.0 (let g = f.1 in omega arith) first.heard m.heard early).value
+      (place_as_heard job y s c a b first.words m.words words first.stands m.stands stands first.since m.since place f.0 (let g = f.1 in omega arith) first.heard m.heard early).value
 
   second_old : (a b : ℕ) → s < stamp_of a → stamp_of b ≤ s → Reads job y before c (ends (At s (payload_of b))) (Two a b)
   second_old a b high_a low_b words stands m =

@@ -21,7 +21,7 @@ use Rattle.walk_laws.proofs.Sees.{Sees, always, heard}
 pub load_goes : (job : JobData) (y : LayoutData) (w q k : ℕ) (words : List ℕ) → Stands job y words → Goes job y w q (Load k) words
 load_goes job y w q k words stands = record { keeps = load_keeps job y k words stands; stale = λ h a is other. refl }
 
--- what lemmas E say of an operation
+-- what the lemmas on writes say of an operation
 pub goes_of : (job : JobData) (y : LayoutData) (w q : ℕ) (op : Op) (words : List ℕ) → Does job y q op words → Goes job y w q op words
 goes_of job y w q op words does = record { keeps = does.keeps; stale = λ h a is other. ap (λ (l : List ℕ). held y l a) (does.still h) }
 

@@ -14,7 +14,7 @@ use Rattle.lawful_words.specs.Board.{Stands}
 use Rattle.lawful_words.proofs.Knowing.{known_now, knows_too}
 use Rattle.lawful_words.proofs.Moments.{backed_later, backs, load_keeps}
 use Rattle.walk_laws.specs.Laws.{LateWorkersChangeNothing, KnownWorkersStayKnown, RecordsOutliveGrowth, LoadsKeepRecords, KnownStepsLast}
-use Rattle.walk_laws.proofs.Turns.{all_f}
+use Rattle.walk_laws.proofs.Turns.{workers_keep}
 
 -- ---- words are admitted at their numbers
 
@@ -43,7 +43,7 @@ known_stays job y r w words stands fits knows =
     )
 
 pub late_changes_nothing : LateWorkersChangeNothing
-late_changes_nothing job y r w words stands fits knows backed = ((all_f job y r w words stands fits knows backed).goes).stale
+late_changes_nothing job y r w words stands fits knows backed = ((workers_keep job y r w words stands fits knows backed).goes).stale
 
 -- ---- a record
 

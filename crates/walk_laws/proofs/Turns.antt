@@ -134,5 +134,5 @@ worker_safe job y w fits = safe_board {R = Then} job y w.number (phase_now w.now
     doing_safe job y w.now w.number (node_of y w) fits.number is.0 is.1 fits.phase)
 
 -- the worker's lemma
-pub all_f : WorkersKeepWordsLawful
-all_f = moves worker_safe
+pub workers_keep : WorkersKeepWordsLawful
+workers_keep = moves worker_safe

@@ -25,7 +25,7 @@ use Rattle.lawful_words.specs.Moments.{Moment}
 use Rattle.lawful_words.proofs.Moments.{onward, stamps_rise}
 use Rattle.lawful_words.proofs.Values.{stamp_step, payload_step, WordIs, is_settled, is_before, is_new}
 use Rattle.lawful_words.proofs.Facts.{facts, word_is}
-use Rattle.lawful_words.proofs.Growths.{all_c}
+use Rattle.lawful_words.proofs.Growths.{growth_shows}
 use Rattle.lawful_words.proofs.Raising.{stamps_most}
 use Rattle.walk_laws.proofs.Sees.{Sees, so, heard, later}
 use Rattle.walk_laws.proofs.Scripts.{Safe, load_safe, both_safe}
@@ -75,13 +75,13 @@ module _ (job : JobData) (x p i v : ℕ) (y : LayoutData) (board : IsBoard job y
   pub agreed_word : (words : List ℕ) (k : ℕ) → Stands job y words → IsWord y (Stored p k) → stamp_at y words p k ≡ suc x → payload_of (held y words (Stored p k)) ≡ v
   agreed_word words k stands is s =
       let b = facts job y words stands in
-      agreed (finished y words) (root y words) (held y words (Stored p k)) (word_is job y words (finished y words) stands.limits stands.sizes stands.layout stands.lawful b.b2_low b.b2_high p k is) s
+      agreed (finished y words) (root y words) (held y words (Stored p k)) (word_is job y words (finished y words) stands.limits stands.sizes stands.layout stands.lawful b.root_low b.root_high p k is) s
 
 module _ (job : JobData) (y : LayoutData) (w q x i : ℕ) (some : 1 ≤ q) (most : q ≤ 3 * job.steps) (step : step_at q ≡ suc x) (board : IsBoard job y) (proc : i < y.procs) (phase : 3 * x + 3 ≡ q) where
   -- while the phase is not behind, the root and the finished step have been the same
   live : (words later : List ℕ) → Stands job y words → Stands job y later → Grows y words later → Floor job y q x words → root y later + 1 ≡ q →
       (root y words + 1 ≡ q) × (finished y words ≡ x) × (finished y later ≡ x)
-  live words later stands after up floor now = (all_c job y words later stands after up).c3 x q floor.reached (omega arith) (omega arith) floor.root now
+  live words later stands after up floor now = (growth_shows job y words later stands after up).same_phase x q floor.reached (omega arith) (omega arith) floor.root now
 
   -- ---- common
 
@@ -142,7 +142,7 @@ module _ (job : JobData) (y : LayoutData) (w q x i : ℕ) (some : 1 ≤ q) (most
       let gone : finished y words ≡ x = then_live.2 in
       let before = then_live.0 in
       let low : phase_written job.rule x ≤ root y first.words = subst (λ (r : Rule). phase_written r x ≤ root y first.words) (sym rule) (omega arith) in
-      elim ((facts job y first.words first.stands).b7 x p place low (record { writer = i; value = v; asks = asked })) [
+      elim ((facts job y first.words first.stands).written_late x p place low (record { writer = i; value = v; asks = asked })) [
         | inl late ↦ (
             let s = stays_so p 0 first.words words (place, lit< tt) stands up gone late in
             let same : payload_of a ≡ v = differs_not (suc x) v a neither.0 (ap stamp_of first.heard ∙ s.1) in
@@ -203,14 +203,14 @@ module _ (job : JobData) (y : LayoutData) (w q x i : ℕ) (some : 1 ≤ q) (most
       let b = facts job y m.words m.stands in
       let then_live = live m.words words m.stands stands m.since m.earlier now in
       let before = then_live.0 in
-      let mine : stamped_word (suc x) (claim_of job i) ≤ held y m.words (Claim p) = b.b10 x p i v is (omega arith) asked in
+      let mine : stamped_word (suc x) (claim_of job i) ≤ held y m.words (Claim p) = b.claims_high x p i v is (omega arith) asked in
       let here : found ≡ held y m.words (Claim p) = m.heard in
       let up : held y m.words (Claim p) ≤ held y words (Claim p) = m.since (Claim p) is in
       let stamp_then : stamp_of (held y m.words (Claim p)) ≡ suc x = stamp_is m.words m.stands is (omega arith) (omega arith) in
       let stamp_now : stamp_of (held y words (Claim p)) ≡ suc x = stamp_is words stands is (omega arith) (omega arith) in
       let payload : payload_of found ≡ claim_of job i = differs_not (suc x) (claim_of job i) found h (ap stamp_of m.heard ∙ stamp_then) in
       let c = claimant job (finished y words) (root y words) x p (held y words (Claim p)) (stands.lawful.claimed p is) stamp_now in
-      let his = b.b10 x p c.writer c.value is (omega arith) c.asks in
+      let his = b.claims_high x p c.writer c.value is (omega arith) c.asks in
       let is_his = c.is in
       omega arith
     where
@@ -220,7 +220,7 @@ module _ (job : JobData) (y : LayoutData) (w q x i : ℕ) (some : 1 ≤ q) (most
         where
           by_stamp : (s : ℕ) → stamp_of (held y words (Claim p)) ≡ s → suc x ≤ s → stamp_of (held y words (Claim p)) ≡ suc x
           by_stamp zero e h = absurd (omega arith)
-          by_stamp (suc s) e h = let l = ((facts job y words stands).b5_claim s p is e).2 in omega arith
+          by_stamp (suc s) e h = let l = ((facts job y words stands).claim_from s p is e).2 in omega arith
 
   all_claims : (words : List ℕ) → (part_after job x i 0 == 0) ≡ false → payload_of (held y words (Claim (part_after job x i 0 - 1))) ≡ claim_of job i → ClaimStays job y x words i
   all_claims words some_data here = inr (λ c v asked cell.

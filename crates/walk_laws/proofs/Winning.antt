@@ -57,7 +57,7 @@ module _ (job : JobData) (y : LayoutData) (w q x i : ℕ) (some : 1 ≤ q) (most
       let b = facts job y m.words m.stands in
       let low = m.earlier.root in
       let here : found ≡ held y m.words (Claim p) = m.heard in
-      let top : (j u : ℕ) → Asks job x p j u → stamped_word (suc x) (claim_of job j) ≤ held y m.words (Claim p) = λ j u a. b.b10 x p j u is (omega arith) a in
+      let top : (j u : ℕ) → Asks job x p j u → stamped_word (suc x) (claim_of job j) ≤ held y m.words (Claim p) = λ j u a. b.claims_high x p j u is (omega arith) a in
       let mine = top i v asked in
       let proc_of = proc_job job y w q x i some most step board proc in
       let few = board.limits.procs.1 in
@@ -79,7 +79,7 @@ module _ (job : JobData) (y : LayoutData) (w q x i : ℕ) (some : 1 ≤ q) (most
       stale_by zero e h = absurd (omega arith)
       stale_by (suc s) e h =
           let is : IsWord y (Claim p) = (has, let c = same_cells job y board in omega arith) in
-          let low = ((facts job y m.words m.stands).b5_claim s p is (sym (ap stamp_of m.heard) ∙ e)).2 in
+          let low = ((facts job y m.words m.stands).claim_from s p is (sym (ap stamp_of m.heard) ∙ e)).2 in
           let up = root_up job y m.words words m.stands m.since in
           omega arith
 

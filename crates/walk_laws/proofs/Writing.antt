@@ -22,8 +22,8 @@ use Rattle.lawful_words.specs.Moments.{Moment}
 use Rattle.lawful_words.proofs.Moments.{onward, stamps_rise}
 use Rattle.walkx.specs.Walk.{IsBoard}
 use Rattle.walkx.proofs.Boards.{same_cells, same_procs}
-use Rattle.lawful_words.proofs.Growths.{all_c5}
-use Rattle.lawful_words.proofs.Effects.{all_e}
+use Rattle.lawful_words.proofs.Growths.{place_as_heard}
+use Rattle.lawful_words.proofs.Effects.{writes_keep}
 use Rattle.walk_laws.proofs.Sees.{Sees, Lasts, so, heard}
 use Rattle.walk_laws.specs.Walks.{Goes}
 use Rattle.walk_laws.proofs.Scripts.{Safe, both_safe, goes_of}
@@ -92,7 +92,7 @@ module _ (job : JobData) (y : LayoutData) (w q x p i v : ℕ) (some : 1 ≤ q) (
       let place = place_by first.words first.stands first.earlier in
       let reached = (floor first.words first.earlier).reached in
       let low = (floor first.words first.earlier).root in
-      all_c5 job y x p a b first.words m.words words first.stands m.stands stands first.since m.since place reached (omega arith) first.heard m.heard early
+      place_as_heard job y x p a b first.words m.words words first.stands m.stands stands first.since m.since place reached (omega arith) first.heard m.heard early
 
   -- behind the swap the place is late, whether it succeeded or not
   swapped : (a b found : ℕ) (words : List ℕ) → Stands job y words →
@@ -113,7 +113,7 @@ module _ (job : JobData) (y : LayoutData) (w q x p i v : ℕ) (some : 1 ≤ q) (
       (λ late. next longer (so job y longer (Both a b) (λ words. P words × IsLate y x p words) (λ words stands m. (still a b words stands m, heard_late a b words stands m late)) known))
       (λ early.
       let pair : Sees job y longer (λ words. P words × PlaceAsHeard job y x p a b words) = so job y longer (Both a b) (λ words. P words × PlaceAsHeard job y x p a b words) (λ words stands m. (still a b words stands m, heard_early a b words stands m early)) known in (
-        so job y longer (λ words. P words × PlaceAsHeard job y x p a b words) (Goes job y w q (swap a b)) (λ words stands h. goes_of job y w q (swap a b) words ((all_e job y words q x stands some most step (floor words h.0)).place p i v a b phase (asked words h.0).0 (asked words h.0).1 h.1)) pair,
+        so job y longer (λ words. P words × PlaceAsHeard job y x p a b words) (Goes job y w q (swap a b)) (λ words stands h. goes_of job y w q (swap a b) words ((writes_keep job y words q x stands some most step (floor words h.0)).place p i v a b phase (asked words h.0).0 (asked words h.0).1 h.1)) pair,
         λ found ok. next ((swap a b, found) ∷ longer)
             (so job y ((swap a b, found) ∷ longer) (Moment job y (swap a b) found (λ words. P words × PlaceAsHeard job y x p a b words)) (λ words. P words × IsLate y x p words)
             (λ words stands m. (lasts m.words words m.stands stands (onward y m.words (words_after m.words (swap a b)) words m.grew m.since) m.earlier.0, swapped a b found words stands m))

@@ -1,5 +1,5 @@
 -- What is read off the words of a board.
-use Rattle.std.specs.Prelude.{◌≡◌, ℕ, suc, List, take}
+use Rattle.std.specs.Prelude.{◌≡◌, ◌≢◌, ℕ, suc, ◌*◌, List, take}
 use Rattle.pram_text.specs.Job.{JobData}
 use Rattle.pram_step.specs.declared.requests.Request.{Request}
 use Rattle.pram_step.specs.Runs.{requests_after, state_after}
@@ -7,10 +7,18 @@ use Rattle.pram_words.specs.declared.words.Word.TheVariants.{Stored}
 use Rattle.pram_words.specs.Words.{LayoutData}
 use Rattle.walkx.specs.Tasks.{newer_payload}
 use Rattle.lawful_words.specs.Board.{conflict, held}
+use Rattle.pram_world.specs.declared.outcome.Standing.{Standing}
+use Rattle.pram_world.specs.declared.outcome.Standing.TheVariants.{Disputed, Finished, Going}
 
 -- the payload of the newer of the two words of a place
 abbrev pub newest_of : LayoutData → List ℕ → ℕ → ℕ
 newest_of y words p = newer_payload (held y words (Stored p 0)) (held y words (Stored p 1))
+
+-- word 0 is read first, and then the root
+abbrev pub Says : JobData → ℕ → ℕ → Standing → Type 0
+Says job named root Disputed = named ≢ 0
+Says job named root Finished = (named ≡ 0) × (root ≡ 3 * job.steps)
+Says job named root Going = (named ≡ 0) × (root ≢ 3 * job.steps)
 
 -- the cells after the last step
 abbrev pub last_cells : JobData → List ℕ

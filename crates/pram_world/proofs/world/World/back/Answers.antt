@@ -1,4 +1,4 @@
-use Rattle.std.proofs.Common.{◌≡◌, Some, slice_get, length, ◌≤◌, ◌<◌, rules, sym, ap, ◌∙◌, subst, arith}
+use Rattle.std.proofs.Common.{◌≡◌, Some, slice_get, length, ◌≤◌, rules, refl, sym, ap, ◌∙◌, arith}
 use Rattle.std.proofs.lemmas.Option.{slice_get_read}
 use Rattle.walkx.specs.Walk.{come_back}
 use Rattle.pram_world.specs.declared.event.Event.TheVariants.{Back}
@@ -10,14 +10,13 @@ use Rattle.pram_world.proofs.world.World.back.Goals as goal
 pub invariant_of-self : goal.invariant_of-self
 invariant_of-self c =
     let at : slice_get c.self.inside.bodies.items c.args.b ≡ Some c.index.result.now = slice_get_read _ _ _ _ (search rules) c.if-b-len.true c.index.ensures in
-    let y = c.self.inside.layout in
-    let below : c.number-number.result < y.workers = subst (λ n. n < y.workers) (sym c.number-number.ensures) (number_below _ _ _ _ c.args.b c.index.result.now c.self.invariant at) in
-    back_keeps _ _ _ _ c.args.b c.number-number.result c.back.result c.self.invariant below c.back.ensures.value (c.back.ensures.serves c.self.inside.job c.self.inside.layout below)
+    let below = number_below _ _ _ _ c.args.b c.index.result.now c.self.invariant at in
+    back_keeps _ _ _ _ c.args.b _ c.returning-worker.result c.self.invariant below c.returning-worker.ensures.value (c.returning-worker.ensures.serves c.self.inside.job c.self.inside.layout below)
 
 pub returns-then-b-len : goal.returns-then-b-len
 returns-then-b-len c =
     let at : slice_get c.self.inside.bodies.items c.args.b ≡ Some c.index.result.now = slice_get_read _ _ _ _ (search rules) c.if-b-len.true c.index.ensures in
-    back_world c.self.inside.job c.self.inside.layout c.self.inside.words.items c.self.inside.bodies.items c.args.b c.number-number.result c.back.result c.index.result.now at c.number-number.ensures c.back.ensures.value ∙ ap (λ (x : WorldData). happens x (Back c.args.b)) c.self.view_is
+    back_world c.self.inside.job c.self.inside.layout c.self.inside.words.items c.self.inside.bodies.items c.args.b _ c.returning-worker.result c.index.result.now at refl c.returning-worker.ensures.value ∙ ap (λ (x : WorldData). happens x (Back c.args.b)) c.self.view_is
 
 pub returns-else-b-len : goal.returns-else-b-len
 returns-else-b-len c =

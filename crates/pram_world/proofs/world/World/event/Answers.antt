@@ -1,8 +1,9 @@
 use Rattle.std.proofs.Common.{sym, subst}
-use Rattle.lawful_words.specs.Board.{Stands}
+use Rattle.lawful_words.specs.Board.{Stands, Grows}
 use Rattle.pram_world.specs.declared.event.Event.{Event}
 use Rattle.pram_world.specs.declared.event.Event.TheVariants.{Go, Stop, Back}
 use Rattle.pram_world.specs.Worlds.{WorldData, StaleChangesNothing}
+use Rattle.pram_world.proofs.Interleaving.{event_grows}
 use Rattle.pram_world.proofs.Keeping.{Held, happens_holds, stale_changes_nothing}
 use Rattle.pram_world.proofs.world.World.event.Goals as goal
 
@@ -26,3 +27,18 @@ pub returns-in-Back-clause-lawful : goal.returns-in-Back-clause-lawful
 returns-in-Back-clause-lawful c =
     let h : Held c.args.self.now = subst Held c.self.view_is (record { made = c.self.invariant.made; holds = c.self.invariant.holds }) in
     subst (λ (x : WorldData). Stands x.job x.layout x.words) (sym c.back.ensures) ((happens_holds c.args.self.now (Back c.in-Back.b) h).holds).stands
+
+pub returns-in-Go-clause-grows : goal.returns-in-Go-clause-grows
+returns-in-Go-clause-grows c =
+    let h : Held c.args.self.now = subst Held c.self.view_is (record { made = c.self.invariant.made; holds = c.self.invariant.holds }) in
+    subst (λ (x : WorldData). Grows c.args.self.now.layout c.args.self.now.words x.words) (sym c.go.ensures.world) (event_grows c.args.self.now h.made (Go c.in-Go.b) h.holds)
+
+pub returns-in-Stop-clause-grows : goal.returns-in-Stop-clause-grows
+returns-in-Stop-clause-grows c =
+    let h : Held c.args.self.now = subst Held c.self.view_is (record { made = c.self.invariant.made; holds = c.self.invariant.holds }) in
+    subst (λ (x : WorldData). Grows c.args.self.now.layout c.args.self.now.words x.words) (sym c.stop.ensures) (event_grows c.args.self.now h.made (Stop c.in-Stop.b) h.holds)
+
+pub returns-in-Back-clause-grows : goal.returns-in-Back-clause-grows
+returns-in-Back-clause-grows c =
+    let h : Held c.args.self.now = subst Held c.self.view_is (record { made = c.self.invariant.made; holds = c.self.invariant.holds }) in
+    subst (λ (x : WorldData). Grows c.args.self.now.layout c.args.self.now.words x.words) (sym c.back.ensures) (event_grows c.args.self.now h.made (Back c.in-Back.b) h.holds)
