@@ -4,6 +4,11 @@ use prog.Atomic.{either}
 use Rattle.walkx.specs.declared.operation.Op.{Op}
 use Rattle.walkx.specs.declared.operation.Op.TheVariants.{Load, Store, Max, Swap, Over}
 
+-- it is an atomic step, and not the word that a worker is over
+abbrev pub IsAtomic : Op → Type 0
+IsAtomic (Over ended) = ⊥
+IsAtomic _ = Unit {0}
+
 -- the words after an atomic step
 abbrev pub words_after : List ℕ → Op → List ℕ
 words_after words (Load k) = words

@@ -1,7 +1,8 @@
 //! What a stage asks for.
 ghost use Rattle.std.specs.Prelude.{◌≡◌};
 ghost use Rattle.walkx.specs.Inner.Stages.{IsStage, doing_of, script_at};
-ghost use Rattle.walkx.specs.Walk.{next_op};
+ghost use Rattle.walkx.specs.Operations.{IsAtomic};
+ghost use Rattle.walkx.specs.Walk.{IsGoing, next_op};
 
 use crate::operation::Op;
 use crate::post::Post;
@@ -14,7 +15,8 @@ use pram_words::{left, right, stamped};
 #[tactic(auto, using(crate::proofs::Boards::length_small, crate::proofs::Hearing::hears_first), unfolding(crate::specs::Walk::begin_script, crate::specs::Walk::turn_script))]
 pub(crate) fn operation(at: &Post, stage: Stage) -> Op
     requires { IsStage at.now stage }
-    ensures { result ≡ next_op (doing_of stage at.now.phase) (script_at at.now stage) }
+    ensures asks { result ≡ next_op (doing_of stage at.now.phase) (script_at at.now stage) }
+    ensures atomic { IsGoing (doing_of stage at.now.phase) → IsAtomic result }
 {
     let layout = at.layout();
     match stage {

@@ -36,7 +36,8 @@ impl Worker {
     ghost use Rattle.pram_words.specs.Words.{LayoutData};
     ghost use Rattle.walkx.specs.Inner.Stages.{post_of};
     ghost use Rattle.walkx.specs.Serving.{Serves};
-    ghost use Rattle.walkx.specs.Walk.{AsksAdmitted, HearsAdmitted, IsBoard, IsLayoutOf, ask_of};
+    ghost use Rattle.walkx.specs.Operations.{IsAtomic};
+    ghost use Rattle.walkx.specs.Walk.{AsksAdmitted, HearsAdmitted, IsBoard, IsGoing, IsLayoutOf, ask_of};
     ghost use Rattle.walkx.specs.Walk.{come_back, end_of, started, told};
 
     /// Worker w, at its first leaf.
@@ -94,6 +95,7 @@ impl Worker {
         requires serves { Serves job.now layout.now self.now }
         ensures asks { result ≡ ask_of job.now layout.now self.now.walking }
         ensures admitted { AsksAdmitted job.now layout.now result }
+        ensures atomic { IsGoing self.now.walking.now → IsAtomic result }
     {
         operation(&self.post(job, layout), self.stage)
     }
