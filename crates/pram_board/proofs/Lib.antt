@@ -5,3 +5,4 @@ pub mod Told
 pub mod Looking
 pub mod Works
 pub mod Memory
+pub mod Faults

@@ -1,12 +1,12 @@
 -- What contracts see of a board and of a seat, and what a look at the board tells.
-use Rattle.std.specs.Prelude.{◌≡◌, ◌≤◌, ◌*◌, ℕ, ◌==◌, if◌then◌else◌, List, [], length, take, Option, Some, None, Result, Ok, Err, refl}
+use Rattle.std.specs.Prelude.{◌≡◌, ◌≢◌, ◌≤◌, ◌*◌, ℕ, ◌==◌, if◌then◌else◌, List, [], length, take, Option, Some, None, Result, Ok, Err, refl}
 use Rattle.std.specs.Coded.{Coded, code_by, coded×}
 use Rattle.std.specs.List.{AllByRecursion}
 use Rattle.atomic_table.specs.Seated.{TableId, table_id_coded}
 use Rattle.pram_text.specs.Job.{JobData}
 use Rattle.pram_words.specs.declared.layout.Form.{Form}
 use Rattle.pram_words.specs.declared.words.Word.TheVariants.{Conflict, Node}
-use Rattle.pram_words.specs.Words.{number_of, layout_of}
+use Rattle.pram_words.specs.Words.{LayoutData, number_of, layout_of}
 use Rattle.walkx.specs.declared.operation.Op.{Op}
 use Rattle.walkx.specs.declared.operation.Op.TheVariants.{Load}
 use Rattle.walkx.specs.declared.operation.Reading.{Reading}
@@ -16,6 +16,7 @@ use Rattle.walkx.specs.Records.{Record, empty, after, both}
 use Rattle.walkx.specs.Codes.{coded_record}
 use Rattle.walkx.specs.Scripts.{heard_in}
 use Rattle.lawful_words.specs.Moments.{afters}
+use Rattle.lawful_words.specs.Seen.{Heard}
 use Rattle.walk_laws.specs.Walks.{IsLawfulRead, ProgressWell}
 use Rattle.pram_board.specs.declared.look.Progress.{Progress}
 use Rattle.pram_board.specs.declared.task.Task.{Task}
@@ -62,6 +63,12 @@ pub record HasLoaded (n : ℕ) (p q : Place) : Type 0 where
 -- the seat that has seen what two had seen
 abbrev pub unites : Place → Place → Place
 unites p q = record { desk = p.desk; record_of = both p.record_of q.record_of }
+
+-- the record heard word 0 as another value than 0
+pub record KnowsConflict (y : LayoutData) (r : Record) : Type 0 where
+  pub step : ℕ
+  pub some : step ≢ 0
+  pub heard : Heard y r Conflict step
 
 -- ---- progress
 
