@@ -50,6 +50,15 @@ pub record IsFault (job : JobData) (fault : Fault) : Type 0 where
   pub first : IsFirstConflict job fault
   pub within : fault.step ≤ job.steps
 
+-- the requests of the job's step n, which is its first conflict
+pub record AreConflicting (job : JobData) (n : ℕ) (requests : List Request) : Type 0 where
+  pub before : ℕ
+  pub step : n ≡ before + 1
+  pub within : n ≤ job.steps
+  pub reached : IsReached job before
+  pub against : AgreesAfter job before → ⊥
+  pub are : requests ≡ requests_after job before
+
 -- The state after the job's last step, or its first conflict.
 abbrev pub IsOutcome : JobData → Outcome → Type 0
 IsOutcome job (outcome.Final s) = IsStateAfter job job.steps s

@@ -3,9 +3,10 @@ ghost use Rattle.std.specs.Prelude.{◌≡◌, ◌≢◌, ℕ, ◌+◌, ◌<◌,
 ghost use Rattle.std.specs.Prelude.{IfOk, MatchOption, MatchBool};
 ghost use Rattle.pram_step.specs.Steps.{Forbids};
 ghost use Rattle.pram_step.specs.Inner.Marks.{PutsFirst, PutsNone, AreMarked};
+ghost use Rattle.pram_step.specs.Runs.{AreConflicting, IsFault};
 ghost use Rattle.pram_step.specs.Steps.{IsVerdict};
 
-use crate::answer::Dispute;
+use crate::answer::{Dispute, Fault};
 use crate::requests::Request;
 use pram_text::{Job, Rule};
 use std::alloc::{AllocError, Global};
@@ -28,6 +29,23 @@ pub fn dispute(
         found = judge(job, requests, &mut marks, processor, found);
     }
     Ok(found)
+}
+
+/// The first conflict of a job, from its step and all requests of that step. It costs what
+/// `dispute` does.
+pub fn fault_of(
+    alloc: Global,
+    job: &Job,
+    step: u32,
+    requests: &[Request],
+) -> Result<Fault, AllocError>
+    requires { AreConflicting job.now step requests.now }
+    ensures { IfOk result (IsFault job.now) }
+{
+    let Some(found) = dispute(alloc, job, requests)? else {
+        unreachable!()
+    };
+    Ok(found.in_step(step))
 }
 
 /// The dispute so far, this processor's request being looked at too. The marks are those of the

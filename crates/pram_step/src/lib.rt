@@ -13,7 +13,7 @@ mod state;
 mod tests;
 
 pub use answer::{Cells, Dispute, Fault, RunAnswer};
-pub use conflict::dispute;
+pub use conflict::{dispute, fault_of};
 pub use instructions::{Operands, cell_read, decided, goes_to, operands_of};
 pub use requests::{Request, place_part, value_part};
 pub use run::{Outcome, plain_answer, run_plain};

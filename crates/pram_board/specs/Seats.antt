@@ -1,0 +1,94 @@
+-- What contracts see of a board and of a seat, and what a look at the board tells.
+use Rattle.std.specs.Prelude.{◌≡◌, ◌≢◌, ◌≤◌, ◌*◌, ℕ, ◌==◌, if◌then◌else◌, List, [], length, take, Option, Some, None, Result, Ok, Err, refl}
+use Rattle.std.specs.Coded.{Coded, code_by, coded×}
+use Rattle.std.specs.List.{AllByRecursion}
+use Rattle.atomic_table.specs.Seated.{TableId, table_id_coded}
+use Rattle.pram_text.specs.Job.{JobData}
+use Rattle.pram_words.specs.declared.layout.Form.{Form}
+use Rattle.pram_words.specs.declared.words.Word.TheVariants.{Conflict, Node}
+use Rattle.pram_words.specs.Words.{LayoutData, number_of, layout_of}
+use Rattle.walkx.specs.declared.operation.Op.{Op}
+use Rattle.walkx.specs.declared.operation.Op.TheVariants.{Load}
+use Rattle.walkx.specs.declared.operation.Reading.{Reading}
+use Rattle.walkx.specs.declared.operation.Reading.TheVariants.{At}
+use Rattle.walkx.specs.Reads.{step_seen, reader_script}
+use Rattle.walkx.specs.Records.{Record, empty, after, both}
+use Rattle.walkx.specs.Codes.{coded_record}
+use Rattle.walkx.specs.Scripts.{heard_in}
+use Rattle.lawful_words.specs.Moments.{afters}
+use Rattle.lawful_words.specs.Seen.{Heard}
+use Rattle.walk_laws.specs.Walks.{IsLawfulRead, ProgressWell}
+use Rattle.pram_board.specs.declared.look.Progress.{Progress}
+use Rattle.pram_board.specs.declared.task.Task.{Task}
+use Rattle.pram_board.specs.Codes.{coded_task}
+
+-- which board it is, and its task
+pub record Desk : Type 0 where
+  pub id : TableId
+  pub task : Task
+
+abbrev pub coded_desk : Coded Desk
+coded_desk = code_by (TableId × Task) (coded× table_id_coded coded_task) (λ d. (d.id, d.task)) (λ p. record { id = p.0; task = p.1 }) (λ _. refl)
+
+-- a seat of a board, with the record of its steps
+pub record Place : Type 0 where
+  pub desk : Desk
+  pub record_of : Record
+
+abbrev pub coded_place : Coded Place
+coded_place = code_by (Desk × Record) (coded× coded_desk coded_record) (λ p. (p.desk, p.record_of)) (λ p. record { desk = p.0; record_of = p.1 }) (λ _. refl)
+
+-- a new board, with a seat of it that has seen nothing
+abbrev pub IsOpened : JobData → Form → ℕ → Desk × Place → Type 0
+IsOpened job form workers made = (made.0.task ≡ record { job = job; layout = layout_of job form workers }) × (made.1 ≡ record { desk = made.0; record_of = empty })
+
+-- the seat with one more step, and with more steps, the newest first
+abbrev pub hears : Place → Op → ℕ → Place
+hears p op found = record { desk = p.desk; record_of = after p.record_of op found }
+
+abbrev pub hears_all : Place → List (Op × ℕ) → Place
+hears_all p steps = record { desk = p.desk; record_of = afters p.record_of steps }
+
+-- so many loads more
+abbrev pub IsLoad : Op → Type 0
+IsLoad (Load k) = Unit {0}
+IsLoad _ = ⊥
+
+pub record HasLoaded (n : ℕ) (p q : Place) : Type 0 where
+  pub steps : List (Op × ℕ)
+  pub is : q ≡ hears_all p steps
+  pub loads : AllByRecursion (λ (e : Op × ℕ). IsLoad e.0) steps
+  pub count : length steps ≡ n
+
+-- the seat that has seen what two had seen
+abbrev pub unites : Place → Place → Place
+unites p q = record { desk = p.desk; record_of = both p.record_of q.record_of }
+
+-- the record heard word 0 as another value than 0
+pub record KnowsConflict (y : LayoutData) (r : Record) : Type 0 where
+  pub step : ℕ
+  pub some : step ≢ 0
+  pub heard : Heard y r Conflict step
+
+-- ---- progress
+
+-- a load of the root and then one of word 0, and what they show
+pub record Progressed (t : Task) (p q : Place) (progress : Progress) : Type 0 where
+  pub root : ℕ
+  pub named : ℕ
+  pub is : q ≡ hears (hears p (Load (number_of t.layout (Node 1))) root) (Load (number_of t.layout Conflict)) named
+  pub step : progress.step ≡ step_seen root named
+  pub conflict : progress.conflict ≡ (if named == 0 then None else Some named)
+  pub well : ProgressWell t.job t.layout p.record_of q.record_of progress.step named
+
+-- ---- reads
+
+abbrev pub IsReading : Task → Record → Record → ℕ → Reading → Type 0
+IsReading t before behind c (At step value) = IsLawfulRead t.job t.layout before behind c step value
+
+-- the loads of a reader of the cell, at most five, and a lawful read
+pub record WasRead (t : Task) (p q : Place) (c : ℕ) (reading : Reading) : Type 0 where
+  pub answers : List ℕ
+  pub is : q ≡ hears_all p (heard_in (reader_script t.layout c) answers)
+  pub few : length (heard_in (reader_script t.layout c) answers) ≤ 5
+  pub lawful : IsReading t p.record_of q.record_of c reading

@@ -1,0 +1,149 @@
+//! The board.
+ghost use Rattle.std.specs.Prelude.{◌≡◌, IfOk};
+ghost use Rattle.pram_words.specs.Start.{start_words};
+
+use crate::plays::{Law, Loads, Raises, Shares, Stores, Swaps, Unites};
+use crate::seat::Seat;
+use crate::task::{Task, View};
+use atomic_table::Table;
+use pram_text::Job;
+use pram_words::Layout;
+use std::alloc::{AllocError, Global};
+use std::marker::Model;
+use walkx::Op;
+
+/// The words of a job's board, which threads share by reference, each with a seat of its own. They
+/// stand under the job's rule between any two atomic steps, whatever its callers do.
+#[derive(Drop)]
+pub struct Board {
+    pub(crate) task: Task,
+    table: Table<(), View, Task, Law, Global>,
+}
+
+impl Model for Board {
+    ghost use Rattle.std.specs.Prelude.{◌≡◌};
+    ghost use Rattle.pram_words.specs.Words.{length_of};
+    ghost use Rattle.walkx.specs.Walk.{IsBoard};
+    ghost use Rattle.pram_board.specs.Seats.{Desk, coded_desk};
+
+    ghost Value = { Desk };
+
+    ghost coded = { coded_desk };
+
+    ghost view = { λ b. record { id = b.table.shared.table_id; task = b.task } };
+
+    ghost invariant = { λ b. (b.table.shared.key ≡ b.task)
+        × (b.table.shared.table_id.words ≡ length_of b.task.layout)
+        × IsBoard b.task.job b.task.layout };
+}
+
+impl Board {
+    ghost use Rattle.std.specs.Prelude.{◌≡◌, ◌≤◌, IfOk};
+    ghost use Rattle.pram_words.specs.declared.layout.Form.TheVariants.{Compact, Wide};
+    ghost use Rattle.walkx.specs.Walk.{IsBoard, IsLayoutOf};
+    ghost use Rattle.lawful_words.specs.Moments.{Sound};
+    ghost use Rattle.pram_board.specs.Rules.{May};
+    ghost use Rattle.pram_board.specs.Seats.{IsOpened, hears, unites};
+
+    /// A new board for a job and so many workers, and a seat that has seen nothing. The board lies
+    /// in the compact form and keeps its own copy of the job.
+    pub fn open(alloc: Global, job: &Job, workers: u32) -> Result<(Board, Seat), AllocError>
+        requires some { 1 ≤ workers }
+        requires most { workers ≤ 64 }
+        ensures { IfOk result (IsOpened job.now Compact workers) }
+    {
+        Board::of_layout(alloc, job, Layout::new(job, workers))
+    }
+
+    /// The same in the wide form, in which workers start far apart and do not share lines of
+    /// memory: it is the faster one with two workers and more.
+    pub fn open_wide(alloc: Global, job: &Job, workers: u32) -> Result<(Board, Seat), AllocError>
+        requires some { 1 ≤ workers }
+        requires most { workers ≤ 64 }
+        ensures { IfOk result (IsOpened job.now Wide workers) }
+    {
+        Board::of_layout(alloc, job, Layout::wide(job, workers))
+    }
+
+    // A new board of this layout.
+    fn of_layout(alloc: Global, job: &Job, layout: Layout) -> Result<(Board, Seat), AllocError>
+        requires { IsLayoutOf job.now layout }
+        ensures { IfOk result (IsOpened job.now layout.form layout.workers) }
+    {
+        let job = job.try_clone()?;
+        let words = first_words(alloc, &job, &layout)?;
+        // These tell the limits of the job and of the layout.
+        let _ = job.cells();
+        let _ = layout.leaves();
+        let task = Task { job, layout };
+        let (table, seat) = Table::of_words(alloc, words.as_slice(), &task)?;
+        Ok((Board { task, table }, Seat { seat }))
+    }
+
+    /// Two seats that have seen what one had seen. It takes no memory and one load, which is in no
+    /// record.
+    pub fn split(&self, seat: Seat) -> (Seat, Seat)
+        requires { seat.desk ≡ self.now }
+        ensures first { result.0 ≡ seat }
+        ensures second { result.1 ≡ seat }
+    {
+        let Seat { mut seat } = seat;
+        let other = self.table.shared.split_seat::<Shares>(&mut seat);
+        (Seat { seat }, Seat { seat: other })
+    }
+
+    /// One seat that has seen what both had seen. Between the two records there is no order; what
+    /// it does from now on comes after both. It takes no memory and one load, which is in no record.
+    pub fn join(&self, first: Seat, second: Seat) -> Seat
+        requires first { first.desk ≡ self.now }
+        requires second { second.desk ≡ self.now }
+        ensures { result ≡ unites first second }
+    {
+        let Seat { mut seat } = first;
+        let Seat { seat: other } = second;
+        self.table.shared.join_seat::<Unites>(&mut seat, other);
+        Seat { seat }
+    }
+
+    /// The job and its layout are within their limits and fit each other. The call does nothing.
+    pub fn facts(&self)
+        ensures { IsBoard self.now.task.job self.now.task.layout }
+    {
+        let _ = &self.task;
+    }
+
+    // One atomic step, and its answer. It is the only call that touches the words.
+    pub(crate) fn step(&self, seat: &mut Seat, op: Op) -> u64
+        requires desk { seat.old.desk ≡ self.now }
+        requires allowed { May self.now.task seat.old.record_of op }
+        ensures grows { seat.new ≡ hears seat.old op result }
+        ensures sound { Sound self.now.task.job self.now.task.layout seat.new.record_of }
+    {
+        let shared = &self.table.shared;
+        let seat = &mut seat.seat;
+        match op {
+            Op::Load(word) => shared.load::<Loads>(seat, word as usize),
+            Op::Store(word, value) => {
+                shared.store::<Stores>(seat, word as usize, value);
+                0
+            }
+            Op::Max(word, value) => shared.fetch_max::<Raises>(seat, word as usize, value),
+            Op::Swap(word, old, new) => {
+                shared.compare_exchange::<Swaps>(seat, word as usize, old, new)
+            }
+            Op::Over(_) => unreachable!(),
+        }
+    }
+}
+
+// The words that a board starts with.
+#[tactic(auto, unfolding(pram_words::specs::Start::start_words))]
+fn first_words(alloc: Global, job: &Job, layout: &Layout) -> Result<Vec<u64>, AllocError>
+    ensures { IfOk result (λ words. words.items ≡ start_words layout.now job.now) }
+{
+    let mut words = Vec::with_capacity(alloc, layout.length() as usize)?;
+    for k in 0..layout.length() {
+        words.push(layout.start_word(job, k))?;
+    }
+    Ok(words)
+}

@@ -1,0 +1,17 @@
+//! A board of words that threads share. Each caller has a seat, whose record of atomic steps only
+//! contracts see.
+#![tactic(auto)]
+
+mod board;
+mod look;
+mod outcome;
+mod plays;
+mod seat;
+mod task;
+mod work;
+
+pub use board::Board;
+pub use look::Progress;
+pub use seat::Seat;
+pub use task::{Task, View};
+pub use work::Stay;
