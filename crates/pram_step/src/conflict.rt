@@ -64,8 +64,7 @@ pub(crate) fn judge(
     ensures marked { AreMarked job.now.cells (take (processor + 1) requests.now) marks.new }
     ensures found { IsVerdict job.now (take (processor + 1) requests.now) result }
 {
-    let request = requests[processor as usize];
-    let Some((cell, value)) = request.put else {
+    let Some((cell, value)) = requests[processor as usize].put else {
         return found;
     };
     if cell >= job.cells() {
@@ -106,8 +105,7 @@ fn earlier_writer(
     if first >= processor {
         return None;
     }
-    let request = requests[first as usize];
-    let (place, value) = request.put?;
+    let (place, value) = requests[first as usize].put?;
     if place == cell {
         Some((first, value))
     } else {

@@ -113,7 +113,7 @@ fn obey(job: &Job, places: &mut [u32], requests: &[Request], marks: &[u32], proc
     ensures next { ObeysNext job.now requests.now processor places.old places.new }
     ensures idle { OnFalse result (places.new ≡ places.old) }
 {
-    let request = requests[processor as usize];
+    let request = &requests[processor as usize];
     let counter = job.cells() + 4 * job.procs() + processor;
     let moved = write(places, counter, request.next);
     let Some((place, value)) = request.put else {
