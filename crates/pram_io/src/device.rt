@@ -1,5 +1,5 @@
 //! Where bytes come from and where they go, and that a device failed.
-ghost use Rattle.std.specs.Prelude.{◌≡◌, ◌≤◌, ◌<◌, ◌||◌, ℕ, Bool, List, Option, None, is_err, length, IfOk};
+ghost use Rattle.std.specs.Prelude.{◌≡◌, ◌≤◌, ◌<◌, ◌||◌, ℕ, Bool, false, List, [], Option, Some, None, is_err, length, IfOk};
 ghost use Rattle.std.specs.Io.KnownBytes.{ReadConsumes, WriteAppends};
 
 /// A pull or a push failed.
@@ -36,4 +36,18 @@ pub trait Sink {
         ensures some { IfOk result (λ count. 0 < length bytes.now → 0 < count) }
         ensures bytes { WriteAppends (taken self.old) (taken self.new) result bytes.now }
         ensures failed { has_failed self.new ≡ (is_err result || has_failed self.old) };
+}
+
+/// A source without bytes, that never fails.
+#[derive(Clone, Copy, Debug, PartialEq, Eq)]
+pub struct Empty;
+
+impl Source for Empty {
+    ghost has_failed = { λ _. false };
+
+    ghost remaining = { λ _. Some [] };
+
+    fn pull(&mut self, _into: &mut [u8]) -> Result<usize, Failed> {
+        Ok(0)
+    }
 }

@@ -10,7 +10,7 @@ mod print;
 mod tests;
 mod transfer;
 
-pub use device::{Failed, Sink, Source};
+pub use device::{Empty, Failed, Sink, Source};
 pub use from_read::FromRead;
 pub use into_write::IntoWrite;
 pub use job::{PlainFault, check, plain, take_job};

@@ -1,3 +1,4 @@
 pub mod Behind
+pub mod Lines
 pub mod Rounds
 pub mod Stops

@@ -1,3 +1,4 @@
+pub mod Inner
+pub mod Printed
 pub mod Replays
 pub mod Traces
-pub mod Inner

@@ -68,7 +68,7 @@ fn row(worker: u32, kind: StepKind, word: u32, before: u64, after: u64) -> Trace
 fn two_workers_at_a_job_without_steps(rt: HostRuntime) -> Result<(), Fail> {
     let text = "pram 1\ncells 1\nprocs 1\nsteps 0\ninit 0 5\ncode\nhalt\n";
     let trace = ends_with(&rt, text, 2, "", &[5])?;
-    let bytes = write_trace(&trace, Vec::new(rt.alloc()));
+    let bytes = write_trace(rt.alloc(), &trace, Vec::new(rt.alloc()));
     let wanted =
         b"tick,worker,op,word,before,after\n1,0,load,1,0,0\n2,1,load,1,0,0\n3,0,load,0,0,0\n4,1,load,0,0,0\n";
     match bytes {
@@ -186,7 +186,7 @@ fn a_write_that_fails_is_told(rt: HostRuntime) -> Result<(), Fail> {
     let mut has_failed = false;
     let mut was_written = false;
     for left in 0..100 {
-        match write_trace(&trace, Failing { left }) {
+        match write_trace(rt.alloc(), &trace, Failing { left }) {
             Ok(_) => was_written = true,
             Err(fault) => {
                 has_failed = true;

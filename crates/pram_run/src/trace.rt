@@ -1,12 +1,9 @@
 //! Traces: the atomic steps of a run, in order.
-ghost use Rattle.std.specs.Prelude.{◌≡◌, [], ◌++◌, OnOk, IfOk};
+ghost use Rattle.std.specs.Prelude.{◌≡◌, [], ◌++◌, OnOk};
 ghost use Rattle.pram_run.specs.Traces.{row_of as row_as, rows_of};
 
-use csv::{Error, Writer};
-use itoa::Buffer;
 use pram_world::Effect;
 use std::alloc::{AllocError, Global};
-use std::io::Write;
 use std::marker::Model;
 use walkx::Op;
 
@@ -89,71 +86,4 @@ fn row_of(worker: u32, effect: Effect) -> Option<TraceRow>
         worker,
         kind,
     })
-}
-
-/// Why a trace was not written.
-#[derive(Clone, Copy, Debug, PartialEq, Eq)]
-pub enum OutFault {
-    /// The writer failed.
-    Device,
-    /// Memory ran out.
-    Memory,
-}
-
-fn fault_of(error: Error) -> OutFault {
-    if error.is_io_error() {
-        OutFault::Device
-    } else {
-        OutFault::Memory
-    }
-}
-
-/// Writes a trace with `csv`: a header, then one record for each atomic step, the ticks counted
-/// from 1. After a fault a beginning of it may stand written. It takes no memory.
-pub fn write_trace<W: Write + Drop>(trace: &Trace, out: W) -> Result<W, OutFault> {
-    let mut writer = Writer::from_writer(out);
-    write_records(&mut writer, trace).map_err(fault_of)?;
-    match writer.into_inner() {
-        Ok(out) => Ok(out),
-        Err(_) => Err(OutFault::Device),
-    }
-}
-
-fn write_records<W: Write + Drop>(writer: &mut Writer<W>, trace: &Trace) -> Result<(), Error> {
-    writer.write_fields(&[b"tick", b"worker", b"op", b"word", b"before", b"after"])?;
-    let mut tick = 0;
-    for row in trace.rows() {
-        tick += 1;
-        write_row(writer, tick, row)?;
-    }
-    Ok(())
-}
-
-fn write_row<W: Write + Drop>(
-    writer: &mut Writer<W>,
-    tick: u64,
-    row: &TraceRow,
-) -> Result<(), Error> {
-    let mut ticks = Buffer::new();
-    let mut workers = Buffer::new();
-    let mut words = Buffer::new();
-    let mut befores = Buffer::new();
-    let mut afters = Buffer::new();
-    writer.write_fields(&[
-        ticks.format(tick).as_bytes(),
-        workers.format(row.worker).as_bytes(),
-        kind_name(row.kind).as_bytes(),
-        words.format(row.word).as_bytes(),
-        befores.format(row.before).as_bytes(),
-        afters.format(row.after).as_bytes(),
-    ])
-}
-
-fn kind_name(kind: StepKind) -> &'static str {
-    match kind {
-        StepKind::Load => "load",
-        StepKind::Store => "store",
-        StepKind::Max => "max",
-        StepKind::Swap => "swap",
-    }
 }

@@ -1,0 +1,74 @@
+-- The lines of a trace's rows, and that csv writes a row without quotes.
+use Rattle.std.proofs.Common.{◌≡◌, ◌∙◌, ◌==◌, ◌||◌, ◌++◌, ◌+◌, ◌<◌, ◌≤◌, ◌^◌, ◌∷◌, [], ℕ, List, Option, Bool, false, refl, sym, ap, append_assoc, append-nil, add-one, length, take, get_or, drop, arith}
+use Rattle.std.proofs.lemmas.List.{length-take-le, take-append-drop, take_more}
+use Rattle.std.proofs.lemmas.Bool.{ne_eqb}
+use Rattle.std.proofs.lemmas.Fmt.{decimal_is_IsNumeral}
+use Rattle.std.proofs.lemmas.Str.Parse.{digit_at}
+use Rattle.std.specs.List.{list_any}
+use Rattle.std.specs.Prelude.{codes, decimal}
+use Rattle.std.specs.Char.{digit_value}
+use Rattle.std.specs.Str.Parse.{AllDigits}
+use Rattle.csv.specs.Writing.{default_writer, field_text, fields_text, is_blank, needs_byte, needs_quotes, row_text}
+use Rattle.pram_io.specs.Transfer.{AppendsBeginning}
+use Rattle.pram_io.proofs.Beginnings.{beginning-longer}
+use Rattle.pram_run.specs.Printed.{kind_word, row_line, row_lines, trace_text}
+use Rattle.pram_run.specs.declared.trace.StepKind.{StepKind}
+use Rattle.pram_run.specs.declared.trace.StepKind.TheVariants.{Load, Store, Max, Swap}
+use Rattle.pram_run.specs.declared.trace.TraceRow.{TraceRow}
+
+-- the lines of some rows, and then of others
+pub lines-append : (tick : ℕ) (rows more : List TraceRow) → row_lines tick (rows ++ more) ≡ row_lines tick rows ++ row_lines (tick + length rows) more
+lines-append tick [] more =
+    let none : tick ≡ tick + 0 = omega arith in
+    ap (λ n. row_lines n more) none
+lines-append tick (row ∷ rows) more =
+    let count : tick + 1 + length rows ≡ tick + length (row ∷ rows) = omega arith in
+    ap (λ l. row_line (tick + 1) row ++ l) (lines-append (tick + 1) rows more ∙ ap (λ n. row_lines (tick + 1) rows ++ row_lines n more) count)
+    ∙ sym (append_assoc (row_line (tick + 1) row) (row_lines (tick + 1) rows) (row_lines (tick + length (row ∷ rows)) more))
+
+-- the lines of one row more
+pub lines-more : (rows : List TraceRow) (n : ℕ) (d : TraceRow) → n < length rows
+    → row_lines 0 (take (n + 1) rows) ≡ row_lines 0 (take n rows) ++ row_line (n + 1) (get_or rows n d)
+lines-more rows n d within =
+    let count : 0 + length (take n rows) ≡ n = omega (arith, length-take-le n rows (omega (arith, within))) in
+    ap (λ l. row_lines 0 l) (take_more rows n d within)
+    ∙ lines-append 0 (take n rows) (get_or rows n d ∷ [])
+    ∙ ap (λ k. row_lines 0 (take n rows) ++ row_lines k (get_or rows n d ∷ [])) count
+    ∙ ap (λ l. row_lines 0 (take n rows) ++ l) (append-nil (row_line (n + 1) (get_or rows n d)))
+
+-- a beginning of the trace of the first rows is one of the whole trace
+pub trace-begins : (a b : Option (List ℕ)) (rows : List TraceRow) (n : ℕ) → AppendsBeginning a b (trace_text (take n rows)) → AppendsBeginning a b (trace_text rows)
+trace-begins a b rows n begins =
+    let all = lines-append 0 (take n rows) (drop n rows) in
+    let whole = ap (λ l. trace_text l) (take-append-drop n rows) in
+    rw (sym whole, all) (beginning-longer a b (trace_text (take n rows)) (row_lines (0 + length (take n rows)) (drop n rows)) begins)
+
+digit-plain : (byte : ℕ) → digit_value byte < 10 → needs_byte default_writer byte ≡ false
+digit-plain byte digit =
+    let within = digit_at (byte ∷ []) 0 (digit, tt) (omega arith) in
+    rw (ne_eqb byte 44 (λ is. omega (arith, is, within)), ne_eqb byte 34 (λ is. omega (arith, is, within)), ne_eqb byte 13 (λ is. omega (arith, is, within)), ne_eqb byte 10 (λ is. omega (arith, is, within))) refl
+
+digits-plain : (digits : List ℕ) → AllDigits 10 digits → needs_quotes default_writer digits ≡ false
+digits-plain [] all = refl
+digits-plain (digit ∷ digits) (first, all) = rw (digit-plain digit first) (digits-plain digits all)
+
+pub decimal-plain : (n : ℕ) → n < 2 ^ 64 → field_text default_writer (decimal n) ≡ decimal n
+decimal-plain n fits = rw (digits-plain (decimal n) (decimal_is_IsNumeral n fits).0.1) refl
+
+kind-plain : (kind : StepKind) → field_text default_writer (kind_word kind) ≡ kind_word kind
+kind-plain Load = refl
+kind-plain Store = refl
+kind-plain Max = refl
+kind-plain Swap = refl
+
+-- a field that csv writes without quotes
+abbrev pub IsPlain : List ℕ → Type 0
+IsPlain field = field_text default_writer field ≡ field
+
+-- a row of such fields as csv writes it
+pub row-text : (tick worker word before after : List ℕ) (kind : StepKind) → IsPlain tick → IsPlain worker → IsPlain word → IsPlain before → IsPlain after
+    → row_text default_writer (tick ∷ worker ∷ kind_word kind ∷ word ∷ before ∷ after ∷ [])
+    ≡ tick ++ codes "," ++ worker ++ codes "," ++ kind_word kind ++ codes "," ++ word ++ codes "," ++ before ++ codes "," ++ after ++ codes "\n"
+unfolding fields_text is_blank
+row-text tick worker word before after kind ticks workers words befores afters =
+    rw (ticks, workers, kind-plain kind, words, befores, afters) (simp append_assoc)

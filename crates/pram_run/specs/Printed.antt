@@ -1,0 +1,26 @@
+-- The trace of a run, as text.
+use Rattle.std.specs.Prelude.{ℕ, ◌+◌, List, [], ◌∷◌, ◌++◌, codes, decimal}
+use Rattle.pram_run.specs.declared.trace.StepKind.{StepKind}
+use Rattle.pram_run.specs.declared.trace.StepKind.TheVariants.{Load, Store, Max, Swap}
+use Rattle.pram_run.specs.declared.trace.TraceRow.{TraceRow}
+
+abbrev pub kind_word : StepKind → List ℕ
+kind_word Load = codes "load"
+kind_word Store = codes "store"
+kind_word Max = codes "max"
+kind_word Swap = codes "swap"
+
+-- the line of a row
+abbrev pub row_line : ℕ → TraceRow → List ℕ
+row_line tick row = decimal tick ++ codes "," ++ decimal row.worker ++ codes ","
+    ++ kind_word row.kind ++ codes "," ++ decimal row.word ++ codes ","
+    ++ decimal row.before ++ codes "," ++ decimal row.after ++ codes "\n"
+
+-- a line for each row, the ticks counted on from one
+abbrev pub row_lines : ℕ → List TraceRow → List ℕ
+row_lines tick [] = []
+row_lines tick (row ∷ rows) = row_line (tick + 1) row ++ row_lines (tick + 1) rows
+
+-- the header, and a line for each row
+abbrev pub trace_text : List TraceRow → List ℕ
+trace_text rows = codes "tick,worker,op,word,before,after\n" ++ row_lines 0 rows

@@ -1,0 +1,164 @@
+//! Traces as text, written with `csv`.
+ghost use Rattle.std.specs.Prelude.{◌≡◌, ◌≤◌, ◌++◌, ◌↔◌, false, decimal, length, map, take, IfOk, OnOk, IsErrOf, IsTrue};
+ghost use Rattle.std.specs.Io.KnownBytes.{Appends};
+ghost use Rattle.csv.specs.Writing.{default_writer, field_text, row_text, text_written};
+ghost use Rattle.pram_io.specs.Transfer.{AppendsBeginning};
+ghost use Rattle.pram_run.specs.Inner.Printing.{IsBetweenRecords};
+ghost use Rattle.pram_run.specs.Printed.{kind_word, row_line, row_lines, trace_text};
+
+use crate::trace::{StepKind, Trace, TraceRow};
+use csv::{Error, Writer};
+use itoa::Buffer;
+use pram_io::{IntoWrite, PrintFault, Sink, put};
+use std::alloc::{AllocError, Global};
+use std::io::Write;
+
+/// The fields of a row.
+const HEADER: &str = "tick,worker,op,word,before,after\n";
+
+/// The most rows that are put into the sink at once.
+const PIECE: usize = 512;
+
+/// Prints the rows of a trace below a header, the ticks counted from 1. They go out piece by piece,
+/// so that the text of all of them never stands in memory. Where memory runs out, a beginning of
+/// it was printed, as where the sink fails.
+pub fn print_trace<W: Sink>(
+    alloc: Global,
+    sink: &mut W,
+    rows: &[TraceRow],
+) -> Result<(), PrintFault>
+    requires { W.has_failed sink.old ≡ false }
+    ensures ok { OnOk result (Appends (W.taken sink.old) (W.taken sink.new)
+        (trace_text rows.now)) }
+    ensures beginning { AppendsBeginning (W.taken sink.old) (W.taken sink.new)
+        (trace_text rows.now) }
+    ensures failed { IsTrue (W.has_failed sink.new) ↔ IsErrOf result PrintFault.Device }
+{
+    put(sink, HEADER.as_bytes())?;
+    let mut done = 0;
+    while done < rows.len() {
+        let end = rows.len().min(done.saturating_add(PIECE));
+        let lines = lines_between(alloc, rows, done, end)?;
+        put(sink, lines.as_slice())?;
+        done = end;
+    }
+    Ok(())
+}
+
+// The lines of the rows from one place up to another.
+fn lines_between(
+    alloc: Global,
+    rows: &[TraceRow],
+    start: usize,
+    end: usize,
+) -> Result<Vec<u8>, AllocError>
+    requires from { start ≤ end }
+    requires to { end ≤ length rows.now }
+    ensures { IfOk result (λ lines. row_lines 0 (take start rows.now) ++ lines.items
+        ≡ row_lines 0 (take end rows.now)) }
+{
+    let mut writer = Writer::from_writer(Vec::new(alloc));
+    for place in start..end {
+        let Ok(()) = write_row(&mut writer, place as u64 + 1, &rows[place]) else {
+            return Err(AllocError);
+        };
+    }
+    match writer.into_inner() {
+        Ok(lines) => Ok(lines),
+        Err(_) => Err(AllocError),
+    }
+}
+
+// The fields of a row are numbers and words, which csv writes without quotes.
+fn write_row<W: Write + Drop>(
+    writer: &mut Writer<W>,
+    tick: u64,
+    row: &TraceRow,
+) -> Result<(), Error>
+    requires { IsBetweenRecords writer.old }
+    ensures between { OnOk result (IsBetweenRecords writer.new) }
+    ensures text { OnOk result (Appends (text_written W.contents writer.old)
+        (text_written W.contents writer.new) (row_line tick row.now)) }
+{
+    let mut ticks = Buffer::new();
+    let mut workers = Buffer::new();
+    let mut words = Buffer::new();
+    let mut befores = Buffer::new();
+    let mut afters = Buffer::new();
+    write_record(
+        writer,
+        &[
+            number_text(&mut ticks, tick),
+            number_text(&mut workers, u64::from(row.worker)),
+            kind_name(row.kind).as_bytes(),
+            number_text(&mut words, u64::from(row.word)),
+            number_text(&mut befores, row.before),
+            number_text(&mut afters, row.after),
+        ],
+    )
+}
+
+fn write_record<W: Write + Drop>(writer: &mut Writer<W>, fields: &[&[u8]]) -> Result<(), Error>
+    requires { IsBetweenRecords writer.old }
+    ensures between { OnOk result (IsBetweenRecords writer.new) }
+    ensures text { OnOk result (Appends (text_written W.contents writer.old)
+        (text_written W.contents writer.new)
+        (row_text default_writer (map (λ f. f.now) fields.now))) }
+{
+    writer.write_fields(fields)
+}
+
+fn number_text(buffer: &mut Buffer, number: u64) -> &[u8]
+    ensures value { result.now ≡ decimal number }
+    ensures plain { field_text default_writer result.now ≡ result.now }
+{
+    buffer.format(number).as_bytes()
+}
+
+fn kind_name(kind: StepKind) -> &'static str
+    ensures { result.now ≡ kind_word kind }
+{
+    match kind {
+        StepKind::Load => "load",
+        StepKind::Store => "store",
+        StepKind::Max => "max",
+        StepKind::Swap => "swap",
+    }
+}
+
+/// Why a trace was not written.
+#[derive(Clone, Copy, Debug, PartialEq, Eq)]
+pub enum OutFault {
+    /// The writer failed.
+    Device,
+    /// Memory ran out.
+    Memory,
+}
+
+impl From<PrintFault> for OutFault {
+    ghost from_gives = { λ fault made. made ≡ fault_of_print fault };
+
+    ghost use Rattle.pram_run.specs.Inner.Printing.{fault_of_print};
+
+    fn from(fault: PrintFault) -> OutFault {
+        match fault {
+            PrintFault::Device => OutFault::Device,
+            PrintFault::Memory => OutFault::Memory,
+        }
+    }
+}
+
+/// Writes a trace as `print_trace` prints it, and flushes the writer. After a fault a beginning of
+/// the trace may stand written.
+pub fn write_trace<W: Write + Drop>(alloc: Global, trace: &Trace, out: W) -> Result<W, OutFault>
+    ensures { IfOk result (λ written. Appends (W.contents out) (W.contents written)
+        (trace_text trace.now)) }
+{
+    let mut sink = IntoWrite::new(out);
+    print_trace(alloc, &mut sink, trace.rows())?;
+    let mut out = sink.into_inner();
+    match out.flush() {
+        Ok(()) => Ok(out),
+        Err(_) => Err(OutFault::Device),
+    }
+}
