@@ -86,22 +86,22 @@ allows t slots id me op k f then live does tells may s holds homes at range =
 pub loading : (t : Task) (slots id : ℕ) (me : M) (k : ℕ) → me.0.live ≡ true → May t me.0.heard (Load k)
     → Allows (Holds t) slots id me k (λ n. n) (Loaded (step slots k 0 0 none) me)
 loading t slots id me k live may =
-    allows t slots id me (Load k) k (λ n. n) (Loaded (step slots k 0 0 none) me) live (λ words. sym (set-get_or words k 0)) (λ words now h. h) may.2
+    allows t slots id me (Load k) k (λ n. n) (Loaded (step slots k 0 0 none) me) live (λ words. sym (set-get_or words k 0)) (λ words now h. h) may.1
 
 pub storing : (t : Task) (slots id : ℕ) (me : M) (k value : ℕ) → me.0.live ≡ true → May t me.0.heard (Store k value)
     → Allows (Holds t) slots id me k (λ _. value) (λ _. Stored (step slots k value 0 none) me value)
 storing t slots id me k value live may =
-    allows t slots id me (Store k value) k (λ _. value) (λ _. Stored (step slots k value 0 none) me value) live (λ words. refl) (λ words now h. h) may.2
+    allows t slots id me (Store k value) k (λ _. value) (λ _. Stored (step slots k value 0 none) me value) live (λ words. refl) (λ words now h. h) may.1
 
 pub raising : (t : Task) (slots id : ℕ) (me : M) (k value : ℕ) → me.0.live ≡ true → May t me.0.heard (Max k value)
     → Allows (Holds t) slots id me k (λ n. max n value) (Raised (step slots k value 0 none) me)
 raising t slots id me k value live may =
-    allows t slots id me (Max k value) k (λ n. max n value) (Raised (step slots k value 0 none) me) live (λ words. refl) (λ words now h. h) may.2
+    allows t slots id me (Max k value) k (λ n. max n value) (Raised (step slots k value 0 none) me) live (λ words. refl) (λ words now h. h) may.1
 
 pub swapping : (t : Task) (slots id : ℕ) (me : M) (k old new : ℕ) → me.0.live ≡ true → May t me.0.heard (Swap k old new)
     → Allows (Holds t) slots id me k (λ n. either (n == old) new n) (Swapped (step slots k old new none) me)
 swapping t slots id me k old new live may =
-    allows t slots id me (Swap k old new) k (λ n. either (n == old) new n) (Swapped (step slots k old new none) me) live (λ words. refl) (λ words now h. h) may.2
+    allows t slots id me (Swap k old new) k (λ n. either (n == old) new n) (Swapped (step slots k old new none) me) live (λ words. refl) (λ words now h. h) may.1
 
 -- what a seat may do, said of what lies inside the seat
 pub may_as : (key t : Task) (r q : Record) (op o : Op) → key ≡ t → r ≡ q → op ≡ o → May t q op → May key r o

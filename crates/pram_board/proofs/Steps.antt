@@ -16,7 +16,7 @@ use Rattle.lawful_words.specs.Moments.{Backed, Moment, Sound, WasBacked}
 use Rattle.lawful_words.proofs.Moments.{load_keeps}
 use Rattle.lawful_words.proofs.Starting.{starts_stand}
 use Rattle.walk_laws.proofs.Staying.{answer_admitted}
-use Rattle.walk_laws.proofs.Turns.{all_f}
+use Rattle.walk_laws.proofs.Turns.{workers_keep}
 use Rattle.pram_board.specs.declared.task.Task.{Task}
 use Rattle.pram_board.specs.Rules.{May}
 
@@ -34,7 +34,7 @@ may_load t r k below = (below, λ words stands backed. load_keeps t.job t.layout
 
 pub may_step : (t : Task) (r : Record) (w : Walking) → Fits t.job t.layout w → Knows t.job t.layout r w → IsStepOn t.layout (ask_of t.job t.layout w) → May t r (ask_of t.job t.layout w)
 may_step t r w fits knows is =
-    (is, λ words stands backed. ((all_f t.job t.layout r w words stands fits knows backed).goes).keeps)
+    (is, λ words stands backed. ((workers_keep t.job t.layout r w words stands fits knows backed).goes).keeps)
 
 -- ---- what is heard
 

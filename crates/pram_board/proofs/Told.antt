@@ -9,7 +9,7 @@ use Rattle.walkx.specs.Doing.{Doing}
 use Rattle.walkx.specs.Doing as doing
 use Rattle.walkx.specs.Reads.{step_seen}
 use Rattle.walkx.specs.Records.{Record, after, Knows}
-use Rattle.walkx.specs.Walk.{Walking, Fits, ask_of, told, end_of}
+use Rattle.walkx.specs.Walk.{Walking, Fits, IsGoing, ask_of, told, end_of}
 use Rattle.walkx.proofs.Knowing.{knows_next}
 use Rattle.lawful_words.specs.Moments.{Sound}
 use Rattle.walk_laws.specs.Walks.{ProgressWell}
@@ -18,6 +18,12 @@ use Rattle.pram_board.specs.declared.look.Progress.{Progress}
 use Rattle.pram_board.specs.declared.task.Task.{Task}
 use Rattle.pram_board.specs.Seats.{Place, hears, Progressed}
 use Rattle.pram_board.specs.Worked.{EndShows, Ticked}
+
+pub going_of : (d : Doing) → end_of d ≡ None → IsGoing d
+going_of doing.Back e = tt
+going_of doing.Begin e = tt
+going_of (doing.Turn q) e = tt
+going_of (doing.Over x) e = absurd (cc)
 
 -- it stays known
 pub knows_told : (t : Task) (p : Place) (w : Walking) (q : Place) (now : Walking) → Ticked t p w q now → Fits t.job t.layout w → Knows t.job t.layout p.record_of w → Knows t.job t.layout q.record_of now

@@ -10,10 +10,9 @@ use Rattle.pram_step.specs.declared.requests.Request.{Request}
 use Rattle.pram_step.specs.Machine.{State, place_count, counter_place}
 use Rattle.pram_step.specs.Steps.{written, first_written, after_requests}
 use Rattle.pram_step.specs.Inner.Marks.{Puts, AreMarked, AreOwn}
-use Rattle.pram_step.proofs.RequestList.{slice_get-take, written_of_put, written_cases}
+use Rattle.pram_step.proofs.RequestList.{request_at, slice_get-take, written_of_put, written_cases}
 use Rattle.pram_step.proofs.LawFixed.{length-after}
 use Rattle.pram_step.proofs.LawNext.{after_at}
-use Rattle.pram_step.proofs.Passing.{request_at}
 
 -- ---- options
 

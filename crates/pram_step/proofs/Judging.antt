@@ -1,15 +1,14 @@
 -- One request more: what stays of the marks and of the dispute, and what is new.
-use Rattle.std.proofs.Common.{◌≡◌, ◌≢◌, ℕ, ◌<◌, ◌≤◌, ◌⊎◌, List, [], ◌∷◌, ◌++◌, length, Option, Some, None, MatchOption, refl, sym, ◌∙◌, inl, inr, subst, arith}
-use Rattle.std.proofs.lemmas.Option.{same_Some, slice_get_within, some_pair_parts}
+use Rattle.std.proofs.Common.{◌≡◌, ◌≢◌, ℕ, ◌+◌, ◌<◌, ◌≤◌, ◌⊎◌, List, length, take, Option, Some, None, MatchOption, refl, sym, ◌∙◌, inl, inr, subst, arith}
+use Rattle.std.proofs.lemmas.Option.{same_Some, some_pair_parts}
 use Rattle.pram_text.specs.Job.{JobData}
 use Rattle.pram_text.specs.declared.instr.Rule.{Rule}
 use Rattle.pram_text.specs.declared.instr.Rule.TheVariants.{Common, Priority, Crew}
 use Rattle.pram_step.specs.declared.answer.Dispute.{Dispute}
 use Rattle.pram_step.specs.declared.requests.Request.{Request}
-use Rattle.pram_step.specs.Steps.{written, Writes, Forbids, Clashes, IsDispute}
-use Rattle.pram_step.specs.Inner.Marks.{Puts}
-use Rattle.pram_step.specs.Steps.{IsVerdict}
-use Rattle.pram_step.proofs.RequestList.{slice_get-append_left, slice_get-push, slice_get_of_push, Puts-from_Writes, Writes-from_Puts, put_of_written, written_of_put}
+use Rattle.pram_step.specs.Steps.{written, Writes, Forbids, Clashes, IsDispute, IsVerdict}
+use Rattle.pram_step.specs.Inner.Marks.{Puts, PutsFirst, PutsNone}
+use Rattle.pram_step.proofs.RequestList.{request_at, slice_get_below, slice_get_last, slice_get_earlier, slice_get_more, Puts-from_Writes, Writes-from_Puts, put_of_written, written_of_put}
 
 -- ---- what the rules forbid
 
@@ -30,34 +29,34 @@ Forbids_through Priority m w n v k u apart may h = h
 Forbids_through Crew m w n v k u apart may h = absurd (may apart)
 
 -- the last request clashes at the cell with an earlier one
-pub record ClashesNow (job : JobData) (before : List Request) (r : Request) (cell : ℕ) : Type 0 where
+pub record ClashesNow (job : JobData) (requests : List Request) (m cell : ℕ) : Type 0 where
   pub value : ℕ
   pub beside : ℕ
   pub other : ℕ
-  pub now : written job cell (length before) r ≡ Some value
-  pub writes : Writes job before cell beside other
-  pub forbidden : Forbids job.rule (length before) value beside other
+  pub now : written job cell m (request_at requests m) ≡ Some value
+  pub writes : Writes job (take m requests) cell beside other
+  pub forbidden : Forbids job.rule m value beside other
 
-module _ (job : JobData) (before : List Request) (r : Request) where
+module _ (requests : List Request) (m : ℕ) (inside : m < length requests) (job : JobData) where
   -- an old write is there still
-  Writes_more : (p i v : ℕ) → Writes job before p i v → Writes job (before ++ r ∷ []) p i v
-  Writes_more p i v w = record { request = w.request; asked = slice_get-append_left before (r ∷ []) i w.request w.asked; writes = w.writes }
+  Writes_more : (p i v : ℕ) → Writes job (take m requests) p i v → Writes job (take (m + 1) requests) p i v
+  Writes_more p i v w = record { request = w.request; asked = slice_get_more requests m inside i w.request w.asked; writes = w.writes }
 
-  Writes_last : (p v : ℕ) → written job p (length before) r ≡ Some v → Writes job (before ++ r ∷ []) p (length before) v
-  Writes_last p v h = record { request = r; asked = slice_get-push before r; writes = h }
+  Writes_last : (p v : ℕ) → written job p m (request_at requests m) ≡ Some v → Writes job (take (m + 1) requests) p m v
+  Writes_last p v h = record { request = request_at requests m; asked = slice_get_last requests m inside; writes = h }
 
   -- a write is an old one, or that of the last processor
-  Writes_split : (p i v : ℕ) → Writes job (before ++ r ∷ []) p i v → (Writes job before p i v) ⊎ ((i ≡ length before) × (written job p (length before) r ≡ Some v))
+  Writes_split : (p i v : ℕ) → Writes job (take (m + 1) requests) p i v → (Writes job (take m requests) p i v) ⊎ ((i ≡ m) × (written job p m (request_at requests m) ≡ Some v))
   Writes_split p i v w =
-      elim (slice_get_of_push before r i w.request w.asked) [
+      elim (slice_get_earlier requests m inside i w.request w.asked) [
         | inl old ↦ inl (record { request = w.request; asked = old; writes = w.writes })
-        | inr new ↦ inr (new.0, subst (λ k. written job p k r ≡ Some v) new.0 (subst (λ q. written job p i q ≡ Some v) (sym new.1) w.writes))
+        | inr new ↦ inr (new.0, subst (λ k. written job p k (request_at requests m) ≡ Some v) new.0 (subst (λ q. written job p i q ≡ Some v) (sym new.1) w.writes))
       ]
 
-  Writes_below : (p i v : ℕ) → Writes job before p i v → i < length before
-  Writes_below p i v w = slice_get_within before i w.request w.asked
+  Writes_below : (p i v : ℕ) → Writes job (take m requests) p i v → i < m
+  Writes_below p i v w = slice_get_below requests m inside i w.request w.asked
 
-  Clashes_more : (cell i j : ℕ) → Clashes job before cell i j → Clashes job (before ++ r ∷ []) cell i j
+  Clashes_more : (cell i j : ℕ) → Clashes job (take m requests) cell i j → Clashes job (take (m + 1) requests) cell i j
   Clashes_more cell i j c = record {
     value = c.value;
     other = c.other;
@@ -67,7 +66,7 @@ module _ (job : JobData) (before : List Request) (r : Request) where
     forbidden = c.forbidden;
   }
 
-  Clashes_split : (cell i j : ℕ) → Clashes job (before ++ r ∷ []) cell i j → (Clashes job before cell i j) ⊎ ClashesNow job before r cell
+  Clashes_split : (cell i j : ℕ) → Clashes job (take (m + 1) requests) cell i j → (Clashes job (take m requests) cell i j) ⊎ ClashesNow job requests m cell
   Clashes_split cell i j c =
       elim (Writes_split cell i c.value c.writes) [
         | inl old ↦
@@ -99,8 +98,8 @@ module _ (job : JobData) (before : List Request) (r : Request) where
             ]
       ]
 
-  -- two earlier processors clashed before
-  Clashes_old : (cell i j : ℕ) → Clashes job (before ++ r ∷ []) cell i j → i < length before → j < length before → Clashes job before cell i j
+  -- two earlier processors clashed (take m requests)
+  Clashes_old : (cell i j : ℕ) → Clashes job (take (m + 1) requests) cell i j → i < m → j < m → Clashes job (take m requests) cell i j
   Clashes_old cell i j c low low' = record {
     value = c.value;
     other = c.other;
@@ -113,9 +112,9 @@ module _ (job : JobData) (before : List Request) (r : Request) where
   -- the verdict stands if whatever the last request clashes at is no lesser cell than the dispute's
   pub IsVerdict_stays :
       (found : Option Dispute)
-      → IsVerdict job before found
-      → ((cell : ℕ) → cell < job.cells → ClashesNow job before r cell → MatchOption found ⊥ (λ d. d.cell ≤ cell))
-      → IsVerdict job (before ++ r ∷ []) found
+      → IsVerdict job (take m requests) found
+      → ((cell : ℕ) → cell < job.cells → ClashesNow job requests m cell → MatchOption found ⊥ (λ d. d.cell ≤ cell))
+      → IsVerdict job (take (m + 1) requests) found
   IsVerdict_stays None agrees later = λ cell i j c. elim (Clashes_split cell i j c) [ inl old ↦ agrees cell i j old | inr now ↦ later cell c.is_cell now ]
   IsVerdict_stays (Some d) dispute later = record {
     clash = Clashes_more d.cell d.first d.second dispute.clash;
@@ -135,78 +134,81 @@ module _ (job : JobData) (before : List Request) (r : Request) where
   -- ---- the ways that the last request can go
 
   -- it has no data for a cell
-  pub IsVerdict_no_cell : (found : Option Dispute) → ((cell v : ℕ) → cell < job.cells → r.put ≡ Some (cell, v) → ⊥) → IsVerdict job before found → IsVerdict job (before ++ r ∷ []) found
+  pub IsVerdict_no_cell : (found : Option Dispute) → ((cell v : ℕ) → cell < job.cells → (request_at requests m).put ≡ Some (cell, v) → ⊥) → IsVerdict job (take m requests) found → IsVerdict job (take (m + 1) requests) found
   IsVerdict_no_cell found none verdict =
-      IsVerdict_stays found verdict (λ cell low now. absurd (none cell now.value low (put_of_written job cell (length before) now.value r low now.now)))
+      IsVerdict_stays found verdict (λ cell low now. absurd (none cell now.value low (put_of_written job cell m now.value (request_at requests m) low now.now)))
 
   -- it is the first to write to its cell
   pub IsVerdict_first :
       (found : Option Dispute) (cell v : ℕ)
-      → r.put ≡ Some (cell, v)
-      → ((i w : ℕ) → Puts before cell i w → ⊥)
-      → IsVerdict job before found
-      → IsVerdict job (before ++ r ∷ []) found
+      → (request_at requests m).put ≡ Some (cell, v)
+      → PutsNone (take m requests) cell
+      → IsVerdict job (take m requests) found
+      → IsVerdict job (take (m + 1) requests) found
   IsVerdict_first found cell v puts first verdict = IsVerdict_stays found verdict (λ cell' low now.
-      let same = (some_pair_parts cell cell' v now.value (sym puts ∙ put_of_written job cell' (length before) now.value r low now.now)).0 in
-      absurd (first now.beside now.other (subst (λ c. Puts before c now.beside now.other) (sym same) (Puts-from_Writes job before cell' now.beside now.other low now.writes))))
+      let same = (some_pair_parts cell cell' v now.value (sym puts ∙ put_of_written job cell' m now.value (request_at requests m) low now.now)).0 in
+      absurd (first now.beside now.other (subst (λ c. Puts (take m requests) c now.beside now.other) (sym same) (Puts-from_Writes job (take m requests) cell' now.beside now.other low now.writes))))
 
-  module _ (cell v first w : ℕ) (is_cell : cell < job.cells) (puts : r.put ≡ Some (cell, v)) (writes : Puts before cell first w) (least : (i u : ℕ) → Puts before cell i u → first ≤ i) where
+  module _ (cell v first w : ℕ) (is_cell : cell < job.cells) (puts : (request_at requests m).put ≡ Some (cell, v)) (earlier : PutsFirst (take m requests) cell first w) where
     -- a clash of the last processor is at this cell, with this value
-    is_here : (cell' : ℕ) → cell' < job.cells → (now : ClashesNow job before r cell') → (cell ≡ cell') × (v ≡ now.value)
-    is_here cell' low now = some_pair_parts cell cell' v now.value (sym puts ∙ put_of_written job cell' (length before) now.value r low now.now)
+    is_here : (cell' : ℕ) → cell' < job.cells → (now : ClashesNow job requests m cell') → (cell ≡ cell') × (v ≡ now.value)
+    is_here cell' low now = some_pair_parts cell cell' v now.value (sym puts ∙ put_of_written job cell' m now.value (request_at requests m) low now.now)
 
-    first_below : first < length before
-    first_below = slice_get_within before first writes.request writes.asked
+    first_below : first < m
+    first_below = slice_get_below requests m inside first earlier.puts.request earlier.puts.asked
 
-    first_writes : Writes job before cell first w
-    first_writes = Writes-from_Puts job before cell first w is_cell writes
+    first_apart : first ≢ m
+    first_apart e = omega (arith, first_below)
+
+    first_writes : Writes job (take m requests) cell first w
+    first_writes = Writes-from_Puts job (take m requests) cell first w is_cell earlier.puts
 
     -- where the rule allows it beside the least writer, a clash with another is one of that writer with the other
-    clashed_before : (Forbids job.rule first w (length before) v → ⊥) → (cell' : ℕ) → cell' < job.cells → (now : ClashesNow job before r cell') → Clashes job before cell' first now.beside
+    clashed_before : ((k n : ℕ) → k ≢ n → Forbids job.rule k w n v → ⊥) → (cell' : ℕ) → cell' < job.cells → (now : ClashesNow job requests m cell') → Clashes job (take m requests) cell' first now.beside
     clashed_before may cell' low now =
         let here = is_here cell' low now in
-        let forbidden = subst (λ u. Forbids job.rule (length before) u now.beside now.other) (sym here.1) now.forbidden in
+        let forbidden = subst (λ u. Forbids job.rule m u now.beside now.other) (sym here.1) now.forbidden in
         record {
           value = w;
           other = now.other;
           is_cell = low;
-          writes = subst (λ c. Writes job before c first w) here.0 first_writes;
+          writes = subst (λ c. Writes job (take m requests) c first w) here.0 first_writes;
           writes_too = now.writes;
-          forbidden = Forbids_through job.rule first w (length before) v now.beside now.other (λ e. omega (arith, first_below)) may forbidden;
+          forbidden = Forbids_through job.rule first w m v now.beside now.other first_apart (may first m first_apart) forbidden;
         }
 
     -- the rule allows it beside the cell's least writer
     pub IsVerdict_allowed :
-        (found : Option Dispute) → (Forbids job.rule first w (length before) v → ⊥) → IsVerdict job before found → IsVerdict job (before ++ r ∷ []) found
+        (found : Option Dispute) → ((k n : ℕ) → k ≢ n → Forbids job.rule k w n v → ⊥) → IsVerdict job (take m requests) found → IsVerdict job (take (m + 1) requests) found
     IsVerdict_allowed None may agrees =
         IsVerdict_stays None agrees (λ cell' low now. agrees cell' first now.beside (clashed_before may cell' low now))
     IsVerdict_allowed (Some d) may dispute =
         IsVerdict_stays (Some d) dispute (λ cell' low now. dispute.least_cell cell' first now.beside (clashed_before may cell' low now))
 
     -- a dispute was found at this cell or a lesser one
-    pub IsVerdict_later : (d : Dispute) → d.cell ≤ cell → IsVerdict job before (Some d) → IsVerdict job (before ++ r ∷ []) (Some d)
+    pub IsVerdict_later : (d : Dispute) → d.cell ≤ cell → IsVerdict job (take m requests) (Some d) → IsVerdict job (take (m + 1) requests) (Some d)
     IsVerdict_later d lesser dispute = IsVerdict_stays (Some d) dispute (λ cell' low now. let here = is_here cell' low now in omega (arith, here.0))
 
     -- it is a dispute, and none was at this cell or a lesser one before
     new_dispute :
-        Forbids job.rule first w (length before) v
-        → ((cell' i j : ℕ) → Clashes job before cell' i j → cell < cell')
-        → IsDispute job (before ++ r ∷ []) (record { cell = cell; first = first; second = length before })
+        ((k n : ℕ) → k ≢ n → Forbids job.rule k w n v)
+        → ((cell' i j : ℕ) → Clashes job (take m requests) cell' i j → cell < cell')
+        → IsDispute job (take (m + 1) requests) (record { cell = cell; first = first; second = m })
     new_dispute forbidden above = record {
       clash = record {
         value = w;
         other = v;
         is_cell = is_cell;
         writes = Writes_more cell first w first_writes;
-        writes_too = Writes_last cell v (written_of_put job cell (length before) v r (λ same. omega arith) puts);
-        forbidden = forbidden;
+        writes_too = Writes_last cell v (written_of_put job cell m v (request_at requests m) (λ same. omega arith) puts);
+        forbidden = forbidden first m first_apart;
       };
       least_cell = λ cell' i j c.
           elim (Clashes_split cell' i j c) [
             | inl old ↦ let far = above cell' i j old in omega arith
             | inr now ↦ let here = is_here cell' c.is_cell now in omega (arith, here.0)
           ];
-      least_first = λ i u c. elim (Writes_split cell i u c) [ inl old ↦ least i u (Puts-from_Writes job before cell i u is_cell old) | inr new ↦ omega (arith, new.0, first_below) ];
+      least_first = λ i u c. elim (Writes_split cell i u c) [ inl old ↦ earlier.least i u (Puts-from_Writes job (take m requests) cell i u is_cell old) | inr new ↦ omega (arith, new.0, first_below) ];
       least_second = λ j c.
           elim (Writes_split cell j c.other c.writes_too) [
             | inl old ↦ let far = above cell first j (Clashes_old cell first j c first_below (Writes_below cell j c.other old)) in absurd (omega arith)
@@ -216,10 +218,10 @@ module _ (job : JobData) (before : List Request) (r : Request) where
 
     pub IsVerdict_new :
         (found : Option Dispute)
-        → Forbids job.rule first w (length before) v
+        → ((k n : ℕ) → k ≢ n → Forbids job.rule k w n v)
         → MatchOption found (Unit {0}) (λ d. cell < d.cell)
-        → IsVerdict job before found
-        → IsVerdict job (before ++ r ∷ []) (Some (record { cell = cell; first = first; second = length before }))
+        → IsVerdict job (take m requests) found
+        → IsVerdict job (take (m + 1) requests) (Some (record { cell = cell; first = first; second = m }))
     IsVerdict_new None forbidden lesser agrees = new_dispute forbidden (λ cell' i j c. absurd (agrees cell' i j c))
     IsVerdict_new (Some d) forbidden lesser dispute =
         new_dispute forbidden (λ cell' i j c. let least_of_all = dispute.least_cell cell' i j c in omega arith)

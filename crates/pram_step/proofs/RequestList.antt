@@ -1,37 +1,47 @@
 -- Lists of requests, and their writers.
-use Rattle.std.proofs.Common.{◌≡◌, ◌≢◌, ℕ, zero, suc, ◌<◌, ◌⊎◌, eqb, cond, List, [], ◌∷◌, ◌++◌, length, take, Option, Some, None, refl, sym, ap, ap₂, inl, inr, arith}
+use Rattle.std.proofs.Common.{◌≡◌, ◌≢◌, ℕ, zero, suc, ◌+◌, ◌<◌, ◌⊎◌, eqb, cond, List, [], ◌∷◌, length, take, get_or, Option, Some, None, refl, sym, ap₂, ◌∙◌, subst, inl, inr, arith, length-take-le}
 use Rattle.std.specs.Prelude.{slice_get}
-use Rattle.std.proofs.lemmas.Bool.{eq-eqb, ne_eqb, eqb-true, cases_Bool}
-use Rattle.std.proofs.lemmas.Option.{none-some, same_Some}
+use Rattle.std.proofs.lemmas.Bool.{cases_eq, eq-eqb, ne_eqb, eqb-true, cases_Bool}
+use Rattle.std.proofs.lemmas.Option.{none-some, same_Some, slice_get-get_or, slice_get_within}
 use Rattle.pram_text.specs.Job.{JobData}
 use Rattle.pram_step.specs.declared.requests.Request.{Request}
 use Rattle.pram_step.specs.Machine.{counter_place}
 use Rattle.pram_step.specs.Steps.{written, Writes}
 use Rattle.pram_step.specs.Inner.Marks.{Puts}
 
--- ---- the elements of a list that got one more
-
-pub slice_get-append_left : {X : Type 0} (xs ys : List X) (i : ℕ) (x : X) → slice_get xs i ≡ Some x → slice_get (xs ++ ys) i ≡ Some x
-slice_get-append_left [] ys i x h = absurd (none-some x h)
-slice_get-append_left (y ∷ xs) ys zero x h = h
-slice_get-append_left (y ∷ xs) ys (suc i) x h = slice_get-append_left xs ys i x h
-
-pub slice_get-push : {X : Type 0} (xs : List X) (x : X) → slice_get (xs ++ x ∷ []) (length xs) ≡ Some x
-slice_get-push [] x = refl
-slice_get-push (y ∷ xs) x = slice_get-push xs x
-
--- an element of the longer list is one of the shorter, or the new one
-pub slice_get_of_push : {X : Type 0} (xs : List X) (x : X) (i : ℕ) (y : X) → slice_get (xs ++ x ∷ []) i ≡ Some y → (slice_get xs i ≡ Some y) ⊎ ((i ≡ length xs) × (x ≡ y))
-slice_get_of_push [] x zero y h = inr (refl, same_Some x y h)
-slice_get_of_push [] x (suc i) y h = absurd (none-some y h)
-slice_get_of_push (z ∷ xs) x zero y h = inl h
-slice_get_of_push (z ∷ xs) x (suc i) y h = elim (slice_get_of_push xs x i y h) [ inl old ↦ inl old | inr new ↦ inr (ap suc new.0, new.1) ]
+-- ---- the front of a list, and with one element more
 
 pub slice_get-take : {X : Type 0} (n : ℕ) (xs : List X) (i : ℕ) → i < n → slice_get (take n xs) i ≡ slice_get xs i
 slice_get-take zero xs i h = absurd (omega arith)
 slice_get-take (suc n) [] i h = refl
 slice_get-take (suc n) (x ∷ xs) zero h = refl
 slice_get-take (suc n) (x ∷ xs) (suc i) h = slice_get-take n xs i (omega arith)
+
+-- as code reads it
+abbrev pub request_at : List Request → ℕ → Request
+request_at requests i = get_or requests i (record { put = None; next = 0 })
+
+module _ (requests : List Request) (m : ℕ) (inside : m < length requests) where
+  pub slice_get_below : (i : ℕ) (r : Request) → slice_get (take m requests) i ≡ Some r → i < m
+  slice_get_below i r h = subst (λ n. i < n) (length-take-le m requests (omega arith)) (slice_get_within (take m requests) i r h)
+
+  pub slice_get_more : (i : ℕ) (r : Request) → slice_get (take m requests) i ≡ Some r → slice_get (take (m + 1) requests) i ≡ Some r
+  slice_get_more i r h =
+      let low = slice_get_below i r h in
+      slice_get-take (m + 1) requests i (omega arith) ∙ sym (slice_get-take m requests i low) ∙ h
+
+  pub slice_get_last : slice_get (take (m + 1) requests) m ≡ Some (request_at requests m)
+  slice_get_last = slice_get-take (m + 1) requests m (omega arith) ∙ slice_get-get_or requests m (record { put = None; next = 0 }) inside
+
+  -- an element of the longer front is one of the shorter, or the new one
+  pub slice_get_earlier : (i : ℕ) (r : Request) → slice_get (take (m + 1) requests) i ≡ Some r → (slice_get (take m requests) i ≡ Some r) ⊎ ((i ≡ m) × (request_at requests m ≡ r))
+  slice_get_earlier i r h = elim (cases_eq i m) [
+    | inl same ↦ inr (same, same_Some (request_at requests m) r (sym slice_get_last ∙ subst (λ n. slice_get (take (m + 1) requests) n ≡ Some r) same h))
+    | inr apart ↦
+        let below : i < m + 1 = subst (λ n. i < n) (length-take-le (m + 1) requests (omega arith)) (slice_get_within (take (m + 1) requests) i r h) in
+        let low : i < m = omega arith in
+        inl (slice_get-take m requests i low ∙ sym (slice_get-take (m + 1) requests i below) ∙ h)
+  ]
 
 -- ---- writes to cells are data
 

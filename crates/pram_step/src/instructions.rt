@@ -1,5 +1,6 @@
 //! The table of the fifteen instructions: what each reads, and what it asks for.
-ghost use Rattle.std.specs.Prelude.{◌≡◌, ℕ, ◌+◌, ◌^◌, ◌<◌, length, All};
+ghost use Rattle.std.specs.Prelude.{◌≡◌, ℕ, ◌+◌, ◌^◌, ◌<◌, List, [], ◌∷◌, length, slice_index};
+ghost use Rattle.std.specs.Prelude.{All, Option, Some};
 ghost use Rattle.pram_text.specs.Job.{IsInstr};
 ghost use Rattle.pram_step.specs.Instructions.{operands_of, listed, cell_read};
 ghost use Rattle.pram_step.specs.Instructions.{gives, goes_to, decided, HasShape};
@@ -48,10 +49,96 @@ pub fn cell_read(job: &Job, instr: Instr, address: u32) -> Option<u32>
     }
 }
 
+/// Where the operands of an instruction, and the cell that it reads, are looked up.
+pub(crate) trait Held {
+    /// What operand k holds, the operands being these registers.
+    ghost operand: { Self → List ℕ → ℕ → ℕ };
+
+    /// What is read from this cell, or from none.
+    ghost cell: { Self → Option ℕ → ℕ };
+
+    /// How many cells there are.
+    ghost cells: { Self → ℕ };
+
+    /// What the first operand holds.
+    fn first(&self, register: u8) -> u32
+        requires { register < 4 }
+        ensures { (rest : List ℕ) → result ≡ operand self.now (register ∷ rest) 0 };
+
+    /// What the second operand holds.
+    fn second(&self, register: u8) -> u32
+        requires { register < 4 }
+        ensures { (r : ℕ) (rest : List ℕ) → result ≡ operand self.now (r ∷ register ∷ rest) 1 };
+
+    /// What the cell holds.
+    fn cell(&self, address: u32) -> u32
+        requires { address < cells self.now }
+        ensures { result ≡ cell self.now (Some address) };
+}
+
+/// What a processor asks for by the instruction at its counter. Only what the instruction reads is
+/// looked up.
+#[inline(always)]
+#[tactic(auto, unfolding(crate::specs::Instructions::decided))]
+pub(crate) fn decide<H: Held>(
+    job: &Job,
+    processor: u32,
+    counter: u32,
+    instr: Instr,
+    held: &H,
+) -> Request
+    requires processor { processor < job.now.procs }
+    requires counter { counter < length job.now.code }
+    requires instr { IsInstr (length job.now.code) instr }
+    requires cells { H.cells held.now ≡ job.now.cells }
+    ensures { result ≡ decided job.now processor counter instr
+        (H.operand held.now (operands_of instr) 0) (H.operand held.now (operands_of instr) 1)
+        (H.cell held.now (cell_read job.now instr (H.operand held.now (operands_of instr) 0))) }
+{
+    let past_code = job.code().len() as u32;
+    let out_of_range = goes_to(past_code + 1);
+    let gives = |r, value| gives(job, processor, counter, r, value);
+    match instr {
+        Instr::Set(r, k) => gives(r, k),
+        Instr::Pid(r) => gives(r, processor),
+        Instr::Add(r, a, b) => gives(r, held.first(a).wrapping_add(held.second(b))),
+        Instr::Sub(r, a, b) => gives(r, held.first(a).wrapping_sub(held.second(b))),
+        Instr::Mul(r, a, b) => gives(r, held.first(a).wrapping_mul(held.second(b))),
+        Instr::And(r, a, b) => gives(r, held.first(a) & held.second(b)),
+        Instr::Or(r, a, b) => gives(r, held.first(a) | held.second(b)),
+        Instr::Xor(r, a, b) => gives(r, held.first(a) ^ held.second(b)),
+        Instr::Lt(r, a, b) => gives(r, u32::from(held.first(a) < held.second(b))),
+        Instr::Eq(r, a, b) => gives(r, u32::from(held.first(a) == held.second(b))),
+        Instr::Ld(r, a) => {
+            let address = held.first(a);
+            if address < job.cells() {
+                gives(r, held.cell(address))
+            } else {
+                out_of_range
+            }
+        }
+        Instr::St(a, b) => {
+            let place = held.first(a);
+            if place < job.cells() {
+                puts(place, held.second(b), counter)
+            } else {
+                out_of_range
+            }
+        }
+        Instr::Jz(r, place) => goes_to(if held.first(r) == 0 {
+            place
+        } else {
+            counter + 1
+        }),
+        Instr::Jmp(place) => goes_to(place),
+        Instr::Halt => goes_to(past_code),
+    }
+}
+
 /// What a processor asks for by the instruction at its counter. Its operands hold `a` and `b`, and
 /// the cell that it reads holds `value`; for those that it has not any number will do.
 #[inline(always)]
-#[tactic(auto, unfolding(crate::specs::Instructions::decided))]
+#[tactic(auto, using(crate::proofs::Shapes::decided_shape))]
 pub fn decided(
     job: &Job,
     processor: u32,
@@ -67,24 +154,45 @@ pub fn decided(
     ensures request { result ≡ decided job.now processor counter instr a b value }
     ensures shape { HasShape job.now processor result }
 {
-    let past_code = job.code().len() as u32;
-    match instr {
-        Instr::Set(r, k) => gives(job, processor, counter, r, k),
-        Instr::Pid(r) => gives(job, processor, counter, r, processor),
-        Instr::Add(r, _, _) => gives(job, processor, counter, r, a.wrapping_add(b)),
-        Instr::Sub(r, _, _) => gives(job, processor, counter, r, a.wrapping_sub(b)),
-        Instr::Mul(r, _, _) => gives(job, processor, counter, r, a.wrapping_mul(b)),
-        Instr::And(r, _, _) => gives(job, processor, counter, r, a & b),
-        Instr::Or(r, _, _) => gives(job, processor, counter, r, a | b),
-        Instr::Xor(r, _, _) => gives(job, processor, counter, r, a ^ b),
-        Instr::Lt(r, _, _) => gives(job, processor, counter, r, u32::from(a < b)),
-        Instr::Eq(r, _, _) => gives(job, processor, counter, r, u32::from(a == b)),
-        Instr::Ld(r, _) if a < job.cells() => gives(job, processor, counter, r, value),
-        Instr::St(_, _) if a < job.cells() => puts(a, b, counter),
-        Instr::Ld(_, _) | Instr::St(_, _) => goes_to(past_code + 1),
-        Instr::Jz(_, place) => goes_to(if a == 0 { place } else { counter + 1 }),
-        Instr::Jmp(place) => goes_to(place),
-        Instr::Halt => goes_to(past_code),
+    let cells = job.cells();
+    decide(
+        job,
+        processor,
+        counter,
+        instr,
+        &Heard { a, b, value, cells },
+    )
+}
+
+/// Operands and a cell that were read before.
+#[derive(Clone, Copy)]
+struct Heard {
+    a: u32,
+    b: u32,
+    value: u32,
+    cells: u32,
+}
+
+impl Held for Heard {
+    ghost operand = { λ h _ k. slice_index (h.a ∷ h.b ∷ []) k };
+
+    ghost cell = { λ h _. h.value };
+
+    ghost cells = { λ h. h.cells };
+
+    #[inline(always)]
+    fn first(&self, _register: u8) -> u32 {
+        self.a
+    }
+
+    #[inline(always)]
+    fn second(&self, _register: u8) -> u32 {
+        self.b
+    }
+
+    #[inline(always)]
+    fn cell(&self, _address: u32) -> u32 {
+        self.value
     }
 }
 

@@ -1,9 +1,9 @@
 //! What a processor asks for in a step.
-ghost use Rattle.std.specs.Prelude.{◌≡◌, ◌+◌, ◌^◌, ◌<◌, ◌≤◌, length, slice_index};
-ghost use Rattle.pram_step.specs.Machine.{place_count, register_place};
+ghost use Rattle.std.specs.Prelude.{◌≡◌, ◌+◌, ◌^◌, ◌<◌, ◌≤◌, length, map, slice_index, None, Some};
+ghost use Rattle.pram_step.specs.Machine.{place_count, register_place, register};
 ghost use Rattle.pram_step.specs.Instructions.{place_part, value_part, request_in};
 
-use crate::instructions::{Operands, cell_read, decided, goes_to, operands_of};
+use crate::instructions::{Held, decide, goes_to};
 use pram_text::Job;
 
 /// What a processor asks for in a step: at most one data write, and the place of its next
@@ -48,21 +48,49 @@ pub(crate) fn request_in(job: &Job, places: &[u32], processor: u32) -> Request
     let Some(instr) = job.code().get(counter as usize) else {
         return goes_to(counter);
     };
-    match operands_of(*instr) {
-        Operands::None => decided(job, processor, counter, *instr, 0, 0, 0),
-        Operands::One(a) => {
-            let a = register(job, places, processor, a);
-            let value = match cell_read(job, *instr, a) {
-                Some(cell) => places[cell as usize],
-                None => 0,
-            };
-            decided(job, processor, counter, *instr, a, 0, value)
-        }
-        Operands::Two(a, b) => {
-            let a = register(job, places, processor, a);
-            let b = register(job, places, processor, b);
-            decided(job, processor, counter, *instr, a, b, 0)
-        }
+    decide(
+        job,
+        processor,
+        counter,
+        *instr,
+        &Registers {
+            job,
+            places,
+            processor,
+        },
+    )
+}
+
+/// The operands and the cell of a processor, in the machine's places.
+#[derive(Clone, Copy)]
+struct Registers<'m> {
+    job: &'m Job,
+    places: &'m [u32],
+    processor: u32,
+    ghost is_processor: { processor < job.now.procs },
+    ghost all_places: { length places.now ≡ place_count job.now },
+}
+
+impl Held for Registers<'_> {
+    ghost operand = { λ h rs k. slice_index (map (register h.job.now h.places.now h.processor) rs) k };
+
+    ghost cell = { λ h cell. elim cell [ None ↦ 0 | Some c ↦ slice_index h.places.now c ] };
+
+    ghost cells = { λ h. h.job.now.cells };
+
+    #[inline(always)]
+    fn first(&self, r: u8) -> u32 {
+        register(self.job, self.places, self.processor, r)
+    }
+
+    #[inline(always)]
+    fn second(&self, r: u8) -> u32 {
+        register(self.job, self.places, self.processor, r)
+    }
+
+    #[inline(always)]
+    fn cell(&self, address: u32) -> u32 {
+        self.places[address as usize]
     }
 }
 

@@ -2,7 +2,7 @@ use Rattle.std.proofs.Common.{◌≡◌, ℕ, ◌<◌, take}
 use Rattle.pram_step.specs.Instructions.{request_in}
 use Rattle.pram_step.specs.Inner.Marks.{AreMarked}
 use Rattle.pram_step.specs.Steps.{IsVerdict}
-use Rattle.pram_step.proofs.Passing.{request_at}
+use Rattle.pram_step.proofs.RequestList.{request_at}
 use Rattle.pram_step.proofs.pass.ask.Given as goal
 
 abbrev pub invariant-loop-processor : goal.invariant-loop-processor
