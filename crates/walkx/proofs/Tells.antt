@@ -9,10 +9,12 @@ use Rattle.walkx.specs.declared.stage.Stage.TheVariants as stage
 use Rattle.walkx.specs.declared.stage.Step.{Step}
 use Rattle.walkx.specs.declared.stage.Step.TheVariants as step
 use Rattle.walkx.specs.Scripts.{Script, asks, ends, behind}
+use Rattle.walkx.specs.declared.operation.Op.{Op}
 use Rattle.walkx.specs.Inner.Posts.{PostData, processor_of, step_of, then_marks}
 use Rattle.walkx.specs.Inner.Stages.{IsStage, IsStep, WorkerData, post_of, doing_of, newest, script_at, script_behind, stepped}
 use Rattle.walkx.specs.Serving.{Serves}
-use Rattle.walkx.specs.Walk.{Then, Walking, Fits, IsBoard, IsGoing, HearsAdmitted, ask_of, told, goes_on, rest_of, begin_script, turn_script, started, come_back}
+use Rattle.walkx.specs.Walk.{Then, Walking, Fits, IsBoard, IsGoing, HearsAdmitted, AsksAdmitted, IsStepOn, ask_of, next_op, end_of, told, goes_on, rest_of, begin_script, turn_script, started, come_back}
+use Rattle.walkx.proofs.Asking.{all_ask, going_steps}
 use Rattle.walkx.proofs.Fitting.{fits_told, new_workers_fit}
 use Rattle.walkx.proofs.Going.{Asks, told_going}
 use Rattle.walkx.proofs.Hearing.{hears_first}
@@ -110,6 +112,22 @@ hears_by job y v k at found s e f board serves admitted =
     let P : WorkerData → PostData → Type 0 = λ u a. script_behind a s ≡ behind (script_at a u.stage) found → IsStep a u.stage s → Hears job y k found (stepped u found s) in
     let Q : WorkerData → Type 0 = λ u. P u at in
     subst Q (sym e) (subst (P k) (sym f) (λ is fits. hears job y k found s board serves admitted is fits))
+
+-- ---- what a worker asks that was told
+
+-- the operation that a worker asks for, and what is known of it
+pub record Asked (job : JobData) (y : LayoutData) (w : Walking) (op : Op) : Type 0 where
+  pub asks : op ≡ ask_of job y w
+  pub admitted : AsksAdmitted job y op
+  pub step : end_of w.now ≡ None → IsStepOn y op
+
+-- at is where it stands, v the worker before as its fields show it
+pub asked : (job : JobData) (y : LayoutData) (new k v : WorkerData) (at : PostData) (op : Op) → v ≡ k → at ≡ post_of job y k → IsBoard job y → post_of job y v ≡ post_of job y new → Serves job y new
+    → op ≡ next_op (doing_of new.stage at.phase) (script_at at new.stage) → Asked job y new.walking op
+asked job y new k v at op e f board same serves is =
+    let there : op ≡ next_op (doing_of new.stage new.phase) (script_at (post_of job y new) new.stage) = subst (λ (a : PostData). op ≡ next_op (doing_of new.stage a.phase) (script_at a new.stage)) (f ∙ (ap (post_of job y) (sym e) ∙ same)) is in
+    let asks : op ≡ ask_of job y new.walking = rw (serves.stands.rest, serves.stands.now) there in
+    record { asks = asks; admitted = subst (AsksAdmitted job y) (sym asks) (all_ask job y new.walking board serves.fits); step = λ none. subst (IsStepOn y) (sym asks) (going_steps job y new.walking board serves.fits none) }
 
 pub doing_stays : (job : JobData) (y : LayoutData) (v k : WorkerData) (at : PostData) (new : Stage) → v ≡ k → at ≡ post_of job y k → IsStep at v.stage (step.On new) → doing_of new v.phase ≡ doing_of v.stage v.phase
 doing_stays job y v k at new e f =

@@ -152,6 +152,32 @@ fn make(
     }
 }
 
+// Makes steps of a worker, each told with the next one asked, until it is over: how many.
+fn proceed(
+    rt: &impl Abort,
+    job: &Job,
+    layout: &Layout,
+    worker: &mut Worker,
+    words: &mut Vec<u64>,
+) -> u32
+    requires layout { IsLayoutOf job.now layout.now }
+    requires serves { Serves job.now layout.now worker.old }
+{
+    let mut op = worker.ask(job, layout);
+    for made in 0..1000 {
+        if worker.ended().is_some() {
+            assert_eq!(rt; op, worker.ask(job, layout));
+            return made;
+        }
+        let before = act(rt, words, op);
+        if let Op::Load(k) = op {
+            assert!(rt; layout.admits(job, k, before));
+        }
+        op = worker.proceed(job, layout, before);
+    }
+    1000
+}
+
 // One processor sets a register in one step: each operation, with the word before it.
 fn follow(rt: &impl Abort, job: &Job, layout: &Layout, worker: &mut Worker, words: &mut Vec<u64>)
     requires layout { IsLayoutOf job.now layout.now }
@@ -247,6 +273,15 @@ fn two_processors_are_done_after_101_steps(rt: HostRuntime) -> Result<(), Fail> 
         run(&rt, &job, &layout, &mut worker, &mut words, NEVER),
         101
     );
+    assert_eq!(rt; worker.ended(), Some(Ended::Done));
+    Ok(())
+}
+
+#[test]
+fn two_processors_are_done_as_soon_by_one_call_a_step(rt: HostRuntime) -> Result<(), Fail> {
+    let (job, layout, mut words) = fresh(rt.alloc(), TWO)?;
+    let mut worker = Worker::start(0);
+    assert_eq!(rt; proceed(&rt, &job, &layout, &mut worker, &mut words), 101);
     assert_eq!(rt; worker.ended(), Some(Ended::Done));
     Ok(())
 }

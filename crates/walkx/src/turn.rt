@@ -16,6 +16,7 @@ use pram_words::{Kind, left, parent, right};
 
 /// What the answer to a stage leads to.
 #[tactic(auto, unfolding(crate::specs::Walk::begin_script, crate::specs::Walk::turn_script))]
+#[inline(always)]
 pub(crate) fn after(at: &Post, stage: Stage, answer: u64) -> Step
     requires stage { IsStage at.now stage }
     requires answer { HearsStage at.now stage answer }

@@ -108,29 +108,51 @@ impl Worker {
         ensures told { self.new.walking ≡ told job.now layout.now self.old.walking answer }
         ensures serves { Serves job.now layout.now self.new }
     {
-        match after(&self.post(job, layout), self.stage, answer) {
+        let _ = self.proceed(job, layout, answer);
+    }
+
+    /// Hears the answer of the step that it asked for, and gives its next atomic step: `tell` and
+    /// then `ask`, in some three quarters of their time.
+    #[inline(always)]
+    pub fn proceed(&mut self, job: &Job, layout: &Layout, answer: u64) -> Op
+        requires layout { IsLayoutOf job.now layout.now }
+        requires serves { Serves job.now layout.now self.old }
+        requires admitted { HearsAdmitted job.now layout.now (ask_of job.now layout.now
+            self.old.walking) answer }
+        ensures told { self.new.walking ≡ told job.now layout.now self.old.walking answer }
+        ensures serves { Serves job.now layout.now self.new }
+        ensures asks { result ≡ ask_of job.now layout.now self.new.walking }
+        ensures admitted { AsksAdmitted job.now layout.now result }
+        ensures step { end_of self.new.walking.now ≡ None → IsStepOn layout.now result }
+    {
+        let at = self.post(job, layout);
+        match after(&at, self.stage, answer) {
             Step::On(stage) => {
                 self.stage = stage;
                 self.heard[self.count] = answer;
                 self.count += 1;
+                operation(&at, stage)
             }
             Step::Begins(node) => {
                 self.node = Some(node);
                 self.stage = Stage::Begin;
                 self.count = 0;
+                self.ask(job, layout)
             }
             Step::Turns(node, phase) => {
                 self.node = Some(node);
                 self.phase = phase;
                 self.stage = Stage::Node;
                 self.count = 0;
+                self.ask(job, layout)
             }
             Step::Stops(ended) => {
                 self.stage = Stage::Over(ended);
                 self.heard[self.count] = answer;
                 self.count += 1;
+                Op::Over(ended)
             }
-            Step::Stays(_) => {}
+            Step::Stays(ended) => Op::Over(ended),
         }
     }
 
