@@ -13,7 +13,7 @@ use Rattle.pram_world.specs.declared.event.Event.{Event}
 use Rattle.pram_world.specs.declared.event.Event.TheVariants.{Go, Stop, Back}
 use Rattle.pram_world.specs.Ends.{steps_of}
 use Rattle.pram_world.specs.Inner.Holding.{Fitting, Holds}
-use Rattle.pram_world.specs.Worlds.{Body, walks, stopped, WorldData, Walks, going, goes, went, replaced, happens}
+use Rattle.pram_world.specs.Worlds.{Body, walks, stopped, WorldData, Walks, KeepsBoard, going, goes, went, replaced, happens, run}
 use Rattle.pram_world.proofs.Cited.{has_on, own_steps}
 use Rattle.pram_world.proofs.Keeping.{Held, holds_step}
 
@@ -123,7 +123,11 @@ same_board s (Go b) = went_board s b (slice_get s.bodies b)
 same_board s (Stop b) = replaced_board s b stopped (slice_get s.bodies b)
 same_board s (Back b) = replaced_board s b (λ n. walks (come_back n)) (slice_get s.bodies b)
 
-steps_board : (s : WorldData) (b n : ℕ) → ((steps_of s b n).job ≡ s.job) × ((steps_of s b n).layout ≡ s.layout)
+pub run_board : (s : WorldData) (es : List Event) → KeepsBoard s (run s es)
+run_board s [] = (refl, refl)
+run_board s (e ∷ es) = let one = same_board s e in let rest = run_board (happens s e) es in (rest.0 ∙ one.0, rest.1 ∙ one.1)
+
+pub steps_board : (s : WorldData) (b n : ℕ) → ((steps_of s b n).job ≡ s.job) × ((steps_of s b n).layout ≡ s.layout)
 steps_board s b zero = (refl, refl)
 steps_board s b (suc n) = let one = same_board (steps_of s b n) (Go b) in let rest = steps_board s b n in (one.0 ∙ rest.0, one.1 ∙ rest.1)
 

@@ -88,6 +88,10 @@ IsLawful s = Stands s.job s.layout s.words
 abbrev pub IsLawfulThroughout : WorldData → List Event → Type 0
 IsLawfulThroughout s events = (k : ℕ) → IsLawful (run s (take k events))
 
+-- the job and the board are the same
+abbrev pub KeepsBoard : WorldData → WorldData → Type 0
+KeepsBoard s now = (now.job ≡ s.job) × (now.layout ≡ s.layout)
+
 -- ---- what an event shows
 
 abbrev pub nothing : Effect

@@ -13,7 +13,7 @@ ghost use Rattle.pram_world.specs.Ends.{Finishes, end_in};
 ghost use Rattle.pram_world.specs.Inner.Holding.{AreStarted, IsHeard, IsOnBoard, body_of};
 ghost use Rattle.pram_world.specs.Interleavings.{IsInterleaved};
 ghost use Rattle.pram_world.specs.Outcomes.{IsOutcome};
-ghost use Rattle.pram_world.specs.Worlds.{IsLawful, IsLawfulThroughout, IsTwinned};
+ghost use Rattle.pram_world.specs.Worlds.{IsLawful, IsLawfulThroughout, IsTwinned, KeepsBoard};
 ghost use Rattle.pram_world.specs.Worlds.{StaleChangesNothing, effect_of, going, happens};
 ghost use Rattle.pram_world.specs.Worlds.{number as number_of, run, shown, start};
 
@@ -97,6 +97,7 @@ impl World {
     pub fn event(&mut self, event: Event) -> Effect
         ensures world { self.new ≡ happens self.old event }
         ensures effect { result ≡ shown self.old event }
+        ensures board { KeepsBoard self.old self.new }
         ensures lawful { IsLawful self.new }
         ensures grows { Grows self.old.layout self.old.words self.new.words }
         ensures stale { StaleChangesNothing self.old event self.new }
@@ -118,6 +119,7 @@ impl World {
     /// One event after the other.
     pub fn run_events(&mut self, events: &[Event])
         ensures world { self.new ≡ run self.old events.now }
+        ensures board { KeepsBoard self.old self.new }
         ensures lawful { IsLawfulThroughout self.old events.now }
     {
         let _ = &self.words;
@@ -165,7 +167,8 @@ impl World {
     /// Lets this body make atomic steps until it is over, and gives its end; `None` where no body
     /// has the number, or it is stopped. It takes no memory.
     pub fn finish(&mut self, b: usize) -> Option<Ended>
-        ensures { Finishes self.old b self.new result }
+        ensures finishes { Finishes self.old b self.new result }
+        ensures board { KeepsBoard self.old self.new }
     {
         let _ = &self.words;
         let mut made: u64 = 0;

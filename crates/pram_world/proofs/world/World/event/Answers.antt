@@ -2,7 +2,8 @@ use Rattle.std.proofs.Common.{sym, subst}
 use Rattle.lawful_words.specs.Board.{Stands, Grows}
 use Rattle.pram_world.specs.declared.event.Event.{Event}
 use Rattle.pram_world.specs.declared.event.Event.TheVariants.{Go, Stop, Back}
-use Rattle.pram_world.specs.Worlds.{WorldData, StaleChangesNothing}
+use Rattle.pram_world.specs.Worlds.{WorldData, KeepsBoard, StaleChangesNothing}
+use Rattle.pram_world.proofs.Counting.{same_board}
 use Rattle.pram_world.proofs.Interleaving.{event_grows}
 use Rattle.pram_world.proofs.Keeping.{Held, happens_holds, stale_changes_nothing}
 use Rattle.pram_world.proofs.world.World.event.Goals as goal
@@ -42,3 +43,12 @@ pub returns-in-Back-clause-grows : goal.returns-in-Back-clause-grows
 returns-in-Back-clause-grows c =
     let h : Held c.args.self.now = subst Held c.self.view_is (record { made = c.self.invariant.made; holds = c.self.invariant.holds }) in
     subst (λ (x : WorldData). Grows c.args.self.now.layout c.args.self.now.words x.words) (sym c.back.ensures) (event_grows c.args.self.now h.made (Back c.in-Back.b) h.holds)
+
+pub returns-in-Go-clause-board : goal.returns-in-Go-clause-board
+returns-in-Go-clause-board c = subst (KeepsBoard c.args.self.now) (sym c.go.ensures.world) (same_board c.args.self.now (Go c.in-Go.b))
+
+pub returns-in-Stop-clause-board : goal.returns-in-Stop-clause-board
+returns-in-Stop-clause-board c = subst (KeepsBoard c.args.self.now) (sym c.stop.ensures) (same_board c.args.self.now (Stop c.in-Stop.b))
+
+pub returns-in-Back-clause-board : goal.returns-in-Back-clause-board
+returns-in-Back-clause-board c = subst (KeepsBoard c.args.self.now) (sym c.back.ensures) (same_board c.args.self.now (Back c.in-Back.b))

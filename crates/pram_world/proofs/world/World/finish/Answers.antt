@@ -2,9 +2,9 @@ use Rattle.std.proofs.Common.{◌≡◌, ◌≤◌, ◌<◌, ◌+◌, ℕ, true,
 use Rattle.walkx.specs.Bound.{most_steps}
 use Rattle.pram_world.specs.declared.event.Event.TheVariants.{Go}
 use Rattle.pram_world.specs.Ends.{steps_of}
-use Rattle.pram_world.specs.Worlds.{WorldData, going, happens}
+use Rattle.pram_world.specs.Worlds.{WorldData, KeepsBoard, going, happens}
 use Rattle.pram_world.proofs.Keeping.{Held}
-use Rattle.pram_world.proofs.Counting.{finish_bound, bound_small, going_more, step_more}
+use Rattle.pram_world.proofs.Counting.{finish_bound, bound_small, going_more, step_more, steps_board}
 use Rattle.pram_world.proofs.world.World.finish.Goals as goal
 
 -- with this step too the body was going before each
@@ -34,3 +34,6 @@ overflow_add-made c =
     let m = most c in
     let small = bound_small c.args.self.now.job c.args.self.now.layout c.args.self.now.words (h.holds).stands in
     omega arith
+
+pub returns-then-not-is_going-clause-board : goal.returns-then-not-is_going-clause-board
+returns-then-not-is_going-clause-board c = subst (KeepsBoard c.args.self.now) (sym c.loop-self.invariant.is) (steps_board c.args.self.now c.args.b c.loop-self.made)

@@ -1,7 +1,8 @@
 use Rattle.std.proofs.Common.{take, get_or, subst, sym, ◌∙◌, ap}
 use Rattle.std.proofs.lemmas.List.{take_more}
 use Rattle.pram_world.specs.declared.event.Event.TheVariants.{Go}
-use Rattle.pram_world.specs.Worlds.{WorldData, run, happens}
+use Rattle.pram_world.specs.Worlds.{WorldData, KeepsBoard, run, happens}
+use Rattle.pram_world.proofs.Counting.{run_board}
 use Rattle.pram_world.proofs.Keeping.{Held, run_holds, run_more}
 use Rattle.pram_world.proofs.world.World.run_events.Goals as goal
 
@@ -16,3 +17,6 @@ pub returns-clause-lawful : goal.returns-clause-lawful
 returns-clause-lawful c = λ k.
     let h : Held c.args.self.now = subst Held c.self.view_is (record { made = c.self.invariant.made; holds = c.self.invariant.holds }) in
     ((run_holds c.args.self.now (take k c.args.events.now) h).holds).stands
+
+pub returns-clause-board : goal.returns-clause-board
+returns-clause-board c = subst (KeepsBoard c.args.self.now) (sym c.loop-event.invariant) (run_board c.args.self.now (take c.loop-event.event-index c.args.events.now))
