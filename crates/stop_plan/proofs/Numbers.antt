@@ -44,10 +44,6 @@ value_more : (bs : List ℕ) (i value : ℕ) → i < length bs → is_ascii_digi
     → digits_value 10 (take (i + 1) bs) ≡ value * 10 + (get_or bs i 0 - 48)
 value_more bs i value within digit so_far = omega (arith, digits_value_more 10 bs i within, digit_is (get_or bs i 0) digit, so_far)
 
-pub none_by_product : (bound : ℕ) (bs : List ℕ) (i value : ℕ) → i < length bs → is_ascii_digit (get_or bs i 0) ≡ true → value ≡ digits_value 10 (take i bs)
-    → bound ≤ 2 ^ 32 → (value * 10 < 2 ^ 32 → ⊥) → None ≡ number_below bound bs
-none_by_product bound bs i value within digit so_far small large = none_by_size bound bs (i + 1) (omega (arith, value_more bs i value within digit so_far))
-
 pub none_by_sum : (bound : ℕ) (bs : List ℕ) (i value : ℕ) → i < length bs → is_ascii_digit (get_or bs i 0) ≡ true → value ≡ digits_value 10 (take i bs)
     → bound ≤ 2 ^ 32 → (value * 10 + (get_or bs i 0 - 48) < 2 ^ 32 → ⊥) → None ≡ number_below bound bs
 none_by_sum bound bs i value within digit so_far small large = none_by_size bound bs (i + 1) (omega (arith, value_more bs i value within digit so_far))

@@ -13,6 +13,7 @@ use pram_text::Rule;
 use pram_words::{Kind, payload, stamp};
 
 /// What follows the first word of the request.
+#[inline(always)]
 pub(crate) fn after_first_part(leaf: &Leaf, answer: u64) -> Stage
     requires kind { kind_at leaf.now.phase ≢ Kind.Compute }
     requires answer { HearsStage leaf.now Stage.Hear answer }
@@ -26,6 +27,7 @@ pub(crate) fn after_first_part(leaf: &Leaf, answer: u64) -> Stage
 }
 
 // What follows the data place plus 1, or 0 for none.
+#[inline(always)]
 fn after_data_place(leaf: &Leaf, part: u32) -> Stage
     requires part { IsPart leaf.now.layout part }
     ensures { StandsFor leaf.now 13 (follows_part leaf.now part) result }
@@ -41,6 +43,7 @@ fn after_data_place(leaf: &Leaf, part: u32) -> Stage
 }
 
 // The cell is claimed.
+#[inline(always)]
 fn claim(leaf: &Leaf, part: u32) -> Stage
     requires rule { leaf.now.job.rule ≡ Rule.Priority }
     ensures { StandsFor leaf.now 13 (follows_place leaf.now Rule.Priority Kind.Apply part) result }
@@ -53,6 +56,7 @@ fn claim(leaf: &Leaf, part: u32) -> Stage
 }
 
 /// What follows the second word of the request, which is to be carried out.
+#[inline(always)]
 pub(crate) fn after_value(leaf: &Leaf, place: u32, answer: u64) -> Stage
     requires place { IsPart leaf.now.layout place }
     ensures { StandsBehind leaf.now 12 (Stage.HearValue place) answer result }
@@ -65,6 +69,7 @@ pub(crate) fn after_value(leaf: &Leaf, place: u32, answer: u64) -> Stage
 }
 
 /// What follows the third word of the request.
+#[inline(always)]
 pub(crate) fn after_next(leaf: &Leaf, place: u32, value: u32, answer: u64) -> Stage
     requires place { IsPart leaf.now.layout place }
     ensures { StandsBehind leaf.now 11 (Stage.HearNext place value) answer result }
@@ -78,6 +83,7 @@ pub(crate) fn after_next(leaf: &Leaf, place: u32, value: u32, answer: u64) -> St
 }
 
 // The request is carried out by the rule.
+#[inline(always)]
 fn by_rule(leaf: &Leaf, carry: Carry) -> Stage
     requires place { IsPart leaf.now.layout carry.place }
     ensures { StandsFor leaf.now 11 (applies leaf.now leaf.now.job.rule carry) result }
@@ -91,6 +97,7 @@ fn by_rule(leaf: &Leaf, carry: Carry) -> Stage
 }
 
 /// The data is written, if there is any, and then the next counter.
+#[inline(always)]
 pub(crate) fn data_write(leaf: &Leaf, carry: Carry) -> Stage
     requires leaf { IsLeaf leaf.now }
     requires place { IsPart leaf.now.layout carry.place }
@@ -104,6 +111,7 @@ pub(crate) fn data_write(leaf: &Leaf, carry: Carry) -> Stage
 }
 
 /// What follows the claim to the cell: who has it writes.
+#[inline(always)]
 pub(crate) fn after_claim(leaf: &Leaf, carry: Carry, answer: u64) -> Stage
     requires place { IsPart leaf.now.layout carry.place }
     ensures { StandsFor leaf.now 10 (follows_claim leaf.now carry answer) result }

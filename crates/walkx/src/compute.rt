@@ -11,6 +11,7 @@ use pram_step::{Operands, Request, cell_read, decided, goes_to, operands_of};
 use pram_text::Instr;
 
 /// The counter is read.
+#[inline(always)]
 #[tactic(auto, unfolding(crate::specs::Tasks::compute_task))]
 pub(crate) fn counter_read(leaf: &Leaf) -> Stage
     ensures { StandsFor leaf.now 14 (then_computes leaf.now) result }
@@ -19,6 +20,7 @@ pub(crate) fn counter_read(leaf: &Leaf) -> Stage
 }
 
 /// What follows the counter: the first operand is read, if there is one.
+#[inline(always)]
 pub(crate) fn after_counter(leaf: &Leaf, counter: u32) -> Stage
     ensures { StandsFor leaf.now 12 (then_fetches leaf.now counter) result }
 {
@@ -29,6 +31,7 @@ pub(crate) fn after_counter(leaf: &Leaf, counter: u32) -> Stage
 }
 
 // The first operand of an instruction is read, if there is one.
+#[inline(always)]
 fn first_operand(leaf: &Leaf, instr: Instr, counter: u32) -> Stage
     requires code { IsCode leaf.now.job instr counter }
     ensures { StandsFor leaf.now 12 (then_executes leaf.now counter (Some instr)) result }
@@ -46,6 +49,7 @@ fn first_operand(leaf: &Leaf, instr: Instr, counter: u32) -> Stage
 }
 
 /// What follows the operands: the cell is read that the instruction reads, if there is one.
+#[inline(always)]
 #[tactic(auto, using(crate::proofs::Cells::cell_asks, crate::proofs::Cells::cell_is))]
 pub(crate) fn after_operands(leaf: &Leaf, instr: Instr, counter: u32, a: u32, b: u32) -> Stage
     requires code { IsCode leaf.now.job instr counter }

@@ -13,6 +13,7 @@ use crate::verify::values_compared;
 use pram_words::{payload, stamp, stamped};
 
 /// What follows both words of a place.
+#[inline(always)]
 pub(crate) fn after_words(leaf: &Leaf, place: u32, want: Want, first: u64, second: u64) -> Stage
     requires place { place < places_of leaf.now.layout }
     requires want { IsWant leaf.now.job want }
@@ -48,6 +49,7 @@ pub(crate) fn after_words(leaf: &Leaf, place: u32, want: Want, first: u64, secon
 }
 
 // The older word of a place is swapped, unless one of them is of the step already.
+#[inline(always)]
 #[tactic(auto, using(crate::proofs::Boards::length_small))]
 fn older_swap(
     leaf: &Leaf,
@@ -73,6 +75,7 @@ fn older_swap(
 }
 
 /// The next counter is written, if there is one.
+#[inline(always)]
 pub(crate) fn counter_write(leaf: &Leaf, next: Option<u32>) -> Stage
     ensures { StandsFor leaf.now (left_swap next) (then_counts leaf.now next) result }
 {

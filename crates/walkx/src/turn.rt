@@ -59,6 +59,7 @@ pub(crate) fn after(at: &Post, stage: Stage, answer: u64) -> Step
 }
 
 // What follows the root.
+#[inline(always)]
 #[tactic(auto, using(crate::proofs::Boards::root_most), unfolding(crate::specs::Walk::begin_script))]
 fn after_root(at: &Post, root: u64) -> Step
     requires root { HearsStage at.now Stage.Begin root }
@@ -74,6 +75,7 @@ fn after_root(at: &Post, root: u64) -> Step
 }
 
 // What follows the conflict, the root being this.
+#[inline(always)]
 #[tactic(auto, using(crate::proofs::Boards::conflict_most))]
 fn after_conflict(at: &Post, root: u64, conflict: u64) -> Step
     requires stage { IsStage at.now (Stage.Look root) }
@@ -93,6 +95,7 @@ fn after_conflict(at: &Post, root: u64, conflict: u64) -> Step
 }
 
 // What follows the node.
+#[inline(always)]
 #[tactic(auto, unfolding(crate::specs::Walk::turn_script))]
 fn after_node(at: &Post, found: u64) -> Step
     requires turn { IsStage at.now Stage.Node }
@@ -109,6 +112,7 @@ fn after_node(at: &Post, found: u64) -> Step
 }
 
 // The work at an unfinished node.
+#[inline(always)]
 fn work(at: &Post) -> Stage
     requires turn { IsStage at.now Stage.Node }
     ensures { StandsFor at.now 14 (work_at at.now) result }
@@ -124,6 +128,7 @@ fn work(at: &Post) -> Stage
 }
 
 // The task at an unfinished leaf of a processor.
+#[inline(always)]
 #[tactic(auto, using(crate::proofs::Hearing::task_computes))]
 fn task(leaf: &Leaf) -> Stage
     ensures { StandsFor leaf.now 14 (task_at leaf.now) result }
@@ -135,6 +140,7 @@ fn task(leaf: &Leaf) -> Stage
 }
 
 // What follows both children.
+#[inline(always)]
 fn after_children(at: &Post, first: u64, second: u64) -> Stage
     requires inner { IsStage at.now (Stage.Right first) }
     ensures { StandsFor at.now 12 (follows_children at.now first second) result }

@@ -11,6 +11,7 @@ use pram_text::Rule;
 use pram_words::{Kind, payload, stamp};
 
 /// What the place holds is to be compared with the value.
+#[inline(always)]
 pub(crate) fn value_check(leaf: &Leaf, part: u32) -> Stage
     requires leaf { IsLeaf leaf.now }
     requires part { IsPart leaf.now.layout part }
@@ -24,6 +25,7 @@ pub(crate) fn value_check(leaf: &Leaf, part: u32) -> Stage
 }
 
 /// What follows the value of the request, which is to be compared with its place.
+#[inline(always)]
 pub(crate) fn after_own_value(leaf: &Leaf, place: u32, answer: u64) -> Stage
     requires place { place < places_of leaf.now.layout }
     ensures { StandsBehind leaf.now 12 (Stage.CheckValue place) answer result }
@@ -36,6 +38,7 @@ pub(crate) fn after_own_value(leaf: &Leaf, place: u32, answer: u64) -> Stage
 }
 
 /// What follows both words of the place: a word of the step with another value is a conflict.
+#[inline(always)]
 pub(crate) fn values_compared(leaf: &Leaf, place: u32, value: u32, first: u64, second: u64) -> Stage
     ensures { StandsFor leaf.now 10 (follows_words leaf.now place (Want.Compare value) first second)
         result }
@@ -49,6 +52,7 @@ pub(crate) fn values_compared(leaf: &Leaf, place: u32, value: u32, first: u64, s
 }
 
 /// The claim to the cell is to be compared with the processor's own.
+#[inline(always)]
 pub(crate) fn claim_check(leaf: &Leaf, part: u32) -> Stage
     requires rule { leaf.now.job.rule ≡ Rule.Crew }
     ensures { StandsFor leaf.now 13 (follows_place leaf.now Rule.Crew Kind.Verify part) result }
@@ -61,6 +65,7 @@ pub(crate) fn claim_check(leaf: &Leaf, part: u32) -> Stage
 }
 
 /// What follows the claim to the cell: another one of the step is a conflict.
+#[inline(always)]
 pub(crate) fn after_checked_claim(leaf: &Leaf, cell: u32, answer: u64) -> Stage
     ensures { StandsBehind leaf.now 12 (Stage.CheckClaim cell) answer result }
 {

@@ -112,7 +112,7 @@ impl Worker {
     }
 
     /// Hears the answer of the step that it asked for, and gives its next atomic step: `tell` and
-    /// then `ask`, in some three quarters of their time.
+    /// then `ask`, in some four fifths of their time.
     #[inline(always)]
     pub fn proceed(&mut self, job: &Job, layout: &Layout, answer: u64) -> Op
         requires layout { IsLayoutOf job.now layout.now }

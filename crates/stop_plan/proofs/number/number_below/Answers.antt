@@ -1,6 +1,6 @@
 use Rattle.std.proofs.Common.{refl, arith, sym, ◌∙◌}
 use Rattle.std.proofs.lemmas.Bool.Decides.{nat_tests}
-use Rattle.stop_plan.proofs.Numbers.{none_by_byte, none_by_product, none_by_size, none_by_sum, none_of_empty, some_value, spelled_more}
+use Rattle.stop_plan.proofs.Numbers.{none_by_byte, none_by_size, none_by_sum, none_of_empty, some_value, spelled_more}
 use Rattle.stop_plan.proofs.number.number_below.Goals as goal
 
 pub returns-then-is_empty : goal.returns-then-is_empty
@@ -17,7 +17,7 @@ pub returns-in_err-checked_mul : goal.returns-in_err-checked_mul
 returns-in_err-checked_mul c =
     let digit = sym c.is_ascii_digit.ensures.value ∙ c.if-not-is_ascii_digit.false in
     rw c.from_residual.ensures
-    (none_by_product _ _ c.loop-digit.digit-index _ c.loop-digit-test.true digit c.loop-digit.invariant.so_far.value_is c.requires c.in_err-checked_mul.ensures)
+    (none_by_sum _ _ c.loop-digit.digit-index _ c.loop-digit-test.true digit c.loop-digit.invariant.so_far.value_is c.requires (λ fits. c.in_err-checked_mul.ensures (omega arith)))
 
 pub returns-in_err-value : goal.returns-in_err-value
 returns-in_err-value c =
