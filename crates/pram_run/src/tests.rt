@@ -2,6 +2,7 @@
 ghost use Rattle.std.specs.Prelude.{◌≤◌};
 
 use super::*;
+use pram_io::{IntoWrite, PrintFault};
 use pram_step::{Fault, RunAnswer};
 use pram_text::read_job;
 use std::io;
@@ -160,7 +161,7 @@ fn loads_come_before_stores(rt: HostRuntime) -> Result<(), Fail> {
     Ok(())
 }
 
-// Fails at the write of this number, counted from 0.
+// Takes up to 64 bytes a write, and fails at the write of this number, counted from 0.
 #[derive(Drop)]
 struct Failing {
     left: u32,
@@ -172,7 +173,7 @@ impl Write for Failing {
             return Err(io::Error::from(io::ErrorKind::Other));
         }
         self.left -= 1;
-        Ok(buf.len())
+        Ok(buf.len().min(64))
     }
 
     fn flush(&mut self) -> io::Result<()> {
@@ -180,21 +181,45 @@ impl Write for Failing {
     }
 }
 
+// The trace of two workers at a job, and its text.
+fn written(rt: &(impl AllocGlobal + Abort)) -> Result<(Trace, Vec<u8>), Fail> {
+    let trace = ends_with(rt, SWAP, 2, "", &[9, 7])?;
+    match write_trace(rt.alloc(), &trace, Vec::new(rt.alloc())) {
+        Ok(text) => Ok((trace, text)),
+        Err(_) => panic!(rt; "not written"),
+    }
+}
+
 #[test]
-fn a_write_that_fails_is_told(rt: HostRuntime) -> Result<(), Fail> {
-    let trace = ends_with(&rt, SWAP, 2, "", &[9, 7])?;
-    let mut has_failed = false;
+fn each_write_that_fails_is_told(rt: HostRuntime) -> Result<(), Fail> {
+    let (trace, _) = written(&rt)?;
+    // the header is put by itself, and then the rows, 512 at a time
+    assert!(rt; trace.rows().len() > 512);
     let mut was_written = false;
-    for left in 0..100 {
+    for left in 0..400 {
         match write_trace(rt.alloc(), &trace, Failing { left }) {
             Ok(_) => was_written = true,
             Err(fault) => {
-                has_failed = true;
                 assert_eq!(rt; fault, OutFault::Device);
                 assert!(rt; !was_written);
             }
         }
     }
-    assert!(rt; has_failed && was_written);
+    assert!(rt; was_written);
+    Ok(())
+}
+
+#[test]
+fn a_failing_sink_took_a_beginning(rt: HostRuntime) -> Result<(), Fail> {
+    let alloc = rt.alloc();
+    let (trace, text) = written(&rt)?;
+    for count in (0..text.len()).step_by(61) {
+        let mut room = vec![in alloc; 0u8; count]?;
+        let mut sink = IntoWrite::new(room.as_mut_slice());
+        let printed = print_trace(alloc, &mut sink, trace.rows());
+        assert_eq!(rt; printed, Err(PrintFault::Device), "at {count}");
+        assert!(rt; sink.into_inner().is_empty());
+        assert!(rt; text.as_slice().starts_with(room.as_slice()), "at {count}");
+    }
     Ok(())
 }

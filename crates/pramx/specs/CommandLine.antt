@@ -1,12 +1,12 @@
 -- The program's command, and what a line holds of the matches of its words.
-use Rattle.std.specs.Prelude.{◌≡◌, ◌≤◌, ℕ, true, List, Option, Some, None, IsSomeAnd, codes, option_map, pos}
-use Rattle.std.specs.Borrow.{Bor}
+use Rattle.std.specs.Prelude.{◌≡◌, ◌≤◌, ℕ, true, List, Option, Some, None, IsSomeAnd, codes, pos}
 use Rattle.std.specs.Str.Parse.{digits_value, without_leading_plus}
 use Rattle.clap.specs.Words.{App, Row, Rule, Text, first_of, new_app, new_rule, one_of, with_rule, with_subcommand}
 use Rattle.clap.specs.declared.builder.action.ArgAction.TheVariants.{Set}
 use Rattle.clap.specs.declared.builder.value_parser.ValueParser.TheVariants.{Signed}
-use Rattle.pramx.specs.declared.line.Line.{Line}
-use Rattle.pramx.specs.declared.line.Line.TheVariants.{Check, Plain, Run, Replay}
+use Rattle.pram_commands.specs.Line.{text_of}
+use Rattle.pram_commands.specs.declared.line.Line.{Line}
+use Rattle.pram_commands.specs.declared.line.Line.TheVariants.{Check, Plain, Run, Replay}
 
 -- FILE
 abbrev pub file_rule : Rule
@@ -71,27 +71,11 @@ pub record HasWorkers (matches : Option (Text × List Row)) (name file : Text) (
   pub few : workers ≤ 64
   pub has_plan : first_of (codes "plan") rows ≡ plan
 
-abbrev pub text_of : Option (Bor Text) → Option Text
-text_of = option_map (λ s. s.now)
-
 -- the line is what was met
 abbrev pub IsMet : Option (Text × List Row) → Line → Type 0
 IsMet matches (Check file) = HasFile matches (codes "check") file.now
 IsMet matches (Plain file) = HasFile matches (codes "plain") file.now
 IsMet matches (Run file workers plan) =
-    HasWorkers matches (codes "run") file.now workers (text_of plan)
+    HasWorkers matches (codes "run") file.now workers.count (text_of plan)
 IsMet matches (Replay file workers plan) =
-    HasWorkers matches (codes "replay") file.now workers (text_of plan)
-
--- the files that a line names
-abbrev pub file_of : Line → Text
-file_of (Check file) = file.now
-file_of (Plain file) = file.now
-file_of (Run file workers plan) = file.now
-file_of (Replay file workers plan) = file.now
-
-abbrev pub plan_of : Line → Option Text
-plan_of (Check file) = None
-plan_of (Plain file) = None
-plan_of (Run file workers plan) = text_of plan
-plan_of (Replay file workers plan) = text_of plan
+    HasWorkers matches (codes "replay") file.now workers.count (text_of plan)

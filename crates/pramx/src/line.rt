@@ -1,60 +1,12 @@
 //! The command line.
 ghost use Rattle.std.specs.Prelude.{◌≡◌, ◌≢◌, false, map, IfOk, IfErr, IfSome};
 ghost use Rattle.clap.specs.Words.{FailsBy, app_of, fault_of, kind_of, rule_of, subcommand_of, subcommand_rows_of, takes};
-ghost use Rattle.pramx.specs.CommandLine.{IsMet, file_of, file_rule, on_file, plan_of, plan_rule, pramx, text_of, with_workers, workers_rule};
+ghost use Rattle.pramx.specs.CommandLine.{IsMet, file_rule, on_file, plan_rule, pramx, with_workers, workers_rule};
 
 use clap::error::ErrorKind;
 use clap::{Arg, ArgAction, ArgMatches, Command, Error, value_parser};
+use pram_commands::{Line, Workers};
 use std::alloc::{AllocError, Global};
-
-/// What the program is asked for. A file is named as its word names it.
-#[derive(Clone, Copy, Debug, PartialEq, Eq)]
-pub enum Line<'a> {
-    /// Say how large the job is.
-    Check {
-        file: &'a str,
-    },
-    /// Run the job on the plain machine.
-    Plain {
-        file: &'a str,
-    },
-    /// Run the job on threads.
-    Run {
-        file: &'a str,
-        workers: u32,
-        plan: Option<&'a str>,
-    },
-    /// Run the job on one thread, by the plan, and print each step.
-    Replay {
-        file: &'a str,
-        workers: u32,
-        plan: Option<&'a str>,
-    },
-}
-
-impl<'a> Line<'a> {
-    /// The job's file.
-    pub fn file(&self) -> &'a str
-        ensures { result.now ≡ file_of self.now }
-    {
-        match *self {
-            Line::Check { file }
-            | Line::Plain { file }
-            | Line::Run { file, .. }
-            | Line::Replay { file, .. } => file,
-        }
-    }
-
-    /// The plan's file, if the line names one.
-    pub fn plan(&self) -> Option<&'a str>
-        ensures { text_of result ≡ plan_of self.now }
-    {
-        match *self {
-            Line::Check { .. } | Line::Plain { .. } => None,
-            Line::Run { plan, .. } | Line::Replay { plan, .. } => plan,
-        }
-    }
-}
 
 const EXAMPLES: &str = "\
 Examples:
@@ -165,10 +117,11 @@ fn line_of<'a>(matches: &ArgMatches<'a>) -> Option<Line<'a>>
         "plain" => return Some(Line::Plain { file }),
         _ => {}
     }
-    let workers = inner.get_one::<u32>("workers")?;
-    if workers == 0 || workers > 64 {
+    let count = inner.get_one::<u32>("workers")?;
+    if count == 0 || count > 64 {
         return None;
     }
+    let workers = Workers { count };
     let plan = inner.get_str("plan");
     match name {
         "run" => Some(Line::Run {

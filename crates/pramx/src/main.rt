@@ -6,20 +6,14 @@ ghost use Rattle.std.specs.Prelude.{◌≡◌, ◌≤◌, false};
 
 mod input;
 mod line;
-mod plan;
-mod refusal;
-mod replay;
-mod server;
 #[cfg(test)]
 mod tests;
-mod trace;
 
 use crate::input::open_input;
 use crate::line::read_line;
-use crate::refusal::{DONE, FAILED, MEMORY, Refusal, tell};
-use crate::server::serve;
 use clap::error::ErrorKind;
-use pram_io::{FromRead, IntoWrite, Sink};
+use pram_commands::{DONE, FAILED, MEMORY, Refusal, serve, tell};
+use pram_io::{Empty, IntoWrite, Sink};
 use std::alloc::{AllocError, Global};
 use std::env::{self, Env};
 use std::io;
@@ -79,7 +73,7 @@ fn line_status<'a, R: Files + Print + Eprint, E: Sink>(
             serve(alloc, &line, &mut job, Some(&mut plan), &mut out, err)
         }
         None => {
-            let plan: Option<&mut FromRead<io::Empty>> = None;
+            let plan: Option<&mut Empty> = None;
             serve(alloc, &line, &mut job, plan, &mut out, err)
         }
     }

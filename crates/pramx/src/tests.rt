@@ -1,6 +1,3 @@
 //! Tests of what no clause says.
+mod files;
 mod lines;
-mod refusals;
-mod replays;
-mod served;
-mod statuses;

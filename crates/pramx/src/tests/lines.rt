@@ -1,6 +1,7 @@
 //! Which words make a line.
-use crate::line::{Line, read_line};
+use crate::line::read_line;
 use clap::error::ErrorKind;
+use pram_commands::{Line, Workers};
 use std::test::Fail;
 
 const CHECK: &[&str] = &["pramx", "check", "f"];
@@ -31,7 +32,7 @@ fn words_make_a_line(rt: HostRuntime) -> Result<(), Fail> {
             RUN,
             Line::Run {
                 file: "job.txt",
-                workers: 2,
+                workers: Workers { count: 2 },
                 plan: Some("p.csv"),
             },
         ),
@@ -39,7 +40,7 @@ fn words_make_a_line(rt: HostRuntime) -> Result<(), Fail> {
             REPLAY,
             Line::Replay {
                 file: "job.txt",
-                workers: 1,
+                workers: Workers { count: 1 },
                 plan: None,
             },
         ),
@@ -47,7 +48,7 @@ fn words_make_a_line(rt: HostRuntime) -> Result<(), Fail> {
             ALL,
             Line::Run {
                 file: "job.txt",
-                workers: 64,
+                workers: Workers { count: 64 },
                 plan: None,
             },
         ),

@@ -62,9 +62,9 @@ returns-in-plain c = rw (← c.in-plain.is)
 pub returns-in-run : goal.returns-in-run
 returns-in-run c = rw (← c.in-run.is)
     (met_workers _ _ _ _ c.in_ok-name.ensures.name c.in_ok-name.ensures.rows c.in_ok-file.ensures
-    _ _ c.in_ok-workers.ensures.none (λ text is. (c.in_ok-workers.ensures.value text is).0.1) (omega arith) (omega arith) c.get_str-plan.ensures)
+    _ _ c.in_ok-count.ensures.none (λ text is. (c.in_ok-count.ensures.value text is).0.1) (omega arith) (omega arith) c.get_str-plan.ensures)
 
 pub returns-in-replay : goal.returns-in-replay
 returns-in-replay c = rw (← c.in-replay.is)
     (met_workers _ _ _ _ c.in_ok-name.ensures.name c.in_ok-name.ensures.rows c.in_ok-file.ensures
-    _ _ c.in_ok-workers.ensures.none (λ text is. (c.in_ok-workers.ensures.value text is).0.1) (omega arith) (omega arith) c.get_str-plan.ensures)
+    _ _ c.in_ok-count.ensures.none (λ text is. (c.in_ok-count.ensures.value text is).0.1) (omega arith) (omega arith) c.get_str-plan.ensures)

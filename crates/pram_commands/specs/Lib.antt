@@ -1,0 +1,6 @@
+pub mod Faults
+pub mod Inner
+pub mod Inputs
+pub mod Line
+pub mod Replayed
+pub mod Serve

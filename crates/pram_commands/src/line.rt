@@ -1,0 +1,54 @@
+//! What the program is asked for.
+ghost use Rattle.std.specs.Prelude.{◌≡◌};
+ghost use Rattle.pram_commands.specs.Line.{file_of, plan_of, text_of};
+
+use crate::workers::Workers;
+
+/// What the program is asked for. A file is named as its word names it.
+#[derive(Clone, Copy, Debug, PartialEq, Eq)]
+pub enum Line<'a> {
+    /// Say how large the job is.
+    Check {
+        file: &'a str,
+    },
+    /// Run the job on the plain machine.
+    Plain {
+        file: &'a str,
+    },
+    /// Run the job on threads.
+    Run {
+        file: &'a str,
+        workers: Workers,
+        plan: Option<&'a str>,
+    },
+    /// Run the job on one thread, by the plan, and print each step.
+    Replay {
+        file: &'a str,
+        workers: Workers,
+        plan: Option<&'a str>,
+    },
+}
+
+impl<'a> Line<'a> {
+    /// The job's file.
+    pub fn file(&self) -> &'a str
+        ensures { result.now ≡ file_of self.now }
+    {
+        match *self {
+            Line::Check { file }
+            | Line::Plain { file }
+            | Line::Run { file, .. }
+            | Line::Replay { file, .. } => file,
+        }
+    }
+
+    /// The plan's file, if the line names one.
+    pub fn plan(&self) -> Option<&'a str>
+        ensures { text_of result ≡ plan_of self.now }
+    {
+        match *self {
+            Line::Check { .. } | Line::Plain { .. } => None,
+            Line::Run { plan, .. } | Line::Replay { plan, .. } => plan,
+        }
+    }
+}

@@ -1,0 +1,99 @@
+//! The exit statuses, and what standard error tells of a line that was not done.
+ghost use Rattle.std.specs.Prelude.{◌≡◌, ◌⊎◌, false};
+ghost use Rattle.pram_commands.specs.Inner.Refusals.{refusal_status};
+
+use pram_io::{Sink, put};
+use pram_text::TextKind;
+use std::alloc::{AllocError, Global};
+use std::fmt;
+use stop_plan::PlanKind;
+
+/// The line was done, or help was asked for.
+pub const DONE: u8 = 0;
+
+/// The job ended in a conflict.
+pub const CONFLICT: u8 = 1;
+
+/// The text is refused.
+pub const REFUSED: u8 = 2;
+
+/// The workers stopped before the job's end.
+pub const UNFINISHED: u8 = 3;
+
+/// The words make no line, or a file or the output failed.
+pub const FAILED: u8 = 4;
+
+/// Memory ran out.
+pub const MEMORY: u8 = 5;
+
+/// What is told of want of memory, and needs none.
+const MEMORY_LINE: &str = "memory\n";
+
+/// Why a line was not done, as standard error tells it.
+#[derive(Clone, Copy, Debug)]
+pub enum Refusal<'a> {
+    /// A line of the text is bad.
+    Text { line: u64, kind: TextKind },
+    /// A record of the plan is bad.
+    Plan { row: u64, kind: PlanKind },
+    /// The file failed.
+    File(&'a str),
+    /// The output failed.
+    Output,
+    /// The file is too large.
+    Size(&'a str),
+    /// Memory ran out.
+    Memory,
+    /// A word is not UTF-8.
+    Word,
+    /// The line is none that is served.
+    NotYet,
+}
+
+impl Refusal<'_> {
+    fn status(self) -> u8
+        ensures { result ≡ refusal_status self.entry }
+    {
+        match self {
+            Refusal::Text { .. } | Refusal::Plan { .. } => REFUSED,
+            Refusal::Memory => MEMORY,
+            Refusal::File(_)
+            | Refusal::Output
+            | Refusal::Size(_)
+            | Refusal::Word
+            | Refusal::NotYet => FAILED,
+        }
+    }
+}
+
+impl fmt::Display for Refusal<'_> {
+    fn fmt<W: fmt::Write>(&self, f: &mut fmt::Formatter<W>) -> fmt::Result {
+        match self {
+            Refusal::Text { line, kind } => writeln!(f, "text line={line} kind={kind:?}"),
+            Refusal::Plan { row, kind } => writeln!(f, "plan row={row} kind={kind:?}"),
+            Refusal::File(name) => writeln!(f, "file {name}"),
+            Refusal::Output => writeln!(f, "file -"),
+            Refusal::Size(name) => writeln!(f, "size {name}"),
+            Refusal::Memory => write!(f, "{MEMORY_LINE}"),
+            Refusal::Word => writeln!(f, "error: a word of the line is not UTF-8"),
+            Refusal::NotYet => writeln!(f, "run is not built yet"),
+        }
+    }
+}
+
+/// Tells a refusal, and gives its status. Where there is no memory to tell it, it tells that.
+pub fn tell<E: Sink>(alloc: Global, refusal: Refusal<'_>, err: &mut E) -> u8
+    requires { E.has_failed err.old ≡ false }
+    ensures { (result ≡ MEMORY) ⊎ (result ≡ refusal_status refusal.entry) }
+{
+    match format!(in alloc; "{refusal}") {
+        Ok(text) => {
+            let _ = put(err, text.as_bytes());
+            refusal.status()
+        }
+        Err(AllocError) => {
+            let _ = put(err, MEMORY_LINE.as_bytes());
+            MEMORY
+        }
+    }
+}

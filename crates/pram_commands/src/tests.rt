@@ -1,0 +1,6 @@
+//! Tests of what no clause says.
+mod inputs;
+mod refusals;
+mod replays;
+mod served;
+mod statuses;

@@ -1,0 +1,58 @@
+//! Jobs and plans taken from their sources.
+use crate::{CommandFault, Workers, replay, take_inputs, take_plan};
+use pram_io::{Empty, FromRead, IntoWrite};
+use pram_step::RunAnswer;
+use std::test::Fail;
+
+const JOB: &[u8] = b"pram 1\ncells 1\nprocs 1\nsteps 0\ninit 0 5\ncode\nhalt\n";
+
+const PLAN: &[u8] = b"worker,act,ticks\n1,go,2\n";
+
+const TWO: Workers = Workers { count: 2 };
+
+#[test]
+fn takes_a_job_and_its_plan(rt: HostRuntime) -> Result<(), Fail> {
+    let alloc = rt.alloc();
+    let plan = take_plan(alloc, &mut FromRead::new(PLAN), TWO);
+    assert!(rt; plan.is_ok_and(|plan| plan.rows().len() == 1));
+    let both = take_inputs(
+        alloc,
+        &mut FromRead::new(JOB),
+        &mut FromRead::new(PLAN),
+        TWO,
+    );
+    assert!(rt; both.is_ok_and(|both| both.0.cells() == 1 && both.1.rows().len() == 1));
+    let none = take_plan(alloc, &mut Empty, TWO);
+    assert!(rt; none.is_ok_and(|plan| plan.rows().is_empty()));
+    let few = Workers { count: 1 };
+    let refused = take_inputs(
+        alloc,
+        &mut FromRead::new(JOB),
+        &mut FromRead::new(PLAN),
+        few,
+    );
+    assert!(rt; refused.is_err_and(|fault| matches!(fault, CommandFault::Plan { row: 2, .. })));
+    Ok(())
+}
+
+#[test]
+fn replays_between_devices(rt: HostRuntime) -> Result<(), Fail> {
+    let alloc = rt.alloc();
+    let mut out = IntoWrite::new(Vec::new(alloc));
+    let answer = replay(
+        alloc,
+        TWO,
+        &mut FromRead::new(JOB),
+        &mut FromRead::new(PLAN),
+        &mut out,
+    );
+    match answer {
+        Ok(RunAnswer::Final(cells)) => assert_eq!(rt; cells.as_slice(), [5].as_slice()),
+        _ => panic!(rt; "no answer"),
+    }
+    let text = "tick,worker,op,word,before,after\n\
+                1,1,load,1,0,0\n2,1,load,0,0,0\n3,0,load,1,0,0\n4,0,load,0,0,0\n\
+                done steps=0\n0: 5\n";
+    assert_eq!(rt; out.into_inner().as_slice(), text.as_bytes());
+    Ok(())
+}

@@ -1,0 +1,90 @@
+//! Files and outputs that fail, and lines that are not served.
+use crate::tests::served::{
+    CHECK, Closed, FILE, PLAIN, Served, serve_source, serve_sources, serve_text,
+};
+use crate::{Line, Workers, serve};
+use pram_io::{Empty, FromRead, IntoWrite, MOST};
+use std::test::Fail;
+
+const REPLAY: Line<'static> = Line::Replay {
+    file: FILE,
+    workers: Workers { count: 2 },
+    plan: Some("plan.csv"),
+};
+
+const JOB: &[u8] = b"pram 1\ncells 1\nprocs 1\nsteps 0\ncode\nhalt\n";
+
+// Nothing but this was told, with status 4.
+fn is_refused(served: &Served, told: &str) -> bool {
+    served.status == 4 && served.out.is_empty() && served.err.as_slice() == told.as_bytes()
+}
+
+#[test]
+fn a_closed_file_is_named(rt: HostRuntime) {
+    let alloc = rt.alloc();
+    for line in [CHECK, PLAIN, REPLAY] {
+        let served = serve_source(alloc, &line, &mut Closed::new());
+        assert!(rt; is_refused(&served, "file job.txt\n"));
+    }
+    let plan = &mut Closed::new();
+    let served = serve_sources(alloc, &REPLAY, &mut FromRead::new(JOB), Some(plan));
+    assert!(rt; is_refused(&served, "file plan.csv\n"));
+}
+
+#[test]
+fn a_large_file_is_named(rt: HostRuntime) -> Result<(), Fail> {
+    let alloc = rt.alloc();
+    let text = vec![in alloc; b';'; MOST + 1]?;
+    for line in [CHECK, PLAIN, REPLAY] {
+        let served = serve_text(alloc, &line, text.as_slice());
+        assert!(rt; is_refused(&served, "size job.txt\n"));
+    }
+    let plan = &mut FromRead::new(text.as_slice());
+    let served = serve_sources(alloc, &REPLAY, &mut FromRead::new(JOB), Some(plan));
+    assert!(rt; is_refused(&served, "size plan.csv\n"));
+    Ok(())
+}
+
+#[test]
+fn lines_that_are_not_built_say_so(rt: HostRuntime) {
+    let line = Line::Run {
+        file: FILE,
+        workers: Workers { count: 2 },
+        plan: None,
+    };
+    let served = serve_text(rt.alloc(), &line, &[]);
+    assert!(rt; is_refused(&served, "run is not built yet\n"));
+}
+
+// The output fails behind each byte in turn.
+#[test]
+fn a_failing_output_took_a_beginning(rt: HostRuntime) {
+    let alloc = rt.alloc();
+    for line in [CHECK, PLAIN, REPLAY] {
+        let whole = serve_text(alloc, &line, JOB).out;
+        for count in 0..whole.len() {
+            let mut room = [0u8; 256];
+            let mut out = IntoWrite::new(&mut room[..count.min(256)]);
+            let mut err = IntoWrite::new(Vec::new(alloc));
+            let plan: Option<&mut Empty> = None;
+            let job = &mut FromRead::new(JOB);
+            let status = serve(alloc, &line, job, plan, &mut out, &mut err);
+            assert_eq!(rt; status, 4);
+            assert_eq!(rt; err.into_inner().as_slice(), "file -\n".as_bytes());
+            assert!(rt; out.into_inner().is_empty());
+            assert!(rt; whole.as_slice().starts_with(&room[..count.min(256)]));
+        }
+    }
+}
+
+#[test]
+fn the_status_stays_where_standard_error_fails(rt: HostRuntime) {
+    let alloc = rt.alloc();
+    let mut room = [0u8; 3];
+    let mut out = IntoWrite::new(Vec::new(alloc));
+    let mut err = IntoWrite::new(&mut room[..]);
+    let plan: Option<&mut Empty> = None;
+    let job = &mut FromRead::new(&JOB[..6]);
+    assert_eq!(rt; serve(alloc, &PLAIN, job, plan, &mut out, &mut err), 2);
+    assert!(rt; out.into_inner().is_empty());
+}

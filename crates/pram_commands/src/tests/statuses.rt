@@ -1,0 +1,106 @@
+//! What a line that was served writes and answers. In texts and outputs `/` stands for a line feed.
+use crate::Line;
+use crate::tests::served::{CHECK, PLAIN, serve_text};
+use std::alloc::{AllocError, Global};
+use std::process::Abort;
+use std::test::Fail;
+
+/// A text, and what is written to the output and to standard error, with the status.
+type Row = (&'static str, &'static str, &'static str, u8);
+
+fn lines_of(alloc: Global, row: &str) -> Result<Vec<u8>, AllocError> {
+    row.bytes()
+        .map(|byte| if byte == b'/' { b'\n' } else { byte })
+        .collect(alloc)
+}
+
+fn expect(rt: &impl Abort, alloc: Global, line: &Line<'_>, rows: &[Row]) -> Result<(), Fail> {
+    for (text, out, err, status) in rows {
+        let text_lines = lines_of(alloc, text)?;
+        let out = lines_of(alloc, out)?;
+        let err = lines_of(alloc, err)?;
+        let served = serve_text(alloc, line, text_lines.as_slice());
+        assert_eq!(rt; served.out.as_slice(), out.as_slice(), "of {text}");
+        assert_eq!(rt; served.err.as_slice(), err.as_slice(), "of {text}");
+        assert_eq!(rt; served.status, *status, "of {text}");
+    }
+    Ok(())
+}
+
+#[test]
+fn plain_answers_with_a_status(rt: HostRuntime) -> Result<(), Fail> {
+    let rows = [
+        (
+            "pram 1/cells 1/procs 1/steps 0/init 0 5/code/halt/",
+            "done steps=0/0: 5/",
+            "",
+            0,
+        ),
+        (
+            "pram 1/cells 1/procs 3/steps 2/code/pid r0/st r1 r0/",
+            "conflict step=2 cell=0 processors=0,1/",
+            "",
+            1,
+        ),
+        (
+            "pram 1/cells 1/procs 1/steps 1/code/",
+            "",
+            "text line=6 kind=NoCode/",
+            2,
+        ),
+    ];
+    expect(&rt, rt.alloc(), &PLAIN, &rows)
+}
+
+#[test]
+fn check_answers_with_a_status(rt: HostRuntime) -> Result<(), Fail> {
+    let rows = [
+        (
+            "pram 1/cells 5/procs 4/steps 5/init 1 1/init 3 1/code/\
+             pid r0/ld r1 r0/jz r1 end/set r2 4/st r2 r1/end: halt/",
+            "ok cells=5 procs=4 steps=5 code=6/",
+            "",
+            0,
+        ),
+        ("; é/", "", "text line=1 kind=NotAscii/", 2),
+        ("", "", "text line=1 kind=BadHeader/", 2),
+        ("pram 1/cells x/", "", "text line=2 kind=BadNumber/", 2),
+        (
+            "pram 1/cells 65537/",
+            "",
+            "text line=2 kind=OutOfLimits/",
+            2,
+        ),
+        (
+            "pram 1/cells 1/procs 1/steps 1/code/jmp x/foo/",
+            "",
+            "text line=7 kind=UnknownInstruction/",
+            2,
+        ),
+        (
+            "pram 1/cells 1/procs 1/steps 1/code/jmp y/set r0/",
+            "",
+            "text line=7 kind=WrongOperands/",
+            2,
+        ),
+        (
+            "pram 1/cells 1/procs 1/steps 1/code/jz r4 x/",
+            "",
+            "text line=6 kind=BadRegister/",
+            2,
+        ),
+        (
+            "pram 1/cells 1/procs 1/steps 1/code/a: halt/a: halt/",
+            "",
+            "text line=7 kind=DuplicateLabel/",
+            2,
+        ),
+        (
+            "pram 1/cells 1/procs 1/steps 1/code/jmp x/",
+            "",
+            "text line=6 kind=UnknownLabel/",
+            2,
+        ),
+    ];
+    expect(&rt, rt.alloc(), &CHECK, &rows)
+}
