@@ -220,73 +220,70 @@ fn crew_names_the_two_least_writers(rt: HostRuntime) -> Result<(), Fail> {
     conflicts(&rt, text, fault)
 }
 
-#[test]
-fn load_out_of_range_stops_the_processor(rt: HostRuntime) -> Result<(), Fail> {
-    let text = "pram 1\ncells 2\nprocs 2\nsteps 5\ninit 0 5\ninit 1 9\ncode\n\
-        pid r0\nset r1 1\nadd r2 r0 r1\nld r3 r2\nst r0 r3\n";
-    let job = job(&rt, text)?;
-    assert_eq!(rt; job.cells(), 2);
-    assert_eq!(rt; job.procs(), 2);
+// Checks that the second instruction stops the only processor, its address being out of range.
+fn stops_out_of_range<R: AllocGlobal + Abort>(rt: &R, text: &str) -> Result<(), Fail> {
+    let job = job(rt, text)?;
+    assert_eq!(rt; job.cells(), 1);
+    assert_eq!(rt; job.procs(), 1);
     let mut state = State::start(rt.alloc(), &job)?;
     step(rt.alloc(), &job, &mut state)?;
+    assert_eq!(rt; state.get(5), 1);
     step(rt.alloc(), &job, &mut state)?;
-    step(rt.alloc(), &job, &mut state)?;
-    assert_eq!(rt; state.get(11), 3);
-    step(rt.alloc(), &job, &mut state)?;
-    assert_eq!(rt; state.get(11), 6);
+    assert_eq!(rt; state.get(5), 3);
     Ok(())
+}
+
+#[test]
+fn load_out_of_range_stops_the_processor(rt: HostRuntime) -> Result<(), Fail> {
+    let text = "pram 1\ncells 1\nprocs 1\nsteps 2\ncode\nset r0 1\nld r1 r0\n";
+    stops_out_of_range(&rt, text)
 }
 
 #[test]
 fn store_out_of_range_stops_the_processor(rt: HostRuntime) -> Result<(), Fail> {
-    let text = "pram 1\ncells 1\nprocs 2\nsteps 2\ncode\npid r0\nst r0 r0\n";
-    let job = job(&rt, text)?;
-    assert_eq!(rt; job.cells(), 1);
-    assert_eq!(rt; job.procs(), 2);
-    let mut state = State::start(rt.alloc(), &job)?;
-    step(rt.alloc(), &job, &mut state)?;
-    step(rt.alloc(), &job, &mut state)?;
-    assert_eq!(rt; state.get(10), 3);
-    Ok(())
+    let text = "pram 1\ncells 1\nprocs 1\nsteps 2\ncode\nset r0 1\nst r0 r0\n";
+    stops_out_of_range(&rt, text)
 }
 
 #[test]
 fn disputed_step_changes_nothing(rt: HostRuntime) -> Result<(), Fail> {
-    let text = "pram 1\ncells 2\nprocs 4\nsteps 4\ncode\n\
-        pid r0\nset r1 1\nand r2 r0 r1\nst r2 r0\n";
+    let text = "pram 2\ncells 1\nprocs 2\nsteps 1\nrule crew\ninit 0 5\ncode\nst r0 r1\n";
     let job = job(&rt, text)?;
-    assert_eq!(rt; job.cells(), 2);
-    assert_eq!(rt; job.procs(), 4);
+    assert_eq!(rt; job.procs(), 2);
     let mut state = State::start(rt.alloc(), &job)?;
     let asked = Request {
-        put: Some((6, 1)),
+        put: Some((0, 0)),
         next: 1,
     };
     assert_eq!(rt; request(&job, &state, 1), asked);
-    step(rt.alloc(), &job, &mut state)?;
-    step(rt.alloc(), &job, &mut state)?;
-    step(rt.alloc(), &job, &mut state)?;
-    assert_eq!(rt; state.get(6), 1);
-    let places = state.places().to_vec(rt.alloc())?;
     let conflict = StepFault::Conflict {
         cell: 0,
         first: 0,
-        second: 2,
+        second: 1,
     };
     assert_eq!(rt; step(rt.alloc(), &job, &mut state), Err(conflict));
-    assert_eq!(rt; state.places(), places.as_slice());
+    let start = [5, 0, 0, 0, 0, 0, 0, 0, 0, 0, 0];
+    assert_eq!(rt; state.places(), start.as_slice());
     Ok(())
+}
+
+fn disputed(cell: u32, first: u32, second: u32) -> Option<Dispute> {
+    Some(Dispute {
+        cell,
+        first,
+        second,
+    })
 }
 
 #[test]
 fn disputes_in_lists_of_requests(rt: HostRuntime) -> Result<(), Fail> {
     let text = "pram 1\ncells 6\nprocs 5\nsteps 1\ncode\nhalt\n";
-    let job = read_job(rt.alloc(), text.as_bytes())?;
+    let job = job(&rt, text)?;
     assert_eq!(rt; job.procs(), 5);
     let lists = [
         (
             [Some((4, 1)), None, Some((4, 3)), Some((0, 9)), Some((0, 9))],
-            Some((4, 0, 2)),
+            disputed(4, 0, 2),
         ),
         (
             [
@@ -296,18 +293,13 @@ fn disputes_in_lists_of_requests(rt: HostRuntime) -> Result<(), Fail> {
                 Some((0, 2)),
                 Some((0, 3)),
             ],
-            Some((0, 1, 4)),
+            disputed(0, 1, 4),
         ),
         ([Some((4, 1)), Some((4, 1)), Some((4, 1)), None, None], None),
     ];
-    for (puts, disputed) in lists {
+    for (puts, found) in lists {
         let requests = puts.map(|put| Request { put, next: 0 });
-        let disputed = disputed.map(|(cell, first, second)| Dispute {
-            cell,
-            first,
-            second,
-        });
-        assert_eq!(rt; dispute(rt.alloc(), &job, &requests)?, disputed);
+        assert_eq!(rt; dispute(rt.alloc(), &job, &requests)?, found);
     }
     Ok(())
 }
