@@ -1,5 +1,5 @@
 -- A worker that hears an answer.
-use Rattle.std.proofs.Common.{◌≡◌, ◌≢◌, add-one, get_or-set_other, get_or-set_same, ℕ, zero, suc, ◌+◌, ◌<◌, ◌≤◌, List, ◌∷◌, length, Some, None, refl, sym, ap, subst, ◌∙◌, arith}
+use Rattle.std.proofs.Common.{◌≡◌, ◌≢◌, add-one, get_or-set_other, get_or-set_same, ℕ, zero, suc, ◌+◌, ◌<◌, ◌≤◌, List, ◌∷◌, length, Option, Some, None, refl, sym, ap, subst, ◌∙◌, arith}
 use Rattle.std.specs.Prelude.{slice_set}
 use Rattle.pram_text.specs.Job.{JobData}
 use Rattle.pram_words.specs.Phases.{kind_at}
@@ -11,7 +11,7 @@ use Rattle.walkx.specs.declared.stage.Step.TheVariants as step
 use Rattle.walkx.specs.Scripts.{Script, asks, ends, behind}
 use Rattle.walkx.specs.declared.operation.Op.{Op}
 use Rattle.walkx.specs.Inner.Posts.{PostData, processor_of, step_of, then_marks}
-use Rattle.walkx.specs.Inner.Stages.{IsStage, IsStep, WorkerData, post_of, doing_of, newest, script_at, script_behind, stepped}
+use Rattle.walkx.specs.Inner.Stages.{IsStage, IsStep, WorkerData, worker_data, post_of, doing_of, newest, script_at, script_behind, stepped}
 use Rattle.walkx.specs.Serving.{Serves}
 use Rattle.walkx.specs.Walk.{Then, Walking, Fits, IsBoard, IsGoing, HearsAdmitted, AsksAdmitted, IsStepOn, ask_of, next_op, end_of, told, goes_on, rest_of, begin_script, turn_script, started, come_back}
 use Rattle.walkx.proofs.Asking.{all_ask, going_steps}
@@ -129,11 +129,20 @@ asked job y new k v at op e f board same serves is =
     let asks : op ≡ ask_of job y new.walking = rw (serves.stands.rest, serves.stands.now) there in
     record { asks = asks; admitted = subst (AsksAdmitted job y) (sym asks) (all_ask job y new.walking board serves.fits); step = λ none. subst (IsStepOn y) (sym asks) (going_steps job y new.walking board serves.fits none) }
 
-pub doing_stays : (job : JobData) (y : LayoutData) (v k : WorkerData) (at : PostData) (new : Stage) → v ≡ k → at ≡ post_of job y k → IsStep at v.stage (step.On new) → doing_of new v.phase ≡ doing_of v.stage v.phase
+doing_stays : (job : JobData) (y : LayoutData) (v k : WorkerData) (at : PostData) (new : Stage) → v ≡ k → at ≡ post_of job y k → IsStep at v.stage (step.On new) → doing_of new v.phase ≡ doing_of v.stage v.phase
 doing_stays job y v k at new e f =
     let P : WorkerData → PostData → Type 0 = λ u a. IsStep a u.stage (step.On new) → doing_of new u.phase ≡ doing_of u.stage u.phase in
     let Q : WorkerData → Type 0 = λ u. P u at in
     subst Q (sym e) (subst (P k) (sym f) (λ fits. fits.2))
+
+-- where the script goes on, with one answer more
+pub hears_more : (job : JobData) (y : LayoutData) (number : ℕ) (node : Option ℕ) (phase : ℕ) (old new : Stage) (count : ℕ) (heard : List ℕ) (k : WorkerData) (at : PostData) (found : ℕ)
+    → worker_data number node phase old (newest count heard) ≡ k → at ≡ post_of job y k → IsBoard job y → Serves job y k → HearsAdmitted job y (ask_of job y k.walking) found
+    → script_behind at (step.On new) ≡ behind (script_at at old) found → IsStep at old (step.On new) → count < length heard
+    → Hears job y k found (worker_data number node phase new (newest (count + 1) (slice_set heard count found)))
+hears_more job y number node phase old new count heard k at found e f board serves admitted is fits room =
+    let v = worker_data number node phase old (newest count heard) in
+    rw (newest-push count found heard room, doing_stays job y v k at new e f fits) (hears_by job y v k at found (step.On new) e f board serves admitted is fits)
 
 -- a new worker serves
 pub starts : (job : JobData) (y : LayoutData) (w : ℕ) → w < y.workers → Serves job y (record { walking = started w; phase = 0; stage = stage.Begin })
