@@ -13,15 +13,11 @@ use Rattle.pram_world.specs.declared.event.Event.{Event}
 use Rattle.pram_world.specs.declared.event.Event.TheVariants.{Go}
 use Rattle.pram_world.specs.Inner.Holding.{Holds}
 use Rattle.pram_world.specs.Worlds.{WorldData, walks, start, run, went, happens, going, goes}
-use Rattle.pram_world.proofs.Counting.{Counted, counted_none, counted_own, counted_other, lengthened, get_set_other, goer, fewer, bound_small, same_board}
+use Rattle.pram_world.proofs.Counting.{Counted, counted_none, counted_own, counted_other, lengthened, get_set_other, goer, fewer, bound_small, run_board}
 use Rattle.pram_world.proofs.Keeping.{Held, holds_start, holds_step, run_holds, run_more}
 use Rattle.pram_run.specs.Replays.{running, world_events}
 use Rattle.pram_run.specs.Inner.Progress.{turn}
 use Rattle.pram_run.proofs.Behind.{rounds_more}
-
-run_board : (s : WorldData) (es : List Event) → ((run s es).job ≡ s.job) × ((run s es).layout ≡ s.layout)
-run_board s [] = (refl, refl)
-run_board s (e ∷ es) = let one = same_board s e in let rest = run_board (happens s e) es in (rest.0 ∙ one.0, rest.1 ∙ one.1)
 
 -- where body b is still going, the record of the world has n steps of it
 pub record Tracks (s : WorldData) (b n : ℕ) : Type 0 where

@@ -1,4 +1,7 @@
 //! Worked rows by replay, and traces written and cut short.
+mod rows;
+mod rules;
+
 ghost use Rattle.std.specs.Prelude.{◌≤◌};
 
 use super::*;
@@ -53,6 +56,30 @@ fn ends_with(
         _ => panic!(rt; "{text}"),
     }
     Ok(trace)
+}
+
+// The step, the cell and the two processors that a replay names.
+fn disputes(
+    rt: &(impl AllocGlobal + Abort),
+    text: &str,
+    workers: u32,
+    rows: &str,
+    named: (u32, u32, u32, u32),
+) -> Result<(), Fail>
+    requires some { 1 ≤ workers }
+    requires most { workers ≤ 64 }
+{
+    let fault = Fault {
+        step: named.0,
+        cell: named.1,
+        first: named.2,
+        second: named.3,
+    };
+    match replayed(rt, text, workers, rows)?.0 {
+        RunAnswer::Conflict(found) => assert_eq!(rt; found, fault, "{rows}"),
+        _ => panic!(rt; "{rows}"),
+    }
+    Ok(())
 }
 
 fn row(worker: u32, kind: StepKind, word: u32, before: u64, after: u64) -> TraceRow {
@@ -114,40 +141,6 @@ fn stopped_worker_leaves_the_job_unfinished(rt: HostRuntime) -> Result<(), Fail>
         match replayed(&rt, text, 1, plan)?.0 {
             RunAnswer::Unfinished { step } => assert_eq!(rt; step, wanted, "{plan}"),
             _ => panic!(rt; "{plan}"),
-        }
-    }
-    Ok(())
-}
-
-// Processors 1 and 3 write to cell 4 in step 5.
-#[test]
-fn one_cell_under_each_rule(rt: HostRuntime) -> Result<(), Fail> {
-    let jobs = [
-        ("common", "r1", None),
-        ("common", "r0", Some((1, 3))),
-        ("priority", "r0", None),
-        ("crew", "r1", Some((1, 3))),
-    ];
-    for (rule, value, disputed) in jobs {
-        let text = format!(in rt.alloc();
-            "pram 2\ncells 5\nprocs 4\nsteps 5\nrule {rule}\ninit 1 1\ninit 3 1\ncode\npid r0\nld r1 r0\njz r1 end\nset r2 4\nst r2 {value}\nend: halt\n"
-        )?;
-        for workers in [1, 2, 4] {
-            match (replayed(&rt, text.as_str(), workers, "")?.0, disputed) {
-                (RunAnswer::Final(cells), None) => {
-                    assert_eq!(rt; cells.as_slice(), [0, 1, 0, 1, 1].as_slice())
-                }
-                (RunAnswer::Conflict(found), Some((first, second))) => {
-                    let fault = Fault {
-                        step: 5,
-                        cell: 4,
-                        first,
-                        second,
-                    };
-                    assert_eq!(rt; found, fault);
-                }
-                _ => panic!(rt; "{rule}"),
-            }
         }
     }
     Ok(())

@@ -12,6 +12,10 @@ use walkx::{Ended, Op};
 const SWAP: &str = "pram 1\ncells 2\nprocs 2\nsteps 5\ninit 0 7\ninit 1 9\ncode\n\
     pid r0\nset r1 1\nsub r1 r1 r0\nld r2 r1\nst r0 r2\n";
 
+// Processors 1 and 3 write 1 and 3 to cell 4 in step 5.
+const DISPUTED: &str = "pram 1\ncells 5\nprocs 4\nsteps 5\ninit 1 1\ninit 3 1\ncode\n\
+    pid r0\nld r1 r0\njz r1 end\nset r2 4\nst r2 r0\nend: halt\n";
+
 // A world of two workers.
 fn world(rt: &impl AllocGlobal, text: &str) -> Result<World, Fail>
     ensures { IfOk result (λ w. w.layout.workers ≡ 2) }
@@ -53,16 +57,21 @@ const AT_STEP_FIVE: Option<Fault> = Some(Fault {
     second: 3,
 });
 
-fn survives(
+fn end_of(conflict: Option<Fault>) -> Ended {
+    match conflict {
+        None => Ended::Done,
+        Some(fault) => Ended::Conflict(fault.step),
+    }
+}
+
+// Worker 0 is lost after each number of its steps, and comes back once worker 1 is over.
+fn survives_a_loss(
     rt: &(impl AllocGlobal + Abort),
     text: &str,
     cells: &[u32],
     conflict: Option<Fault>,
 ) -> Result<(), Fail> {
-    let end = match conflict {
-        None => Ended::Done,
-        Some(fault) => Ended::Conflict(fault.step),
-    };
+    let end = end_of(conflict);
     for steps in 0..2000 {
         let mut lost = world(rt, text)?;
         if go(&mut lost, 0, steps) {
@@ -74,11 +83,27 @@ fn survives(
         assert!(rt; is_answer(&lost, cells, conflict)?, "{steps} steps");
         lost.event(Event::Back(0));
         assert_eq!(rt; lost.finish(0), Some(end), "{steps} steps");
+    }
+    panic!(rt; "not over")
+}
+
+// Worker 0 and its twin take turns, until worker 0 is lost after each number of its steps.
+fn survives_beside_a_twin(
+    rt: &(impl AllocGlobal + Abort),
+    text: &str,
+    cells: &[u32],
+    conflict: Option<Fault>,
+) -> Result<(), Fail> {
+    let end = end_of(conflict);
+    for steps in 0..2000 {
         let mut twins = world(rt, text)?;
         let twin = twins.twin(0)?;
         for _ in 0..steps {
             twins.event(Event::Go(0));
             twins.event(Event::Go(twin));
+        }
+        if !twins.is_going(0) {
+            return Ok(());
         }
         twins.event(Event::Stop(0));
         assert_eq!(rt; twins.finish(twin), Some(end), "{steps} steps");
@@ -88,26 +113,47 @@ fn survives(
 }
 
 #[test]
-fn a_worker_lost_at_each_step(rt: HostRuntime) -> Result<(), Fail> {
-    survives(&rt, SWAP, &[9, 7], None)?;
-    survives(
-        &rt,
-        one_cell(&rt, "common", "r0")?.as_str(),
-        &[],
-        AT_STEP_FIVE,
-    )?;
-    survives(
-        &rt,
-        one_cell(&rt, "priority", "r0")?.as_str(),
-        &[0, 1, 0, 1, 1],
-        None,
-    )?;
-    survives(
-        &rt,
-        one_cell(&rt, "crew", "r1")?.as_str(),
-        &[],
-        AT_STEP_FIVE,
-    )
+fn a_lost_worker_leaves_two_cells_changed_places(rt: HostRuntime) -> Result<(), Fail> {
+    survives_a_loss(&rt, SWAP, &[9, 7], None)
+}
+
+#[test]
+fn a_lost_worker_leaves_the_conflict(rt: HostRuntime) -> Result<(), Fail> {
+    survives_a_loss(&rt, DISPUTED, &[], AT_STEP_FIVE)
+}
+
+#[test]
+fn a_lost_worker_leaves_the_least_writer(rt: HostRuntime) -> Result<(), Fail> {
+    let text = one_cell(&rt, "priority", "r0")?;
+    survives_a_loss(&rt, text.as_str(), &[0, 1, 0, 1, 1], None)
+}
+
+#[test]
+fn a_lost_worker_leaves_the_second_writer(rt: HostRuntime) -> Result<(), Fail> {
+    let text = one_cell(&rt, "crew", "r1")?;
+    survives_a_loss(&rt, text.as_str(), &[], AT_STEP_FIVE)
+}
+
+#[test]
+fn a_lost_twin_leaves_two_cells_changed_places(rt: HostRuntime) -> Result<(), Fail> {
+    survives_beside_a_twin(&rt, SWAP, &[9, 7], None)
+}
+
+#[test]
+fn a_lost_twin_leaves_the_conflict(rt: HostRuntime) -> Result<(), Fail> {
+    survives_beside_a_twin(&rt, DISPUTED, &[], AT_STEP_FIVE)
+}
+
+#[test]
+fn a_lost_twin_leaves_the_least_writer(rt: HostRuntime) -> Result<(), Fail> {
+    let text = one_cell(&rt, "priority", "r0")?;
+    survives_beside_a_twin(&rt, text.as_str(), &[0, 1, 0, 1, 1], None)
+}
+
+#[test]
+fn a_lost_twin_leaves_the_second_writer(rt: HostRuntime) -> Result<(), Fail> {
+    let text = one_cell(&rt, "crew", "r1")?;
+    survives_beside_a_twin(&rt, text.as_str(), &[], AT_STEP_FIVE)
 }
 
 #[test]
@@ -149,5 +195,47 @@ fn events_and_effects(rt: HostRuntime) -> Result<(), Fail> {
     }
     world.facts();
     laws::every_interleaving();
+    laws::every_read_is_lawful();
+    laws::every_body_is_bounded();
+    Ok(())
+}
+
+// A growth that is refused, as by `rt try --fail-alloc`, is told, and the same call then succeeds.
+// It prints whether one was.
+#[test]
+fn refused_growths_change_nothing(rt: HostRuntime) -> Result<(), Fail> {
+    let alloc = rt.alloc();
+    let mut refused = 0u32;
+    let job = match read_job(alloc, DISPUTED.as_bytes()) {
+        Ok(job) => job,
+        Err(_) => read_job(alloc, DISPUTED.as_bytes())?,
+    };
+    let mut world = match World::new(alloc, &job, 2) {
+        Ok(world) => world,
+        Err(_) => {
+            refused = 1;
+            World::new(alloc, &job, 2)?
+        }
+    };
+    let twin = match world.twin(1) {
+        Ok(twin) => twin,
+        Err(_) => {
+            refused = 1;
+            world.twin(1)?
+        }
+    };
+    assert_eq!(rt; world.finish(twin), Some(Ended::Conflict(5)));
+    let answer = match world.outcome() {
+        Ok(answer) => answer,
+        Err(_) => {
+            refused = 1;
+            world.outcome()?
+        }
+    };
+    match answer {
+        RunAnswer::Conflict(found) => assert_eq!(rt; Some(found), AT_STEP_FIVE),
+        _ => panic!(rt; "no conflict"),
+    }
+    println!(rt; "refused={refused}")?;
     Ok(())
 }
