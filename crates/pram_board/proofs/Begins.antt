@@ -4,8 +4,8 @@ use Rattle.pram_words.specs.declared.words.Word.{Word}
 use Rattle.pram_words.specs.declared.words.Word.TheVariants.{Conflict, Node, Stored}
 use Rattle.pram_words.specs.Words.{LayoutData}
 use Rattle.walkx.specs.declared.operation.Op.{Op}
-use Rattle.walkx.specs.Records.{Record, empty, after, both}
-use Rattle.walkx.proofs.Knowing.{has_left, has_right}
+use Rattle.walkx.specs.Records.{Record, empty, after, both, Has}
+use Rattle.walkx.proofs.Knowing.{has_left, has_more, has_right}
 use Rattle.lawful_words.specs.Moments.{afters}
 use Rattle.lawful_words.specs.Seen.{BeginsWith, Heard, HeardThen, Shows, KnowsStep}
 use Rattle.lawful_words.proofs.Knowing.{heard_too, shows_too, knows_too}
@@ -23,6 +23,10 @@ pub begins_both : (first r s : Record) → BeginsWith first r → BeginsWith fir
 begins_both first r s begins begins_too = inr (begins, begins_too)
 
 -- ---- more steps
+
+pub has_afters : (r : Record) (steps es : List (Op × ℕ)) → Has r es → Has (afters r steps) es
+has_afters r [] es has = has
+has_afters r (e ∷ steps) es has = has_more (afters r steps) e.0 e.1 es (has_afters r steps es has)
 
 pub heard_afters : (y : LayoutData) (r : Record) (steps : List (Op × ℕ)) (word : Word) (a : ℕ) → Heard y r word a → Heard y (afters r steps) word a
 heard_afters y r [] word a heard = heard

@@ -108,6 +108,7 @@ was_read_now t p q c answers (At step value) cell is over was =
     record {
       answers = answers;
       is = is;
+      over = over;
       few = (was_read t.job t.layout p.record_of c step value answers cell over w).1;
       lawful = subst (λ (z : Place). IsLawfulRead t.job t.layout p.record_of z.record_of c step value) (sym is) ((was_read t.job t.layout p.record_of c step value answers cell over w).0);
     }

@@ -14,7 +14,7 @@ use Rattle.walkx.specs.declared.operation.Reading.TheVariants.{At}
 use Rattle.walkx.specs.Reads.{step_seen, reader_script}
 use Rattle.walkx.specs.Records.{Record, empty, after, both}
 use Rattle.walkx.specs.Codes.{coded_record}
-use Rattle.walkx.specs.Scripts.{heard_in}
+use Rattle.walkx.specs.Scripts.{ends, rest, heard_in}
 use Rattle.lawful_words.specs.Moments.{afters}
 use Rattle.lawful_words.specs.Seen.{Heard}
 use Rattle.walk_laws.specs.Walks.{IsLawfulRead, ProgressWell}
@@ -86,9 +86,10 @@ pub record Progressed (t : Task) (p q : Place) (progress : Progress) : Type 0 wh
 abbrev pub IsReading : Task → Record → Record → ℕ → Reading → Type 0
 IsReading t before behind c (At step value) = IsLawfulRead t.job t.layout before behind c step value
 
--- the loads of a reader of the cell, at most five, and a lawful read
+-- the loads of a reader of the cell, at most five, what it then answers, and that this is a lawful read
 pub record WasRead (t : Task) (p q : Place) (c : ℕ) (reading : Reading) : Type 0 where
   pub answers : List ℕ
   pub is : q ≡ hears_all p (heard_in (reader_script t.layout c) answers)
+  pub over : rest (reader_script t.layout c) answers ≡ ends reading
   pub few : length (heard_in (reader_script t.layout c) answers) ≤ 5
   pub lawful : IsReading t p.record_of q.record_of c reading

@@ -8,6 +8,8 @@ mod outcome;
 mod plays;
 mod seat;
 mod task;
+#[cfg(test)]
+mod tests;
 mod work;
 
 pub use board::Board;

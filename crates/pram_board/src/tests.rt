@@ -1,0 +1,311 @@
+//! Boards on one thread: worked rows, and a worker lost at each of its atomic steps.
+ghost use Rattle.std.specs.Prelude.{◌≡◌, ◌<◌, ◌≤◌, IfOk};
+ghost use Rattle.walkx.specs.Records.{Knows};
+ghost use Rattle.walkx.specs.Serving.{Serves};
+
+use super::*;
+use pram_step::{Cells, Fault, RunAnswer};
+use pram_text::read_job;
+use std::process::Abort;
+use std::sync::atomic::{AtomicU64, Ordering};
+use std::test::Fail;
+use stop_plan::{Gate, Open};
+use walkx::{Ended, Reading, Worker};
+
+const SWAP: &str = "pram 1\ncells 2\nprocs 2\nsteps 5\ninit 0 7\ninit 1 9\ncode\n\
+    pid r0\nset r1 1\nsub r1 r1 r0\nld r2 r1\nst r0 r2\n";
+
+const BELOW_ZERO: &str =
+    "pram 1\ncells 1\nprocs 1\nsteps 3\ncode\nset r1 1\nsub r2 r0 r1\nst r0 r2\n";
+
+const TWO: &str = "pram 1\ncells 2\nprocs 2\nsteps 1\ncode\npid r0\n";
+
+// Processors 1 and 3 write to cell 4 in step 5.
+fn one_cell(rt: &impl AllocGlobal, rule: &str, value: &str) -> Result<String, Fail> {
+    Ok(format!(in rt.alloc();
+        "pram 2\ncells 5\nprocs 4\nsteps 5\nrule {rule}\ninit 1 1\ninit 3 1\ncode\npid r0\nld r1 r0\njz r1 end\nset r2 4\nst r2 {value}\nend: halt\n"
+    )?)
+}
+
+// A board for two workers, for a job of so many cells.
+fn opened(rt: &(impl AllocGlobal + Abort), text: &str, cells: u32) -> Result<(Board, Seat), Fail>
+    ensures seat { IfOk result (λ made. made.1.desk ≡ made.0) }
+    ensures workers { IfOk result (λ made. made.0.task.layout.workers ≡ 2) }
+    ensures cells { IfOk result (λ made. made.0.task.job.cells ≡ cells) }
+{
+    let job = read_job(rt.alloc(), text.as_bytes())?;
+    assert!(rt; job.cells() == cells);
+    Ok(Board::open(rt.alloc(), &job, 2)?)
+}
+
+// Lets a worker go on to its end, and answers as a run does.
+fn finished(
+    rt: &(impl AllocGlobal + Abort),
+    board: &Board,
+    seat: &mut Seat,
+    worker: &mut Worker,
+) -> Result<RunAnswer, Fail>
+    requires desk { seat.old.desk ≡ board.now }
+    requires serves { Serves board.now.task.job board.now.task.layout worker.old }
+    requires knows { Knows board.now.task.job board.now.task.layout seat.old.record_of
+        worker.old.walking }
+    ensures desk { seat.new.desk ≡ board.now }
+{
+    match board.work(seat, worker, &Open, None) {
+        Stay::Ended(Ended::Done) => {
+            Ok(RunAnswer::Final(Cells::new(board.memory(rt.alloc(), seat)?)))
+        }
+        Stay::Ended(Ended::Conflict(_)) => {
+            Ok(RunAnswer::Conflict(board.fault(rt.alloc(), seat)?))
+        }
+        Stay::Stopped => panic!(rt; "stopped without a limit"),
+    }
+}
+
+// What a run is to answer: these cells, or the dispute of cell 4 in step 5.
+fn is_answer(answer: &RunAnswer, cells: Option<&[u32]>) -> bool {
+    match (answer, cells) {
+        (RunAnswer::Final(found), Some(cells)) => found.as_slice() == cells,
+        (RunAnswer::Conflict(found), None) => {
+            *found
+                == Fault {
+                    step: 5,
+                    cell: 4,
+                    first: 1,
+                    second: 3,
+                }
+        }
+        _ => false,
+    }
+}
+
+// A row of the worked ones: its text, its cells, and what they hold in the end, if it ends.
+#[derive(Clone, Copy)]
+struct Row<'a> {
+    text: &'a str,
+    cells: u32,
+    answer: Option<&'a [u32]>,
+}
+
+// Worker 0 makes so many steps and is given up, worker 1 finishes, and worker 0 comes back. It
+// tells whether worker 0 was over before.
+fn lost(rt: &(impl AllocGlobal + Abort), row: &Row, steps: u64) -> Result<bool, Fail> {
+    let (board, seat) = opened(rt, row.text, row.cells)?;
+    let (mut seat, mut other) = board.split(seat);
+    let mut worker = Worker::start(0);
+    if let Stay::Ended(_) = board.work(&mut seat, &mut worker, &Open, Some(steps)) {
+        return Ok(true);
+    }
+    let answer = finished(rt, &board, &mut other, &mut Worker::start(1))?;
+    assert!(rt; is_answer(&answer, row.answer), "{steps} steps");
+    let answer = finished(rt, &board, &mut seat, &mut Worker::back(0))?;
+    assert!(rt; is_answer(&answer, row.answer), "{steps} steps");
+    Ok(false)
+}
+
+// Two workers take turns, so many steps each.
+fn take_turns(
+    board: &Board,
+    seat: &mut Seat,
+    worker: &mut Worker,
+    other: &mut Seat,
+    twin: &mut Worker,
+    steps: u64,
+)
+    requires desk { seat.old.desk ≡ board.now }
+    requires serves { Serves board.now.task.job board.now.task.layout worker.old }
+    requires knows { Knows board.now.task.job board.now.task.layout seat.old.record_of
+        worker.old.walking }
+    requires other { other.old.desk ≡ board.now }
+    requires serves_too { Serves board.now.task.job board.now.task.layout twin.old }
+    requires knows_too { Knows board.now.task.job board.now.task.layout other.old.record_of
+        twin.old.walking }
+    ensures other { other.new.desk ≡ board.now }
+    ensures serves_too { Serves board.now.task.job board.now.task.layout twin.new }
+    ensures knows_too { Knows board.now.task.job board.now.task.layout other.new.record_of
+        twin.new.walking }
+{
+    for _ in 0..steps {
+        board.tick(seat, worker);
+        board.tick(other, twin);
+    }
+}
+
+// Two workers of number 0 take turns; one is given up, the other finishes. It tells whether the
+// first was over before.
+fn twins(rt: &(impl AllocGlobal + Abort), row: &Row, steps: u64) -> Result<bool, Fail> {
+    let (board, seat) = opened(rt, row.text, row.cells)?;
+    let (mut seat, mut other) = board.split(seat);
+    let mut worker = Worker::start(0);
+    let mut twin = Worker::start(0);
+    take_turns(&board, &mut seat, &mut worker, &mut other, &mut twin, steps);
+    let answer = finished(rt, &board, &mut other, &mut twin)?;
+    assert!(rt; is_answer(&answer, row.answer), "{steps} steps");
+    Ok(worker.ended().is_some())
+}
+
+fn survives_loss(rt: &(impl AllocGlobal + Abort), row: &Row) -> Result<(), Fail> {
+    for steps in 0..2000 {
+        if lost(rt, row, steps)? {
+            return Ok(());
+        }
+    }
+    panic!(rt; "not over")
+}
+
+fn survives_twins(rt: &(impl AllocGlobal + Abort), row: &Row) -> Result<(), Fail> {
+    for steps in 0..2000 {
+        if twins(rt, row, steps)? {
+            return Ok(());
+        }
+    }
+    panic!(rt; "not over")
+}
+
+#[test]
+fn a_worker_lost_at_each_step(rt: HostRuntime) -> Result<(), Fail> {
+    let row = Row {
+        text: SWAP,
+        cells: 2,
+        answer: Some(&[9, 7]),
+    };
+    survives_loss(&rt, &row)?;
+    survives_twins(&rt, &row)
+}
+
+#[test]
+fn a_worker_lost_before_a_conflict(rt: HostRuntime) -> Result<(), Fail> {
+    let text = one_cell(&rt, "common", "r0")?;
+    let row = Row {
+        text: text.as_str(),
+        cells: 5,
+        answer: None,
+    };
+    survives_loss(&rt, &row)?;
+    survives_twins(&rt, &row)
+}
+
+#[test]
+fn a_worker_lost_under_crew(rt: HostRuntime) -> Result<(), Fail> {
+    let text = one_cell(&rt, "crew", "r1")?;
+    let row = Row {
+        text: text.as_str(),
+        cells: 5,
+        answer: None,
+    };
+    survives_loss(&rt, &row)?;
+    survives_twins(&rt, &row)
+}
+
+#[test]
+fn a_worker_lost_under_priority(rt: HostRuntime) -> Result<(), Fail> {
+    let text = one_cell(&rt, "priority", "r0")?;
+    survives_loss(&rt, &under_priority(text.as_str()))
+}
+
+#[test]
+fn twins_under_priority(rt: HostRuntime) -> Result<(), Fail> {
+    let text = one_cell(&rt, "priority", "r0")?;
+    survives_twins(&rt, &under_priority(text.as_str()))
+}
+
+fn under_priority(text: &str) -> Row<'_> {
+    Row {
+        text,
+        cells: 5,
+        answer: Some(&[0, 1, 0, 1, 1]),
+    }
+}
+
+#[test]
+fn looks_before_and_behind_the_work(rt: HostRuntime) -> Result<(), Fail> {
+    let (board, mut seat) = opened(&rt, BELOW_ZERO, 1)?;
+    board.facts();
+    seat.facts();
+    let fresh = Progress {
+        step: 0,
+        conflict: None,
+    };
+    assert_eq!(rt; board.progress(&mut seat), fresh);
+    assert_eq!(rt; board.read(&mut seat, 0), Reading::At { step: 0, value: 0 });
+    let (mut seat, mut other) = board.split(seat);
+    let stay = board.work(&mut seat, &mut Worker::start(0), &Open, None);
+    assert_eq!(rt; stay, Stay::Ended(Ended::Done));
+    let last = Reading::At {
+        step: 3,
+        value: 4294967295,
+    };
+    assert_eq!(rt; board.read(&mut seat, 0), last);
+    // The other seat hears it from the words.
+    assert_eq!(rt; board.progress(&mut other).step, 3);
+    let mut joined = board.join(other, seat);
+    assert_eq!(rt; board.read(&mut joined, 0), last);
+    Ok(())
+}
+
+#[test]
+fn a_job_without_steps(rt: HostRuntime) -> Result<(), Fail> {
+    let text = "pram 1\ncells 1\nprocs 1\nsteps 0\ninit 0 5\ncode\nhalt\n";
+    let job = read_job(rt.alloc(), text.as_bytes())?;
+    let (board, mut seat) = Board::open_wide(rt.alloc(), &job, 64)?;
+    assert_eq!(rt; board.read(&mut seat, 0), Reading::At { step: 0, value: 5 });
+    let answer = finished(&rt, &board, &mut seat, &mut Worker::start(63))?;
+    assert!(rt; is_answer(&answer, Some(&[5])));
+    Ok(())
+}
+
+// Counts the passes of worker 0 that come with the right number of steps.
+#[derive(Drop)]
+struct Counting {
+    passes: AtomicU64,
+}
+
+impl Gate for Counting {
+    fn pass(&self, worker: u32, tick: u64) {
+        if worker == 0 && self.passes.load(Ordering::SeqCst) == tick {
+            self.passes.fetch_add(1, Ordering::SeqCst);
+        }
+    }
+}
+
+// The worker comes back where its position says: one that lost its place would make more steps.
+#[test]
+fn a_position_that_was_stored_is_found(rt: HostRuntime) -> Result<(), Fail> {
+    let job = read_job(rt.alloc(), TWO.as_bytes())?;
+    let (board, mut seat) = Board::open(rt.alloc(), &job, 1)?;
+    let gate = Counting {
+        passes: AtomicU64::new(0),
+    };
+    let stay = board.work(&mut seat, &mut Worker::start(0), &gate, Some(15));
+    assert_eq!(rt; stay, Stay::Stopped);
+    assert_eq!(rt; gate.passes.load(Ordering::SeqCst), 15);
+    let mut worker = Worker::back(0);
+    let stay = board.work(&mut seat, &mut worker, &Open, Some(88));
+    assert_eq!(rt; stay, Stay::Stopped);
+    assert_eq!(rt; board.tick(&mut seat, &mut worker), Some(Ended::Done));
+    Ok(())
+}
+
+// Step 5 is against the rule: the memory behind step 4 stays readable.
+fn look_behind(rt: &(impl AllocGlobal + Abort), rule: &str, value: &str) -> Result<(), Fail> {
+    let (board, seat) = opened(rt, one_cell(rt, rule, value)?.as_str(), 5)?;
+    let (mut seat, mut other) = board.split(seat);
+    let answer = finished(rt, &board, &mut seat, &mut Worker::start(0))?;
+    assert!(rt; is_answer(&answer, None), "{rule}");
+    let progress = Progress {
+        step: 4,
+        conflict: Some(5),
+    };
+    assert_eq!(rt; board.progress(&mut other), progress);
+    assert_eq!(rt;
+        board.read(&mut other, 4),
+        Reading::At { step: 4, value: 0 }
+    );
+    Ok(())
+}
+
+#[test]
+fn looks_behind_a_conflict(rt: HostRuntime) -> Result<(), Fail> {
+    look_behind(&rt, "common", "r0")?;
+    look_behind(&rt, "crew", "r1")
+}
