@@ -1,3 +1,7 @@
 pub mod Behind
 pub mod Rounds
 pub mod Stops
+pub mod Records
+pub mod Endings
+pub mod Joining
+pub mod Watches
