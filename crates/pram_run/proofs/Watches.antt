@@ -2,9 +2,10 @@
 use Rattle.std.proofs.Common.{◌≡◌, ℕ, zero, suc, ◌<◌, ◌≤◌, List, [], ◌∷◌, ◌++◌, length, get_or, map, refl, sym, ap, subst, ◌∙◌, inl, inr, arith, append_assoc, add-one, take, ◌+◌, ◌*◌}
 use Rattle.std.specs.List.{All, repeat}
 use Rattle.std.specs.List.Sorted.{IsNonDecreasingBy}
-use Rattle.std.proofs.Math.Nat.{suc-mul, mul-le-mul_right}
+use Rattle.std.proofs.Math.Nat.{suc-mul}
 use Rattle.std.proofs.Math.Seq.{take-suc}
 use Rattle.std.proofs.lemmas.List.{append-nil, map-append}
+use Rattle.std.proofs.lemmas.Nat.{mul-le}
 use Rattle.std.proofs.lemmas.List.Elements.{All-cons, All-nil}
 use Rattle.walkx.specs.declared.operation.Reading.TheVariants.{At}
 use Rattle.walkx.specs.Reads.{reader_script}
@@ -96,7 +97,7 @@ count_more n l = ap (λ (k : ℕ). k * l) (add-one n) ∙ suc-mul n l
 
 -- there is room for one round more
 pub room_more : (n rounds l room : ℕ) → n < rounds → rounds * l ≤ room → n * l + l ≤ room
-room_more n rounds l room lt all = let low : (n + 1) * l ≤ rounds * l = mul-le-mul_right l (omega arith) in omega (arith, count_more n l)
+room_more n rounds l room lt all = let low : (n + 1) * l ≤ rounds * l = mul-le (n + 1) l rounds l (omega arith) (omega arith) in omega (arith, count_more n l)
 
 -- what the reader's thread kept, of the seat that it was given
 pub watch_of : (t : Task) (cells : List ℕ) (rounds : ℕ) (first : Place) (promise : Watched) (sights : List Sight) (p : Place) → promise.before.value ≡ first →

@@ -1,4 +1,4 @@
-use Rattle.std.proofs.Common.{◌≡◌, ℕ, List, [], length, map, refl, sym, ap, subst, ◌∙◌, arith}
+use Rattle.std.proofs.Common.{◌≡◌, ℕ, List, [], length, map, vec_capacity, refl, sym, ap, subst, ◌∙◌, arith}
 use Rattle.std.specs.List.{repeat}
 use Rattle.std.proofs.lemmas.List.{nil_from_length}
 use Rattle.pram_run.specs.Watching.{HasRead}
@@ -19,7 +19,7 @@ loop-init g c =
 pub read_round-requires-clause-room : goal.read_round-requires-clause-room
 read_round-requires-clause-room g c =
     let was = c.loop.invariant in
-    let more = room_more c.loop.counter c.args.rounds (length c.args.cells.now) _ c.loop-test.true c.requires.room in
+    let more = room_more c.loop.counter c.args.rounds (length c.args.cells.now) (vec_capacity c.args.sights) c.loop-test.true c.requires.room in
     omega (arith, was.len, was.capacity)
 
 pub loop-preserved : goal.loop-preserved
