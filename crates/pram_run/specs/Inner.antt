@@ -1,3 +1,4 @@
--- How far a replay has come, for the contracts of its parts.
+-- How far a replay has come, and what threads give back, for the contracts of their parts.
 pub mod Progress
+pub mod Obeying
 pub mod Printing

@@ -1,4 +1,6 @@
 pub mod Inner
 pub mod Printed
 pub mod Replays
+pub mod Running
 pub mod Traces
+pub mod Watching

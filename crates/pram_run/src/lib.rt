@@ -1,12 +1,21 @@
-//! Runs of a job under a plan.
+//! Runs of a job under a plan: on one thread in the plan's order, and on threads.
 #![tactic(auto)]
 
+mod ending;
 mod print;
+mod runner;
 mod schedule;
+mod sight;
 #[cfg(test)]
 mod tests;
+#[cfg(test)]
+mod thread_tests;
 mod trace;
+mod watcher;
 
 pub use print::{OutFault, print_trace, write_trace};
+pub use runner::run;
 pub use schedule::replay;
+pub use sight::Sight;
 pub use trace::{StepKind, Trace, TraceRow};
+pub use watcher::watch;

@@ -1,0 +1,186 @@
+-- Seats that go on, and what they show of the end of a job.
+use Rattle.std.proofs.Common.{◌≡◌, ◌≢◌, ◌⊎◌, ℕ, zero, suc, ◌<◌, ◌==◌, if◌then◌else◌, Option, ◌≤◌, List, [], ◌∷◌, Some, None, true, false, refl, sym, ap, subst, ◌∙◌, inl, inr, arith}
+use Rattle.std.proofs.lemmas.Bool.{cases_Bool, eqb-true, eqb-false}
+use Rattle.std.specs.Prelude.{Result, Ok, Err, IfOk, is_some}
+use Rattle.pram_text.specs.Job.{JobData}
+use Rattle.pram_step.specs.declared.answer.Fault.{Fault}
+use Rattle.pram_step.specs.declared.answer.RunAnswer.{RunAnswer}
+use Rattle.pram_step.specs.declared.answer.RunAnswer.TheVariants as answer
+use Rattle.pram_step.specs.declared.answer.RunAnswer.TheVariants.{Final, Unfinished}
+use Rattle.pram_step.specs.Runs.{IsFault}
+use Rattle.pram_step.proofs.LawAnswer.{one_conflict}
+use Rattle.pram_words.specs.declared.words.Word.TheVariants.{Conflict, Node}
+use Rattle.pram_words.specs.Words.{LayoutData, number_of}
+use Rattle.walkx.specs.declared.operation.Ended.{Ended}
+use Rattle.walkx.specs.declared.operation.Ended.TheVariants as ended
+use Rattle.walkx.specs.declared.operation.Op.{Op}
+use Rattle.walkx.specs.declared.operation.Op.TheVariants.{Load}
+use Rattle.walkx.specs.Records.{Record, after, both}
+use Rattle.walkx.specs.Walk.{Walking}
+use Rattle.lawful_words.specs.Moments.{Sound}
+use Rattle.lawful_words.specs.Seen.{Heard, Shows, BeginsWith}
+use Rattle.lawful_words.proofs.Knowing.{conflict_now, heard_too}
+use Rattle.walk_laws.specs.Walks.{IsConflict, steps_of}
+use Rattle.stop_plan.specs.declared.plan.Row.{Row}
+use Rattle.stop_plan.specs.Plan.{PlanData}
+use Rattle.pram_run.specs.Running.{IsRun}
+use Rattle.pram_board.specs.declared.look.Progress.{Progress}
+use Rattle.pram_board.specs.declared.task.Task.{Task}
+use Rattle.pram_board.specs.declared.work.Stay.{Stay}
+use Rattle.pram_board.specs.declared.work.Stay.TheVariants as stay
+use Rattle.pram_board.specs.Seats.{Desk, Place, Progressed, HasLoaded, KnowsConflict, hears_all, unites}
+use Rattle.pram_board.specs.Worked.{EndShows, Worked, end_in}
+use Rattle.pram_run.specs.Inner.Obeying.{ShowsEnd, IsEnding, GoesOn, EndsOrStops, AllEndOrStop}
+use Rattle.pram_run.proofs.Records.{HasAll, begins_self, begins_trans, begins_afters, begins_all, left_all, right_all, heard_all, shows_all, shows_earlier}
+
+-- ---- a seat goes on
+
+pub goes_self : (p : Place) → GoesOn p p
+goes_self p = record { desk = refl; begins = begins_self p.record_of }
+
+pub goes_trans : (p q r : Place) → GoesOn p q → GoesOn q r → GoesOn p r
+goes_trans p q r h k = record { desk = k.desk ∙ h.desk; begins = begins_trans p.record_of q.record_of r.record_of h.begins k.begins }
+
+pub goes_all : (p q : Place) (steps : List (Op × ℕ)) → q ≡ hears_all p steps → GoesOn p q
+goes_all p q steps is = record {
+  desk = ap (λ (s : Place). s.desk) is;
+  begins = subst (λ (s : Place). BeginsWith p.record_of s.record_of) (sym is) (begins_afters p.record_of steps);
+}
+
+pub goes_united : (first p q later : Place) → later ≡ unites p q → GoesOn first p → GoesOn first q → GoesOn first later
+goes_united first p q later is h k = record {
+  desk = ap (λ (s : Place). s.desk) is ∙ h.desk;
+  begins = subst (λ (s : Place). BeginsWith first.record_of s.record_of) (sym is) (inr (h.begins, k.begins));
+}
+
+-- ---- the end
+
+pub end_all : (t : Task) (r later : Record) → HasAll r later → ShowsEnd t r → ShowsEnd t later
+end_all t r later all (inl s) = inl (shows_all t.layout r later t.job.steps all s)
+end_all t r later all (inr s) = inr (s.0, s.1, heard_all t.layout r later Conflict s.0 all s.2)
+
+not_zero : (job : JobData) (u : ℕ) → IsConflict job u → u ≢ 0
+not_zero job u c = λ e. absurd (omega (arith, c.is.first.step, c.step))
+
+end_shown : (t : Task) (r : Record) (e : Ended) → EndShows t r (Some e) → ShowsEnd t r
+end_shown t r ended.Done h = inl h.shows
+end_shown t r (ended.Conflict u) h = inr (u, not_zero t.job u h.1, h.0)
+
+-- work without a limit ends with the worker
+pub unlimited_ends : (t : Task) (p : Place) (w : Walking) (q : Place) (now : Walking) (stay : Stay) → Worked t p w None q now stay →
+    EndShows t q.record_of (end_in stay) → ShowsEnd t q.record_of
+unlimited_ends t p w q now (stay.Ended e) worked shows = end_shown t q.record_of e shows
+unlimited_ends t p w q now stay.Stopped worked shows = absurd (let e = worked.stays.0 in cc)
+
+-- ---- joined seats
+
+pub ends_front : (rows : List Row) (worker : ℕ) (p q later : Place) → later ≡ unites p q → EndsOrStops rows worker p → EndsOrStops rows worker later
+ends_front rows worker p q later is h = subst (λ (s : Place). EndsOrStops rows worker s) (sym is) (by h)
+  where
+    by : EndsOrStops rows worker p → EndsOrStops rows worker (unites p q)
+    by (inl s) = inl (end_all p.desk.task p.record_of (both p.record_of q.record_of) (left_all p.record_of q.record_of) s)
+    by (inr s) = inr s
+
+pub ends_back : (rows : List Row) (worker : ℕ) (p q later : Place) → q.desk ≡ p.desk → later ≡ unites p q → EndsOrStops rows worker q → EndsOrStops rows worker later
+ends_back rows worker p q later desk is h = subst (λ (s : Place). EndsOrStops rows worker s) (sym is) (by h)
+  where
+    by : EndsOrStops rows worker q → EndsOrStops rows worker (unites p q)
+    by (inl s) = inl (subst (λ (d : Desk). ShowsEnd d.task (both p.record_of q.record_of)) desk
+        (end_all q.desk.task q.record_of (both p.record_of q.record_of) (right_all p.record_of q.record_of) s))
+    by (inr s) = inr s
+
+-- ---- progress
+
+-- word 0 is heard as it was heard before, if that was a step
+pub named_again : (job : JobData) (y : LayoutData) (before : Record) (a named u : ℕ) →
+    Sound job y (after (after before (Load (number_of y (Node 1))) a) (Load (number_of y Conflict)) named) → u ≢ 0 → Heard y before Conflict u → named ≡ u
+named_again job y before a named u sound some heard =
+    let m = sound.backed in
+    m.heard ∙ conflict_now job y (after before (Load (number_of y (Node 1))) a) u m.words m.earlier (heard_too y before (Load (number_of y (Node 1))) a Conflict u heard) some
+
+none_named : (n : ℕ) (o : Option ℕ) → o ≡ (if n == 0 then None else Some n) → is_some o ≡ false → n ≡ 0
+none_named n o e f = elim (cases_Bool (n == 0)) [
+  | inl same ↦ eqb-true n 0 same
+  | inr apart ↦ absurd (let g : is_some o ≡ true = ap is_some (rw apart at e) in cc)
+]
+
+some_named : (n : ℕ) (o : Option ℕ) → o ≡ (if n == 0 then None else Some n) → is_some o ≡ true → n ≢ 0
+some_named n o e f = elim (cases_Bool (n == 0)) [
+  | inl same ↦ absurd (let g : is_some o ≡ false = ap is_some (rw same at e) in cc)
+  | inr apart ↦ eqb-false n 0 apart
+]
+
+heard_named : (t : Task) (p q : Place) (progress : Progress) (h : Progressed t p q progress) → Heard t.layout q.record_of Conflict h.named
+heard_named t p q progress h = subst (λ (x : Place). Heard t.layout x.record_of Conflict h.named) (sym h.is)
+    (record { op = Load (number_of t.layout Conflict); hears = refl; has = inl (refl, tt) })
+
+-- a conflict is heard
+pub progress_heard : (t : Task) (p q : Place) (progress : Progress) → Progressed t p q progress → is_some progress.conflict ≡ true → KnowsConflict t.layout q.record_of
+progress_heard t p q progress h some =
+    record { step = h.named; some = some_named h.named progress.conflict h.conflict some; heard = heard_named t p q progress h }
+
+pub progress_goes : (t : Task) (p q : Place) (progress : Progress) → Progressed t p q progress → GoesOn p q
+progress_goes t p q progress h = goes_all p q ((Load (number_of t.layout Conflict), h.named) ∷ (Load (number_of t.layout (Node 1)), h.root) ∷ []) h.is
+
+-- where no conflict is heard and the last step is not seen, the end was not shown
+pub not_ended : (t : Task) (p q : Place) (progress : Progress) → Progressed t p q progress → Sound t.job t.layout q.record_of →
+    is_some progress.conflict ≡ false → progress.step < t.job.steps → ShowsEnd t p.record_of → ⊥
+not_ended t p q progress h sound none low (inl shows) = let most : t.job.steps ≤ progress.step = h.well.lasts t.job.steps (inl shows) in absurd (omega arith)
+not_ended t p q progress h sound none low (inr s) =
+    let again : h.named ≡ s.0 = named_again t.job t.layout p.record_of h.root h.named s.0 (subst (λ (x : Place). Sound t.job t.layout x.record_of) h.is sound) s.1 s.2 in
+    absurd (s.1 (sym again ∙ none_named h.named progress.conflict h.conflict none))
+
+-- ---- what a look at the board ends with
+
+pub worked_goes : (t : Task) (p : Place) (w : Walking) (limit : Option ℕ) (q : Place) (now : Walking) (stay : Stay) → Worked t p w limit q now stay → GoesOn p q
+worked_goes t p w limit q now stay h = goes_all p q (steps_of t.job t.layout w h.ran.answers) h.ran.seat
+
+pub loads_go : (n : ℕ) (p q : Place) → HasLoaded n p q → GoesOn p q
+loads_go n p q h = goes_all p q h.steps h.is
+
+pub same_goes : (p q : Place) → q ≡ p → GoesOn p q
+same_goes p q is = subst (λ (x : Place). GoesOn p x) (sym is) (goes_self p)
+
+pub shows_goes : (y : LayoutData) (p q : Place) (t : ℕ) → GoesOn p q → Shows y p.record_of t → Shows y q.record_of t
+shows_goes y p q t goes s = shows_all y p.record_of q.record_of t (begins_all p.record_of q.record_of goes.begins) s
+
+-- the last step is shown
+pub last_shown : (t : Task) (p q : Place) (progress : Progress) → Progressed t p q progress → t.job.steps ≤ progress.step → Shows t.layout q.record_of t.job.steps
+last_shown t p q progress h le = shows_earlier t.layout q.record_of progress.step t.job.steps le h.well.shows
+
+-- the conflict that was heard is the one that is answered
+pub conflict_shown : (t : Task) (p q later : Place) (progress : Progress) (fault : Fault) → Progressed t p q progress → is_some progress.conflict ≡ true →
+    GoesOn q later → IsFault t.job fault → Heard t.layout later.record_of Conflict fault.step
+conflict_shown t p q later progress fault h some goes is =
+    let c = h.well.conflict (some_named h.named progress.conflict h.conflict some) in
+    let same : h.named ≡ fault.step = sym c.step ∙ ap (λ (f : Fault). f.step) (one_conflict t.job c.fault fault c.is.first is.first) in
+    subst (λ (u : ℕ). Heard t.layout later.record_of Conflict u) same
+    (heard_all t.layout q.record_of later.record_of Conflict h.named (begins_all q.record_of later.record_of goes.begins) (heard_named t p q progress h))
+
+pub unfinished_shown : (t : Task) (p q : Place) (progress : Progress) → Progressed t p q progress → Sound t.job t.layout q.record_of →
+    is_some progress.conflict ≡ false → progress.step < t.job.steps → IsEnding t p.record_of q.record_of (Unfinished progress.step)
+unfinished_shown t p q progress h sound none low =
+    ((λ shows. not_ended t p q progress h sound none low shows), record { shows = h.well.shows; most = h.well.seen }, h.well.reached)
+
+-- ---- the answer of a run
+
+pub run_at : (t : Task) (plan : PlanData) (p : Place) (later : Record) (a : RunAnswer) → p.desk.task ≡ t → AllEndOrStop plan p → IsEnding t p.record_of later a → IsRun t plan later a
+run_at t plan p later (Final cells) is all h = h
+run_at t plan p later (answer.Conflict fault) is all h = h
+run_at t plan p later (Unfinished step) is all h = (
+  (λ worker lt. elim (all worker lt) [
+    | inl shows ↦ absurd (h.0 (subst (λ (x : Task). ShowsEnd x p.record_of) is shows))
+    | inr stops ↦ stops
+  ]),
+  h.1,
+  h.2,
+)
+
+pub run_of : {E : Type 0} (t : Task) (plan : PlanData) (p : Place) (later : Record) (r : Result RunAnswer E) → p.desk.task ≡ t → AllEndOrStop plan p →
+    IfOk r (IsEnding t p.record_of later) → IfOk r (λ a. IsRun t plan later a)
+run_of t plan p later (Ok a) is all h = run_at t plan p later a is all h
+run_of t plan p later (Err e) is all h = h
+
+-- all that ended or stopped did so to a seat that is joined
+pub all_front : (plan : PlanData) (p q later : Place) → later ≡ unites p q → AllEndOrStop plan p → AllEndOrStop plan later
+all_front plan p q later is all worker lt = ends_front plan.rows worker p q later is (all worker lt)

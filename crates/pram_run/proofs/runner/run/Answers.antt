@@ -1,0 +1,15 @@
+use Rattle.std.proofs.Common.{◌≡◌, refl, sym, ap, ◌∙◌}
+use Rattle.pram_board.specs.Seats.{Desk}
+use Rattle.pram_run.specs.Inner.Obeying.{AllEndOrStop}
+use Rattle.pram_run.proofs.Endings.{run_of, goes_trans}
+use Rattle.pram_run.proofs.runner.run.Goals as goal
+
+pub returns-clause-answer : goal.returns-clause-answer
+returns-clause-answer g c =
+    let worked = c.run_workers-seat in
+    let all : AllEndOrStop c.args.plan.now worked.result.0 = rw c.in_default.is at worked.ensures.ends in
+    run_of c.args.board.now.task c.args.plan.now worked.result.0 c.answer-answer.new.seat.record_of c.answer-answer.result
+    (ap (λ (d : Desk). d.task) (worked.ensures.goes_on.desk ∙ c.requires.seat)) all c.answer-answer.ensures.answer
+
+pub returns-clause-begins : goal.returns-clause-begins
+returns-clause-begins g c = (goes_trans c.args.seat c.run_workers-seat.result.0 c.answer-answer.new.seat c.run_workers-seat.ensures.goes_on c.answer-answer.ensures.goes_on).begins

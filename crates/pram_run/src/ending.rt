@@ -1,0 +1,34 @@
+//! What a board tells at the end of a run.
+ghost use Rattle.std.specs.Prelude.{◌≡◌, IfOk};
+ghost use Rattle.pram_run.specs.Inner.Obeying.{GoesOn, IsEnding};
+
+use pram_board::{Board, Seat};
+use pram_step::{Cells, RunAnswer};
+use pram_text::Job;
+use std::alloc::{AllocError, Global};
+
+/// The job's answer, as far as the board tells it.
+pub(crate) fn answer(
+    alloc: Global,
+    job: &Job,
+    board: &Board,
+    seat: &mut Seat,
+) -> Result<RunAnswer, AllocError>
+    requires job { board.now.task.job ≡ job.now }
+    requires seat { seat.old.desk ≡ board.now }
+    ensures answer { IfOk result (IsEnding board.now.task seat.old.record_of seat.new.record_of) }
+    ensures goes_on { GoesOn seat.old seat.new }
+{
+    let progress = board.progress(seat);
+    if progress.conflict.is_some() {
+        let fault = board.fault(alloc, seat)?;
+        return Ok(RunAnswer::Conflict(fault));
+    }
+    if progress.step < job.steps() {
+        return Ok(RunAnswer::Unfinished {
+            step: progress.step,
+        });
+    }
+    let cells = board.memory(alloc, seat)?;
+    Ok(RunAnswer::Final(Cells::new(cells)))
+}

@@ -1,0 +1,219 @@
+//! A plan obeyed on threads, one for each worker, over a board.
+ghost use Rattle.std.specs.Prelude.{◌≡◌, ℕ, ◌<◌, ◌≤◌, ◌⊎◌, All, IfOk, OnOk, true, vec_len};
+ghost use Rattle.std.specs.Prelude.{vec_capacity, slice_index_or};
+ghost use Rattle.walkx.specs.Records.{Knows};
+ghost use Rattle.walkx.specs.Serving.{Serves};
+ghost use Rattle.lawful_words.specs.Seen.{BeginsWith};
+ghost use Rattle.pram_run.specs.Inner.Obeying.{AllEndOrStop, EndsOrStops, GoesOn, WasAsked};
+ghost use Rattle.pram_run.specs.Running.{IsRun};
+
+use crate::ending::answer;
+use pram_board::{Board, Seat};
+use pram_step::RunAnswer;
+use pram_text::Job;
+use std::alloc::{AllocError, Global};
+use std::snapshot::Snapshot;
+use std::sync::Wait;
+use std::thread;
+use std::thread::{Promise, PromisedHandle, Scope, Threads};
+use stop_plan::{Act, Gate, Plan, Row};
+use walkx::Worker;
+
+/// Runs the workers of the plan, each on a thread of its own, and answers how the job ended. The
+/// board was opened for this job and so many workers; other threads may use seats of it meanwhile.
+/// Each worker obeys its rows in order and then goes on without a limit, and passes the gate before
+/// each atomic step. Where a thread is refused, that is want of memory: the threads that were
+/// started run to their end and are joined. The seat given back has seen what all threads saw.
+pub fn run<R: Threads + Wait, G: Gate + Sync>(
+    rt: &R,
+    alloc: Global,
+    job: &Job,
+    board: &Board,
+    seat: Seat,
+    plan: &Plan,
+    gate: &G,
+) -> (Seat, Result<RunAnswer, AllocError>)
+    requires job { board.now.task.job ≡ job.now }
+    requires workers { board.now.task.layout.workers ≡ plan.now.workers }
+    requires seat { seat.desk ≡ board.now }
+    ensures answer { IfOk result.1 (λ a. IsRun board.now.task plan.now result.0.record_of a) }
+    ensures begins { BeginsWith seat.record_of result.0.record_of }
+    ensures desk { result.0.desk ≡ board.now }
+{
+    let (mut seat, worked) = run_workers(rt, alloc, board, seat, plan, gate);
+    if let Err(refused) = worked {
+        return (seat, Err(refused));
+    }
+    let answer = answer(alloc, job, board, &mut seat);
+    (seat, answer)
+}
+
+// Starts a thread for each worker, and joins them all.
+fn run_workers<R: Threads + Wait, G: Gate + Sync>(
+    rt: &R,
+    alloc: Global,
+    board: &Board,
+    seat: Seat,
+    plan: &Plan,
+    gate: &G,
+) -> (Seat, Result<(), AllocError>)
+    requires workers { board.now.task.layout.workers ≡ plan.now.workers }
+    requires seat { seat.desk ≡ board.now }
+    ensures ends { OnOk result.1 (AllEndOrStop plan.now result.0) }
+    ensures goes_on { GoesOn seat result.0 }
+{
+    thread::scope(
+        thread::scope_env(),
+        rt,
+        |scope| -> (Seat, Result<(), AllocError>)
+            requires workers { board.now.task.layout.workers ≡ plan.now.workers }
+            requires seat { seat.desk ≡ board.now }
+            ensures ends { OnOk result.1 (AllEndOrStop plan.entry.now result.0) }
+            ensures goes_on { GoesOn seat result.0 }
+        { work_in(scope, rt, alloc, board, seat, plan, gate) },
+    )
+}
+
+/// Starts a thread of the scope for each worker, and joins them all.
+pub(crate) fn work_in<'s, E, R: Threads, G: Gate + Sync>(
+    scope: &Scope<'s, E>,
+    rt: &R,
+    alloc: Global,
+    board: &'s Board,
+    seat: Seat,
+    plan: &'s Plan,
+    gate: &'s G,
+) -> (Seat, Result<(), AllocError>)
+    requires workers { board.now.task.layout.workers ≡ plan.now.workers }
+    requires seat { seat.desk ≡ board.now }
+    ensures ends { OnOk result.1 (AllEndOrStop plan.now result.0) }
+    ensures goes_on { GoesOn seat result.0 }
+{
+    let Ok(mut threads) = Vec::with_capacity(alloc, plan.workers() as usize) else {
+        return (seat, Err(AllocError));
+    };
+    let (seat, started) = start_all(scope, board, seat, plan, gate, &mut threads);
+    (join_all(rt, board, seat, threads), started)
+}
+
+/// What a worker's thread gives back: a seat that goes on from the one that the thread was given,
+/// and shows the end unless the rows stop the worker.
+#[derive(Drop)]
+struct Obeyed<'a> {
+    before: Snapshot<Seat>,
+    worker: u32,
+    rows: &'a [Row],
+}
+
+impl<'a> Promise<Seat> for Obeyed<'a> {
+    ghost kept_by = { λ p seat. GoesOn p.before.value seat × EndsOrStops p.rows.now p.worker seat };
+}
+
+// Starts a thread for each worker, until one is refused.
+fn start_all<'s, E, G: Gate + Sync>(
+    scope: &Scope<'s, E>,
+    board: &'s Board,
+    mut seat: Seat,
+    plan: &'s Plan,
+    gate: &'s G,
+    threads: &mut Vec<PromisedHandle<Seat, Obeyed<'s>>>,
+) -> (Seat, Result<(), AllocError>)
+    requires workers { board.now.task.layout.workers ≡ plan.now.workers }
+    requires seat { seat.desk ≡ board.now }
+    requires empty { vec_len threads.old ≡ 0 }
+    requires room { plan.now.workers ≤ vec_capacity threads.old }
+    ensures seat { result.0 ≡ seat }
+    ensures asked { (k : ℕ) (d : _) → k < vec_len threads.new →
+        WasAsked plan.now.rows k seat (slice_index_or threads.new.items k d).promise }
+    ensures all { OnOk result.1 (vec_len threads.new ≡ plan.now.workers) }
+{
+    for worker in 0..plan.workers() {
+        let (mine, theirs) = board.split(seat);
+        seat = mine;
+        let rows = plan.rows();
+        let promise = Obeyed {
+            before: Snapshot::of(&theirs),
+            worker,
+            rows,
+        };
+        let work = move || -> Seat
+            requires worker { worker < board.now.task.layout.workers }
+            requires seat { theirs.desk ≡ board.now }
+            ensures goes_on { GoesOn theirs result }
+            ensures ends { EndsOrStops rows.entry.now worker result }
+        { obey_rows(board, theirs, worker, rows, gate) };
+        match scope.spawn_with(promise, work) {
+            Ok(thread) => threads.push_reserved(thread),
+            Err(_) => return (seat, Err(AllocError)),
+        }
+    }
+    (seat, Ok(()))
+}
+
+// Joins the threads, and their seats to this one.
+fn join_all<'s, R: Threads>(
+    rt: &R,
+    board: &Board,
+    mut seat: Seat,
+    threads: Vec<PromisedHandle<Seat, Obeyed<'s>>>,
+) -> Seat
+    requires seat { seat.desk ≡ board.now }
+    requires began { All (λ t. t.promise.before.value ≡ seat) threads.items }
+    ensures kept { All (λ t. EndsOrStops t.promise.rows.now t.promise.worker result)
+        threads.entry.items }
+    ensures goes_on { GoesOn seat result }
+{
+    for thread in threads {
+        seat = board.join(seat, thread.join(rt));
+    }
+    seat
+}
+
+// Obeys the worker's rows, and then goes on without a limit.
+fn obey_rows<G: Gate>(board: &Board, mut seat: Seat, number: u32, rows: &[Row], gate: &G) -> Seat
+    requires worker { number < board.now.task.layout.workers }
+    requires seat { seat.desk ≡ board.now }
+    ensures goes_on { GoesOn seat result }
+    ensures ends { EndsOrStops rows.now number result }
+{
+    let mut worker = Worker::start(number);
+    for row in rows {
+        if row.worker == number {
+            if row.act == Act::Stop {
+                return seat;
+            }
+            obey_row(board, &mut seat, &mut worker, row, gate);
+        }
+    }
+    board.work(&mut seat, &mut worker, gate, None);
+    seat
+}
+
+// Obeys a row of the worker. What stops it, its caller looks after.
+fn obey_row<G: Gate>(board: &Board, seat: &mut Seat, worker: &mut Worker, row: &Row, gate: &G)
+    requires worker { row.now.worker < board.now.task.layout.workers }
+    requires seat { seat.old.desk ≡ board.now }
+    requires serves { Serves board.now.task.job board.now.task.layout worker.old }
+    requires knows { Knows board.now.task.job board.now.task.layout seat.old.record_of
+        worker.old.walking }
+    ensures goes_on { GoesOn seat.old seat.new }
+    ensures serves { Serves board.now.task.job board.now.task.layout worker.new }
+    ensures knows { Knows board.now.task.job board.now.task.layout seat.new.record_of
+        worker.new.walking }
+{
+    match row.act {
+        Act::Go => {
+            board.work(seat, worker, gate, Some(u64::from(row.ticks)));
+        }
+        Act::Sleep => sleep(gate, row.worker, row.ticks),
+        Act::Back => *worker = Worker::back(row.worker),
+        Act::Stop => {}
+    }
+}
+
+// Passes the gate so many times, without an atomic step.
+fn sleep<G: Gate>(gate: &G, worker: u32, ticks: u32) {
+    for tick in 0..ticks {
+        gate.pass(worker, u64::from(tick));
+    }
+}
