@@ -23,7 +23,7 @@ use Rattle.lawful_words.proofs.Growths.{root_up, growth_shows}
 
 -- ---- what was heard of a word is what it held
 
-hears_is : (op : Op) (k : ℕ) (words : List ℕ) → Hears op k → answer words op ≡ slice_index words k
+pub hears_is : (op : Op) (k : ℕ) (words : List ℕ) → Hears op k → answer words op ≡ slice_index words k
 hears_is (Load j) k words e = ap (slice_index words) e
 hears_is (Store j value) k words e = absurd e
 hears_is (Max j value) k words e = ap (slice_index words) e

@@ -8,8 +8,11 @@ use Rattle.pram_words.specs.Phases.{step_at}
 use Rattle.pram_words.specs.Stamps.{payload_of}
 use Rattle.pram_words.specs.Start.{start_words}
 use Rattle.pram_words.specs.Words.{LayoutData, layout_of, places_of}
+use Rattle.walkx.specs.Records.{Record}
 use Rattle.walkx.specs.Tasks.{newer_payload}
 use Rattle.lawful_words.specs.Board.{Stands, held, stamp_at, finished}
+use Rattle.lawful_words.specs.Faithful.{FaithfulAnswers, Faithful}
+use Rattle.lawful_words.specs.Moments.{Backed, Sound}
 use Rattle.lawful_words.specs.Writes.{Floor, MayWrite}
 
 -- the words that a board starts with stand
@@ -28,3 +31,13 @@ FinishedStepsAreHeld = (job : JobData) (y : LayoutData) (words : List ℕ) (x p 
     (stamp_at y words p 0 ≤ x → x < stamp_at y words p 1 → payload_of (held y words (Stored p 0)) ≡ slice_index (state_after job x) p)
     × (stamp_at y words p 1 ≤ x → x < stamp_at y words p 0 → payload_of (held y words (Stored p 1)) ≡ slice_index (state_after job x) p)
     × (stamp_at y words p 0 ≤ x → stamp_at y words p 1 ≤ x → newer_payload (held y words (Stored p 0)) (held y words (Stored p 1)) ≡ slice_index (state_after job x) p)
+
+-- a record that the words bear out
+abbrev pub BackedIsFaithful : Type 0
+BackedIsFaithful = (job : JobData) (y : LayoutData) (r : Record) (words : List ℕ) →
+    Backed job y r words → Faithful job y r words
+
+-- a sound record, whatever the words have become
+abbrev pub SoundIsFaithful : Type 0
+SoundIsFaithful = (job : JobData) (y : LayoutData) (r : Record) →
+    Sound job y r → FaithfulAnswers job y r

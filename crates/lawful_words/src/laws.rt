@@ -1,6 +1,7 @@
 //! Laws of lawful words: each function here does nothing, and its contract is the law.
 ghost use Rattle.lawful_words.specs.Laws.{StartWordsAreLawful, WritesKeepWordsLawful};
 ghost use Rattle.lawful_words.specs.Laws.{FinishedStepsAreHeld};
+ghost use Rattle.lawful_words.specs.Laws.{BackedIsFaithful, SoundIsFaithful};
 
 /// The words that a board starts with are lawful.
 pub fn start_words_are_lawful()
@@ -19,4 +20,18 @@ pub fn writes_keep_words_lawful()
 #[tactic(auto, using(crate::proofs::Places::finished_held))]
 pub fn finished_steps_are_held()
     ensures { FinishedStepsAreHeld }
+{}
+
+/// A record that the words bear out is faithful: what it heard from a word, or left in it, remains
+/// in each later answer and in the word as it now stands, and its request words and places have
+/// what the machine asks and writes in the steps of their stamps.
+#[tactic(auto, using(crate::proofs::Faithful::backed_faithful))]
+pub fn backed_is_faithful()
+    ensures { BackedIsFaithful }
+{}
+
+/// The answers of a sound record are faithful to those before them and to the machine, for good.
+#[tactic(auto, using(crate::proofs::Faithful::sound_faithful))]
+pub fn sound_is_faithful()
+    ensures { SoundIsFaithful }
 {}
