@@ -23,7 +23,7 @@ fn a_job_without_steps_is_done_at_once(rt: HostRuntime) -> Result<(), Fail> {
     let text = "pram 1\ncells 1\nprocs 1\nsteps 0\ninit 0 5\ncode\nhalt\n";
     let trace = ends_with(&rt, text, 1, "", &[5])?;
     let wanted = b"tick,worker,op,word,before,after\n1,0,load,1,0,0\n2,0,load,0,0,0\n";
-    match write_trace(&trace, Vec::new(rt.alloc())) {
+    match write_trace(rt.alloc(), &trace, Vec::new(rt.alloc())) {
         Ok(bytes) => assert_eq!(rt; bytes.as_slice(), wanted.as_slice()),
         Err(_) => panic!(rt; "not written"),
     }
