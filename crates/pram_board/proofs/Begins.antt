@@ -1,13 +1,13 @@
 -- Records that begin with another one, and what a longer or a joined record knows.
-use Rattle.std.proofs.Common.{◌≡◌, ℕ, ◌*◌, List, [], ◌∷◌, refl, inl, inr}
+use Rattle.std.proofs.Common.{ℕ, ◌*◌, List, [], ◌∷◌, refl, inl, inr}
 use Rattle.pram_words.specs.declared.words.Word.{Word}
-use Rattle.pram_words.specs.declared.words.Word.TheVariants.{Conflict, Node, Stored}
+use Rattle.pram_words.specs.declared.words.Word.TheVariants.{Node, Stored}
 use Rattle.pram_words.specs.Words.{LayoutData}
 use Rattle.walkx.specs.declared.operation.Op.{Op}
 use Rattle.walkx.specs.Records.{Record, empty, after, both, Has}
 use Rattle.walkx.proofs.Knowing.{has_left, has_more, has_right}
 use Rattle.lawful_words.specs.Moments.{afters}
-use Rattle.lawful_words.specs.Seen.{BeginsWith, Heard, HeardThen, Shows, KnowsStep}
+use Rattle.lawful_words.specs.Seen.{BeginsWith, Heard, Shows, KnowsStep}
 use Rattle.lawful_words.proofs.Knowing.{heard_too, shows_too, knows_too}
 
 pub begins_self : (r : Record) → BeginsWith r r

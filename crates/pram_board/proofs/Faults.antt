@@ -1,26 +1,23 @@
 -- What loads of the request words give once word 0 was heard to name a step.
-use Rattle.std.proofs.Common.{◌≡◌, ◌≢◌, ℕ, zero, suc, ◌+◌, ◌-◌, ◌*◌, ◌^◌, ◌<◌, ◌≤◌, List, [], ◌∷◌, ◌++◌, length, map, refl, sym, ap, ap₂, subst, ◌∙◌, lit<, arith}
+use Rattle.std.proofs.Common.{◌≡◌, ◌≢◌, ℕ, suc, ◌+◌, ◌^◌, ◌<◌, List, [], ◌∷◌, ◌++◌, map, sym, ap, ap₂, subst, ◌∙◌, arith}
 use Rattle.std.specs.List.{range_with_len}
 use Rattle.std.proofs.lemmas.List.FromFn.{map-range_with_len_more}
 use Rattle.pram_text.specs.Job.{JobData}
 use Rattle.pram_step.specs.declared.requests.Request.{Request}
 use Rattle.pram_step.specs.History.{part_after}
 use Rattle.pram_step.specs.Instructions.{request_in, requests_in}
-use Rattle.pram_step.specs.Runs.{AreConflicting, AgreesAfter, IsReached, requests_after, state_after}
-use Rattle.pram_step.specs.Steps.{Agrees}
+use Rattle.pram_step.specs.Runs.{AreConflicting, requests_after, state_after}
 use Rattle.pram_words.specs.declared.words.Word.TheVariants.{Asked, Conflict}
 use Rattle.pram_words.specs.Stamps.{stamped_word, stamp_of, payload_of}
-use Rattle.pram_words.specs.Words.{LayoutData, number_of}
+use Rattle.pram_words.specs.Words.{number_of}
 use Rattle.walkx.specs.declared.operation.Op.TheVariants.{Load}
 use Rattle.walkx.specs.Records.{Record, after}
 use Rattle.walkx.specs.Requests.{AreWordsOf}
 use Rattle.walkx.specs.Walk.{IsBoard}
 use Rattle.walkx.proofs.Boards.{same_procs}
-use Rattle.lawful_words.specs.Board.{conflict}
 use Rattle.lawful_words.specs.Moments.{Sound, WasBacked}
 use Rattle.lawful_words.specs.Seen.{Heard}
 use Rattle.lawful_words.proofs.Knowing.{conflict_now}
-use Rattle.walk_laws.specs.Walks.{IsConflict}
 use Rattle.walk_laws.proofs.Sounding.{sound_conflict, was_part}
 use Rattle.pram_board.specs.declared.task.Task.{Task}
 use Rattle.pram_board.specs.Seats.{Place, hears, HasLoaded, KnowsConflict}

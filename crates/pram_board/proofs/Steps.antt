@@ -6,8 +6,7 @@ use Rattle.pram_words.specs.declared.words.Word.TheVariants.{Conflict, Node}
 use Rattle.pram_words.specs.Start.{start_words}
 use Rattle.pram_words.specs.Words.{LayoutData, IsLayout, number_of, length_of}
 use Rattle.walkx.specs.declared.operation.Op.{Op}
-use Rattle.walkx.specs.declared.operation.Op.TheVariants.{Load, Store, Max, Swap, Over}
-use Rattle.walkx.specs.Operations.{answer}
+use Rattle.walkx.specs.declared.operation.Op.TheVariants.{Load}
 use Rattle.walkx.specs.Records.{Record, after, Knows}
 use Rattle.walkx.specs.Walk.{Walking, Fits, IsBoard, IsLayoutOf, AsksAdmitted, HearsAdmitted, IsStepOn, ask_of}
 use Rattle.walkx.proofs.Boards.{root_most, conflict_most}

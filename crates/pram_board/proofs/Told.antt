@@ -9,7 +9,7 @@ use Rattle.walkx.specs.Doing.{Doing}
 use Rattle.walkx.specs.Doing as doing
 use Rattle.walkx.specs.Reads.{step_seen}
 use Rattle.walkx.specs.Records.{Record, after, Knows}
-use Rattle.walkx.specs.Walk.{Walking, Fits, IsGoing, ask_of, told, end_of}
+use Rattle.walkx.specs.Walk.{Walking, Fits, IsGoing, end_of}
 use Rattle.walkx.proofs.Knowing.{knows_next}
 use Rattle.lawful_words.specs.Moments.{Sound}
 use Rattle.walk_laws.specs.Walks.{ProgressWell}

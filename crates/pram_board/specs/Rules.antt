@@ -5,7 +5,6 @@ use lib.ListN.{get_elem?}
 use Rattle.atomic_table.specs.Table.{State, Step, Me}
 use Rattle.pram_text.specs.declared.instr.Rule.TheVariants.{Common}
 use Rattle.pram_words.specs.declared.layout.Form.TheVariants.{Compact}
-use Rattle.pram_words.specs.Words.{length_of}
 use Rattle.walkx.specs.declared.operation.Op.{Op}
 use Rattle.walkx.specs.declared.operation.Op.TheVariants.{Load, Store, Max, Swap}
 use Rattle.walkx.specs.Records.{Record, empty, after, both}

@@ -1,4 +1,4 @@
-use Rattle.std.proofs.Common.{◌≡◌, ◌*◌, ◌+◌, ℕ, suc, ap, sym, subst, arith}
+use Rattle.std.proofs.Common.{◌≡◌, ◌*◌, ◌+◌, suc, ap, sym, subst, arith}
 use Rattle.pram_step.specs.Runs.{AreConflicting}
 use Rattle.lawful_words.specs.Moments.{Sound}
 use Rattle.pram_board.specs.Seats.{Desk, HasLoaded}

@@ -1,5 +1,5 @@
-use Rattle.std.proofs.Common.{◌≡◌, ◌<◌, ◌*◌, ◌+◌, take, refl, ap, subst, ◌∙◌, arith}
-use Rattle.pram_step.specs.Runs.{IsAnswer, IsReached, state_after}
+use Rattle.std.proofs.Common.{◌≡◌, ◌*◌, ◌+◌, take, refl, ap, subst, ◌∙◌, arith}
+use Rattle.pram_step.specs.Runs.{IsReached, state_after}
 use Rattle.walk_laws.proofs.Sounding.{sound_known}
 use Rattle.pram_board.specs.Seats.{Desk, HasLoaded}
 use Rattle.pram_board.proofs.Memory.{more_loads, still_known, cells_more}

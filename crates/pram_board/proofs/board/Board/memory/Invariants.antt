@@ -1,4 +1,4 @@
-use Rattle.std.proofs.Common.{◌≡◌, ◌≤◌, ◌*◌, take, length}
+use Rattle.std.proofs.Common.{◌≡◌, ◌≤◌, ◌*◌, take}
 use Rattle.pram_step.specs.Runs.{state_after}
 use Rattle.lawful_words.specs.Moments.{Sound}
 use Rattle.pram_board.specs.Seats.{HasLoaded}

@@ -1,4 +1,4 @@
-use Rattle.std.proofs.Common.{◌≡◌, ◌<◌, subst, sym, ap, ◌∙◌, arith}
+use Rattle.std.proofs.Common.{◌≡◌, ◌<◌, subst, ap, arith}
 use Rattle.pram_words.specs.Words.{length_of, number_of}
 use Rattle.pram_words.specs.declared.words.Word.TheVariants.{Asked}
 use Rattle.walkx.proofs.Boards.{same_procs}

@@ -1,4 +1,4 @@
-use Rattle.std.proofs.Common.{ℕ, suc, ◌∙◌}
+use Rattle.std.proofs.Common.{suc}
 use Rattle.pram_step.specs.Instructions.{request_in}
 use Rattle.pram_step.specs.Runs.{state_after}
 use Rattle.pram_board.proofs.Faults.{still_heard, words_of}
