@@ -1,7 +1,7 @@
 -- A fault with the status of a refused text says which text bears a fault.
 use Rattle.std.proofs.Common.{◌≡◌, ◌≢◌, ℕ, List, Option, sym, ap, ◌∙◌, inl, inr, arith}
 use Rattle.pram_commands.specs.Faults.{fault_status}
-use Rattle.pram_commands.specs.Inputs.{Explains, ExplainsJob}
+use Rattle.pram_commands.specs.Inputs.{ExplainsJob}
 use Rattle.pram_commands.specs.Serve.{ExplainsLine, GivesNoJob, IsRefused}
 use Rattle.pram_commands.specs.declared.fault.CommandFault.{CommandFault}
 use Rattle.pram_commands.specs.declared.fault.CommandFault.TheVariants.{Text, Plan, JobDevice, PlanDevice, OutDevice, JobTooLarge, PlanTooLarge, Memory, NotServed}

@@ -1,4 +1,4 @@
-use Rattle.std.proofs.Common.{◌≡◌, ◌⊎◌, ◌++◌, Result, Ok, Err, inr, subst}
+use Rattle.std.proofs.Common.{Result, Ok, Err, inr, subst}
 use Rattle.std.proofs.KnownBytes.{Appends-trans}
 use Rattle.std.specs.Io.KnownBytes.{Appends}
 use Rattle.std.specs.Prelude.{OnErr}
@@ -6,7 +6,6 @@ use Rattle.pram_io.proofs.Beginnings.{beginning-behind, beginning-longer}
 use Rattle.pram_io.specs.Printed.{printed}
 use Rattle.pram_io.specs.Transfer.{AppendsBeginning}
 use Rattle.pram_run.specs.Printed.{trace_text}
-use Rattle.pram_commands.specs.Replayed.{BeginsReplay}
 use Rattle.pram_commands.proofs.replays.print_replay.Goals as goal
 
 on_err : {T E P : Type 0} (r : Result T E) → P → OnErr r P

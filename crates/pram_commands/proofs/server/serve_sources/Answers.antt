@@ -1,5 +1,4 @@
 use Rattle.std.proofs.Common.{◌≡◌, ◌⊎◌, ◌∙◌, ℕ, sym, inl, inr, arith}
-use Rattle.pram_commands.specs.Faults.{fault_status}
 use Rattle.pram_commands.specs.declared.fault.CommandFault.TheVariants.{OutDevice, Memory}
 use Rattle.pram_commands.proofs.Refusals.{is-not, line-refused}
 use Rattle.pram_commands.proofs.server.serve_sources.Goals as goal
