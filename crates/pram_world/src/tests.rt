@@ -1,13 +1,16 @@
 //! A worker lost at each of its atomic steps, come back, and twinned; and each public call once.
 ghost use Rattle.std.specs.Prelude.{◌≡◌, IfOk};
+ghost use Rattle.walkx.specs.Reads.{LooksFit};
+ghost use Rattle.walkx.specs.Serving.{Follows};
+ghost use Rattle.walkx.specs.Walk.{IsLayoutOf};
 
 use super::*;
 use pram_step::{Fault, RunAnswer};
-use pram_text::read_job;
-use pram_words::Layout;
+use pram_text::{Job, read_job};
+use pram_words::{Kind, Layout, phase, stamped};
 use std::process::Abort;
 use std::test::Fail;
-use walkx::{Ended, Op};
+use walkx::{Ended, Op, ReadOp, Reader, Reading};
 
 const SWAP: &str = "pram 1\ncells 2\nprocs 2\nsteps 5\ninit 0 7\ninit 1 9\ncode\n\
     pid r0\nset r1 1\nsub r1 r1 r0\nld r2 r1\nst r0 r2\n";
@@ -197,6 +200,74 @@ fn events_and_effects(rt: HostRuntime) -> Result<(), Fail> {
     laws::every_interleaving();
     laws::every_read_is_lawful();
     laws::every_body_is_bounded();
+    Ok(())
+}
+
+// A job, its board for one worker, and the world after these events.
+fn one_worker(
+    rt: &impl AllocGlobal,
+    text: &str,
+    events: &[Event],
+) -> Result<(Job, Layout, World), Fail>
+    ensures layout { IfOk result (λ b. IsLayoutOf b.0 b.1) }
+    ensures board { IfOk result (λ b. b.2.layout ≡ b.1) }
+{
+    let job = read_job(rt.alloc(), text.as_bytes())?;
+    let layout = Layout::new(&job, 1);
+    let mut world = World::new(rt.alloc(), &job, 1)?;
+    world.run_events(events);
+    Ok((job, layout, world))
+}
+
+// Makes one step of a reader: the operation, and the word.
+fn look(
+    rt: &impl Abort,
+    job: &Job,
+    layout: &Layout,
+    reader: &mut Reader,
+    world: &World,
+) -> (ReadOp, u64)
+    requires layout { IsLayoutOf job.now layout.now }
+    requires board { world.now.layout ≡ layout.now }
+    requires follows { Follows layout.now reader.old }
+    requires fits { LooksFit job.now layout.now reader.old.looking }
+    ensures follows { Follows layout.now reader.new }
+    ensures fits { LooksFit job.now layout.now reader.new.looking }
+{
+    let op = reader.ask(layout);
+    let ReadOp::Load(k) = op else {
+        return (op, 0);
+    };
+    let found = world.load(k);
+    assert!(rt; layout.admits(job, k, found));
+    reader.tell(job, layout, found);
+    (op, found)
+}
+
+#[test]
+fn a_read_between_two_steps_sees_the_older_one(rt: HostRuntime) -> Result<(), Fail> {
+    let (job, layout, world) = one_worker(
+        &rt,
+        "pram 1\ncells 1\nprocs 1\nsteps 2\ninit 0 4\ncode\nset r1 7\nst r0 r1\n",
+        &[Event::Go(0); 53],
+    )?;
+    let mut reader = Reader::new(0);
+    assert_eq!(rt;
+        look(&rt, &job, &layout, &mut reader, &world),
+        (ReadOp::Load(1), phase(2, Kind::Compute))
+    );
+    assert_eq!(rt;
+        look(&rt, &job, &layout, &mut reader, &world),
+        (ReadOp::Load(6), stamped(2, 7))
+    );
+    assert_eq!(rt;
+        look(&rt, &job, &layout, &mut reader, &world),
+        (ReadOp::Load(7), 4)
+    );
+    assert_eq!(rt;
+        reader.ask(&layout),
+        ReadOp::Over(Reading::At { step: 1, value: 4 })
+    );
     Ok(())
 }
 
