@@ -5,7 +5,7 @@ ghost use Rattle.walkx.specs.Serving.{Serves};
 
 use super::*;
 use pram_step::{Cells, Fault, RunAnswer};
-use pram_text::read_job;
+use pram_text::{Job, read_job};
 use std::process::Abort;
 use std::sync::atomic::{AtomicU64, Ordering};
 use std::test::Fail;
@@ -19,6 +19,10 @@ const BELOW_ZERO: &str =
     "pram 1\ncells 1\nprocs 1\nsteps 3\ncode\nset r1 1\nsub r2 r0 r1\nst r0 r2\n";
 
 const TWO: &str = "pram 1\ncells 2\nprocs 2\nsteps 1\ncode\npid r0\n";
+
+// Processors 1 and 3 write 1 and 3 to cell 4 in step 5.
+const DISPUTED: &str = "pram 1\ncells 5\nprocs 4\nsteps 5\ninit 1 1\ninit 3 1\ncode\n\
+    pid r0\nld r1 r0\njz r1 end\nset r2 4\nst r2 r0\nend: halt\n";
 
 // Processors 1 and 3 write to cell 4 in step 5.
 fn one_cell(rt: &impl AllocGlobal, rule: &str, value: &str) -> Result<String, Fail> {
@@ -248,6 +252,11 @@ fn a_job_without_steps(rt: HostRuntime) -> Result<(), Fail> {
     let text = "pram 1\ncells 1\nprocs 1\nsteps 0\ninit 0 5\ncode\nhalt\n";
     let job = read_job(rt.alloc(), text.as_bytes())?;
     let (board, mut seat) = Board::open_wide(rt.alloc(), &job, 64)?;
+    let fresh = Progress {
+        step: 0,
+        conflict: None,
+    };
+    assert_eq!(rt; board.progress(&mut seat), fresh);
     assert_eq!(rt; board.read(&mut seat, 0), Reading::At { step: 0, value: 5 });
     let answer = finished(&rt, &board, &mut seat, &mut Worker::start(63))?;
     assert!(rt; is_answer(&answer, Some(&[5])));
@@ -296,11 +305,11 @@ fn look_behind(rt: &(impl AllocGlobal + Abort), rule: &str, value: &str) -> Resu
         step: 4,
         conflict: Some(5),
     };
+    let held = Reading::At { step: 4, value: 0 };
+    assert_eq!(rt; board.progress(&mut seat), progress);
+    assert_eq!(rt; board.read(&mut seat, 4), held);
     assert_eq!(rt; board.progress(&mut other), progress);
-    assert_eq!(rt;
-        board.read(&mut other, 4),
-        Reading::At { step: 4, value: 0 }
-    );
+    assert_eq!(rt; board.read(&mut other, 4), held);
     Ok(())
 }
 
@@ -308,4 +317,134 @@ fn look_behind(rt: &(impl AllocGlobal + Abort), rule: &str, value: &str) -> Resu
 fn looks_behind_a_conflict(rt: HostRuntime) -> Result<(), Fail> {
     look_behind(&rt, "common", "r0")?;
     look_behind(&rt, "crew", "r1")
+}
+
+// The cell is written in steps 3, 5, 7 and 8.
+const EIGHT_STEPS: &str = "pram 1\ncells 1\nprocs 1\nsteps 8\ncode\n\
+    set r1 30\nset r2 50\nst r0 r1\nset r1 70\nst r0 r2\nset r2 80\nst r0 r1\nst r0 r2\n";
+
+// What the cell holds after each step.
+const AFTER_STEPS: [u32; 9] = [0, 0, 0, 30, 30, 50, 50, 70, 80];
+
+// Reads cell 0 before each atomic step of a worker, until that is over: each read tells what the
+// cell holds after its step, and no step is left out. It answers the step of the last read.
+fn read_beside(
+    rt: &impl Abort,
+    board: &Board,
+    reader: &mut Seat,
+    seat: &mut Seat,
+    worker: &mut Worker,
+) -> u32
+    requires cell { 0 < board.now.task.job.cells }
+    requires reader { reader.old.desk ≡ board.now }
+    requires desk { seat.old.desk ≡ board.now }
+    requires serves { Serves board.now.task.job board.now.task.layout worker.old }
+    requires knows { Knows board.now.task.job board.now.task.layout seat.old.record_of
+        worker.old.walking }
+{
+    let mut seen = 0;
+    for _ in 0..2000 {
+        let Reading::At { step, value } = board.read(reader, 0);
+        assert!(rt; step == seen || step.checked_sub(1) == Some(seen));
+        assert_eq!(rt; AFTER_STEPS.get(step as usize), Some(&value));
+        seen = step;
+        if board.tick(seat, worker).is_some() {
+            return seen;
+        }
+    }
+    panic!(rt; "not over")
+}
+
+#[test]
+fn reads_between_the_steps_of_a_worker(rt: HostRuntime) -> Result<(), Fail> {
+    let (board, seat) = opened(&rt, EIGHT_STEPS, 1)?;
+    let (mut seat, mut reader) = board.split(seat);
+    let last = read_beside(&rt, &board, &mut reader, &mut seat, &mut Worker::start(0));
+    assert_eq!(rt; last, 8);
+    Ok(())
+}
+
+// A write of step 2 stands in the cell, and step 2 is not finished.
+#[test]
+fn a_read_beside_a_write_sees_the_older_value(rt: HostRuntime) -> Result<(), Fail> {
+    let text = "pram 1\ncells 1\nprocs 1\nsteps 2\ninit 0 4\ncode\nset r1 7\nst r0 r1\n";
+    let (board, seat) = opened(&rt, text, 1)?;
+    let (mut seat, mut reader) = board.split(seat);
+    let stay = board.work(&mut seat, &mut Worker::start(0), &Open, Some(53));
+    assert_eq!(rt; stay, Stay::Stopped);
+    assert_eq!(rt;
+        board.read(&mut reader, 0),
+        Reading::At { step: 1, value: 4 }
+    );
+    Ok(())
+}
+
+fn read_again(rt: &impl AllocGlobal, text: &str) -> Result<Job, Fail> {
+    match read_job(rt.alloc(), text.as_bytes()) {
+        Ok(job) => Ok(job),
+        Err(_) => Ok(read_job(rt.alloc(), text.as_bytes())?),
+    }
+}
+
+// A board for two workers. Where memory is refused, the same call is made again.
+fn opened_again(rt: &impl AllocGlobal, job: &Job, refused: &mut u32) -> Result<(Board, Seat), Fail>
+    ensures seat { IfOk result (λ made. made.1.desk ≡ made.0) }
+    ensures workers { IfOk result (λ made. made.0.task.layout.workers ≡ 2) }
+{
+    match Board::open(rt.alloc(), job, 2) {
+        Ok(made) => Ok(made),
+        Err(_) => {
+            *refused = 1;
+            Ok(Board::open(rt.alloc(), job, 2)?)
+        }
+    }
+}
+
+// The answer of one worker, by the second of two seats where memory is refused to the first.
+fn answered_again(
+    rt: &(impl AllocGlobal + Abort),
+    board: &Board,
+    mut seat: Seat,
+    refused: &mut u32,
+) -> Result<RunAnswer, Fail>
+    requires desk { seat.desk ≡ board.now }
+    requires workers { board.now.task.layout.workers ≡ 2 }
+{
+    let stay = board.work(&mut seat, &mut Worker::start(0), &Open, None);
+    let (mut seat, mut spare) = board.split(seat);
+    match stay {
+        Stay::Ended(Ended::Done) => match board.memory(rt.alloc(), &mut seat) {
+            Ok(cells) => Ok(RunAnswer::Final(Cells::new(cells))),
+            Err(_) => {
+                *refused = 1;
+                let cells = board.memory(rt.alloc(), &mut spare)?;
+                Ok(RunAnswer::Final(Cells::new(cells)))
+            }
+        },
+        Stay::Ended(Ended::Conflict(_)) => match board.fault(rt.alloc(), &mut seat) {
+            Ok(fault) => Ok(RunAnswer::Conflict(fault)),
+            Err(_) => {
+                *refused = 1;
+                Ok(RunAnswer::Conflict(board.fault(rt.alloc(), &mut spare)?))
+            }
+        },
+        Stay::Stopped => panic!(rt; "stopped without a limit"),
+    }
+}
+
+// A growth that is refused, as by `rt try --fail-alloc`, is told, and the same call then succeeds.
+// It prints whether one was.
+#[test]
+fn refused_growths_are_told(rt: HostRuntime) -> Result<(), Fail> {
+    let swap = read_again(&rt, SWAP)?;
+    let disputed = read_again(&rt, DISPUTED)?;
+    let mut refused = 0u32;
+    let (board, seat) = opened_again(&rt, &swap, &mut refused)?;
+    let answer = answered_again(&rt, &board, seat, &mut refused)?;
+    assert!(rt; is_answer(&answer, Some(&[9, 7])));
+    let (board, seat) = opened_again(&rt, &disputed, &mut refused)?;
+    let answer = answered_again(&rt, &board, seat, &mut refused)?;
+    assert!(rt; is_answer(&answer, None));
+    println!(rt; "refused={refused}")?;
+    Ok(())
 }

@@ -1,10 +1,11 @@
 //! Workers on a board.
 ghost use Rattle.std.specs.Prelude.{◌≡◌};
+ghost use Rattle.pram_board.specs.Inner.Asked.{over_in};
 
 use crate::board::Board;
 use crate::seat::Seat;
 use stop_plan::Gate;
-use walkx::{Ended, Worker};
+use walkx::{Ended, Op, Worker};
 
 /// How work ended: with the worker, or at the limit.
 #[derive(Clone, Copy, Debug, PartialEq, Eq)]
@@ -22,6 +23,7 @@ impl Board {
     ghost use Rattle.walkx.specs.Serving.{Serves};
     ghost use Rattle.walkx.specs.Walk.{end_of};
     ghost use Rattle.lawful_words.specs.Moments.{Sound};
+    ghost use Rattle.pram_board.specs.Inner.Asked.{Asks};
     ghost use Rattle.pram_board.specs.Worked.{EndShows, Ticked, Worked, end_in};
 
     /// One atomic step of a worker, or none where it is over. The seat is to know the worker: it
@@ -50,8 +52,7 @@ impl Board {
             return Some(ended);
         }
         let op = worker.ask(&self.task.job, &self.task.layout);
-        let answer = self.step(seat, op);
-        worker.tell(&self.task.job, &self.task.layout, answer);
+        self.advance(seat, worker, op);
         worker.ended()
     }
 
@@ -82,16 +83,50 @@ impl Board {
         self.facts();
         seat.facts();
         let mut made = 0;
+        let mut op = worker.ask(&self.task.job, &self.task.layout);
         loop {
-            if let Some(ended) = worker.ended() {
+            if let Some(ended) = ended_in(op) {
                 return Stay::Ended(ended);
             }
             if limit == Some(made) {
                 return Stay::Stopped;
             }
             gate.pass(worker.number(), made);
-            self.tick(seat, worker);
+            op = self.advance(seat, worker, op);
             made += 1;
         }
+    }
+
+    // One atomic step of a worker, which asks for it, and what the worker asks for next.
+    #[inline(always)]
+    fn advance(&self, seat: &mut Seat, worker: &mut Worker, op: Op) -> Op
+        requires desk { seat.old.desk ≡ self.now }
+        requires serves { Serves self.now.task.job self.now.task.layout worker.old }
+        requires knows { Knows self.now.task.job self.now.task.layout seat.old.record_of
+            worker.old.walking }
+        requires asks { Asks self.now.task worker.old.walking op }
+        requires going { end_of worker.old.walking.now ≡ None }
+        ensures ticked { Ticked self.now.task seat.old worker.old.walking seat.new
+            worker.new.walking }
+        ensures asks { Asks self.now.task worker.new.walking result }
+        ensures sound { Sound self.now.task.job self.now.task.layout seat.new.record_of }
+        ensures desk { seat.new.desk ≡ self.now }
+        ensures serves { Serves self.now.task.job self.now.task.layout worker.new }
+        ensures knows { Knows self.now.task.job self.now.task.layout seat.new.record_of
+            worker.new.walking }
+    {
+        let answer = self.step(seat, op);
+        worker.proceed(&self.task.job, &self.task.layout, answer)
+    }
+}
+
+// How a worker ended that asks for this, if it did.
+#[inline(always)]
+fn ended_in(op: Op) -> Option<Ended>
+    ensures { result ≡ over_in op }
+{
+    match op {
+        Op::Over(ended) => Some(ended),
+        Op::Load(_) | Op::Store(_, _) | Op::Max(_, _) | Op::Swap(_, _, _) => None,
     }
 }

@@ -1,2 +1,3 @@
 -- For private contracts alone.
 pub mod Refusals
+pub mod Cells

@@ -1,5 +1,5 @@
 -- What reading a job and a plan says of their sources, by their bytes before and after.
-use Rattle.std.specs.Prelude.{ℕ, List, Option, ⊤}
+use Rattle.std.specs.Prelude.{◌≡◌, ◌⊎◌, ℕ, List, Option, Some, ⊤, find, nat_le}
 use Rattle.pram_text.specs.Job.{JobData}
 use Rattle.pram_io.specs.Plain.{GivesFault, GivesJob}
 use Rattle.pram_io.specs.Transfer.{Gives, GivesMoreThan}
@@ -8,7 +8,7 @@ use Rattle.stop_plan.specs.Plan.{PlanData}
 use Rattle.stop_plan.specs.Records.{FirstFault, SpellsPlan, records_of}
 use Rattle.stop_plan.specs.declared.plan.PlanKind.{PlanKind}
 use Rattle.pram_commands.specs.declared.fault.CommandFault.{CommandFault}
-use Rattle.pram_commands.specs.declared.fault.CommandFault.TheVariants.{Text, Plan, JobDevice, PlanDevice, OutDevice, JobTooLarge, PlanTooLarge, Memory, NotServed}
+use Rattle.pram_commands.specs.declared.fault.CommandFault.TheVariants.{Text, Plan, OutsideCell, JobDevice, PlanDevice, OutDevice, JobTooLarge, PlanTooLarge, Memory}
 
 -- The source gave a text that spells a job.
 abbrev pub GivesSomeJob : Option (List ℕ) → Option (List ℕ) → Type 0
@@ -65,8 +65,34 @@ Explains job_source job_source' plan_source plan_source' workers PlanTooLarge =
     GivesSomeJob job_source job_source' × GivesMoreThan MOST plan_source plan_source'
 Explains job_source job_source' plan_source plan_source' workers PlanDevice =
     GivesSomeJob job_source job_source'
-Explains job_source job_source' plan_source plan_source' workers NotServed = ⊥
+Explains job_source job_source' plan_source plan_source' workers (OutsideCell cell) = ⊥
 Explains job_source job_source' plan_source plan_source' workers _ = ⊤
+
+-- The first of the cells that the job does not have.
+abbrev pub first_outside : JobData → List ℕ → Option ℕ
+first_outside job cells = find (λ cell. nat_le job.cells cell) cells
+
+-- The sources gave a job and a plan, and this is the first of the cells that the job does not have.
+pub record GivesOutside (job_source job_source' plan_source plan_source' : Option (List ℕ))
+    (workers : ℕ) (cells : List ℕ) (cell : ℕ) : Type 0 where
+  pub job : JobData
+  pub plan : PlanData
+  pub gives : GivesBoth job_source job_source' plan_source plan_source' workers job plan
+  pub outside : first_outside job cells ≡ Some cell
+
+-- The fault names such a cell.
+abbrev pub NamesOutside : (job_source job_source' plan_source plan_source' : Option (List ℕ)) → ℕ
+    → List ℕ → CommandFault → Type 0
+NamesOutside job_source job_source' plan_source plan_source' workers cells fault =
+    (cell : ℕ) × (fault ≡ OutsideCell cell)
+    × GivesOutside job_source job_source' plan_source plan_source' workers cells cell
+
+-- What a fault says of the sources where cells are watched.
+abbrev pub ExplainsWatch : (job_source job_source' plan_source plan_source' : Option (List ℕ)) → ℕ
+    → List ℕ → CommandFault → Type 0
+ExplainsWatch job_source job_source' plan_source plan_source' workers cells fault =
+    Explains job_source job_source' plan_source plan_source' workers fault
+    ⊎ NamesOutside job_source job_source' plan_source plan_source' workers cells fault
 
 -- The job's source or its text is at fault.
 abbrev pub IsOfJob : CommandFault → Type 0

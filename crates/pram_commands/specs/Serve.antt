@@ -10,12 +10,13 @@ use Rattle.stop_plan.specs.declared.plan.PlanKind.{PlanKind}
 use Rattle.pram_io.specs.Plain.{GivesFault, PrintsAnswer, PrintsBeginning, PrintsSummary, PrintsSummaryBeginning}
 use Rattle.pram_io.specs.Transfer.{GivesMoreThan}
 use Rattle.pram_io.specs.declared.transfer.TheConstants.{MOST}
-use Rattle.pram_commands.specs.Inputs.{Explains, ExplainsJob, GivesPlanFault, GivesSomeJob}
+use Rattle.pram_commands.specs.CellLists.{cells_of}
+use Rattle.pram_commands.specs.Inputs.{Explains, ExplainsJob, ExplainsWatch, GivesOutside, GivesPlanFault, GivesSomeJob}
 use Rattle.pram_commands.specs.Replayed.{PrintsReplay, PrintsReplayBeginning}
+use Rattle.pram_commands.specs.Threads.{PrintsRun, PrintsRunBeginning, PrintsWatch, PrintsWatchBeginning}
 use Rattle.pram_commands.specs.declared.fault.CommandFault.{CommandFault}
-use Rattle.pram_commands.specs.declared.fault.CommandFault.TheVariants.{NotServed}
 use Rattle.pram_commands.specs.declared.line.Line.{Line}
-use Rattle.pram_commands.specs.declared.line.Line.TheVariants.{Check, Plain, Run, Replay}
+use Rattle.pram_commands.specs.declared.line.Line.TheVariants.{Check, Plain, Run, Watch, Replay}
 use Rattle.pram_commands.specs.declared.refusal.TheConstants.{DONE, CONFLICT, UNFINISHED}
 
 -- the bytes of a plan's source; where there is none, it has none
@@ -62,13 +63,33 @@ pub record ReplaysWithStatus (job job' plan plan' : Option (List ℕ)) (workers 
   pub prints : PrintsReplay job job' plan plan' workers sink sink' answer
   pub of_answer : status ≡ status_of answer
 
+-- The sources gave a job and a plan, the sink took the answer of their run, and the status is that
+-- of the answer.
+pub record RunsWithStatus (job job' plan plan' : Option (List ℕ)) (workers : ℕ)
+    (sink sink' : Option (List ℕ)) (status : ℕ) : Type 0 where
+  pub answer : RunAnswer
+  pub prints : PrintsRun job job' plan plan' workers sink sink' answer
+  pub of_answer : status ≡ status_of answer
+
+-- The sources gave a job and a plan, the sink took their watch, and the status is that of its
+-- answer.
+pub record WatchesWithStatus (job job' plan plan' : Option (List ℕ)) (workers : ℕ)
+    (cells : List ℕ) (rounds : ℕ) (sink sink' : Option (List ℕ)) (status : ℕ) : Type 0 where
+  pub answer : RunAnswer
+  pub prints : PrintsWatch job job' plan plan' workers cells rounds sink sink' answer
+  pub of_answer : status ≡ status_of answer
+
 -- The line was done, and this is its status.
 abbrev pub IsDone : Line → (job job' plan plan' sink sink' : Option (List ℕ)) → ℕ → Type 0
 IsDone (Check file) job job' plan plan' sink sink' status =
     PrintsSummary job job' sink sink' × (status ≡ DONE)
 IsDone (Plain file) job job' plan plan' sink sink' status =
     PrintsWithStatus job job' sink sink' status
-IsDone (Run file workers plan_file) job job' plan plan' sink sink' status = ⊥
+IsDone (Run file workers plan_file progress) job job' plan plan' sink sink' status =
+    RunsWithStatus job job' plan plan' workers.count sink sink' status
+IsDone (Watch file workers cells rounds plan_file progress) job job' plan plan' sink sink' status =
+    WatchesWithStatus job job' plan plan' workers.count (cells_of cells.text.now) rounds sink sink'
+    status
 IsDone (Replay file workers plan_file) job job' plan plan' sink sink' status =
     ReplaysWithStatus job job' plan plan' workers.count sink sink' status
 
@@ -77,7 +98,11 @@ abbrev pub BeginsToPrint : Line → (job job' plan plan' sink sink' : Option (Li
 BeginsToPrint (Check file) job job' plan plan' sink sink' =
     PrintsSummaryBeginning job job' sink sink'
 BeginsToPrint (Plain file) job job' plan plan' sink sink' = PrintsBeginning job job' sink sink'
-BeginsToPrint (Run file workers plan_file) job job' plan plan' sink sink' = ⊥
+BeginsToPrint (Run file workers plan_file progress) job job' plan plan' sink sink' =
+    PrintsRunBeginning job job' plan plan' workers.count sink sink'
+BeginsToPrint (Watch file workers cells rounds plan_file progress) job job' plan plan' sink sink' =
+    PrintsWatchBeginning job job' plan plan' workers.count (cells_of cells.text.now) rounds
+    sink sink'
 BeginsToPrint (Replay file workers plan_file) job job' plan plan' sink sink' =
     PrintsReplayBeginning job job' plan plan' workers.count sink sink'
 
@@ -85,14 +110,18 @@ BeginsToPrint (Replay file workers plan_file) job job' plan plan' sink sink' =
 abbrev pub MayStop : Line → Type 0
 MayStop (Check file) = ⊥
 MayStop (Plain file) = ⊥
-MayStop (Run file workers plan_file) = ⊥
+MayStop (Run file workers plan_file progress) = ⊤
+MayStop (Watch file workers cells rounds plan_file progress) = ⊤
 MayStop (Replay file workers plan_file) = ⊤
 
 -- What a fault says of the sources.
 abbrev pub ExplainsLine : Line → (job job' plan plan' : Option (List ℕ)) → CommandFault → Type 0
 ExplainsLine (Check file) job job' plan plan' fault = ExplainsJob job job' fault
 ExplainsLine (Plain file) job job' plan plan' fault = ExplainsJob job job' fault
-ExplainsLine (Run file workers plan_file) job job' plan plan' fault = fault ≡ NotServed
+ExplainsLine (Run file workers plan_file progress) job job' plan plan' fault =
+    Explains job job' plan plan' workers.count fault
+ExplainsLine (Watch file workers cells rounds plan_file progress) job job' plan plan' fault =
+    ExplainsWatch job job' plan plan' workers.count (cells_of cells.text.now) fault
 ExplainsLine (Replay file workers plan_file) job job' plan plan' fault =
     Explains job job' plan plan' workers.count fault
 
@@ -105,24 +134,40 @@ abbrev pub GivesNoPlan : (source source' : Option (List ℕ)) → ℕ → Type 0
 GivesNoPlan source source' workers =
     (row : ℕ) × (kind : PlanKind) × GivesPlanFault source source' workers row kind
 
--- The text of the line's job bears a fault, or, of a replay, that of its plan, where there is a
--- job.
+-- The text of the job bears a fault, or that of its plan, where there is a job.
+abbrev pub GivesNoBoth : (job job' plan plan' : Option (List ℕ)) → ℕ → Type 0
+GivesNoBoth job job' plan plan' workers =
+    GivesNoJob job job' ⊎ (GivesSomeJob job job' × GivesNoPlan plan plan' workers)
+
+-- What the line needs is not given: a job, its plan, or a cell of the job that is to be watched.
 abbrev pub IsRefused : Line → (job job' plan plan' : Option (List ℕ)) → Type 0
 IsRefused (Check file) job job' plan plan' = GivesNoJob job job'
 IsRefused (Plain file) job job' plan plan' = GivesNoJob job job'
-IsRefused (Run file workers plan_file) job job' plan plan' = ⊥
+IsRefused (Run file workers plan_file progress) job job' plan plan' =
+    GivesNoBoth job job' plan plan' workers.count
+IsRefused (Watch file workers cells rounds plan_file progress) job job' plan plan' =
+    GivesNoBoth job job' plan plan' workers.count
+    ⊎ ((cell : ℕ) × GivesOutside job job' plan plan' workers.count (cells_of cells.text.now) cell)
 IsRefused (Replay file workers plan_file) job job' plan plan' =
-    GivesNoJob job job' ⊎ (GivesSomeJob job job' × GivesNoPlan plan plan' workers.count)
+    GivesNoBoth job job' plan plan' workers.count
 
--- A source or the sink that the line needs has failed, or such a source gave more bytes than are
--- taken.
+-- A source or the sink has failed, or a source gave more bytes than are taken.
+abbrev pub BothHaveCause : (job_failed plan_failed sink_failed : Bool)
+    → (job job' plan plan' : Option (List ℕ)) → Type 0
+BothHaveCause job_failed plan_failed sink_failed job job' plan plan' =
+    IsTrue job_failed ⊎ (IsTrue plan_failed ⊎ (IsTrue sink_failed
+    ⊎ (GivesMoreThan MOST job job' ⊎ GivesMoreThan MOST plan plan')))
+
+-- The same of those that the line needs.
 abbrev pub HasCause : Line → (job_failed plan_failed sink_failed : Bool)
     → (job job' plan plan' : Option (List ℕ)) → Type 0
 HasCause (Check file) job_failed plan_failed sink_failed job job' plan plan' =
     IsTrue job_failed ⊎ (IsTrue sink_failed ⊎ GivesMoreThan MOST job job')
 HasCause (Plain file) job_failed plan_failed sink_failed job job' plan plan' =
     IsTrue job_failed ⊎ (IsTrue sink_failed ⊎ GivesMoreThan MOST job job')
-HasCause (Run file workers plan_file) job_failed plan_failed sink_failed job job' plan plan' = ⊤
+HasCause (Run file workers plan_file progress) job_failed plan_failed sink_failed job job' plan plan' =
+    BothHaveCause job_failed plan_failed sink_failed job job' plan plan'
+HasCause (Watch file workers cells rounds plan_file progress) job_failed plan_failed sink_failed job job' plan plan' =
+    BothHaveCause job_failed plan_failed sink_failed job job' plan plan'
 HasCause (Replay file workers plan_file) job_failed plan_failed sink_failed job job' plan plan' =
-    IsTrue job_failed ⊎ (IsTrue plan_failed ⊎ (IsTrue sink_failed
-    ⊎ (GivesMoreThan MOST job job' ⊎ GivesMoreThan MOST plan plan')))
+    BothHaveCause job_failed plan_failed sink_failed job job' plan plan'

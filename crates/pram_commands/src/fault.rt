@@ -1,9 +1,11 @@
 //! Why a command was not done.
 ghost use Rattle.std.specs.Prelude.{◌≡◌};
-ghost use Rattle.pram_commands.specs.Faults.{fault_of_plain};
+ghost use Rattle.pram_commands.specs.Faults.{fault_of_plain, fault_of_print};
+ghost use Rattle.pram_commands.specs.declared.fault.CommandFault.TheVariants.{Memory};
 
-use pram_io::PlainFault;
+use pram_io::{PlainFault, PrintFault};
 use pram_text::TextKind;
+use std::alloc::AllocError;
 use stop_plan::PlanKind;
 
 /// Why a command was not done.
@@ -13,6 +15,8 @@ pub enum CommandFault {
     Text { line: u64, kind: TextKind },
     /// The plan's text spells no plan. The kind is never `Memory`.
     Plan { row: u64, kind: PlanKind },
+    /// The job has no such cell, which is the first of its kind that a watch names.
+    OutsideCell { cell: u32 },
     /// The job's source failed.
     JobDevice,
     /// The plan's source failed.
@@ -25,8 +29,6 @@ pub enum CommandFault {
     PlanTooLarge,
     /// Memory ran out.
     Memory,
-    /// The command is not served.
-    NotServed,
 }
 
 impl From<PlainFault> for CommandFault {
@@ -40,5 +42,24 @@ impl From<PlainFault> for CommandFault {
             PlainFault::TooLarge => CommandFault::JobTooLarge,
             PlainFault::Memory => CommandFault::Memory,
         }
+    }
+}
+
+impl From<PrintFault> for CommandFault {
+    ghost from_gives = { λ fault made. made ≡ fault_of_print fault };
+
+    fn from(fault: PrintFault) -> CommandFault {
+        match fault {
+            PrintFault::Device => CommandFault::OutDevice,
+            PrintFault::Memory => CommandFault::Memory,
+        }
+    }
+}
+
+impl From<AllocError> for CommandFault {
+    ghost from_gives = { λ _ made. made ≡ Memory };
+
+    fn from(_error: AllocError) -> CommandFault {
+        CommandFault::Memory
     }
 }

@@ -2,20 +2,28 @@
 //! status.
 #![tactic(auto)]
 
+mod cell_list;
 mod fault;
 mod inputs;
 mod line;
+mod progress;
 mod refusal;
 mod replays;
+mod runs;
 mod server;
 #[cfg(test)]
 mod tests;
+mod threads;
+mod watches;
 mod workers;
 
+pub use cell_list::CellList;
 pub use fault::CommandFault;
 pub use inputs::{take_inputs, take_plan};
 pub use line::Line;
 pub use refusal::{CONFLICT, DONE, FAILED, MEMORY, REFUSED, Refusal, UNFINISHED, tell};
 pub use replays::replay;
+pub use runs::run;
 pub use server::serve;
+pub use watches::watch;
 pub use workers::Workers;

@@ -2,6 +2,7 @@
 ghost use Rattle.std.specs.Prelude.{◌≡◌};
 ghost use Rattle.pram_commands.specs.Line.{file_of, plan_of, text_of};
 
+use crate::cell_list::CellList;
 use crate::workers::Workers;
 
 /// What the program is asked for. A file is named as its word names it.
@@ -15,11 +16,21 @@ pub enum Line<'a> {
     Plain {
         file: &'a str,
     },
-    /// Run the job on threads.
+    /// Run the job on threads. Where `progress` is asked for, standard error tells how far it is.
     Run {
         file: &'a str,
         workers: Workers,
         plan: Option<&'a str>,
+        progress: bool,
+    },
+    /// The same, with a reader beside the workers, which goes so many rounds through the cells.
+    Watch {
+        file: &'a str,
+        workers: Workers,
+        cells: CellList<'a>,
+        rounds: u32,
+        plan: Option<&'a str>,
+        progress: bool,
     },
     /// Run the job on one thread, by the plan, and print each step.
     Replay {
@@ -38,6 +49,7 @@ impl<'a> Line<'a> {
             Line::Check { file }
             | Line::Plain { file }
             | Line::Run { file, .. }
+            | Line::Watch { file, .. }
             | Line::Replay { file, .. } => file,
         }
     }
@@ -48,7 +60,7 @@ impl<'a> Line<'a> {
     {
         match *self {
             Line::Check { .. } | Line::Plain { .. } => None,
-            Line::Run { plan, .. } | Line::Replay { plan, .. } => plan,
+            Line::Run { plan, .. } | Line::Watch { plan, .. } | Line::Replay { plan, .. } => plan,
         }
     }
 }

@@ -14,7 +14,7 @@ pub const DONE: u8 = 0;
 /// The job ended in a conflict.
 pub const CONFLICT: u8 = 1;
 
-/// The text is refused.
+/// The job, its plan, or a cell to be watched is refused.
 pub const REFUSED: u8 = 2;
 
 /// The workers stopped before the job's end.
@@ -36,6 +36,8 @@ pub enum Refusal<'a> {
     Text { line: u64, kind: TextKind },
     /// A record of the plan is bad.
     Plan { row: u64, kind: PlanKind },
+    /// The job has no such cell.
+    Cell(u32),
     /// The file failed.
     File(&'a str),
     /// The output failed.
@@ -46,8 +48,6 @@ pub enum Refusal<'a> {
     Memory,
     /// A word is not UTF-8.
     Word,
-    /// The line is none that is served.
-    NotYet,
 }
 
 impl Refusal<'_> {
@@ -55,13 +55,9 @@ impl Refusal<'_> {
         ensures { result ≡ refusal_status self.entry }
     {
         match self {
-            Refusal::Text { .. } | Refusal::Plan { .. } => REFUSED,
+            Refusal::Text { .. } | Refusal::Plan { .. } | Refusal::Cell(_) => REFUSED,
             Refusal::Memory => MEMORY,
-            Refusal::File(_)
-            | Refusal::Output
-            | Refusal::Size(_)
-            | Refusal::Word
-            | Refusal::NotYet => FAILED,
+            Refusal::File(_) | Refusal::Output | Refusal::Size(_) | Refusal::Word => FAILED,
         }
     }
 }
@@ -71,12 +67,12 @@ impl fmt::Display for Refusal<'_> {
         match self {
             Refusal::Text { line, kind } => writeln!(f, "text line={line} kind={kind:?}"),
             Refusal::Plan { row, kind } => writeln!(f, "plan row={row} kind={kind:?}"),
+            Refusal::Cell(cell) => writeln!(f, "watch cell={cell}"),
             Refusal::File(name) => writeln!(f, "file {name}"),
             Refusal::Output => writeln!(f, "file -"),
             Refusal::Size(name) => writeln!(f, "size {name}"),
             Refusal::Memory => write!(f, "{MEMORY_LINE}"),
             Refusal::Word => writeln!(f, "error: a word of the line is not UTF-8"),
-            Refusal::NotYet => writeln!(f, "run is not built yet"),
         }
     }
 }

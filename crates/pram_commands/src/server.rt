@@ -2,7 +2,7 @@
 ghost use Rattle.std.specs.Prelude.{◌≡◌, ◌≢◌, ◌<◌, ◌≤◌, ◌⊎◌, ◌↔◌, false, IfOk, IfErr, OnErr, IsErrOf, IsTrue};
 ghost use Rattle.pram_io.specs.Transfer.{GivesSome};
 ghost use Rattle.pram_commands.specs.Faults.{fault_status};
-ghost use Rattle.pram_commands.specs.Inner.Refusals.{file_at_fault, refusal_status, told_file};
+ghost use Rattle.pram_commands.specs.Inner.Refusals.{cell_at_fault, file_at_fault, refusal_status, told_cell, told_file};
 ghost use Rattle.pram_commands.specs.Serve.{BeginsToPrint, ExplainsLine, HasCause, IsDone, IsRefused, MayStop};
 ghost use Rattle.pram_commands.specs.Serve.{bytes_after, bytes_before, left_failed, some_failed, status_of};
 
@@ -10,14 +10,21 @@ use crate::fault::CommandFault;
 use crate::line::Line;
 use crate::refusal::{CONFLICT, DONE, FAILED, MEMORY, REFUSED, Refusal, UNFINISHED, tell};
 use crate::replays::replay;
+use crate::runs::run;
+use crate::watches::watch;
 use pram_io::{Empty, Sink, Source, check, plain};
 use pram_step::RunAnswer;
 use std::alloc::Global;
+use std::rt::Clock;
+use std::sync::Wait;
+use std::thread::Threads;
 
 /// Does what the line asks, and answers the exit status. The job comes from `job` in place of the
-/// line's file, and the plan from `plan`; where that is none, the plan has no rows. Where `err`
-/// fails, the status stays.
-pub fn serve<J: Source, P: Source, O: Sink, E: Sink>(
+/// line's file, and the plan from `plan`; where that is none, the plan has no rows. Refusals are told
+/// on `err`, and how far a run is on the runtime's standard error; where either fails, the status
+/// stays.
+pub fn serve<R: Threads + Wait + Clock + Eprint + Sync, J: Source, P: Source, O: Sink, E: Sink>(
+    rt: &R,
     alloc: Global,
     line: &Line<'_>,
     job: &mut J,
@@ -36,13 +43,14 @@ pub fn serve<J: Source, P: Source, O: Sink, E: Sink>(
     ensures status { result ≤ MEMORY }
     ensures stops { result ≡ UNFINISHED → MayStop line.now }
 
-    // At status 2 a text bears a fault, and nothing was written to the output.
+    // At status 2 a text bears a fault, or the job lacks a cell that is to be watched, and nothing
+    // was written to the output.
     ensures refused { result ≡ REFUSED → IsRefused line.now
         (J.remaining job.old) (J.remaining job.new)
         (bytes_before P.remaining plan.entry) (bytes_after P.remaining plan.exit)
         × (out.new ≡ out.old) }
 
-    // At status 4 a device failed or a source is too large, unless the line is not served.
+    // At status 4 a device failed or a source is too large.
     ensures failed { result ≡ FAILED → HasCause line.now
         (J.has_failed job.new) (left_failed P.has_failed plan.exit) (O.has_failed out.new)
         (J.remaining job.old) (J.remaining job.new)
@@ -64,13 +72,14 @@ pub fn serve<J: Source, P: Source, O: Sink, E: Sink>(
         (bytes_after P.remaining plan.exit) }
 {
     match plan {
-        Some(plan) => serve_sources(alloc, line, job, plan, out, err),
-        None => serve_sources(alloc, line, job, &mut Empty, out, err),
+        Some(plan) => serve_sources(rt, alloc, line, job, plan, out, err),
+        None => serve_sources(rt, alloc, line, job, &mut Empty, out, err),
     }
 }
 
 // The same for a plan from a source.
-fn serve_sources<J: Source, P: Source, O: Sink, E: Sink>(
+fn serve_sources<R: Threads + Wait + Clock + Eprint + Sync, J: Source, P: Source, O: Sink, E: Sink>(
+    rt: &R,
     alloc: Global,
     line: &Line<'_>,
     job: &mut J,
@@ -103,14 +112,15 @@ fn serve_sources<J: Source, P: Source, O: Sink, E: Sink>(
     ensures job_reads { GivesSome (J.remaining job.old) (J.remaining job.new) }
     ensures plan_reads { GivesSome (P.remaining plan.old) (P.remaining plan.new) }
 {
-    match do_line(alloc, line, job, plan, out) {
+    match do_line(rt, alloc, line, job, plan, out) {
         Ok(status) => status,
         Err(fault) => tell(alloc, refusal_of(line, fault), err),
     }
 }
 
 // Does what the line asks, and answers the status of its answer.
-fn do_line<J: Source, P: Source, O: Sink>(
+fn do_line<R: Threads + Wait + Clock + Eprint + Sync, J: Source, P: Source, O: Sink>(
+    rt: &R,
     alloc: Global,
     line: &Line<'_>,
     job: &mut J,
@@ -148,10 +158,27 @@ fn do_line<J: Source, P: Source, O: Sink>(
             Ok(DONE)
         }
         Line::Plain { .. } => Ok(answer_status(&plain(alloc, job, out)?)),
+        Line::Run {
+            workers,
+            progress,
+            ..
+        } => {
+            let answer = run(rt, alloc, workers, progress, job, plan, out)?;
+            Ok(answer_status(&answer))
+        }
+        Line::Watch {
+            workers,
+            cells,
+            rounds,
+            progress,
+            ..
+        } => {
+            let answer = watch(rt, alloc, workers, cells, rounds, progress, job, plan, out)?;
+            Ok(answer_status(&answer))
+        }
         Line::Replay { workers, .. } => {
             Ok(answer_status(&replay(alloc, workers, job, plan, out)?))
         }
-        Line::Run { .. } => Err(CommandFault::NotServed),
     }
 }
 
@@ -169,16 +196,17 @@ fn answer_status(answer: &RunAnswer) -> u8
 fn refusal_of<'a>(line: &Line<'a>, fault: CommandFault) -> Refusal<'a>
     ensures status { refusal_status result ≡ fault_status fault }
     ensures file { told_file result ≡ file_at_fault line.now fault }
+    ensures cell { told_cell result ≡ cell_at_fault fault }
 {
     match fault {
         CommandFault::Text { line, kind } => Refusal::Text { line, kind },
         CommandFault::Plan { row, kind } => Refusal::Plan { row, kind },
+        CommandFault::OutsideCell { cell } => Refusal::Cell(cell),
         CommandFault::JobDevice => Refusal::File(line.file()),
         CommandFault::PlanDevice => Refusal::File(line.plan().unwrap_or("")),
         CommandFault::OutDevice => Refusal::Output,
         CommandFault::JobTooLarge => Refusal::Size(line.file()),
         CommandFault::PlanTooLarge => Refusal::Size(line.plan().unwrap_or("")),
         CommandFault::Memory => Refusal::Memory,
-        CommandFault::NotServed => Refusal::NotYet,
     }
 }

@@ -4,3 +4,4 @@ mod refusals;
 mod replays;
 mod served;
 mod statuses;
+mod threads;

@@ -1,5 +1,5 @@
 -- Joining the threads one after another.
-use Rattle.std.proofs.Common.{◌≡◌, ℕ, zero, suc, ◌<◌, ◌+◌, List, [], ◌∷◌, ◌++◌, length, get_or, refl, sym, ap, ◌∙◌, subst, arith, length-append, below_more}
+use Rattle.std.proofs.Common.{◌≡◌, ℕ, ◌<◌, ◌+◌, List, [], ◌∷◌, ◌++◌, length, get_or, sym, ap, ◌∙◌, subst, arith, length-append, below_more}
 use Rattle.std.proofs.Math.ListN.{get_or-append}
 use Rattle.std.proofs.Math.Seq.{get_or-append_seam}
 use Rattle.std.proofs.lemmas.List.Elements.{All-push}
@@ -8,7 +8,6 @@ use Rattle.std.specs.Prelude.{Result, Ok, Err, OnOk}
 use Rattle.std.specs.declared.thread.PromisedHandle.{PromisedHandle}
 use Rattle.stop_plan.specs.declared.plan.Row.{Row}
 use Rattle.stop_plan.specs.Plan.{PlanData}
-use Rattle.pram_board.specs.declared.seat.Seat.{Seat}
 use Rattle.pram_board.specs.Seats.{Place, unites}
 use Rattle.pram_run.specs.declared.runner.Obeyed.{Obeyed}
 use Rattle.pram_run.specs.Inner.Obeying.{GoesOn, EndsOrStops, AllEndOrStop, WasAsked}

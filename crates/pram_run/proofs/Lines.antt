@@ -1,17 +1,17 @@
--- The lines of a trace's rows, and that csv writes a row without quotes.
+-- The lines of a trace's rows and of sights, and that csv writes them without quotes.
 use Rattle.std.proofs.Common.{◌≡◌, ◌∙◌, ◌==◌, ◌||◌, ◌++◌, ◌+◌, ◌<◌, ◌≤◌, ◌^◌, ◌∷◌, [], ℕ, List, Option, Bool, false, refl, sym, ap, append_assoc, append-nil, add-one, length, take, get_or, drop, arith}
 use Rattle.std.proofs.lemmas.List.{length-take-le, take-append-drop, take_more}
 use Rattle.std.proofs.lemmas.Bool.{ne_eqb}
 use Rattle.std.proofs.lemmas.Fmt.{decimal_is_IsNumeral}
 use Rattle.std.proofs.lemmas.Str.Parse.{digit_at}
-use Rattle.std.specs.List.{list_any}
 use Rattle.std.specs.Prelude.{codes, decimal}
 use Rattle.std.specs.Char.{digit_value}
 use Rattle.std.specs.Str.Parse.{AllDigits}
 use Rattle.csv.specs.Writing.{default_writer, field_text, fields_text, is_blank, needs_byte, needs_quotes, row_text}
 use Rattle.pram_io.specs.Transfer.{AppendsBeginning}
 use Rattle.pram_io.proofs.Beginnings.{beginning-longer}
-use Rattle.pram_run.specs.Printed.{kind_word, row_line, row_lines, trace_text}
+use Rattle.pram_run.specs.Printed.{kind_word, row_line, row_lines, sight_line, sight_lines, sights_text, trace_text}
+use Rattle.pram_run.specs.declared.sight.Sight.{Sight}
 use Rattle.pram_run.specs.declared.trace.StepKind.{StepKind}
 use Rattle.pram_run.specs.declared.trace.StepKind.TheVariants.{Load, Store, Max, Swap}
 use Rattle.pram_run.specs.declared.trace.TraceRow.{TraceRow}
@@ -72,3 +72,30 @@ pub row-text : (tick worker word before after : List ℕ) (kind : StepKind) → 
 unfolding fields_text is_blank
 row-text tick worker word before after kind ticks workers words befores afters =
     rw (ticks, workers, kind-plain kind, words, befores, afters) (simp append_assoc)
+
+-- the lines of some sights, and then of others
+pub sights-append : (sights more : List Sight) → sight_lines (sights ++ more) ≡ sight_lines sights ++ sight_lines more
+sights-append [] more = refl
+sights-append (sight ∷ sights) more =
+    ap (λ l. sight_line sight ++ l) (sights-append sights more) ∙ sym (append_assoc (sight_line sight) (sight_lines sights) (sight_lines more))
+
+-- the lines of one sight more
+pub sights-more : (sights : List Sight) (n : ℕ) (d : Sight) → n < length sights
+    → sight_lines (take (n + 1) sights) ≡ sight_lines (take n sights) ++ sight_line (get_or sights n d)
+sights-more sights n d within =
+    ap (λ l. sight_lines l) (take_more sights n d within)
+    ∙ sights-append (take n sights) (get_or sights n d ∷ [])
+    ∙ ap (λ l. sight_lines (take n sights) ++ l) (append-nil (sight_line (get_or sights n d)))
+
+-- a beginning of the text of the first sights is one of the whole text
+pub sights-begin : (a b : Option (List ℕ)) (sights : List Sight) (n : ℕ) → AppendsBeginning a b (sights_text (take n sights)) → AppendsBeginning a b (sights_text sights)
+sights-begin a b sights n begins =
+    let all = sights-append (take n sights) (drop n sights) in
+    let whole = ap (λ l. sights_text l) (take-append-drop n sights) in
+    rw (sym whole, all) (beginning-longer a b (sights_text (take n sights)) (sight_lines (drop n sights)) begins)
+
+-- a row of three such fields as csv writes it
+pub three-text : (step cell value : List ℕ) → IsPlain step → IsPlain cell → IsPlain value
+    → row_text default_writer (step ∷ cell ∷ value ∷ []) ≡ step ++ codes "," ++ cell ++ codes "," ++ value ++ codes "\n"
+unfolding fields_text is_blank
+three-text step cell value steps cells values = rw (steps, cells, values) (simp append_assoc)

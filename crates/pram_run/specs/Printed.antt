@@ -1,5 +1,6 @@
--- The trace of a run, as text.
+-- The trace of a run, and the list of a watch, as text.
 use Rattle.std.specs.Prelude.{ℕ, ◌+◌, List, [], ◌∷◌, ◌++◌, codes, decimal}
+use Rattle.pram_run.specs.declared.sight.Sight.{Sight}
 use Rattle.pram_run.specs.declared.trace.StepKind.{StepKind}
 use Rattle.pram_run.specs.declared.trace.StepKind.TheVariants.{Load, Store, Max, Swap}
 use Rattle.pram_run.specs.declared.trace.TraceRow.{TraceRow}
@@ -24,3 +25,17 @@ row_lines tick (row ∷ rows) = row_line (tick + 1) row ++ row_lines (tick + 1) 
 -- the header, and a line for each row
 abbrev pub trace_text : List TraceRow → List ℕ
 trace_text rows = codes "tick,worker,op,word,before,after\n" ++ row_lines 0 rows
+
+-- the line of a sight
+abbrev pub sight_line : Sight → List ℕ
+sight_line sight = decimal sight.step ++ codes "," ++ decimal sight.cell ++ codes ","
+    ++ decimal sight.value ++ codes "\n"
+
+-- a line for each sight
+abbrev pub sight_lines : List Sight → List ℕ
+sight_lines [] = []
+sight_lines (sight ∷ sights) = sight_line sight ++ sight_lines sights
+
+-- the header, and a line for each sight
+abbrev pub sights_text : List Sight → List ℕ
+sights_text sights = codes "step,cell,value\n" ++ sight_lines sights

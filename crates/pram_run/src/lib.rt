@@ -13,7 +13,7 @@ mod thread_tests;
 mod trace;
 mod watcher;
 
-pub use print::{OutFault, print_trace, write_trace};
+pub use print::{OutFault, print_sights, print_trace, write_trace};
 pub use runner::run;
 pub use schedule::replay;
 pub use sight::Sight;

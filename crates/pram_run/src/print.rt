@@ -1,11 +1,12 @@
-//! Traces as text, written with `csv`.
+//! Traces and sights as text, written with `csv`.
 ghost use Rattle.std.specs.Prelude.{◌≡◌, ◌≤◌, ◌++◌, ◌↔◌, false, decimal, length, map, take, IfOk, OnOk, IsErrOf, IsTrue};
 ghost use Rattle.std.specs.Io.KnownBytes.{Appends};
 ghost use Rattle.csv.specs.Writing.{default_writer, field_text, row_text, text_written};
 ghost use Rattle.pram_io.specs.Transfer.{AppendsBeginning};
 ghost use Rattle.pram_run.specs.Inner.Printing.{IsBetweenRecords};
-ghost use Rattle.pram_run.specs.Printed.{kind_word, row_line, row_lines, trace_text};
+ghost use Rattle.pram_run.specs.Printed.{kind_word, row_line, row_lines, sight_line, sight_lines, sights_text, trace_text};
 
+use crate::sight::Sight;
 use crate::trace::{StepKind, Trace, TraceRow};
 use csv::{Error, Writer};
 use itoa::Buffer;
@@ -15,6 +16,9 @@ use std::io::Write;
 
 /// The fields of a row.
 const HEADER: &str = "tick,worker,op,word,before,after\n";
+
+/// The fields of a sight.
+const SIGHTS_HEADER: &str = "step,cell,value\n";
 
 /// The most rows that are put into the sink at once.
 const PIECE: usize = 512;
@@ -94,6 +98,75 @@ fn write_row<W: Write + Drop>(
             number_text(&mut words, u64::from(row.word)),
             number_text(&mut befores, row.before),
             number_text(&mut afters, row.after),
+        ],
+    )
+}
+
+/// Prints sights below a header, in order. They go out piece by piece, as the rows of a trace do.
+/// Where memory runs out, a beginning of the text was printed, as where the sink fails.
+pub fn print_sights<W: Sink>(
+    alloc: Global,
+    sink: &mut W,
+    sights: &[Sight],
+) -> Result<(), PrintFault>
+    requires { W.has_failed sink.old ≡ false }
+    ensures ok { OnOk result (Appends (W.taken sink.old) (W.taken sink.new)
+        (sights_text sights.now)) }
+    ensures beginning { AppendsBeginning (W.taken sink.old) (W.taken sink.new)
+        (sights_text sights.now) }
+    ensures failed { IsTrue (W.has_failed sink.new) ↔ IsErrOf result PrintFault.Device }
+{
+    put(sink, SIGHTS_HEADER.as_bytes())?;
+    let mut done = 0;
+    while done < sights.len() {
+        let end = sights.len().min(done.saturating_add(PIECE));
+        let lines = sights_between(alloc, sights, done, end)?;
+        put(sink, lines.as_slice())?;
+        done = end;
+    }
+    Ok(())
+}
+
+// The lines of the sights from one place up to another.
+fn sights_between(
+    alloc: Global,
+    sights: &[Sight],
+    start: usize,
+    end: usize,
+) -> Result<Vec<u8>, AllocError>
+    requires from { start ≤ end }
+    requires to { end ≤ length sights.now }
+    ensures { IfOk result (λ lines. sight_lines (take start sights.now) ++ lines.items
+        ≡ sight_lines (take end sights.now)) }
+{
+    let mut writer = Writer::from_writer(Vec::new(alloc));
+    for place in start..end {
+        let Ok(()) = write_sight(&mut writer, &sights[place]) else {
+            return Err(AllocError);
+        };
+    }
+    match writer.into_inner() {
+        Ok(lines) => Ok(lines),
+        Err(_) => Err(AllocError),
+    }
+}
+
+// The fields of a sight are numbers, which csv writes without quotes.
+fn write_sight<W: Write + Drop>(writer: &mut Writer<W>, sight: &Sight) -> Result<(), Error>
+    requires { IsBetweenRecords writer.old }
+    ensures between { OnOk result (IsBetweenRecords writer.new) }
+    ensures text { OnOk result (Appends (text_written W.contents writer.old)
+        (text_written W.contents writer.new) (sight_line sight.now)) }
+{
+    let mut steps = Buffer::new();
+    let mut cells = Buffer::new();
+    let mut values = Buffer::new();
+    write_record(
+        writer,
+        &[
+            number_text(&mut steps, u64::from(sight.step)),
+            number_text(&mut cells, u64::from(sight.cell)),
+            number_text(&mut values, u64::from(sight.value)),
         ],
     )
 }

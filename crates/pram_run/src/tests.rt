@@ -1,4 +1,5 @@
 //! Worked rows by replay, and traces written and cut short.
+mod growths;
 mod rows;
 mod rules;
 

@@ -6,13 +6,10 @@ use Rattle.std.proofs.lemmas.List.FromFn.{map-range_with_len_more}
 use Rattle.std.specs.List.{range_with_len}
 use Rattle.pram_text.specs.Job.{JobData}
 use Rattle.pram_step.proofs.LawFixed.{length-state_after}
-use Rattle.pram_step.specs.declared.answer.Dispute.{Dispute}
-use Rattle.pram_step.specs.declared.answer.RunAnswer.TheVariants.{Conflict as Disputed}
 use Rattle.pram_step.specs.declared.requests.Request.{Request}
 use Rattle.pram_step.specs.History.{part_after}
 use Rattle.pram_step.specs.Instructions.{place_part, value_part, request_in, requests_in}
-use Rattle.pram_step.specs.Runs.{IsAnswer, IsFirstConflict, IsReached, requests_after, state_after}
-use Rattle.pram_step.specs.Steps.{Agrees, IsDispute}
+use Rattle.pram_step.specs.Runs.{AreConflicting, IsReached, requests_after, state_after}
 use Rattle.pram_words.specs.declared.words.Word.TheVariants.{Conflict, Asked, Stored}
 use Rattle.pram_words.specs.Stamps.{stamp_of, payload_of}
 use Rattle.pram_words.specs.Words.{LayoutData, places_of}
@@ -120,27 +117,14 @@ before : (u : ℕ) → u ≢ 0 → (s : ℕ) × (u ≡ suc s)
 before zero some = absurd (some refl)
 before (suc s) some = (s, refl)
 
--- the dispute of these requests is the job's answer
-pub is_answer : (job : JobData) (y : LayoutData) (words : List ℕ) (requests : List Request) (d : Dispute) (step : ℕ) → Stands job y words → conflict y words ≢ 0 →
-    ((s : ℕ) → conflict y words ≡ suc s → requests ≡ requests_after job s) → IsDispute job requests d → step ≡ conflict y words →
-    IsAnswer job (Disputed (record { step = step; cell = d.cell; first = d.first; second = d.second }))
-is_answer job y words requests d step stands some are dispute is =
+-- the requests of the step that word 0 names dispute
+pub conflicting : (job : JobData) (y : LayoutData) (words : List ℕ) (requests : List Request) (step : ℕ) → Stands job y words → conflict y words ≢ 0 →
+    ((s : ℕ) → conflict y words ≡ suc s → requests ≡ requests_after job s) → step ≡ conflict y words → AreConflicting job step requests
+conflicting job y words requests step stands some are is =
     let b = before (conflict y words) some in
     let most = conflict_most job y words stands in
-    let first : IsFirstConflict job (record { step = step; cell = d.cell; first = d.first; second = d.second }) = record {
-      before = b.0;
-      step = let e = b.1 in omega arith;
-      reached = (stands.lawful.named.first b.0 b.1).0;
-      dispute = subst (λ rs. IsDispute job rs d) (are b.0 b.1) dispute;
-    } in
-    record { first = first; within = omega arith }
-
--- some of them disputes
-pub not_agrees : (job : JobData) (y : LayoutData) (words : List ℕ) (requests : List Request) → Stands job y words → conflict y words ≢ 0 →
-    ((s : ℕ) → conflict y words ≡ suc s → requests ≡ requests_after job s) → Agrees job requests → ⊥
-not_agrees job y words requests stands some are agrees =
-    let b = before (conflict y words) some in
-    (stands.lawful.named.first b.0 b.1).1 (subst (Agrees job) (are b.0 b.1) agrees)
+    let first = stands.lawful.named.first b.0 b.1 in
+    record { before = b.0; step = (let e = b.1 in omega arith); within = omega arith; reached = first.0; against = first.1; are = are b.0 b.1 }
 
 -- ---- what word 0 and the root say
 

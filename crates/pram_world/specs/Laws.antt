@@ -15,7 +15,7 @@ use Rattle.pram_world.specs.Runs.{Act, Run, begun, all_acted, TwinsFit, steps_in
 use Rattle.pram_world.specs.Worlds.{Walks}
 
 -- the job and the board stay, and the world is as said above, with the record of all atomic steps; the observer's record is borne out too
-pub record IsRun (job : JobData) (form : Form) (workers : ℕ) (r : Run) : Type 0 where
+pub record IsLawfulRun (job : JobData) (form : Form) (workers : ℕ) (r : Run) : Type 0 where
   pub job_stays : r.world.job ≡ job
   pub board_stays : r.world.layout ≡ layout_of job form workers
   pub interleaves : Interleaves r.world r.made
@@ -24,7 +24,7 @@ pub record IsRun (job : JobData) (form : Form) (workers : ℕ) (r : Run) : Type 
 -- *every interleaving*: each beginning of a run is a run, so this holds at every moment
 abbrev pub EveryInterleaving : Type 0
 EveryInterleaving = (job : JobData) (form : Form) (workers : ℕ) (acts : List Act) → IsJob job → 1 ≤ workers → workers ≤ 64 → TwinsFit workers acts →
-    IsRun job form workers (all_acted (begun job form workers) acts)
+    IsLawfulRun job form workers (all_acted (begun job form workers) acts)
 
 -- Behind such acts, an observer that reads a cell, whatever happens between its loads, has a lawful read within five of them.
 abbrev pub EveryReadIsLawful : Type 0

@@ -1,4 +1,5 @@
 pub mod Worlds
+pub mod Standings
 pub mod Runs
 pub mod Interleavings
 pub mod Outcomes

@@ -1,5 +1,5 @@
-//! Events, and what they show.
-use walkx::Op;
+//! Events, what they show, and what bodies are doing.
+use walkx::{Activity, Op};
 
 /// What happens to the body of this number. With a number that no body has, nothing happens.
 #[derive(Clone, Copy, Debug, PartialEq, Eq)]
@@ -19,4 +19,21 @@ pub struct Effect {
     pub op: Option<Op>,
     pub before: u64,
     pub after: u64,
+}
+
+/// What a body is doing.
+#[derive(Clone, Copy, Debug, PartialEq, Eq)]
+pub enum Standing {
+    /// It walks as this worker. With no node it stands at the worker's first leaf. So many atomic
+    /// steps of the script in progress are behind it.
+    Walks {
+        worker: u32,
+        node: Option<u32>,
+        activity: Activity,
+        heard: u32,
+    },
+    /// It is stopped, and was this worker.
+    Stopped {
+        worker: u32,
+    },
 }

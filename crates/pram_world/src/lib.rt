@@ -8,5 +8,5 @@ mod outcome;
 mod tests;
 mod world;
 
-pub use event::{Effect, Event};
+pub use event::{Effect, Event, Standing};
 pub use world::World;

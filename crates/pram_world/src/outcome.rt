@@ -8,7 +8,7 @@ ghost use Rattle.lawful_words.specs.Board.{Stands, conflict as conflict_in, held
 ghost use Rattle.pram_world.specs.Inner.Telling.{AreNamed, Says, last_cells, newest_of};
 ghost use Rattle.pram_world.specs.Outcomes.{IsTold};
 
-use pram_step::{Cells, Fault, Request, RunAnswer, dispute};
+use pram_step::{Cells, Fault, Request, RunAnswer, fault_of};
 use pram_text::Job;
 use pram_words::{Layout, payload, stamp};
 use std::alloc::{AllocError, Global};
@@ -91,15 +91,7 @@ fn conflict(alloc: Global, job: &Job, layout: &Layout, words: &[u64]) -> Result<
 {
     let (named, _) = glance(layout, words);
     let requests = requests(alloc, job, layout, words)?;
-    let Some(found) = dispute(alloc, job, requests.as_slice())? else {
-        unreachable!()
-    };
-    Ok(Fault {
-        step: named as u32,
-        cell: found.cell,
-        first: found.first,
-        second: found.second,
-    })
+    fault_of(alloc, job, named as u32, requests.as_slice())
 }
 
 // The requests of the step that word 0 names.

@@ -1,5 +1,6 @@
 //! The world.
 ghost use Rattle.std.specs.Prelude.{◌≡◌, ℕ, ◌<◌, ◌≤◌, IfOk, IfErr, length, slice_index};
+ghost use Rattle.std.specs.Prelude.{option_map, slice_get};
 ghost use Rattle.pram_words.specs.Start.{start_words as first_words};
 ghost use Rattle.pram_words.specs.Words.{length_of};
 ghost use Rattle.pram_text.specs.Job.{JobData};
@@ -13,11 +14,12 @@ ghost use Rattle.pram_world.specs.Ends.{Finishes, end_in};
 ghost use Rattle.pram_world.specs.Inner.Holding.{AreStarted, IsHeard, IsOnBoard, body_of};
 ghost use Rattle.pram_world.specs.Interleavings.{IsInterleaved};
 ghost use Rattle.pram_world.specs.Outcomes.{IsOutcome};
+ghost use Rattle.pram_world.specs.Standings.{standing_of};
 ghost use Rattle.pram_world.specs.Worlds.{IsLawful, IsLawfulThroughout, IsTwinned, KeepsBoard};
 ghost use Rattle.pram_world.specs.Worlds.{StaleChangesNothing, effect_of, going, happens};
 ghost use Rattle.pram_world.specs.Worlds.{number as number_of, run, shown, start};
 
-use crate::event::{Effect, Event};
+use crate::event::{Effect, Event, Standing};
 use crate::outcome::answer;
 use pram_step::RunAnswer;
 use pram_text::Job;
@@ -143,6 +145,42 @@ impl World {
         match self.bodies.get(b) {
             Some(Runner::Walks(worker)) => worker.ended().is_none(),
             Some(Runner::Stopped(_)) | None => false,
+        }
+    }
+
+    /// The job.
+    pub fn job(&self) -> &Job
+        ensures { result.now ≡ self.now.job }
+    {
+        &self.job
+    }
+
+    /// Where the words lie.
+    pub fn layout(&self) -> &Layout
+        ensures { result.now ≡ self.now.layout }
+    {
+        &self.layout
+    }
+
+    /// How many bodies there are.
+    pub fn count(&self) -> usize
+        ensures { result ≡ length self.now.bodies }
+    {
+        self.bodies.len()
+    }
+
+    /// What body b is doing, if there is one of this number.
+    pub fn standing(&self, b: usize) -> Option<Standing>
+        ensures { result ≡ option_map standing_of (slice_get self.now.bodies b) }
+    {
+        match self.bodies.get(b)? {
+            Runner::Walks(worker) => Some(Standing::Walks {
+                worker: worker.number(),
+                node: worker.node(),
+                activity: worker.activity(),
+                heard: worker.heard(),
+            }),
+            Runner::Stopped(worker) => Some(Standing::Stopped { worker: *worker }),
         }
     }
 

@@ -1,12 +1,15 @@
 -- The program's command, and what a line holds of the matches of its words.
-use Rattle.std.specs.Prelude.{◌≡◌, ◌≤◌, ℕ, true, List, Option, Some, None, IsSomeAnd, codes, pos}
+use Rattle.std.specs.Prelude.{◌≡◌, ◌≤◌, ◌⊎◌, ℕ, Bool, true, false, List, Option, Some, None, Result, IsErrAnd, IsSomeAnd, codes, pos}
 use Rattle.std.specs.Str.Parse.{digits_value, without_leading_plus}
-use Rattle.clap.specs.Words.{App, Row, Rule, Text, first_of, new_app, new_rule, one_of, with_rule, with_subcommand}
-use Rattle.clap.specs.declared.builder.action.ArgAction.TheVariants.{Set}
+use Rattle.clap.specs.Words.{App, FailsBy, Row, Rule, Text, fault_of, first_of, kind_of, new_app, new_rule, one_of, subcommand_of, takes, with_rule, with_subcommand}
+use Rattle.clap.specs.declared.builder.action.ArgAction.TheVariants.{Set, SetTrue}
+use Rattle.clap.specs.declared.error.Error.{Error}
+use Rattle.clap.specs.declared.error.kind.ErrorKind.TheVariants.{OutOfMemory, ValueValidation}
 use Rattle.clap.specs.declared.builder.value_parser.ValueParser.TheVariants.{Signed}
+use Rattle.pram_commands.specs.CellLists.{SpellsCells}
 use Rattle.pram_commands.specs.Line.{text_of}
 use Rattle.pram_commands.specs.declared.line.Line.{Line}
-use Rattle.pram_commands.specs.declared.line.Line.TheVariants.{Check, Plain, Run, Replay}
+use Rattle.pram_commands.specs.declared.line.Line.TheVariants.{Check, Plain, Run, Watch, Replay}
 
 -- FILE
 abbrev pub file_rule : Rule
@@ -30,6 +33,32 @@ plan_rule = record (new_rule (codes "plan")) {
   action = Some Set;
 }
 
+-- --cells C,C,..
+abbrev pub cells_rule : Rule
+cells_rule = record (new_rule (codes "cells")) {
+  long = Some (codes "cells");
+  value_names = 1;
+  required = true;
+  action = Some Set;
+}
+
+-- --rounds R
+abbrev pub rounds_rule : Rule
+rounds_rule = record (new_rule (codes "rounds")) {
+  long = Some (codes "rounds");
+  value_names = 1;
+  required = true;
+  action = Some Set;
+  parser = Some (Signed (pos 1) (pos 1000000));
+}
+
+-- --progress
+abbrev pub progress_rule : Rule
+progress_rule = record (new_rule (codes "progress")) {
+  long = Some (codes "progress");
+  action = Some SetTrue;
+}
+
 -- NAME FILE
 abbrev pub on_file : Text → App
 on_file name = with_rule (new_app name) file_rule
@@ -38,19 +67,29 @@ on_file name = with_rule (new_app name) file_rule
 abbrev pub with_workers : Text → App
 with_workers name = with_rule (with_rule (on_file name) workers_rule) plan_rule
 
+-- run FILE --workers W [--plan P] [--progress]
+abbrev pub on_run : App
+on_run = with_rule (with_workers (codes "run")) progress_rule
+
+-- watch FILE --workers W --cells C,C,.. --rounds R [--plan P] [--progress]
+abbrev pub on_watch : App
+on_watch = with_rule (with_rule (with_rule (with_workers (codes "watch")) cells_rule) rounds_rule)
+    progress_rule
+
 -- the program without its subcommands, of which one must stand
 abbrev pub bare : App
 bare =
     let a = new_app (codes "pramx") in
-    record a { top = record a.top { subcommand_required = true } }
+    record a { top = record a.top { has_version = true; subcommand_required = true } }
 
 -- the program's command
 abbrev pub pramx : App
 pramx =
-    with_subcommand (with_subcommand (with_subcommand (with_subcommand bare
+    with_subcommand (with_subcommand (with_subcommand (with_subcommand (with_subcommand bare
     (on_file (codes "check")).top)
     (on_file (codes "plain")).top)
-    (with_workers (codes "run")).top)
+    on_run.top)
+    on_watch.top)
     (with_workers (codes "replay")).top
 
 -- The subcommand of this name was met, with this file.
@@ -71,11 +110,57 @@ pub record HasWorkers (matches : Option (Text × List Row)) (name file : Text) (
   pub few : workers ≤ 64
   pub has_plan : first_of (codes "plan") rows ≡ plan
 
+-- The number is that of the option's value.
+abbrev pub IsNumberOf : Text → List Row → ℕ → Type 0
+IsNumberOf option rows number = IsSomeAnd (one_of option rows)
+    (λ text. number ≡ digits_value 10 (without_leading_plus text))
+
+-- The flag is set where the option stands.
+pub record IsFlag (found : Option Text) (flag : Bool) : Type 0 where
+  pub set : found ≡ Some (codes "true") → flag ≡ true
+  pub unset : found ≡ Some (codes "false") → flag ≡ false
+  pub none : found ≡ None → flag ≡ false
+
+-- The subcommand of this name was met as above, with this flag for its progress.
+pub record HasRun (matches : Option (Text × List Row)) (name file : Text) (workers : ℕ)
+    (plan : Option Text) (progress : Bool) : Type 0 where
+  pub has_workers : HasWorkers matches name file workers plan
+  pub has_progress : IsFlag (one_of (codes "progress") has_workers.rows) progress
+
+-- The same, with this text for its cells and these rounds.
+pub record HasWatch (matches : Option (Text × List Row)) (name file : Text) (workers : ℕ)
+    (cells : Text) (rounds : ℕ) (plan : Option Text) (progress : Bool) : Type 0 where
+  pub has_run : HasRun matches name file workers plan progress
+  pub has_cells : first_of (codes "cells") has_run.has_workers.rows ≡ Some cells
+  pub has_rounds : IsNumberOf (codes "rounds") has_run.has_workers.rows rounds
+
 -- the line is what was met
 abbrev pub IsMet : Option (Text × List Row) → Line → Type 0
 IsMet matches (Check file) = HasFile matches (codes "check") file.now
 IsMet matches (Plain file) = HasFile matches (codes "plain") file.now
-IsMet matches (Run file workers plan) =
-    HasWorkers matches (codes "run") file.now workers.count (text_of plan)
+IsMet matches (Run file workers plan progress) =
+    HasRun matches (codes "run") file.now workers.count (text_of plan) progress
+IsMet matches (Watch file workers cells rounds plan progress) =
+    HasWatch matches (codes "watch") file.now workers.count cells.text.now rounds (text_of plan)
+    progress
 IsMet matches (Replay file workers plan) =
     HasWorkers matches (codes "replay") file.now workers.count (text_of plan)
+
+-- A watch was met, and what stands for its cells names none.
+pub record HasBadCells (matches : Option (Text × List Row)) : Type 0 where
+  pub rows : List Row
+  pub cells : Text
+  pub met : matches ≡ Some (codes "watch", rows)
+  pub has_cells : first_of (codes "cells") rows ≡ Some cells
+  pub bad : ¬ SpellsCells cells
+
+-- The command does not take the words, or they are those of a watch without cells.
+abbrev pub AreRefused : List Text → Type 0
+AreRefused words = (takes pramx words ≡ false) ⊎ HasBadCells (subcommand_of pramx words)
+
+-- An error is of the kind that the command gives at the words, or of a watch without cells; or
+-- memory ran out.
+abbrev pub FailsByWords : {T : Type 0} → List Text → Result T Error → Type 0
+FailsByWords words result = FailsBy (fault_of pramx words) result
+    ⊎ (HasBadCells (subcommand_of pramx words)
+    × IsErrAnd result (λ e. (kind_of e ≡ OutOfMemory) ⊎ (kind_of e ≡ ValueValidation)))

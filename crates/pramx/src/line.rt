@@ -1,32 +1,68 @@
 //! The command line.
-ghost use Rattle.std.specs.Prelude.{◌≡◌, ◌≢◌, false, map, IfOk, IfErr, IfSome};
-ghost use Rattle.clap.specs.Words.{FailsBy, app_of, fault_of, kind_of, rule_of, subcommand_of, subcommand_rows_of, takes};
-ghost use Rattle.pramx.specs.CommandLine.{IsMet, file_rule, on_file, plan_rule, pramx, with_workers, workers_rule};
+ghost use Rattle.std.specs.Prelude.{◌≡◌, ◌≢◌, Some, codes, false, map, IfOk, IfErr, IfSome};
+ghost use Rattle.clap.specs.Words.{app_of, first_of, found_of, kind_of, rows_of, rule_of, subcommand_of, subcommand_rows_of};
+ghost use Rattle.pramx.specs.CommandLine.{AreRefused, FailsByWords, HasBadCells, IsMet, IsNumberOf, pramx};
+ghost use Rattle.pramx.specs.CommandLine.{cells_rule, file_rule, plan_rule, progress_rule, rounds_rule};
+ghost use Rattle.pramx.specs.CommandLine.{on_file, on_run, on_watch, with_workers, workers_rule};
 
 use clap::error::ErrorKind;
 use clap::{Arg, ArgAction, ArgMatches, Command, Error, value_parser};
-use pram_commands::{Line, Workers};
+use pram_commands::{CellList, Line, Workers};
 use std::alloc::{AllocError, Global};
 
 const EXAMPLES: &str = "\
 Examples:
   pramx check examples/prefix.pram
   pramx plain examples/prefix.pram
+  pramx run examples/prefix.pram --workers 4
+  pramx watch examples/prefix.pram --workers 4 --cells 0,11 --rounds 3
   pramx replay examples/prefix.pram --workers 4";
 
-/// The line that the words make, of which the first is the program's name. A call for help is an
-/// error too, as `clap` has it.
+/// The most rounds of a watch.
+const MOST_ROUNDS: i64 = 1_000_000;
+
+/// The line that the words make, of which the first is the program's name. A call for help or for
+/// the version is an error too, as `clap` has it.
 pub fn read_line<'a>(alloc: Global, words: &'a [&'a str]) -> Result<Line<'a>, Error>
     ensures met { IfOk result (IsMet (subcommand_of pramx (map (λ w. w.now) words.entry.now))) }
     ensures refused { IfErr result (λ e. kind_of e ≢ ErrorKind.OutOfMemory
-        → takes pramx (map (λ w. w.now) words.entry.now) ≡ false) }
-    ensures kinds { FailsBy (fault_of pramx (map (λ w. w.now) words.entry.now)) result }
+        → AreRefused (map (λ w. w.now) words.entry.now)) }
+    ensures kinds { FailsByWords (map (λ w. w.now) words.entry.now) result }
 {
     let matches = command(alloc)?.try_get_matches_from(words)?;
+    if let Some(text) = bad_cells(&matches) {
+        return Err(cells_error(alloc, text)?);
+    }
     match line_of(&matches) {
         Some(line) => Ok(line),
         None => Err(Error::from(AllocError)),
     }
+}
+
+// What stands for cells and names none, if the words are those of a watch.
+fn bad_cells<'a>(matches: &ArgMatches<'a>) -> Option<&'a str>
+    ensures { IfSome result (λ text. HasBadCells (subcommand_rows_of matches.now)) }
+{
+    let (name, inner) = matches.subcommand()?;
+    let text = inner.get_str("cells")?;
+    match name {
+        "watch" => {}
+        _ => return None,
+    }
+    match CellList::read(text) {
+        Some(_) => None,
+        None => Some(text),
+    }
+}
+
+fn cells_error(alloc: Global, text: &str) -> Result<Error, AllocError>
+    ensures { IfOk result (λ e. kind_of e ≡ ErrorKind.ValueValidation) }
+{
+    let message = format!(in alloc;
+        "invalid value '{text}' for '--cells <C,C,..>': cells are numbers with commas between"
+    )?;
+    let mut command = watch_command(alloc)?.bin_name("pramx watch")?;
+    command.error(ErrorKind::ValueValidation, message.as_str())
 }
 
 fn command<'a>(alloc: Global) -> Result<Command<'a>, AllocError>
@@ -38,20 +74,42 @@ fn command<'a>(alloc: Global) -> Result<Command<'a>, AllocError>
         "Say whether a text spells a job, and how large it is",
     )?;
     let plain = file_command(alloc, "plain", "Run a job on the plain machine")?;
-    let run = workers_command(alloc, "run", "Run a job on threads (not built yet)")?;
+    let run = run_command(alloc)?;
+    let watch = watch_command(alloc)?;
     let replay = workers_command(
         alloc,
         "replay",
         "Run a job on one thread, and print each step",
     )?;
     Command::new(alloc, "pramx")
+        .version("0.1.0")
         .about("Runs programs of a synchronous parallel machine with shared memory.")
         .after_help(EXAMPLES)
         .subcommand_required(true)
         .subcommand(check)?
         .subcommand(plain)?
         .subcommand(run)?
+        .subcommand(watch)?
         .subcommand(replay)
+}
+
+fn run_command<'a>(alloc: Global) -> Result<Command<'a>, AllocError>
+    ensures { IfOk result (λ c. app_of c ≡ on_run) }
+{
+    workers_command(alloc, "run", "Run a job on threads")?.arg(progress_arg(alloc))
+}
+
+fn watch_command<'a>(alloc: Global) -> Result<Command<'a>, AllocError>
+    ensures { IfOk result (λ c. app_of c ≡ on_watch) }
+{
+    workers_command(
+        alloc,
+        "watch",
+        "Run a job on threads, and read cells while they run",
+    )?
+    .arg(cells_arg(alloc))?
+    .arg(rounds_arg(alloc))?
+    .arg(progress_arg(alloc))
 }
 
 fn workers_command<'a>(
@@ -107,6 +165,41 @@ fn plan_arg<'a>(alloc: Global) -> Arg<'a>
         .action(ArgAction::Set)
 }
 
+fn cells_arg<'a>(alloc: Global) -> Arg<'a>
+    ensures rule { rule_of result ≡ cells_rule }
+    ensures local { result.global ≡ false }
+{
+    Arg::new(alloc, "cells")
+        .long("cells")
+        .value_name("C,C,..")
+        .help("The cells that are read, by their numbers")
+        .required(true)
+        .action(ArgAction::Set)
+}
+
+fn rounds_arg<'a>(alloc: Global) -> Arg<'a>
+    ensures rule { rule_of result ≡ rounds_rule }
+    ensures local { result.global ≡ false }
+{
+    Arg::new(alloc, "rounds")
+        .long("rounds")
+        .value_name("R")
+        .help("How often they are read, from 1 to 1000000")
+        .required(true)
+        .action(ArgAction::Set)
+        .value_parser(value_parser!(u32).range(1..=MOST_ROUNDS))
+}
+
+fn progress_arg<'a>(alloc: Global) -> Arg<'a>
+    ensures rule { rule_of result ≡ progress_rule }
+    ensures local { result.global ≡ false }
+{
+    Arg::new(alloc, "progress")
+        .long("progress")
+        .help("Tell on standard error how far the workers are")
+        .action(ArgAction::SetTrue)
+}
+
 fn line_of<'a>(matches: &ArgMatches<'a>) -> Option<Line<'a>>
     ensures { IfSome result (IsMet (subcommand_rows_of matches.now)) }
 {
@@ -123,12 +216,25 @@ fn line_of<'a>(matches: &ArgMatches<'a>) -> Option<Line<'a>>
     }
     let workers = Workers { count };
     let plan = inner.get_str("plan");
+    let progress = inner.get_flag("progress");
     match name {
         "run" => Some(Line::Run {
             file,
             workers,
             plan,
+            progress,
         }),
+        "watch" => {
+            let (cells, rounds) = reads_of(inner)?;
+            Some(Line::Watch {
+                file,
+                workers,
+                cells,
+                rounds,
+                plan,
+                progress,
+            })
+        }
         "replay" => Some(Line::Replay {
             file,
             workers,
@@ -136,4 +242,17 @@ fn line_of<'a>(matches: &ArgMatches<'a>) -> Option<Line<'a>>
         }),
         _ => None,
     }
+}
+
+// The cells and the rounds of a watch.
+fn reads_of<'a>(inner: &ArgMatches<'a>) -> Option<(CellList<'a>, u32)>
+    ensures cells { IfSome result (λ r. first_of (codes "cells") (rows_of (found_of inner.now))
+        ≡ Some r.0.text.now) }
+    ensures rounds { IfSome result (λ r. IsNumberOf (codes "rounds")
+        (rows_of (found_of inner.now)) r.1) }
+{
+    let text = inner.get_str("cells")?;
+    let cells = CellList::read(text)?;
+    let rounds = inner.get_one::<u32>("rounds")?;
+    Some((cells, rounds))
 }

@@ -1,4 +1,5 @@
 //! Runs programs of a synchronous parallel machine: `pramx check FILE`, `pramx plain FILE`,
+//! `pramx run FILE --workers W`, `pramx watch FILE --workers W --cells C,C,.. --rounds R`,
 //! `pramx replay FILE --workers W`.
 #![tactic(auto)]
 
@@ -18,7 +19,9 @@ use std::alloc::{AllocError, Global};
 use std::env::{self, Env};
 use std::io;
 use std::process::ExitCode;
-use std::rt::Files;
+use std::rt::{Clock, Files};
+use std::sync::Wait;
+use std::thread::Threads;
 
 fn main(rt: HostRuntime) -> ExitCode {
     let mut err = IntoWrite::new(rt.stderr());
@@ -26,7 +29,10 @@ fn main(rt: HostRuntime) -> ExitCode {
 }
 
 /// Does what the program's words ask, and answers the exit status.
-fn status<R: AllocGlobal + Env + Files + Print + Eprint, E: Sink>(rt: &R, err: &mut E) -> u8
+fn status<R: AllocGlobal + Env + Files + Print + Eprint + Threads + Wait + Clock + Sync, E: Sink>(
+    rt: &R,
+    err: &mut E,
+) -> u8
     requires { E.has_failed err.old ≡ false }
     ensures { result ≤ MEMORY }
 {
@@ -52,7 +58,7 @@ fn texts_of<'a>(alloc: Global, words: &'a [String]) -> Result<Vec<&'a str>, Allo
     words.iter().map(|word| word.as_str()).collect(alloc)
 }
 
-fn line_status<'a, R: Files + Print + Eprint, E: Sink>(
+fn line_status<'a, R: Files + Print + Eprint + Threads + Wait + Clock + Sync, E: Sink>(
     rt: &R,
     alloc: Global,
     words: &'a [&'a str],
@@ -70,11 +76,11 @@ fn line_status<'a, R: Files + Print + Eprint, E: Sink>(
     match line.plan() {
         Some(name) => {
             let mut plan = open_input(rt, name);
-            serve(alloc, &line, &mut job, Some(&mut plan), &mut out, err)
+            serve(rt, alloc, &line, &mut job, Some(&mut plan), &mut out, err)
         }
         None => {
             let plan: Option<&mut Empty> = None;
-            serve(alloc, &line, &mut job, plan, &mut out, err)
+            serve(rt, alloc, &line, &mut job, plan, &mut out, err)
         }
     }
 }

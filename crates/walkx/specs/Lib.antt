@@ -1,6 +1,7 @@
 pub mod Operations
 pub mod Scripts
 pub mod Doing
+pub mod Activities
 pub mod Tasks
 pub mod Walk
 pub mod Reads

@@ -17,7 +17,7 @@ mod words;
 mod worker;
 
 pub use laws::own_steps_are_bounded;
-pub use operation::{Ended, Op, ReadOp, Reading};
+pub use operation::{Activity, Ended, Op, ReadOp, Reading};
 pub use reader::Reader;
 pub use record::Recorded;
 pub use words::{request_of, seen_step};

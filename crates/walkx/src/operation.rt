@@ -9,6 +9,19 @@ pub enum Ended {
     Conflict(u32),
 }
 
+/// Which script of a worker is in progress.
+#[derive(Clone, Copy, Debug, PartialEq, Eq)]
+pub enum Activity {
+    /// It comes back, and loads its own position.
+    Back,
+    /// It begins, and looks for the phase.
+    Begin,
+    /// It makes a turn in this phase.
+    Turn(u64),
+    /// It is over.
+    Over(Ended),
+}
+
 /// What a worker asks of the words: one atomic step on the word of this number, or nothing more.
 #[derive(Clone, Copy, Debug, PartialEq, Eq)]
 pub enum Op {

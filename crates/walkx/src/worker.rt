@@ -1,6 +1,6 @@
 //! The worker.
 use crate::ask::operation;
-use crate::operation::{Ended, Op};
+use crate::operation::{Activity, Ended, Op};
 use crate::post::{Post, within_limits};
 use crate::stage::{Stage, Step};
 use crate::turn::after;
@@ -31,9 +31,10 @@ impl Model for Worker {
 }
 
 impl Worker {
-    ghost use Rattle.std.specs.Prelude.{◌≡◌, ◌<◌, None};
+    ghost use Rattle.std.specs.Prelude.{◌≡◌, ◌<◌, None, length};
     ghost use Rattle.pram_text.specs.Job.{JobData};
     ghost use Rattle.pram_words.specs.Words.{LayoutData};
+    ghost use Rattle.walkx.specs.Activities.{activity_of};
     ghost use Rattle.walkx.specs.Inner.Stages.{post_of};
     ghost use Rattle.walkx.specs.Serving.{Serves};
     ghost use Rattle.walkx.specs.Walk.{AsksAdmitted, HearsAdmitted, IsBoard, IsLayoutOf};
@@ -84,6 +85,33 @@ impl Worker {
             Stage::Over(ended) => Some(ended),
             _ => None,
         }
+    }
+
+    /// The node where the worker stands, if it has moved or come back; else it stands at its first
+    /// leaf.
+    pub fn node(&self) -> Option<u32>
+        ensures { result ≡ self.now.walking.node }
+    {
+        self.node
+    }
+
+    /// Which script is in progress.
+    pub fn activity(&self) -> Activity
+        ensures { result ≡ activity_of self.now.walking.now }
+    {
+        match self.stage {
+            Stage::Back => Activity::Back,
+            Stage::Begin | Stage::Look(_) => Activity::Begin,
+            Stage::Over(ended) => Activity::Over(ended),
+            _ => Activity::Turn(self.phase),
+        }
+    }
+
+    /// How many atomic steps of the script in progress are behind the worker.
+    pub fn heard(&self) -> u32
+        ensures { result ≡ length self.now.walking.heard }
+    {
+        self.count as u32
     }
 
     /// The worker's next atomic step, or how it ended.

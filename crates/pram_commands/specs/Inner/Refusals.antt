@@ -11,6 +11,7 @@ use Rattle.pram_commands.specs.declared.refusal.TheConstants.{REFUSED, FAILED, M
 abbrev pub refusal_status : Refusal → ℕ
 refusal_status (refusal.Text line kind) = REFUSED
 refusal_status (refusal.Plan row kind) = REFUSED
+refusal_status (refusal.Cell cell) = REFUSED
 refusal_status refusal.Memory = MEMORY
 refusal_status _ = FAILED
 
@@ -27,3 +28,12 @@ file_at_fault line fault.JobTooLarge = Some (file_of line)
 file_at_fault line fault.PlanDevice = Some (unwrap_or (plan_of line) [])
 file_at_fault line fault.PlanTooLarge = Some (unwrap_or (plan_of line) [])
 file_at_fault line _ = None
+
+-- the cell that a refusal names, and the one that a fault is about
+abbrev pub told_cell : Refusal → Option ℕ
+told_cell (refusal.Cell cell) = Some cell
+told_cell _ = None
+
+abbrev pub cell_at_fault : CommandFault → Option ℕ
+cell_at_fault (fault.OutsideCell cell) = Some cell
+cell_at_fault _ = None

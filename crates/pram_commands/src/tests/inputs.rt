@@ -1,5 +1,5 @@
 //! Jobs and plans taken from their sources.
-use crate::{CommandFault, Workers, replay, take_inputs, take_plan};
+use crate::{CellList, CommandFault, Workers, replay, run, take_inputs, take_plan, watch};
 use pram_io::{Empty, FromRead, IntoWrite};
 use pram_step::RunAnswer;
 use std::test::Fail;
@@ -54,5 +54,63 @@ fn replays_between_devices(rt: HostRuntime) -> Result<(), Fail> {
                 1,1,load,1,0,0\n2,1,load,0,0,0\n3,0,load,1,0,0\n4,0,load,0,0,0\n\
                 done steps=0\n0: 5\n";
     assert_eq!(rt; out.into_inner().as_slice(), text.as_bytes());
+    Ok(())
+}
+
+#[test]
+fn runs_between_devices(rt: HostRuntime) -> Result<(), Fail> {
+    let alloc = rt.alloc();
+    let mut out = IntoWrite::new(Vec::new(alloc));
+    let job = &mut FromRead::new(JOB);
+    let plan = &mut FromRead::new(PLAN);
+    let answer = run(&rt, alloc, TWO, false, job, plan, &mut out);
+    assert!(rt; matches!(answer, Ok(RunAnswer::Final(_))));
+    assert_eq!(rt;
+        out.into_inner().as_slice(),
+        "done steps=0\n0: 5\n".as_bytes()
+    );
+    Ok(())
+}
+
+#[test]
+fn watches_between_devices(rt: HostRuntime) -> Result<(), Fail> {
+    let alloc = rt.alloc();
+    let mut out = IntoWrite::new(Vec::new(alloc));
+    let job = &mut FromRead::new(JOB);
+    let plan = &mut FromRead::new(PLAN);
+    let Some(cells) = CellList::read("0,0") else {
+        panic!(rt; "no list");
+    };
+    let answer = watch(&rt, alloc, TWO, cells, 2, false, job, plan, &mut out);
+    assert!(rt; matches!(answer, Ok(RunAnswer::Final(_))));
+    let text = "step,cell,value\n0,0,5\n0,0,5\n0,0,5\n0,0,5\ndone steps=0\n0: 5\n";
+    assert_eq!(rt; out.into_inner().as_slice(), text.as_bytes());
+    Ok(())
+}
+
+#[test]
+fn lists_of_cells(rt: HostRuntime) -> Result<(), Fail> {
+    let alloc = rt.alloc();
+    for text in [
+        "",
+        ",",
+        "1,",
+        ",1",
+        "1,,2",
+        "x",
+        "1;2",
+        "-1",
+        "4294967296",
+        " 1",
+    ] {
+        assert!(rt; CellList::read(text).is_none(), "{text}");
+    }
+    let Some(list) = CellList::read("3,0,4294967295,3") else {
+        panic!(rt; "no list");
+    };
+    assert_eq!(rt;
+        list.numbers(alloc)?.as_slice(),
+        [3, 0, 4294967295, 3].as_slice()
+    );
     Ok(())
 }

@@ -1,4 +1,4 @@
-//! Files and outputs that fail, and lines that are not served.
+//! Files and outputs that fail.
 use crate::tests::served::{
     CHECK, Closed, FILE, PLAIN, Served, serve_source, serve_sources, serve_text,
 };
@@ -12,6 +12,13 @@ const REPLAY: Line<'static> = Line::Replay {
     plan: Some("plan.csv"),
 };
 
+const RUN: Line<'static> = Line::Run {
+    file: FILE,
+    workers: Workers { count: 2 },
+    plan: Some("plan.csv"),
+    progress: false,
+};
+
 const JOB: &[u8] = b"pram 1\ncells 1\nprocs 1\nsteps 0\ncode\nhalt\n";
 
 // Nothing but this was told, with status 4.
@@ -22,12 +29,12 @@ fn is_refused(served: &Served, told: &str) -> bool {
 #[test]
 fn a_closed_file_is_named(rt: HostRuntime) {
     let alloc = rt.alloc();
-    for line in [CHECK, PLAIN, REPLAY] {
-        let served = serve_source(alloc, &line, &mut Closed::new());
+    for line in [CHECK, PLAIN, RUN, REPLAY] {
+        let served = serve_source(&rt, alloc, &line, &mut Closed::new());
         assert!(rt; is_refused(&served, "file job.txt\n"));
     }
     let plan = &mut Closed::new();
-    let served = serve_sources(alloc, &REPLAY, &mut FromRead::new(JOB), Some(plan));
+    let served = serve_sources(&rt, alloc, &REPLAY, &mut FromRead::new(JOB), Some(plan));
     assert!(rt; is_refused(&served, "file plan.csv\n"));
 }
 
@@ -35,40 +42,29 @@ fn a_closed_file_is_named(rt: HostRuntime) {
 fn a_large_file_is_named(rt: HostRuntime) -> Result<(), Fail> {
     let alloc = rt.alloc();
     let text = vec![in alloc; b';'; MOST + 1]?;
-    for line in [CHECK, PLAIN, REPLAY] {
-        let served = serve_text(alloc, &line, text.as_slice());
+    for line in [CHECK, PLAIN, RUN, REPLAY] {
+        let served = serve_text(&rt, alloc, &line, text.as_slice());
         assert!(rt; is_refused(&served, "size job.txt\n"));
     }
     let plan = &mut FromRead::new(text.as_slice());
-    let served = serve_sources(alloc, &REPLAY, &mut FromRead::new(JOB), Some(plan));
+    let served = serve_sources(&rt, alloc, &REPLAY, &mut FromRead::new(JOB), Some(plan));
     assert!(rt; is_refused(&served, "size plan.csv\n"));
     Ok(())
-}
-
-#[test]
-fn lines_that_are_not_built_say_so(rt: HostRuntime) {
-    let line = Line::Run {
-        file: FILE,
-        workers: Workers { count: 2 },
-        plan: None,
-    };
-    let served = serve_text(rt.alloc(), &line, &[]);
-    assert!(rt; is_refused(&served, "run is not built yet\n"));
 }
 
 // The output fails behind each byte in turn.
 #[test]
 fn a_failing_output_took_a_beginning(rt: HostRuntime) {
     let alloc = rt.alloc();
-    for line in [CHECK, PLAIN, REPLAY] {
-        let whole = serve_text(alloc, &line, JOB).out;
+    for line in [CHECK, PLAIN, RUN, REPLAY] {
+        let whole = serve_text(&rt, alloc, &line, JOB).out;
         for count in 0..whole.len() {
             let mut room = [0u8; 256];
             let mut out = IntoWrite::new(&mut room[..count.min(256)]);
             let mut err = IntoWrite::new(Vec::new(alloc));
             let plan: Option<&mut Empty> = None;
             let job = &mut FromRead::new(JOB);
-            let status = serve(alloc, &line, job, plan, &mut out, &mut err);
+            let status = serve(&rt, alloc, &line, job, plan, &mut out, &mut err);
             assert_eq!(rt; status, 4);
             assert_eq!(rt; err.into_inner().as_slice(), "file -\n".as_bytes());
             assert!(rt; out.into_inner().is_empty());
@@ -85,6 +81,6 @@ fn the_status_stays_where_standard_error_fails(rt: HostRuntime) {
     let mut err = IntoWrite::new(&mut room[..]);
     let plan: Option<&mut Empty> = None;
     let job = &mut FromRead::new(&JOB[..6]);
-    assert_eq!(rt; serve(alloc, &PLAIN, job, plan, &mut out, &mut err), 2);
+    assert_eq!(rt; serve(&rt, alloc, &PLAIN, job, plan, &mut out, &mut err), 2);
     assert!(rt; out.into_inner().is_empty());
 }

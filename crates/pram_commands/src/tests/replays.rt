@@ -5,7 +5,10 @@ use crate::tests::served::{FILE, Served, serve_sources, serve_text};
 use crate::{Line, Workers};
 use pram_io::FromRead;
 use std::alloc::{AllocError, Global};
+use std::rt::Clock;
+use std::sync::Wait;
 use std::test::Fail;
+use std::thread::Threads;
 
 const SET: &str = "pram 1/cells 1/procs 1/steps 1/code/set r0 7/";
 
@@ -14,7 +17,7 @@ const TWO: &str = "pram 1/cells 2/procs 2/steps 1/code/pid r0/";
 const SHARED: &str = "pram 1/cells 5/procs 4/steps 5/init 1 1/init 3 1/code/\
                       pid r0/ld r1 r0/jz r1 end/set r2 4/st r2 r1/end: halt/";
 
-fn lines_of(alloc: Global, row: &str) -> Result<Vec<u8>, AllocError> {
+pub(crate) fn lines_of(alloc: Global, row: &str) -> Result<Vec<u8>, AllocError> {
     row.bytes()
         .map(|byte| if byte == b'/' { b'\n' } else { byte })
         .collect(alloc)
@@ -32,16 +35,28 @@ fn replay_line(count: u32, plan: Option<&'static str>) -> Line<'static>
 }
 
 // A replay of a text without a plan.
-fn replayed(alloc: Global, text: &str, workers: u32) -> Result<Served, AllocError>
+fn replayed<R: Threads + Wait + Clock + Eprint + Sync>(
+    rt: &R,
+    alloc: Global,
+    text: &str,
+    workers: u32,
+) -> Result<Served, AllocError>
     requires some { 1 ≤ workers }
     requires most { workers ≤ 64 }
 {
     let text = lines_of(alloc, text)?;
-    Ok(serve_text(alloc, &replay_line(workers, None), text.as_slice()))
+    let line = replay_line(workers, None);
+    Ok(serve_text(rt, alloc, &line, text.as_slice()))
 }
 
 // A replay of a text under the rows of a plan.
-fn planned(alloc: Global, text: &str, workers: u32, rows: &str) -> Result<Served, AllocError>
+fn planned<R: Threads + Wait + Clock + Eprint + Sync>(
+    rt: &R,
+    alloc: Global,
+    text: &str,
+    workers: u32,
+    rows: &str,
+) -> Result<Served, AllocError>
     requires some { 1 ≤ workers }
     requires most { workers ≤ 64 }
 {
@@ -51,11 +66,11 @@ fn planned(alloc: Global, text: &str, workers: u32, rows: &str) -> Result<Served
     let line = replay_line(workers, Some("plan.csv"));
     let job = &mut FromRead::new(text.as_slice());
     let plan = &mut FromRead::new(rows.as_slice());
-    Ok(serve_sources(alloc, &line, job, Some(plan)))
+    Ok(serve_sources(rt, alloc, &line, job, Some(plan)))
 }
 
 // How many lines stand above the answer, and the answer, with `/` for each line feed.
-fn lines_above(out: &[u8], answer: &[u8]) -> Option<usize> {
+pub(crate) fn lines_above(out: &[u8], answer: &[u8]) -> Option<usize> {
     let front = out.strip_suffix(answer)?;
     Some(front.iter().filter(|byte| **byte == b'\n').count())
 }
@@ -64,7 +79,7 @@ fn lines_above(out: &[u8], answer: &[u8]) -> Option<usize> {
 fn trace_comes_before_the_answer(rt: HostRuntime) -> Result<(), Fail> {
     let alloc = rt.alloc();
     let job = "pram 1/cells 1/procs 1/steps 0/init 0 5/code/halt/";
-    let served = replayed(alloc, job, 1)?;
+    let served = replayed(&rt, alloc, job, 1)?;
     let out = lines_of(
         alloc,
         "tick,worker,op,word,before,after/1,0,load,1,0,0/2,0,load,0,0,0/done steps=0/0: 5/",
@@ -127,7 +142,7 @@ fn answers_of_one_two_and_four_workers(rt: HostRuntime) -> Result<(), Fail> {
     for (text, answer, status, lines) in rows {
         let answer = lines_of(alloc, answer)?;
         for (workers, wanted) in [1, 2, 4].into_iter().zip(lines) {
-            let served = replayed(alloc, text, workers)?;
+            let served = replayed(&rt, alloc, text, workers)?;
             let above = lines_above(served.out.as_slice(), answer.as_slice());
             assert_eq!(rt; above, Some(wanted), "{text}");
             assert_eq!(rt; served.status, status, "{text}");
@@ -161,7 +176,7 @@ fn plans_are_obeyed(rt: HostRuntime) -> Result<(), Fail> {
     ];
     for (text, workers, plan, answer, status, lines) in rows {
         let answer = lines_of(alloc, answer)?;
-        let served = planned(alloc, text, workers, plan)?;
+        let served = planned(&rt, alloc, text, workers, plan)?;
         let above = lines_above(served.out.as_slice(), answer.as_slice());
         assert_eq!(rt; above, Some(lines), "{plan}");
         assert_eq!(rt; served.status, status, "{plan}");
@@ -182,13 +197,13 @@ fn plans_are_refused(rt: HostRuntime) -> Result<(), Fail> {
     ];
     for (plan, err) in rows {
         let err = lines_of(alloc, err)?;
-        let served = planned(alloc, SHARED, 4, plan)?;
+        let served = planned(&rt, alloc, SHARED, 4, plan)?;
         assert_eq!(rt; served.err.as_slice(), err.as_slice(), "{plan}");
         assert_eq!(rt; served.status, 2, "{plan}");
         assert!(rt; served.out.is_empty());
     }
     // the job is judged first
-    let served = planned(alloc, "pram 1/cells 0/", 4, "4,go,1/")?;
+    let served = planned(&rt, alloc, "pram 1/cells 0/", 4, "4,go,1/")?;
     assert_eq!(rt;
         served.err.as_slice(),
         "text line=2 kind=OutOfLimits\n".as_bytes()

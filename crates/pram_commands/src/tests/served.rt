@@ -5,6 +5,9 @@ ghost use Rattle.pram_commands.specs.Serve.{some_failed};
 use crate::{Line, serve};
 use pram_io::{Empty, Failed, FromRead, IntoWrite, Source};
 use std::alloc::Global;
+use std::rt::Clock;
+use std::sync::Wait;
+use std::thread::Threads;
 
 /// The job's file, as the lines of the tests name it.
 pub const FILE: &str = "job.txt";
@@ -22,15 +25,21 @@ pub struct Served {
 }
 
 /// Serves a line over the source of its job.
-pub fn serve_source<J: Source>(alloc: Global, line: &Line<'_>, job: &mut J) -> Served
+pub fn serve_source<R: Threads + Wait + Clock + Eprint + Sync, J: Source>(
+    rt: &R,
+    alloc: Global,
+    line: &Line<'_>,
+    job: &mut J,
+) -> Served
     requires { J.has_failed job.old ≡ false }
 {
     let plan: Option<&mut Empty> = None;
-    serve_sources(alloc, line, job, plan)
+    serve_sources(rt, alloc, line, job, plan)
 }
 
 /// Serves a line over the sources of its job and its plan.
-pub fn serve_sources<J: Source, P: Source>(
+pub fn serve_sources<R: Threads + Wait + Clock + Eprint + Sync, J: Source, P: Source>(
+    rt: &R,
     alloc: Global,
     line: &Line<'_>,
     job: &mut J,
@@ -41,7 +50,7 @@ pub fn serve_sources<J: Source, P: Source>(
 {
     let mut out = IntoWrite::new(Vec::new(alloc));
     let mut err = IntoWrite::new(Vec::new(alloc));
-    let status = serve(alloc, line, job, plan, &mut out, &mut err);
+    let status = serve(rt, alloc, line, job, plan, &mut out, &mut err);
     Served {
         out: out.into_inner(),
         err: err.into_inner(),
@@ -50,8 +59,13 @@ pub fn serve_sources<J: Source, P: Source>(
 }
 
 /// Serves a line over the text of its job.
-pub fn serve_text(alloc: Global, line: &Line<'_>, text: &[u8]) -> Served {
-    serve_source(alloc, line, &mut FromRead::new(text))
+pub fn serve_text<R: Threads + Wait + Clock + Eprint + Sync>(
+    rt: &R,
+    alloc: Global,
+    line: &Line<'_>,
+    text: &[u8],
+) -> Served {
+    serve_source(rt, alloc, line, &mut FromRead::new(text))
 }
 
 /// A source of which each pull fails.

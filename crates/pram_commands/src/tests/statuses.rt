@@ -3,7 +3,10 @@ use crate::Line;
 use crate::tests::served::{CHECK, PLAIN, serve_text};
 use std::alloc::{AllocError, Global};
 use std::process::Abort;
+use std::rt::Clock;
+use std::sync::Wait;
 use std::test::Fail;
+use std::thread::Threads;
 
 /// A text, and what is written to the output and to standard error, with the status.
 type Row = (&'static str, &'static str, &'static str, u8);
@@ -14,12 +17,17 @@ fn lines_of(alloc: Global, row: &str) -> Result<Vec<u8>, AllocError> {
         .collect(alloc)
 }
 
-fn expect(rt: &impl Abort, alloc: Global, line: &Line<'_>, rows: &[Row]) -> Result<(), Fail> {
+fn expect<R: Abort + Threads + Wait + Clock + Eprint + Sync>(
+    rt: &R,
+    alloc: Global,
+    line: &Line<'_>,
+    rows: &[Row],
+) -> Result<(), Fail> {
     for (text, out, err, status) in rows {
         let text_lines = lines_of(alloc, text)?;
         let out = lines_of(alloc, out)?;
         let err = lines_of(alloc, err)?;
-        let served = serve_text(alloc, line, text_lines.as_slice());
+        let served = serve_text(rt, alloc, line, text_lines.as_slice());
         assert_eq!(rt; served.out.as_slice(), out.as_slice(), "of {text}");
         assert_eq!(rt; served.err.as_slice(), err.as_slice(), "of {text}");
         assert_eq!(rt; served.status, *status, "of {text}");

@@ -1,8 +1,6 @@
 //! Worked rows by replay: by 1, 2 and 4 workers, and under plans that leave some worker.
 use super::{SET, SWAP, disputes, ends_with, replayed, row};
 use crate::{StepKind, write_trace};
-use pram_step::RunAnswer;
-use pram_text::read_job;
 use std::test::Fail;
 use stop_plan::{PlanFault, PlanKind, read_plan};
 
@@ -138,32 +136,5 @@ fn plans_of_four_workers_are_refused(rt: HostRuntime) -> Result<(), Fail> {
             Err(fault) => assert_eq!(rt; fault, PlanFault { row, kind }, "{plan}"),
         }
     }
-    Ok(())
-}
-
-// A growth that is refused, as by `rt try --fail-alloc`, is told, and the same call then succeeds.
-// It prints whether one was.
-#[test]
-fn refused_growths_are_told(rt: HostRuntime) -> Result<(), Fail> {
-    let alloc = rt.alloc();
-    let mut refused = 0u32;
-    let job = match read_job(alloc, SWAP.as_bytes()) {
-        Ok(job) => job,
-        Err(_) => read_job(alloc, SWAP.as_bytes())?,
-    };
-    let plan = stop_plan::Plan::empty(alloc, 2);
-    let (answer, trace) = match crate::replay(alloc, &job, 2, &plan) {
-        Ok(replayed) => replayed,
-        Err(_) => {
-            refused = 1;
-            crate::replay(alloc, &job, 2, &plan)?
-        }
-    };
-    match answer {
-        RunAnswer::Final(cells) => assert_eq!(rt; cells.as_slice(), [9, 7].as_slice()),
-        _ => panic!(rt; "not final"),
-    }
-    assert_eq!(rt; trace.rows().len(), 630);
-    println!(rt; "refused={refused}")?;
     Ok(())
 }

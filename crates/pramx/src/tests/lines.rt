@@ -1,7 +1,8 @@
 //! Which words make a line.
 use crate::line::read_line;
 use clap::error::ErrorKind;
-use pram_commands::{Line, Workers};
+use pram_commands::{CellList, Line, Workers};
+use std::alloc::{AllocError, Global};
 use std::test::Fail;
 
 const CHECK: &[&str] = &["pramx", "check", "f"];
@@ -16,11 +17,41 @@ const RUN: &[&str] = &[
     "2",
     "--plan",
     "p.csv",
+    "--progress",
 ];
 
 const REPLAY: &[&str] = &["pramx", "replay", "job.txt", "--workers", "1"];
 
 const ALL: &[&str] = &["pramx", "run", "--workers=64", "job.txt"];
+
+const WATCH: &[&str] = &[
+    "pramx",
+    "watch",
+    "job.txt",
+    "--workers",
+    "3",
+    "--cells",
+    "7,0,7",
+    "--rounds",
+    "1000000",
+];
+
+#[test]
+fn words_make_a_watch(rt: HostRuntime) -> Result<(), Fail> {
+    let Some(cells) = CellList::read("7,0,7") else {
+        panic!(rt; "no list");
+    };
+    let line = Line::Watch {
+        file: "job.txt",
+        workers: Workers { count: 3 },
+        cells,
+        rounds: 1_000_000,
+        plan: None,
+        progress: false,
+    };
+    assert!(rt; read_line(rt.alloc(), WATCH)? == line);
+    Ok(())
+}
 
 #[test]
 fn words_make_a_line(rt: HostRuntime) -> Result<(), Fail> {
@@ -34,6 +65,7 @@ fn words_make_a_line(rt: HostRuntime) -> Result<(), Fail> {
                 file: "job.txt",
                 workers: Workers { count: 2 },
                 plan: Some("p.csv"),
+                progress: true,
             },
         ),
         (
@@ -50,6 +82,7 @@ fn words_make_a_line(rt: HostRuntime) -> Result<(), Fail> {
                 file: "job.txt",
                 workers: Workers { count: 64 },
                 plan: None,
+                progress: false,
             },
         ),
     ] {
@@ -72,6 +105,58 @@ const NO_WORKER: &[&str] = &["pramx", "run", "job.txt", "--workers", "0"];
 
 const TOO_MANY: &[&str] = &["pramx", "replay", "job.txt", "--workers", "65"];
 
+const NO_CELLS: &[&str] = &["pramx", "watch", "f", "--workers", "1", "--rounds", "1"];
+
+const BAD_CELLS: &[&str] = &[
+    "pramx",
+    "watch",
+    "f",
+    "--workers",
+    "1",
+    "--rounds",
+    "1",
+    "--cells",
+    "1,x",
+];
+
+const EMPTY_CELL: &[&str] = &[
+    "pramx",
+    "watch",
+    "f",
+    "--workers",
+    "1",
+    "--rounds",
+    "1",
+    "--cells",
+    "1,,2",
+];
+
+const NO_ROUND: &[&str] = &[
+    "pramx",
+    "watch",
+    "f",
+    "--workers",
+    "1",
+    "--rounds",
+    "0",
+    "--cells",
+    "1",
+];
+
+const MANY_ROUNDS: &[&str] = &[
+    "pramx",
+    "watch",
+    "f",
+    "--workers",
+    "1",
+    "--rounds",
+    "1000001",
+    "--cells",
+    "1",
+];
+
+const VERSION: &[&str] = &["pramx", "--version"];
+
 const HELP: &[&str] = &["pramx", "--help"];
 
 const HELP_OF_RUN: &[&str] = &["pramx", "run", "--help"];
@@ -87,6 +172,12 @@ fn other_words_are_refused(rt: HostRuntime) {
         (NO_WORKERS, ErrorKind::MissingRequiredArgument),
         (NO_WORKER, ErrorKind::ValueValidation),
         (TOO_MANY, ErrorKind::ValueValidation),
+        (NO_CELLS, ErrorKind::MissingRequiredArgument),
+        (BAD_CELLS, ErrorKind::ValueValidation),
+        (EMPTY_CELL, ErrorKind::ValueValidation),
+        (NO_ROUND, ErrorKind::ValueValidation),
+        (MANY_ROUNDS, ErrorKind::ValueValidation),
+        (VERSION, ErrorKind::DisplayVersion),
         (HELP, ErrorKind::DisplayHelp),
         (HELP_OF_RUN, ErrorKind::DisplayHelp),
     ] {
@@ -106,27 +197,52 @@ Usage: pramx <COMMAND>
 Commands:
   check   Say whether a text spells a job, and how large it is
   plain   Run a job on the plain machine
-  run     Run a job on threads (not built yet)
+  run     Run a job on threads
+  watch   Run a job on threads, and read cells while they run
   replay  Run a job on one thread, and print each step
   help    Print this message or the help of the given subcommand(s)
 
 Options:
-  -h, --help  Print help
+  -h, --help     Print help
+  -V, --version  Print version
 
 Examples:
   pramx check examples/prefix.pram
   pramx plain examples/prefix.pram
+  pramx run examples/prefix.pram --workers 4
+  pramx watch examples/prefix.pram --workers 4 --cells 0,11 --rounds 3
   pramx replay examples/prefix.pram --workers 4
 ";
 
+// The text of an error, or of what was asked for.
+fn text_of(alloc: Global, words: &'static [&'static str]) -> Result<Option<String>, AllocError> {
+    match read_line(alloc, words) {
+        Ok(_) => Ok(None),
+        Err(error) => Ok(Some(format!(in alloc; "{error}")?)),
+    }
+}
+
+const BAD_CELLS_TEXT: &str = "\
+error: invalid value '1,x' for '--cells <C,C,..>': cells are numbers with commas between
+
+Usage: pramx watch [OPTIONS] --workers <W> --cells <C,C,..> --rounds <R> <FILE>
+
+For more information, try '--help'.
+";
+
 #[test]
-fn help_has_a_line_for_each_word(rt: HostRuntime) -> Result<(), Fail> {
+fn texts_of_errors_and_requests(rt: HostRuntime) -> Result<(), Fail> {
     let alloc = rt.alloc();
-    let help = read_line(alloc, HELP).err();
-    assert!(rt; help.is_some());
-    if let Some(error) = help {
-        let text = format!(in alloc; "{error}")?;
-        assert_eq!(rt; text.as_str(), HELP_TEXT);
+    for (words, wanted) in [
+        (HELP, HELP_TEXT),
+        (VERSION, "pramx 0.1.0\n"),
+        (BAD_CELLS, BAD_CELLS_TEXT),
+    ] {
+        let text = text_of(alloc, words)?;
+        assert!(rt; text.is_some());
+        if let Some(text) = text {
+            assert_eq!(rt; text.as_str(), wanted);
+        }
     }
     Ok(())
 }

@@ -1,4 +1,4 @@
-use Rattle.std.proofs.Common.{◌≡◌, ◌≤◌, ◌<◌, sym, ap, ◌∙◌, inl, arith}
+use Rattle.std.proofs.Common.{◌≤◌, ◌<◌, sym, ap, ◌∙◌, inl, arith}
 use Rattle.pram_text.specs.Job.{JobData}
 use Rattle.pram_run.proofs.Endings.{progress_heard, progress_goes, goes_trans, loads_go, same_goes, last_shown, conflict_shown, unfinished_shown, shows_goes}
 use Rattle.pram_run.proofs.ending.answer.Goals as goal

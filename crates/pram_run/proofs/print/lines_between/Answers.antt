@@ -1,4 +1,4 @@
-use Rattle.std.proofs.Common.{◌≡◌, ◌∙◌, ◌++◌, ◌+◌, ◌<◌, ℕ, sym, ap, append_assoc, take, get_or, length, arith}
+use Rattle.std.proofs.Common.{◌∙◌, ◌++◌, ◌+◌, ◌<◌, sym, ap, append_assoc, take, get_or, length, arith}
 use Rattle.csv.specs.Writing.{writer_pending, writer_under}
 use Rattle.pram_run.specs.Printed.{row_line, row_lines}
 use Rattle.pram_run.specs.declared.trace.TraceRow.{TraceRow}

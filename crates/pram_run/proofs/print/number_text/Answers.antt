@@ -1,4 +1,4 @@
-use Rattle.std.proofs.Common.{◌≡◌, ◌∙◌}
+use Rattle.std.proofs.Common.{◌∙◌}
 use Rattle.pram_run.proofs.Lines.{decimal-plain}
 use Rattle.pram_run.proofs.print.number_text.Goals as goal
 

@@ -1,4 +1,3 @@
-use Rattle.std.proofs.Common.{◌≡◌, ◌∙◌}
 use Rattle.std.proofs.lemmas.Result.{on_ok_weaker}
 use Rattle.pram_run.proofs.Lines.{row-text}
 use Rattle.pram_run.proofs.print.write_row.Goals as goal

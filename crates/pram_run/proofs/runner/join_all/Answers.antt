@@ -1,4 +1,4 @@
-use Rattle.std.proofs.Common.{◌≡◌, ℕ, ◌++◌, List, [], ◌∷◌, refl, sym, ap, subst, ◌∙◌, arith, vec_items, append_assoc, length, get_or, length-append, ◌<◌}
+use Rattle.std.proofs.Common.{◌≡◌, ◌++◌, List, [], ◌∷◌, sym, ap, subst, ◌∙◌, arith, vec_items, append_assoc, length, get_or, length-append, ◌<◌}
 use Rattle.std.proofs.Math.ListN.{get_or-append}
 use Rattle.std.specs.Vec.Iter.{into_iter_items}
 use Rattle.pram_run.proofs.Endings.{goes_self, goes_united}

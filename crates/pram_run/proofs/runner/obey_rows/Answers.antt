@@ -1,4 +1,4 @@
-use Rattle.std.proofs.Common.{◌≡◌, sym, subst}
+use Rattle.std.proofs.Common.{sym, subst}
 use Rattle.walkx.specs.Records.{Knows}
 use Rattle.walkx.specs.Walk.{Walking}
 use Rattle.pram_run.proofs.Endings.{goes_self, goes_trans, worked_goes}

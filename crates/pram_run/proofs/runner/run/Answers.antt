@@ -1,4 +1,4 @@
-use Rattle.std.proofs.Common.{◌≡◌, refl, sym, ap, ◌∙◌}
+use Rattle.std.proofs.Common.{ap, ◌∙◌}
 use Rattle.pram_board.specs.Seats.{Desk}
 use Rattle.pram_run.specs.Inner.Obeying.{AllEndOrStop}
 use Rattle.pram_run.proofs.Endings.{run_of, goes_trans}

@@ -1,4 +1,4 @@
-use Rattle.std.proofs.Common.{◌≡◌, ℕ, ◌+◌, ◌<◌, List, length, refl, sym, ap, subst, ◌∙◌, arith, get_or}
+use Rattle.std.proofs.Common.{◌≡◌, ℕ, ◌+◌, ◌<◌, List, length, sym, ap, subst, ◌∙◌, arith, get_or}
 use Rattle.pram_board.specs.Seats.{Place}
 use Rattle.pram_run.specs.declared.runner.Obeyed.{Obeyed}
 use Rattle.pram_run.specs.Inner.Obeying.{GoesOn, EndsOrStops, WasAsked}

@@ -1,8 +1,8 @@
-use Rattle.std.proofs.Common.{◌≡◌, ℕ, ◌<◌, refl, sym, ap, subst, ◌∙◌, arith, vec_len}
+use Rattle.std.proofs.Common.{◌≡◌, subst, arith, vec_len}
 use Rattle.pram_board.specs.Seats.{Place}
 use Rattle.pram_run.specs.Inner.Obeying.{GoesOn}
 use Rattle.pram_run.proofs.Endings.{goes_self}
-use Rattle.pram_run.proofs.Joining.{Thread, all_kept, on_ok}
+use Rattle.pram_run.proofs.Joining.{all_kept, on_ok}
 use Rattle.pram_run.proofs.runner.work_in.Goals as goal
 
 pub returns-in_default-clause-goes_on : goal.returns-in_default-clause-goes_on

@@ -1,8 +1,7 @@
-use Rattle.std.proofs.Common.{◌≡◌, ◌∙◌, refl, sym, ap, subst}
-use Rattle.pram_board.specs.Seats.{Desk, Place}
+use Rattle.std.proofs.Common.{◌∙◌, ap}
+use Rattle.pram_board.specs.Seats.{Desk}
 use Rattle.pram_run.specs.declared.watcher.Watched.{Watched}
-use Rattle.pram_run.specs.Inner.Obeying.{GoesOn}
-use Rattle.pram_run.proofs.Endings.{goes_self, goes_united, same_goes, all_front}
+use Rattle.pram_run.proofs.Endings.{goes_self, same_goes, all_front}
 use Rattle.pram_run.proofs.Watches.{watch_of, watched_of}
 use Rattle.pram_run.proofs.watcher.watch_in.Goals as goal
 

@@ -1,30 +1,13 @@
-use Rattle.std.proofs.Common.{◌≡◌, ◌∙◌, ◌≤◌, ℕ, Option, None, Some, option_map, IsSomeAnd, codes, sym, refl, arith}
+use Rattle.std.proofs.Common.{◌≡◌, ◌∙◌, ◌≤◌, ℕ, Bool, true, false, Option, None, Some, option_map, codes, sym, arith}
+use Rattle.std.specs.Prelude.{IsSomeAnd}
 use Rattle.std.specs.Str.Parse.{digits_value, without_leading_plus}
-use Rattle.clap.specs.Words.{Text, first_value, found_of, one_text, rows_of, subcommand_name_of, subcommand_rows_of}
+use Rattle.clap.specs.Words.{Text, first_value, found_of, one_of, one_text, rows_of, subcommand_name_of, subcommand_rows_of}
 use Rattle.clap.specs.declared.ArgMatches.{ArgMatches}
+use Rattle.clap.specs.declared.parser.matches.Found.{Found}
 use Rattle.clap.proofs.WalkLemmas.{first_value-rows, one_text-rows}
-use Rattle.pramx.specs.CommandLine.{HasFile, HasWorkers}
+use Rattle.pramx.specs.CommandLine.{HasFile, HasWorkers, IsFlag}
+use Rattle.pramx.proofs.Matches.{number_of, pair_of}
 use Rattle.pramx.proofs.line.line_of.Goals as goal
-
-abbrev both : {B X Y : Type 0} → (B → X) → (B → Y) → B → X × Y
-both f g b = (f b, g b)
-
-abbrev second : {X Y : Type 0} → X × Y → Y
-second p = p.1
-
--- the first and the second part of what may be there
-pair_of : {B X Y : Type 0} (f : B → X) (g : B → Y) (o : Option B) (x : X) (y : Y)
-    → Some x ≡ option_map f o → Some y ≡ option_map second (option_map (both f g) o)
-    → option_map (both f g) o ≡ Some (x, y)
-pair_of f g None x y left right = cc
-pair_of f g (Some b) x y left right = cc
-
--- a number that was read is the value of its text
-number_of : (o : Option Text) (n : ℕ) → (o ≡ None → Some n ≡ None)
-    → ((text : Text) → o ≡ Some text → n ≡ digits_value 10 (without_leading_plus text))
-    → IsSomeAnd o (λ text. n ≡ digits_value 10 (without_leading_plus text))
-number_of None n none value = let bad : Some n ≡ None = none refl in cc
-number_of (Some text) n none value = value text refl
 
 module _ (m inner : ArgMatches) (name file : Text) (has_name : Some name ≡ subcommand_name_of m)
     (has_rows : Some (rows_of (found_of inner)) ≡ option_map (λ p. p.1) (subcommand_rows_of m))
@@ -40,7 +23,7 @@ module _ (m inner : ArgMatches) (name file : Text) (has_name : Some name ≡ sub
       (value : (text : Text) → one_text (found_of inner) (codes "workers") ≡ Some text
       → workers ≡ digits_value 10 (without_leading_plus text))
       (some : 1 ≤ workers) (few : workers ≤ 64) (has_plan : plan ≡ first_value (found_of inner) (codes "plan")) where
-    met_workers : HasWorkers (subcommand_rows_of m) name file workers plan
+    abbrev met_workers : HasWorkers (subcommand_rows_of m) name file workers plan
     met_workers = record {
       rows = rows_of (found_of inner);
       met = met_file.met;
@@ -51,6 +34,11 @@ module _ (m inner : ArgMatches) (name file : Text) (has_name : Some name ≡ sub
       has_plan = sym (has_plan ∙ first_value-rows (found_of inner) (codes "plan"));
     }
 
+-- the flag of a run or a watch
+is_flag : (f : Found) (flag : Bool) → (one_text f (codes "progress") ≡ None → flag ≡ false) → (one_text f (codes "progress") ≡ Some (codes "true") → flag ≡ true)
+    → (one_text f (codes "progress") ≡ Some (codes "false") → flag ≡ false) → IsFlag (one_of (codes "progress") (rows_of f)) flag
+is_flag f flag none value other = rw (← one_text-rows f (codes "progress")) (record { set = value; unset = other; none = none })
+
 pub returns-in-check : goal.returns-in-check
 returns-in-check c = rw (← c.in-check.is)
     (met_file _ _ _ _ c.in_ok-name.ensures.name c.in_ok-name.ensures.rows c.in_ok-file.ensures)
@@ -60,9 +48,22 @@ returns-in-plain c = rw (← c.in-plain.is)
     (met_file _ _ _ _ c.in_ok-name.ensures.name c.in_ok-name.ensures.rows c.in_ok-file.ensures)
 
 pub returns-in-run : goal.returns-in-run
-returns-in-run c = rw (← c.in-run.is)
-    (met_workers _ _ _ _ c.in_ok-name.ensures.name c.in_ok-name.ensures.rows c.in_ok-file.ensures
-    _ _ c.in_ok-count.ensures.none (λ text is. (c.in_ok-count.ensures.value text is).0.1) (omega arith) (omega arith) c.get_str-plan.ensures)
+returns-in-run c = rw (← c.in-run.is) (record {
+  has_workers = met_workers _ _ _ _ c.in_ok-name.ensures.name c.in_ok-name.ensures.rows c.in_ok-file.ensures
+      _ _ c.in_ok-count.ensures.none (λ text is. (c.in_ok-count.ensures.value text is).0.1) (omega arith) (omega arith) c.get_str-plan.ensures;
+  has_progress = is_flag (found_of c.in_ok-name.inner.now) _ c.get_flag-progress.ensures.none c.get_flag-progress.ensures.value c.get_flag-progress.ensures.other;
+})
+
+pub returns-in_ok-cells-in-watch : goal.returns-in_ok-cells-in-watch
+returns-in_ok-cells-in-watch c = rw (← c.in-watch.is) (record {
+  has_run = record {
+    has_workers = met_workers _ _ _ _ c.in_ok-name.ensures.name c.in_ok-name.ensures.rows c.in_ok-file.ensures
+        _ _ c.in_ok-count.ensures.none (λ text is. (c.in_ok-count.ensures.value text is).0.1) (omega arith) (omega arith) c.get_str-plan.ensures;
+    has_progress = is_flag (found_of c.in_ok-name.inner.now) _ c.get_flag-progress.ensures.none c.get_flag-progress.ensures.value c.get_flag-progress.ensures.other;
+  };
+  has_cells = c.in_ok-cells-in-watch.ensures.cells;
+  has_rounds = c.in_ok-cells-in-watch.ensures.rounds;
+})
 
 pub returns-in-replay : goal.returns-in-replay
 returns-in-replay c = rw (← c.in-replay.is)

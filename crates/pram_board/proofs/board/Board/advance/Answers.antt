@@ -1,0 +1,46 @@
+use Rattle.std.proofs.Common.{◌≡◌, refl, ap, sym, subst, ◌∙◌}
+use Rattle.walkx.specs.declared.operation.Op.{Op}
+use Rattle.walkx.specs.Records.{after}
+use Rattle.walkx.specs.Walk.{AsksAdmitted, HearsAdmitted, IsStepOn, ask_of, told}
+use Rattle.lawful_words.specs.Moments.{Sound}
+use Rattle.pram_board.specs.Seats.{Desk, Place, hears}
+use Rattle.pram_board.specs.Worked.{Ticked}
+use Rattle.pram_board.proofs.Asked.{asks_of}
+use Rattle.pram_board.proofs.Keeps.{may_as}
+use Rattle.pram_board.proofs.Steps.{may_step, admits}
+use Rattle.pram_board.proofs.Told.{knows_told}
+use Rattle.pram_board.proofs.board.Board.advance.Goals as goal
+
+pub step-answer-requires-clause-allowed : goal.step-answer-requires-clause-allowed
+step-answer-requires-clause-allowed c =
+    let t = c.args.self.now.task in
+    let w = c.args.worker.now.walking in
+    let asks = c.requires.asks in
+    may_as t t c.args.seat.now.record_of _ (ask_of t.job t.layout w) c.args.op refl refl (sym asks.is)
+    (may_step t c.args.seat.now.record_of w c.requires.serves.fits c.requires.knows (subst (IsStepOn t.layout) asks.is (asks.step c.requires.going)))
+
+pub proceed-requires-clause-admitted : goal.proceed-requires-clause-admitted
+proceed-requires-clause-admitted c =
+    let t = c.args.self.now.task in
+    let w = c.args.worker.now.walking in
+    let found = c.step-answer.result in
+    let asks = c.requires.asks in
+    let sound : Sound t.job t.layout (after c.args.seat.now.record_of c.args.op found) = subst (λ (p : Place). Sound t.job t.layout p.record_of) c.step-answer.ensures.grows c.step-answer.ensures.sound in
+    let heard : HearsAdmitted t.job t.layout (ask_of t.job t.layout w) found = subst (λ (op : Op). HearsAdmitted t.job t.layout op found) asks.is (admits t c.args.seat.now.record_of c.args.op found sound asks.admitted) in
+    subst (λ (d : Desk). HearsAdmitted d.task.job d.task.layout (ask_of d.task.job d.task.layout w) found) (sym c.self.view_is) heard
+
+pub returns-clause-ticked : goal.returns-clause-ticked
+returns-clause-ticked c =
+    let w = c.args.worker.now.walking in
+    let found = c.step-answer.result in
+    record {
+      found = found;
+      seat = c.step-answer.ensures.grows ∙ ap (λ op. hears c.args.seat.now op found) (c.requires.asks).is;
+      worker = c.proceed.ensures.told ∙ ap (λ d. told d.task.job d.task.layout w found) c.self.view_is;
+    }
+
+pub returns-clause-asks : goal.returns-clause-asks
+returns-clause-asks c = asks_of c.self.inside.task c.args.self.now.task c.proceed.new.self.walking c.proceed.result (ap (λ d. d.task) c.self.view_is) c.proceed.ensures.asks c.proceed.ensures.admitted c.proceed.ensures.step
+
+pub returns-clause-knows : goal.returns-clause-knows
+returns-clause-knows c = knows_told c.args.self.now.task c.args.seat.now c.args.worker.now.walking c.step-answer.new.seat c.proceed.new.self.walking (returns-clause-ticked c) c.requires.serves.fits c.requires.knows

@@ -1,0 +1,4 @@
+mod Buffers
+mod Playing
+mod Fitting
+mod Loads

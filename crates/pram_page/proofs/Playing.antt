@@ -1,0 +1,154 @@
+-- Events that are played one after the other.
+use Rattle.std.proofs.Common.{arith, ◌≡◌, ◌≢◌, ℕ, zero, suc, ◌+◌, ◌-◌, ◌<◌, ◌≤◌, List, [], ◌∷◌, ◌++◌, length, map, take, slice_get, slice_set, get_or, Some, None, refl, sym, ap, subst, ◌∙◌, inl, inr}
+use Rattle.std.proofs.Math.Seq.{take-length}
+use Rattle.std.proofs.lemmas.Bool.{cases_lt}
+use Rattle.std.proofs.lemmas.List.{length-set}
+use Rattle.std.proofs.lemmas.Option.{slice_get_within}
+use Rattle.pram_words.specs.declared.layout.Form.TheVariants.{Compact}
+use Rattle.pram_world.specs.Runs.{Act, event, twin, load, Run, begun, acted, all_acted}
+use Rattle.pram_page.specs.declared.text.Refusal.TheVariants.{Memory}
+use Rattle.pram_page.specs.Texts.{IsRefused}
+use Rattle.pram_world.specs.Worlds.{WorldData}
+use Rattle.pram_world.specs.declared.event.Effect.{Effect}
+use Rattle.pram_page.specs.declared.board.Event.{Event}
+use Rattle.pram_page.specs.declared.board.Hindrance.{Hindrance}
+use Rattle.pram_page.specs.declared.board.Hindrance.TheVariants.{Refused, BadWorkers, BadEvent}
+use Rattle.pram_page.specs.declared.bodies.BodyRow.{BodyRow}
+use Rattle.pram_page.specs.declared.rows.EventRow.{EventRow}
+use Rattle.pram_page.specs.declared.scene.Scene.{Scene}
+use Rattle.pram_page.specs.declared.words.WordRow.{WordRow}
+use Rattle.pram_page.specs.Events.{AreKnown, IsBoardAfter, IsHindered, IsHinderedFrom, IsKnown, IsMade, IsNotMade, IsRunFrom, act_of, effect_by, moved, run_from}
+use Rattle.pram_page.specs.Scenes.{AreShown, IsBoardTold, IsNoted, IsScene, count_shown, event_row, row_with}
+use Rattle.pram_page.proofs.Buffers.{nat_cases, set_other, set_same}
+
+-- the rows of the events before n, as far as there is room
+abbrev pub ShownTo : ℕ → Run → List Event → ℕ → List EventRow → Type 0
+ShownTo n r events from rows =
+    (i : ℕ) (e : Event) → from + i < n → i < length rows → slice_get events (from + i) ≡ Some e
+    → slice_get rows i ≡ Some (event_row (run_from r (take (from + i) events)).world e)
+
+take_suc : {X : Type 0} (xs : List X) (n : ℕ) (x : X) → slice_get xs n ≡ Some x → take (suc n) xs ≡ take n xs ++ x ∷ []
+take_suc [] n x e = absurd (cc)
+take_suc (z ∷ zs) zero x e = let same : z ≡ x = cc in ap (λ v. v ∷ []) same
+take_suc (z ∷ zs) (suc n) x e = ap (λ v. z ∷ v) (take_suc zs n x e)
+
+one_more : (n : ℕ) → suc n ≡ n + 1
+one_more n = omega arith
+
+take_next : {X : Type 0} (xs : List X) (n : ℕ) (x : X) → slice_get xs n ≡ Some x → take (n + 1) xs ≡ take n xs ++ x ∷ []
+take_next xs n x e = subst (λ k. take k xs ≡ take n xs ++ x ∷ []) (one_more n) (take_suc xs n x e)
+
+pub item_at : {X : Type 0} (xs : List X) (n : ℕ) (x : X) → n < length xs → x ≡ get_or xs n x → slice_get xs n ≡ Some x
+item_at [] n x h e = absurd (omega arith)
+item_at (z ∷ zs) zero x h e = ap Some (sym e)
+item_at (z ∷ zs) (suc n) x h e = item_at zs n x (omega arith) e
+
+-- the world of a run that goes on
+acted_world : (r : Run) (a : Act) → (acted r a).world ≡ moved r.world a
+acted_world r (event e) = refl
+acted_world r (twin w) = refl
+acted_world r (load k) = refl
+
+run_next : (r : Run) (es : List Event) (e : Event) → run_from r (es ++ e ∷ []) ≡ acted (run_from r es) (act_of e)
+run_next r [] e = refl
+run_next r (f ∷ es) e = run_next (acted r (act_of f)) es e
+
+known_next : (r : Run) (es : List Event) (e : Event) → AreKnown r es → IsKnown (run_from r es).world e → AreKnown r (es ++ e ∷ [])
+known_next r [] e k new = (new, tt)
+known_next r (f ∷ es) e k new = (k.0, known_next (acted r (act_of f)) es e k.1 new)
+
+pub run_first : (r : Run) (events : List Event) (s : WorldData) → r.world ≡ s → IsRunFrom r (take 0 events) s
+run_first r events s is = record { known = tt; world = sym is }
+
+pub run_more : (r : Run) (events : List Event) (n : ℕ) (e : Event) (s now : WorldData) (effect : Effect) → slice_get events n ≡ Some e
+    → IsRunFrom r (take n events) s → IsMade s e now effect → IsRunFrom r (take (n + 1) events) now
+run_more r events n e s now effect at before made =
+    let front = take n events in
+    subst (λ es. IsRunFrom r es now) (sym (take_next events n e at)) (record {
+      known = known_next r front e before.known (subst (λ w. IsKnown w e) before.world made.known);
+      world = made.world ∙ ap (λ w. moved w (act_of e)) before.world ∙ sym (ap (λ (x : Run). x.world) (run_next r front e) ∙ acted_world (run_from r front) (act_of e));
+    })
+
+pub run_all : (r : Run) (events : List Event) (s : WorldData) → IsRunFrom r (take (length events) events) s → IsRunFrom r events s
+run_all r events s run = subst (λ es. IsRunFrom r es s) (take-length events) run
+
+-- a row that is written
+row_made : (s now : WorldData) (e : Event) (effect : Effect) (row : EventRow) (bodies : ℕ) → bodies ≡ length s.bodies → IsMade s e now effect → row ≡ row_with now e bodies effect → row ≡ event_row s e
+row_made s now e effect row bodies count made is =
+    is ∙ ap (λ w. row_with w e bodies effect) made.world ∙ ap (λ f. row_with (moved s (act_of e)) e bodies f) made.effect_is ∙ ap (λ b. row_with (moved s (act_of e)) e b (effect_by s (act_of e))) count
+
+pub shown_more : (r : Run) (events : List Event) (from n : ℕ) (rows : List EventRow) (e : Event) (s now : WorldData) (effect : Effect) (row : EventRow) (bodies : ℕ) → slice_get events n ≡ Some e
+    → IsRunFrom r (take n events) s → IsMade s e now effect → bodies ≡ length s.bodies → row ≡ row_with now e bodies effect → from ≤ n → n - from < length rows
+    → ShownTo n r events from rows → ShownTo (n + 1) r events from (slice_set rows (n - from) row)
+shown_more r events from n rows e s now effect row bodies at run made count is low room before i f below within item =
+    elim (nat_cases i (n - from)) [
+      | inl same ↦
+          let here : from + i ≡ n = omega arith in
+          let this : Some e ≡ Some f = sym at ∙ subst (λ k. slice_get events k ≡ Some f) here item in
+          let event : e ≡ f = cc in
+          let row_is : row ≡ event_row (run_from r (take (from + i) events)).world f =
+          row_made s now e effect row bodies count made is ∙ ap (λ w. event_row w e) (run.world ∙ ap (λ k. (run_from r (take k events)).world) (sym here)) ∙ ap (event_row (run_from r (take (from + i) events)).world) event in
+          subst (λ k. slice_get (slice_set rows (n - from) row) k ≡ Some row) (sym same) (set_same rows (n - from) row room) ∙ ap Some row_is
+      | inr apart ↦ set_other rows (n - from) i row apart ∙ before i f (omega arith) (omega (arith, length-set {A = EventRow})) item
+    ]
+
+pub shown_kept : (r : Run) (events : List Event) (from n : ℕ) (rows : List EventRow) → (from ≤ n → n - from < length rows → ⊥) → ShownTo n r events from rows → ShownTo (n + 1) r events from rows
+shown_kept r events from n rows out before i f below within item =
+    elim (nat_cases (from + i) n) [
+      | inl same ↦ absurd (out (omega arith) (omega arith))
+      | inr apart ↦ before i f (omega arith) within item
+    ]
+
+-- by what became of its row
+pub shown_next : (r : Run) (events : List Event) (from n : ℕ) (rows new : List EventRow) (e : Event) (s now : WorldData) (effect : Effect) (bodies : ℕ) → slice_get events n ≡ Some e
+    → IsRunFrom r (take n events) s → IsMade s e now effect → bodies ≡ length s.bodies → IsNoted (row_with now e bodies effect) from n rows new
+    → ShownTo n r events from rows → ShownTo (n + 1) r events from new
+shown_next r events from n rows new e s now effect bodies at run made count noted before =
+    let row = row_with now e bodies effect in
+    elim (cases_lt n from) [
+      | inl early ↦ subst (ShownTo (n + 1) r events from) (sym (noted.outside (λ low room. omega arith))) (shown_kept r events from n rows (λ low room. omega arith) before)
+      | inr low ↦ elim (cases_lt (n - from) (length rows)) [
+        | inl room ↦ subst (ShownTo (n + 1) r events from) (sym (noted.inside low room)) (shown_more r events from n rows e s now effect row bodies at run made count refl low room before)
+        | inr full ↦ subst (ShownTo (n + 1) r events from) (sym (noted.outside (λ low room. omega arith))) (shown_kept r events from n rows (λ low room. omega arith) before)
+      ]
+    ]
+
+-- all rows
+pub shown_all : (r : Run) (events : List Event) (from n : ℕ) (rows : List EventRow) → length events ≤ n → ShownTo n r events from rows → AreShown r events from rows
+shown_all r events from n rows over shown i e within item =
+    let below : from + i < length events = slice_get_within events (from + i) e item in
+    shown i e (omega arith) within item
+
+pub hindered_at : (r : Run) (events : List Event) (n : ℕ) (e : Event) (s : WorldData) (h : Hindrance) → slice_get events n ≡ Some e → IsRunFrom r (take n events) s → IsNotMade s n e h → IsHinderedFrom r events h
+hindered_at r events n e s (Refused refusal) at run h = h
+hindered_at r events n e s BadWorkers at run h = h
+hindered_at r events n e s (BadEvent m) at run h = subst (λ k. IsHinderedFrom r events (BadEvent k)) (sym h.0)
+    (record { at = e; is = at; known = run.known; unknown = λ k. h.1 (subst (λ w. IsKnown w e) (sym run.world) k) })
+
+-- ---- the board of a text
+
+pub board_text : (text : List ℕ) (workers : ℕ) (events : List Event) (s now : WorldData) → IsBoardAfter text workers [] s → ((r : Run) → r.world ≡ s → IsRunFrom r events now) → IsBoardAfter text workers events now
+board_text text workers events s now board run =
+    (board.0, board.1, record { some = board.2.some; most = board.2.most; run = run (begun board.0 Compact workers) (sym board.2.run.world) })
+
+pub hindered_text : (text : List ℕ) (workers : ℕ) (events : List Event) (s : WorldData) (h : Hindrance) → IsBoardAfter text workers [] s → ((r : Run) → r.world ≡ s → IsHinderedFrom r events h) → IsHindered text workers events h
+hindered_text text workers events s (Refused refusal) board found = subst (IsRefused text) (sym (found (begun board.0 Compact workers) (sym board.2.run.world))) tt
+hindered_text text workers events s BadWorkers board found = absurd (found (begun board.0 Compact workers) (sym board.2.run.world))
+hindered_text text workers events s (BadEvent n) board found = (board.0, board.1, found (begun board.0 Compact workers) (sym board.2.run.world))
+
+-- what hinders without any event hinders with events, unless an event does
+pub hindered_first : (text : List ℕ) (workers : ℕ) (events : List Event) (h : Hindrance) → IsHindered text workers [] h → IsHindered text workers events h
+hindered_first text workers events (Refused refusal) h = h
+hindered_first text workers events BadWorkers h = h
+hindered_first text workers events (BadEvent n) h = let none : slice_get {X = Event} [] n ≡ Some h.2.at = h.2.is in absurd (cc)
+
+pub memory_out : (text : List ℕ) (workers : ℕ) (events : List Event) (h : Hindrance) → h ≡ Refused Memory → IsHindered text workers events h
+memory_out text workers events h is = subst (IsHindered text workers events) (sym is) tt
+
+pub scene_text : (text : List ℕ) (workers : ℕ) (events : List Event) (from : ℕ) (rows : List EventRow) (words : List WordRow) (bodies : List BodyRow) (told : Scene) (s now : WorldData)
+    → IsBoardAfter text workers [] s → ((r : Run) → r.world ≡ s → IsRunFrom r events now) → ((r : Run) → r.world ≡ s → AreShown r events from rows)
+    → IsBoardTold now (count_shown (length events) from (length rows)) words bodies told → IsScene text workers events from rows words bodies told
+scene_text text workers events from rows words bodies told s now board run shown is =
+    let r = begun board.0 Compact workers in
+    let at : r.world ≡ s = sym board.2.run.world in
+    inl (board.0, board.1, (now, record { some = board.2.some; most = board.2.most; run = run r at }, shown r at, is))

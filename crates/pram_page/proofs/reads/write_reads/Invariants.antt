@@ -1,0 +1,6 @@
+use Rattle.std.proofs.Common.{◌≡◌, ℕ, ◌<◌, slice_get, Some}
+use Rattle.pram_page.specs.Answers.{read_in}
+use Rattle.pram_page.proofs.reads.write_reads.Given as goal
+
+abbrev pub invariant-loop-cell : goal.invariant-loop-cell
+invariant-loop-cell l = (i : ℕ) → i < l.cell → slice_get l.rows i ≡ Some (read_in l.world i)

@@ -1,0 +1,7 @@
+use Rattle.std.proofs.Common.{rules}
+use Rattle.pram_page.specs.Scenes.{word_in}
+use Rattle.pram_page.proofs.Buffers.{written}
+use Rattle.pram_page.proofs.words.write_words.Goals as goal
+
+pub loop-k-preserved : goal.loop-k-preserved
+loop-k-preserved c = written (word_in c.args.world.now.layout c.args.world.now.words) c.loop-k.rows c.loop-k.k c.word_row.result (search rules) c.loop-k.invariant c.word_row.ensures

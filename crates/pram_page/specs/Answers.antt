@@ -1,0 +1,76 @@
+-- What a board answers after events, and what readers of its cells get.
+use Rattle.std.specs.Prelude.{◌≡◌, ℕ, ◌<◌, ◌≤◌, List, length, take, slice_get, Some}
+use Rattle.pram_step.specs.declared.answer.RunAnswer.TheVariants as answer
+use Rattle.walkx.specs.declared.operation.Reading.{Reading}
+use Rattle.walkx.specs.declared.operation.Reading.TheVariants.{At}
+use Rattle.walkx.specs.Operations as operations
+use Rattle.walkx.specs.Reads.{reader_script}
+use Rattle.walkx.specs.Scripts.{Script, asks, ends}
+use Rattle.pram_world.specs.Outcomes.{IsOutcome}
+use Rattle.pram_world.specs.Worlds.{WorldData}
+use Rattle.pram_page.specs.declared.board.Event.{Event}
+use Rattle.pram_page.specs.declared.board.Hindrance.{Hindrance}
+use Rattle.pram_page.specs.declared.board.Hindrance.TheVariants as hindrance
+use Rattle.pram_page.specs.declared.finding.Finding.{Finding}
+use Rattle.pram_page.specs.declared.finding.Finding.TheVariants.{Done, Conflict, Unfinished, NoRoom, NoStep, TooFar, BadWorkers, BadEvent, Refused}
+use Rattle.pram_page.specs.declared.finding.Told.{Told}
+use Rattle.pram_page.specs.declared.reads.ReadRow.{ReadRow}
+use Rattle.pram_page.specs.Events.{IsBoardAfter, IsHindered}
+use Rattle.pram_page.specs.Findings.{told_of}
+
+-- why there is no board
+abbrev pub finding_of : Hindrance → Finding
+finding_of (hindrance.Refused r) = Refused r
+finding_of hindrance.BadWorkers = BadWorkers
+finding_of (hindrance.BadEvent n) = BadEvent n
+
+-- the board of the text after the events is such a world
+abbrev pub OfWorld : List ℕ → ℕ → List Event → (WorldData → Type 0) → Type 0
+OfWorld text workers events holds = (s : WorldData) × IsBoardAfter text workers events s × holds s
+
+-- ---- what the board answers: the front of the buffer holds the cells
+
+abbrev pub IsOutcomeFound : List ℕ → ℕ → List Event → List ℕ → List ℕ → Finding → Type 0
+IsOutcomeFound text workers events old cells (Done step count) =
+    OfWorld text workers events (λ s. (step ≡ s.job.steps) × IsOutcome s (answer.Final (take count cells)))
+IsOutcomeFound text workers events old cells (Conflict fault count) =
+    OfWorld text workers events (λ s. (count ≡ 0) × IsOutcome s (answer.Conflict fault))
+IsOutcomeFound text workers events old cells (Unfinished step) = OfWorld text workers events (λ s. IsOutcome s (answer.Unfinished step))
+IsOutcomeFound text workers events old cells (NoRoom needed) =
+    OfWorld text workers events (λ s. (found : List ℕ) × IsOutcome s (answer.Final found) × (needed ≡ length found) × (length old < needed))
+IsOutcomeFound text workers events old cells NoStep = ⊥
+IsOutcomeFound text workers events old cells TooFar = ⊥
+IsOutcomeFound text workers events old cells BadWorkers = IsHindered text workers events hindrance.BadWorkers
+IsOutcomeFound text workers events old cells (BadEvent n) = IsHindered text workers events (hindrance.BadEvent n)
+IsOutcomeFound text workers events old cells (Refused r) = IsHindered text workers events (hindrance.Refused r)
+
+abbrev pub IsOutcomeTold : List ℕ → ℕ → List Event → List ℕ → List ℕ → Told → Type 0
+IsOutcomeTold text workers events old cells told = (finding : Finding) × IsOutcomeFound text workers events old cells finding × (told ≡ told_of finding)
+
+-- ---- what readers get
+
+-- what comes of a script whose operations are all answered by these words
+abbrev pub read_on : List ℕ → Script Reading → Reading
+read_on words (asks op next) = read_on words (next (operations.answer words op))
+read_on words (ends reading) = reading
+
+abbrev pub row_of : Reading → ReadRow
+row_of (At step value) = record { step = step; value = value }
+
+-- what the reader of a cell gets
+abbrev pub read_in : WorldData → ℕ → ReadRow
+read_in s cell = row_of (read_on s.words (reader_script s.layout cell))
+
+abbrev pub AreRead : WorldData → List ReadRow → Type 0
+AreRead s rows = (cell : ℕ) → cell < s.job.cells → slice_get rows cell ≡ Some (read_in s cell)
+
+abbrev pub AreReadsFound : List ℕ → ℕ → List Event → List ReadRow → List ReadRow → Finding → Type 0
+AreReadsFound text workers events old rows (Done step count) = OfWorld text workers events (λ s. (step ≡ 0) × (count ≡ s.job.cells) × AreRead s rows)
+AreReadsFound text workers events old rows (NoRoom needed) = OfWorld text workers events (λ s. (needed ≡ s.job.cells) × (length old < needed))
+AreReadsFound text workers events old rows BadWorkers = IsHindered text workers events hindrance.BadWorkers
+AreReadsFound text workers events old rows (BadEvent n) = IsHindered text workers events (hindrance.BadEvent n)
+AreReadsFound text workers events old rows (Refused r) = IsHindered text workers events (hindrance.Refused r)
+AreReadsFound text workers events old rows _ = ⊥
+
+abbrev pub AreReadsTold : List ℕ → ℕ → List Event → List ReadRow → List ReadRow → Told → Type 0
+AreReadsTold text workers events old rows told = (finding : Finding) × AreReadsFound text workers events old rows finding × (told ≡ told_of finding)

@@ -1,0 +1,31 @@
+-- How what is found is told in numbers.
+use Rattle.std.specs.Prelude.{ℕ}
+use Rattle.pram_page.specs.declared.codes.TheConstants.{DONE, NO_ROOM, CONFLICT, UNFINISHED, NO_STEP, TOO_FAR, BAD_WORKERS, BAD_EVENT}
+use Rattle.pram_page.specs.declared.finding.Finding.{Finding}
+use Rattle.pram_page.specs.declared.finding.Finding.TheVariants.{Done, Conflict, Unfinished, NoRoom, NoStep, TooFar, BadWorkers, BadEvent, Refused}
+use Rattle.pram_page.specs.declared.finding.Told.{Told}
+use Rattle.pram_page.specs.Texts.{refused_as}
+
+-- a code and a count alone
+abbrev pub counted : ℕ → ℕ → Told
+counted code count = record { code = code; fault = 0; line = 0; step = 0; cell = 0; first = 0; second = 0; count = count }
+
+abbrev pub told_of : Finding → Told
+told_of (Done step count) = record (counted DONE count) { step = step }
+told_of (Conflict f count) = record {
+  code = CONFLICT;
+  fault = 0;
+  line = 0;
+  step = f.step;
+  cell = f.cell;
+  first = f.first;
+  second = f.second;
+  count = count;
+}
+told_of (Unfinished step) = record (counted UNFINISHED 0) { step = step }
+told_of (NoRoom needed) = counted NO_ROOM needed
+told_of NoStep = counted NO_STEP 0
+told_of TooFar = counted TOO_FAR 0
+told_of BadWorkers = counted BAD_WORKERS 0
+told_of (BadEvent number) = counted BAD_EVENT number
+told_of (Refused r) = record (counted (refused_as r).code 0) { fault = (refused_as r).fault; line = (refused_as r).line }

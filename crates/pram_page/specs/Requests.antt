@@ -1,0 +1,88 @@
+-- What is told of the requests of a step.
+use Rattle.std.specs.Prelude.{◌≡◌, ◌⊎◌, ℕ, ◌+◌, ◌-◌, ◌*◌, ◌<◌, ◌≤◌, ◌==◌, nat_lt, if◌then◌else◌, List, length, slice_get, slice_index, Option, Some, None}
+use Rattle.pram_text.specs.declared.instr.Instr.{Instr}
+use Rattle.pram_text.specs.Job.{JobData}
+use Rattle.pram_step.specs.declared.requests.Request.{Request}
+use Rattle.pram_step.specs.Instructions.{cell_read, operand_held, request_in, requests_in}
+use Rattle.pram_step.specs.Machine.{State, counter}
+use Rattle.pram_step.specs.Runs.{AgreesAfter, IsReached, IsFirstConflict, state_after}
+use Rattle.pram_page.specs.declared.finding.Finding.{Finding}
+use Rattle.pram_page.specs.declared.finding.Finding.TheVariants.{Done, Conflict, Unfinished, NoRoom, NoStep, TooFar, BadWorkers, BadEvent, Refused}
+use Rattle.pram_page.specs.declared.finding.Told.{Told}
+use Rattle.pram_page.specs.declared.requests.RequestRow.{RequestRow}
+use Rattle.pram_page.specs.declared.requests.Target.{Target}
+use Rattle.pram_page.specs.declared.text.Refusal.TheVariants.{Memory}
+use Rattle.pram_page.specs.Texts.{OfJob, IsRefused}
+use Rattle.pram_page.specs.Findings.{told_of}
+
+-- 0 where a counter is an instruction's place, 1 where the processor has halted, 2 where an address was out of range
+abbrev pub status_of : JobData → ℕ → ℕ
+status_of job counter = if nat_lt counter (length job.code) then 0 else (if counter == length job.code then 1 else 2)
+
+-- the cell that processor i reads in a state
+abbrev pub cell_by : JobData → State → ℕ → Option Instr → Option ℕ
+cell_by job s i None = None
+cell_by job s i (Some instr) = cell_read job instr (operand_held job s i instr 0)
+
+abbrev pub cell_in : JobData → State → ℕ → Option ℕ
+cell_in job s i = cell_by job s i (slice_get job.code (counter job s i))
+
+-- a cell plus 1, or 0 for none, and what it holds
+abbrev pub cell_part : Option ℕ → ℕ
+cell_part None = 0
+cell_part (Some c) = c + 1
+
+abbrev pub held_part : State → Option ℕ → ℕ
+held_part s None = 0
+held_part s (Some c) = slice_index s c
+
+-- what a data write goes to: nothing, a cell, or a register of processor i; its number; and the value
+abbrev pub target_of : JobData → ℕ → Option (ℕ × ℕ) → Target
+target_of job i None = record { kind = 0; number = 0; value = 0 }
+target_of job i (Some w) =
+    if nat_lt w.0 job.cells then record { kind = 1; number = w.0; value = w.1 }
+    else record { kind = 2; number = w.0 - job.cells - 4 * i; value = w.1 }
+
+-- the request of processor i in a state
+abbrev pub row_in : JobData → State → ℕ → RequestRow
+row_in job s i =
+    let target = target_of job i (request_in job s i).put in
+    record {
+      counter = counter job s i;
+      status = status_of job (counter job s i);
+      reads = cell_part (cell_in job s i);
+      held = held_part s (cell_in job s i);
+      target = target.kind;
+      number = target.number;
+      value = target.value;
+      next = (request_in job s i).next;
+    }
+
+-- the front of the buffer holds the requests of all processors
+abbrev pub AreRows : JobData → State → List RequestRow → Type 0
+AreRows job s rows = (i : ℕ) → i < job.procs → slice_get rows i ≡ Some (row_in job s i)
+
+-- ---- the step behind t steps: it agrees, or is the first conflict, and the rows are told; or an earlier one is, and none are
+
+-- of a job that reaches the state after t steps, and has one step more
+abbrev pub IsAskedIn : JobData → ℕ → List RequestRow → List RequestRow → Finding → Type 0
+IsAskedIn job t old rows (Done step count) =
+    (step ≡ t) × (t < job.steps) × (count ≡ job.procs) × IsReached job t × AgreesAfter job t × AreRows job (state_after job t) rows
+IsAskedIn job t old rows (Conflict fault count) =
+    IsFirstConflict job fault × (fault.step ≡ t + 1) × (count ≡ job.procs) × AreRows job (state_after job t) rows
+IsAskedIn job t old rows (NoRoom needed) = (needed ≡ job.procs) × (length old < needed)
+IsAskedIn job t old rows (Refused refusal) = refusal ≡ Memory
+IsAskedIn job t old rows _ = ⊥
+
+abbrev pub IsAskedFor : List ℕ → ℕ → ℕ → List RequestRow → List RequestRow → Finding → Type 0
+IsAskedFor text t most old rows (Done step count) = OfJob text (λ job. IsAskedIn job t old rows (Done step count))
+IsAskedFor text t most old rows (Conflict fault count) =
+    OfJob text (λ job. IsAskedIn job t old rows (Conflict fault count) ⊎ (IsFirstConflict job fault × (fault.step ≤ t) × (count ≡ 0)))
+IsAskedFor text t most old rows (NoRoom needed) = OfJob text (λ job. IsAskedIn job t old rows (NoRoom needed))
+IsAskedFor text t most old rows NoStep = OfJob text (λ job. job.steps ≤ t)
+IsAskedFor text t most old rows TooFar = OfJob text (λ job. (most < t) × IsReached job most)
+IsAskedFor text t most old rows (Refused refusal) = IsRefused text refusal
+IsAskedFor text t most old rows _ = ⊥
+
+abbrev pub AreAsked : List ℕ → ℕ → ℕ → List RequestRow → List RequestRow → Told → Type 0
+AreAsked text t most old rows told = (finding : Finding) × IsAskedFor text t most old rows finding × (told ≡ told_of finding)

@@ -1,0 +1,40 @@
+//! The codes of what is told.
+
+/// What was asked for is told.
+pub const DONE: u32 = 0;
+
+/// The text bears a fault.
+pub const NO_JOB: u32 = 1;
+
+/// Memory ran out.
+pub const MEMORY: u32 = 2;
+
+/// The text has more than `TEXT_MOST` bytes.
+pub const TEXT_TOO_LONG: u32 = 3;
+
+/// A buffer is too small for what is to be told.
+pub const NO_ROOM: u32 = 4;
+
+/// A step is against the rule.
+pub const CONFLICT: u32 = 5;
+
+/// The last step is not finished.
+pub const UNFINISHED: u32 = 6;
+
+/// The job has no such step.
+pub const NO_STEP: u32 = 7;
+
+/// More steps would have to be made than the caller allows.
+pub const TOO_FAR: u32 = 8;
+
+/// There is no board for so many workers.
+pub const BAD_WORKERS: u32 = 9;
+
+/// An event is unknown.
+pub const BAD_EVENT: u32 = 10;
+
+/// How many bytes a text has at most.
+pub const TEXT_MOST: usize = 16_777_216;
+
+/// How many workers a board has at most.
+pub const WORKERS_MOST: u32 = 64;

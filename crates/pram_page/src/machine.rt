@@ -1,0 +1,173 @@
+//! The states of the plain machine.
+ghost use Rattle.std.specs.Prelude.{◌≡◌, ◌≤◌, ◌↔◌, IfOk, IsTrue, length, take};
+ghost use Rattle.pram_step.specs.Laws.{AllStopped};
+ghost use Rattle.pram_step.specs.Machine.{place_count};
+ghost use Rattle.pram_page.specs.Moments.{IsAnswered, IsMoment, IsStateFound, IsAnswerFound};
+ghost use Rattle.pram_page.specs.Moments.{IsStateTold};
+
+use crate::finding::{Finding, Told, tell};
+use crate::text::{Refusal, take_job};
+use pram_step::{Fault, State, StepFault, laws, step as make_step};
+use pram_text::Job;
+use std::alloc::{AllocError, Global};
+
+/// What is there after so many steps of the machine.
+#[derive(Drop)]
+pub enum Moment {
+    /// This state.
+    Reached(State),
+    /// No state: this step was against the rule.
+    Disputed(Fault),
+    /// So many steps may not be made.
+    TooFar,
+}
+
+/// Tells the answer of a text: the cells behind the last step, or the first conflict. At most
+/// `most` steps are made; a machine whose processors have all stopped makes none.
+#[unsafe(no_mangle)]
+pub extern "C" fn pram_page_answer(
+    alloc: Global,
+    text: &[u8],
+    most: u32,
+    cells: &mut [u32],
+    told: &mut Told,
+)
+    ensures { IsAnswered text.now most cells.old cells.new told.new }
+{
+    *told = tell(answer(alloc, text, most, cells));
+}
+
+/// Tells the state after so many steps: the cells, then four registers a processor, then a counter
+/// a processor; or the conflict that comes before it. At most `most` steps are made.
+#[unsafe(no_mangle)]
+pub extern "C" fn pram_page_state(
+    alloc: Global,
+    text: &[u8],
+    step: u32,
+    most: u32,
+    places: &mut [u32],
+    told: &mut Told,
+)
+    ensures { IsStateTold text.now step most places.old places.new told.new }
+{
+    *told = tell(state(alloc, text, step, most, places));
+}
+
+fn answer(alloc: Global, text: &[u8], most: u32, cells: &mut [u32]) -> Finding
+    ensures { IsAnswerFound text.now most cells.old cells.new result }
+{
+    laws::states_have_all_places();
+    let job = match take_job(alloc, text) {
+        Ok(job) => job,
+        Err(refusal) => return Finding::Refused(refusal),
+    };
+    match go_to(alloc, &job, job.steps(), most) {
+        Err(_) => Finding::Refused(Refusal::Memory),
+        Ok(Moment::TooFar) => Finding::TooFar,
+        Ok(Moment::Disputed(fault)) => Finding::Conflict { fault, count: 0 },
+        Ok(Moment::Reached(state)) => {
+            let count = job.cells() as usize;
+            if copy(&state.places()[..count], cells) {
+                Finding::Done {
+                    step: job.steps(),
+                    count: count as u64,
+                }
+            } else {
+                Finding::NoRoom {
+                    needed: count as u64,
+                }
+            }
+        }
+    }
+}
+
+fn state(alloc: Global, text: &[u8], step: u32, most: u32, places: &mut [u32]) -> Finding
+    ensures { IsStateFound text.now step most places.old places.new result }
+{
+    laws::states_have_all_places();
+    let job = match take_job(alloc, text) {
+        Ok(job) => job,
+        Err(refusal) => return Finding::Refused(refusal),
+    };
+    if step > job.steps() {
+        return Finding::NoStep;
+    }
+    match go_to(alloc, &job, step, most) {
+        Err(_) => Finding::Refused(Refusal::Memory),
+        Ok(Moment::TooFar) => Finding::TooFar,
+        Ok(Moment::Disputed(fault)) => Finding::Conflict { fault, count: 0 },
+        Ok(Moment::Reached(state)) => {
+            let count = state.places().len() as u64;
+            if copy(state.places(), places) {
+                Finding::Done { step, count }
+            } else {
+                Finding::NoRoom { needed: count }
+            }
+        }
+    }
+}
+
+/// Copies the values to the front of the buffer, if it has room for them.
+pub(crate) fn copy(values: &[u32], buffer: &mut [u32]) -> bool
+    ensures room { IsTrue result ↔ (length values.now ≤ length buffer.old) }
+    ensures copied { IsTrue result → take (length values.now) buffer.new ≡ values.now }
+{
+    if values.len() > buffer.len() {
+        return false;
+    }
+    buffer[..values.len()].copy_from_slice(values);
+    true
+}
+
+/// The state after so many steps.
+pub(crate) fn go_to(alloc: Global, job: &Job, steps: u32, most: u32) -> Result<Moment, AllocError>
+    ensures { IfOk result (IsMoment job.now steps most) }
+{
+    laws::start_is_a_state();
+    laws::next_is_a_state();
+    laws::states_have_all_places();
+    laws::stopped_machine_goes_on();
+    let _ = job.steps();
+    let mut state = State::start(alloc, job)?;
+    for made in 0..steps {
+        if have_stopped(job, &state) {
+            return Ok(Moment::Reached(state));
+        }
+        if made == most {
+            return Ok(Moment::TooFar);
+        }
+        match make_step(alloc, job, &mut state) {
+            Ok(()) => {}
+            Err(StepFault::Memory) => return Err(AllocError),
+            Err(
+                StepFault::Conflict {
+                    cell,
+                    first,
+                    second,
+                },
+            ) => {
+                return Ok(Moment::Disputed(Fault {
+                    step: made + 1,
+                    cell,
+                    first,
+                    second,
+                }));
+            }
+        }
+    }
+    Ok(Moment::Reached(state))
+}
+
+/// Whether all processors have stopped.
+fn have_stopped(job: &Job, state: &State) -> bool
+    requires { length state.now ≡ place_count job.now }
+    ensures { IsTrue result → AllStopped job.now state.now }
+{
+    let first = job.cells() + 4 * job.procs();
+    for processor in 0..job.procs() {
+        if (state.get(first + processor) as usize) < job.code().len() {
+            return false;
+        }
+    }
+    true
+}

@@ -1,0 +1,85 @@
+//! The cells of a board as readers get them.
+ghost use Rattle.std.specs.Prelude.{◌≡◌, ◌<◌, ◌≤◌, length};
+ghost use Rattle.pram_page.specs.Answers.{AreRead, AreReadsFound, AreReadsTold, read_in};
+
+use crate::board::Event;
+use crate::finding::{Finding, Told, tell};
+use crate::outcome::hindered;
+use crate::scene::after;
+use pram_world::World;
+use std::alloc::Global;
+use walkx::{ReadOp, Reader, Reading};
+
+/// What a reader of a cell answers: it held this value after this step.
+#[repr(C)]
+#[derive(Clone, Copy, Debug, PartialEq, Eq)]
+pub struct ReadRow {
+    pub step: u32,
+    pub value: u32,
+}
+
+/// Tells what a reader of each cell answers that makes its loads after the events, and before any
+/// further one.
+#[unsafe(no_mangle)]
+pub extern "C" fn pram_page_reads(
+    alloc: Global,
+    text: &[u8],
+    workers: u32,
+    events: &[Event],
+    cells: &mut [ReadRow],
+    told: &mut Told,
+)
+    ensures { AreReadsTold text.now workers events.now cells.old cells.new told.new }
+{
+    *told = tell(reads(alloc, text, workers, events, cells));
+}
+
+fn reads(
+    alloc: Global,
+    text: &[u8],
+    workers: u32,
+    events: &[Event],
+    cells: &mut [ReadRow],
+) -> Finding
+    ensures { AreReadsFound text.now workers events.now cells.old cells.new result }
+{
+    let world = match after(alloc, text, workers, events) {
+        Ok(world) => world,
+        Err(hindrance) => return hindered(hindrance),
+    };
+    let count = u64::from(world.job().cells());
+    if cells.len() < world.job().cells() as usize {
+        return Finding::NoRoom { needed: count };
+    }
+    write_reads(&world, cells);
+    Finding::Done { step: 0, count }
+}
+
+// What a reader of each cell answers is written to the front of the rows.
+fn write_reads(world: &World, rows: &mut [ReadRow])
+    requires { world.now.job.cells ≤ length rows.old }
+    ensures { AreRead world.now rows.new }
+{
+    world.facts();
+    for cell in 0..world.job().cells() {
+        rows[cell as usize] = read(world, cell);
+    }
+}
+
+// A reader's own loads.
+fn read(world: &World, cell: u32) -> ReadRow
+    requires { cell < world.now.job.cells }
+    ensures { result ≡ read_in world.now cell }
+{
+    world.facts();
+    let mut reader = Reader::new(cell);
+    loop {
+        match reader.ask(world.layout()) {
+            ReadOp::Over(Reading::At { step, value }) => return ReadRow { step, value },
+            ReadOp::Load(word) => {
+                let found = world.load(word);
+                reader.tell(world.job(), world.layout(), found);
+            }
+        }
+    }
+}

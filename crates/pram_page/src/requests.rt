@@ -1,0 +1,247 @@
+//! What the processors ask for in a step.
+ghost use Rattle.std.specs.Prelude.{◌≡◌, ℕ, ◌<◌, ◌≤◌, IfSome, length};
+ghost use Rattle.pram_step.specs.Machine.{IsDataPlace, counter as counter_of, place_count};
+ghost use Rattle.pram_step.specs.Machine.{register as register_of};
+ghost use Rattle.pram_step.specs.Runs.{IsStateAfter};
+ghost use Rattle.pram_page.specs.Requests.{AreAsked, AreRows, IsAskedFor, IsAskedIn, cell_in};
+ghost use Rattle.pram_page.specs.Requests.{cell_part, held_part, row_in, status_of, target_of};
+
+use crate::finding::{Finding, Told, tell};
+use crate::machine::{Moment, go_to};
+use crate::text::{Refusal, take_job};
+use pram_step::{
+    Fault, Operands, State, StepFault, cell_read, laws, operands_of, request, step as make_step,
+};
+use pram_text::Job;
+use std::alloc::Global;
+
+/// What a processor asks for. `status` is 0 where `counter` is the number of its instruction, 1 if
+/// it has halted, 2 if an address was out of range. `reads` is the cell that it reads plus 1, or 0,
+/// and `held` what that cell holds. It writes `value` to nothing (`target` 0), to the cell `number`
+/// (1) or to its own register `number` (2), and goes on to `next`.
+#[repr(C)]
+#[derive(Clone, Copy, Debug, PartialEq, Eq)]
+pub struct RequestRow {
+    pub counter: u32,
+    pub status: u32,
+    pub reads: u32,
+    pub held: u32,
+    pub target: u32,
+    pub number: u32,
+    pub value: u32,
+    pub next: u32,
+}
+
+/// What a data write goes to: nothing (0), a cell (1) or a register (2), with its number, and the
+/// value.
+#[derive(Clone, Copy, Debug, PartialEq, Eq)]
+pub struct Target {
+    pub kind: u32,
+    pub number: u32,
+    pub value: u32,
+}
+
+/// Tells what each processor asks for in the step behind these, and whether that step is against
+/// the rule, and where. At most `most` steps are made.
+#[unsafe(no_mangle)]
+pub extern "C" fn pram_page_requests(
+    alloc: Global,
+    text: &[u8],
+    step: u32,
+    most: u32,
+    rows: &mut [RequestRow],
+    told: &mut Told,
+)
+    ensures { AreAsked text.now step most rows.old rows.new told.new }
+{
+    *told = tell(requests(alloc, text, step, most, rows));
+}
+
+fn requests(alloc: Global, text: &[u8], step: u32, most: u32, rows: &mut [RequestRow]) -> Finding
+    ensures { IsAskedFor text.now step most rows.old rows.new result }
+{
+    let job = match take_job(alloc, text) {
+        Ok(job) => job,
+        Err(refusal) => return Finding::Refused(refusal),
+    };
+    if step >= job.steps() {
+        return Finding::NoStep;
+    }
+    match go_to(alloc, &job, step, most) {
+        Err(_) => Finding::Refused(Refusal::Memory),
+        Ok(Moment::TooFar) => Finding::TooFar,
+        Ok(Moment::Disputed(fault)) => Finding::Conflict { fault, count: 0 },
+        Ok(Moment::Reached(state)) => ask(alloc, &job, step, state, rows),
+    }
+}
+
+// The requests in this state, and whether they agree.
+fn ask(alloc: Global, job: &Job, step: u32, mut state: State, rows: &mut [RequestRow]) -> Finding
+    requires reached { IsStateAfter job.now step state }
+    requires within { step < job.now.steps }
+    ensures { IsAskedIn job.now step rows.old rows.new result }
+{
+    laws::states_have_all_places();
+    let _ = job.steps();
+    let count = u64::from(job.procs());
+    if rows.len() < job.procs() as usize {
+        return Finding::NoRoom { needed: count };
+    }
+    write_rows(job, &state, rows);
+    match make_step(alloc, job, &mut state) {
+        Ok(()) => Finding::Done { step, count },
+        Err(StepFault::Memory) => Finding::Refused(Refusal::Memory),
+        Err(
+            StepFault::Conflict {
+                cell,
+                first,
+                second,
+            },
+        ) => Finding::Conflict {
+            fault: Fault {
+                step: step + 1,
+                cell,
+                first,
+                second,
+            },
+            count,
+        },
+    }
+}
+
+// The request of each processor is written to the front of the rows.
+fn write_rows(job: &Job, state: &State, rows: &mut [RequestRow])
+    requires reached { (t : ℕ) × IsStateAfter job.now t state.now }
+    requires room { job.now.procs ≤ length rows.old }
+    ensures { AreRows job.now state.now rows.new }
+{
+    for processor in 0..job.procs() {
+        rows[processor as usize] = row(job, state, processor);
+    }
+}
+
+fn row(job: &Job, state: &State, processor: u32) -> RequestRow
+    requires processor { processor < job.now.procs }
+    requires reached { (t : ℕ) × IsStateAfter job.now t state.now }
+    ensures { result ≡ row_in job.now state.now processor }
+{
+    let _ = job.procs();
+    laws::requests_have_shape();
+    laws::states_have_all_places();
+    laws::counters_stay_within();
+    let counter = counter(job, state, processor);
+    let asked = request(job, state, processor);
+    let reads = cell(job, state, processor, counter);
+    let target = aim(job, processor, asked.put);
+    RequestRow {
+        counter,
+        status: status(job, counter),
+        reads: part_of_cell(job, reads),
+        held: held(job, state, reads),
+        target: target.kind,
+        number: target.number,
+        value: target.value,
+        next: asked.next,
+    }
+}
+
+// A processor's counter.
+fn counter(job: &Job, state: &State, processor: u32) -> u32
+    requires processor { processor < job.now.procs }
+    requires places { length state.now ≡ place_count job.now }
+    ensures { result ≡ counter_of job.now state.now processor }
+{
+    state.get(job.cells() + 4 * job.procs() + processor)
+}
+
+// Whether a counter is the number of an instruction, or why the processor has stopped.
+fn status(job: &Job, counter: u32) -> u32
+    ensures { result ≡ status_of job.now counter }
+{
+    let instructions = job.code().len();
+    if (counter as usize) < instructions {
+        0
+    } else if counter as usize == instructions {
+        1
+    } else {
+        2
+    }
+}
+
+// The cell that a processor reads.
+fn cell(job: &Job, state: &State, processor: u32, counter: u32) -> Option<u32>
+    requires processor { processor < job.now.procs }
+    requires places { length state.now ≡ place_count job.now }
+    requires counter { counter ≡ counter_of job.now state.now processor }
+    ensures { result ≡ cell_in job.now state.now processor }
+{
+    let instr = *job.code().get(counter as usize)?;
+    match operands_of(instr) {
+        Operands::None => cell_read(job, instr, 0),
+        Operands::One(a) | Operands::Two(a, _) => {
+            cell_read(job, instr, register(job, state, processor, a))
+        }
+    }
+}
+
+fn register(job: &Job, state: &State, processor: u32, r: u8) -> u32
+    requires processor { processor < job.now.procs }
+    requires places { length state.now ≡ place_count job.now }
+    requires register { r < 4 }
+    ensures { result ≡ register_of job.now state.now processor r }
+{
+    let _ = job.procs();
+    state.get(job.cells() + 4 * processor + u32::from(r))
+}
+
+// The cell plus 1, or 0 for none.
+fn part_of_cell(job: &Job, cell: Option<u32>) -> u32
+    requires { IfSome cell (λ c. c < job.now.cells) }
+    ensures { result ≡ cell_part cell }
+{
+    let _ = job.cells();
+    match cell {
+        None => 0,
+        Some(cell) => cell + 1,
+    }
+}
+
+// What the cell holds, or 0 for none.
+fn held(job: &Job, state: &State, cell: Option<u32>) -> u32
+    requires cell { IfSome cell (λ c. c < job.now.cells) }
+    requires places { length state.now ≡ place_count job.now }
+    ensures { result ≡ held_part state.now cell }
+{
+    let _ = job.cells();
+    match cell {
+        None => 0,
+        Some(cell) => state.get(cell),
+    }
+}
+
+// What a data write goes to.
+fn aim(job: &Job, processor: u32, put: Option<(u32, u32)>) -> Target
+    requires processor { processor < job.now.procs }
+    requires place { IfSome put (λ w. IsDataPlace job.now processor w.0) }
+    ensures { result ≡ target_of job.now processor put }
+{
+    let _ = job.procs();
+    let cells = job.cells();
+    match put {
+        None => Target {
+            kind: 0,
+            number: 0,
+            value: 0,
+        },
+        Some((place, value)) if place < cells => Target {
+            kind: 1,
+            number: place,
+            value,
+        },
+        Some((place, value)) => Target {
+            kind: 2,
+            number: place - cells - 4 * processor,
+            value,
+        },
+    }
+}

@@ -1,0 +1,241 @@
+//! A board after events, and what each event did.
+ghost use Rattle.std.specs.Prelude.{◌≡◌, ℕ, ◌≤◌, IfErr, IfOk, length};
+ghost use Rattle.pram_world.specs.Runs.{Run};
+ghost use Rattle.pram_page.specs.Events.{IsBoardAfter, IsHindered, IsHinderedFrom, IsRunFrom};
+ghost use Rattle.pram_page.specs.Scenes.{AreShown, IsBoardTold, IsNoted, IsScene, glance_of};
+ghost use Rattle.pram_page.specs.Scenes.{hindered_as, row_with};
+
+use crate::board::{Event, Hindrance, make, open};
+use crate::bodies::{BodyRow, write_bodies};
+use crate::codes::{BAD_EVENT, BAD_WORKERS, DONE, NO_ROOM};
+use crate::rows::{EventRow, event_row};
+use crate::text::{Refusal, Refused, tell_refusal};
+use crate::words::{WordRow, write_words};
+use pram_world::{Effect, World};
+use std::alloc::Global;
+use walkx::seen_step;
+
+/// What a scene has: how many words, bodies and rows were told (or, without room, how many words
+/// and bodies there are), the leaves of the tree, the last finished phase `root`, the finished
+/// steps of the machine, and the step of the conflict or 0. `at` is the number of an unknown event.
+#[repr(C)]
+#[derive(Clone, Copy, Debug, PartialEq, Eq)]
+pub struct Scene {
+    pub code: u32,
+    pub fault: u32,
+    pub line: u64,
+    pub root: u64,
+    pub at: u64,
+    pub words: u32,
+    pub bodies: u32,
+    pub rows: u32,
+    pub leaves: u32,
+    pub finished: u32,
+    pub conflict: u32,
+}
+
+/// Tells the board after the events: its words, its bodies, and, from event `from` on, what as many
+/// events did as `rows` has room for.
+#[unsafe(no_mangle)]
+pub extern "C" fn pram_page_scene(
+    alloc: Global,
+    text: &[u8],
+    workers: u32,
+    events: &[Event],
+    from: usize,
+    rows: &mut [EventRow],
+    words: &mut [WordRow],
+    bodies: &mut [BodyRow],
+    told: &mut Scene,
+)
+    ensures { IsScene text.now workers events.now from rows.new words.new bodies.new told.new }
+{
+    *told = match show(alloc, text, workers, events, from, rows, words, bodies) {
+        Ok(scene) => scene,
+        Err(hindrance) => hindered(hindrance),
+    };
+}
+
+const NO_SCENE: Scene = Scene {
+    code: DONE,
+    fault: 0,
+    line: 0,
+    root: 0,
+    at: 0,
+    words: 0,
+    bodies: 0,
+    rows: 0,
+    leaves: 0,
+    finished: 0,
+    conflict: 0,
+};
+
+fn hindered(hindrance: Hindrance) -> Scene
+    ensures { result ≡ hindered_as hindrance }
+{
+    match hindrance {
+        Hindrance::BadWorkers => Scene {
+            code: BAD_WORKERS,
+            ..NO_SCENE
+        },
+        Hindrance::BadEvent(at) => Scene {
+            code: BAD_EVENT,
+            at,
+            ..NO_SCENE
+        },
+        Hindrance::Refused(refusal) => {
+            let Refused { code, fault, line } = tell_refusal(refusal);
+            Scene {
+                code,
+                fault,
+                line,
+                ..NO_SCENE
+            }
+        }
+    }
+}
+
+fn show(
+    alloc: Global,
+    text: &[u8],
+    workers: u32,
+    events: &[Event],
+    from: usize,
+    rows: &mut [EventRow],
+    words: &mut [WordRow],
+    bodies: &mut [BodyRow],
+) -> Result<Scene, Hindrance>
+    ensures shown { IfOk result
+        (λ told. IsScene text.now workers events.now from rows.new words.new bodies.new told) }
+    ensures hindered { IfErr result (λ h. IsHindered text.now workers events.now h) }
+{
+    let mut world = match open(alloc, text, workers) {
+        Ok(world) => world,
+        Err(hindrance) => return Err(hindrance),
+    };
+    match watch(&mut world, events, from, rows) {
+        Err(hindrance) => Err(hindrance),
+        Ok(()) => {
+            let shown = rows.len().min(events.len().saturating_sub(from));
+            match tell_board(&world, shown, words, bodies) {
+                Ok(scene) => Ok(scene),
+                Err(hindrance) => Err(hindrance),
+            }
+        }
+    }
+}
+
+// The words and the bodies of a board, so many rows being written.
+fn tell_board(
+    world: &World,
+    shown: usize,
+    words: &mut [WordRow],
+    bodies: &mut [BodyRow],
+) -> Result<Scene, Hindrance>
+    ensures told { IfOk result (λ told. IsBoardTold world.now shown words.new bodies.new told) }
+    ensures memory { IfErr result (λ h. h ≡ Hindrance.Refused Refusal.Memory) }
+{
+    let count = small(world.count())?;
+    let seen = glance(world, count, small(shown)?);
+    if words.len() < world.layout().length() as usize || bodies.len() < world.count() {
+        return Ok(Scene {
+            code: NO_ROOM,
+            ..seen
+        });
+    }
+    write_words(world, words);
+    write_bodies(world, bodies);
+    Ok(seen)
+}
+
+/// A number that 32 bits hold. No memory has room for more bodies or rows.
+pub(crate) fn small(count: usize) -> Result<u32, Hindrance>
+    ensures small { IfOk result (λ number. number ≡ count) }
+    ensures large { IfErr result (λ h. h ≡ Hindrance.Refused Refusal.Memory) }
+{
+    match u32::try_from(count) {
+        Ok(number) => Ok(number),
+        Err(_) => Err(Hindrance::Refused(Refusal::Memory)),
+    }
+}
+
+// What the board shows at a glance.
+fn glance(world: &World, bodies: u32, rows: u32) -> Scene
+    requires { bodies ≡ length world.now.bodies }
+    ensures { result ≡ glance_of world.now rows }
+{
+    world.facts();
+    let leaves = world.layout().leaves();
+    let root = world.load(world.layout().node_word(1));
+    let named = world.load(world.layout().conflict_word());
+    Scene {
+        root,
+        words: world.layout().length(),
+        bodies,
+        rows,
+        leaves,
+        finished: seen_step(root, named),
+        conflict: named as u32,
+        ..NO_SCENE
+    }
+}
+
+/// All events, one after the other; what those from `from` on did is put into the rows.
+pub(crate) fn watch(
+    world: &mut World,
+    events: &[Event],
+    from: usize,
+    rows: &mut [EventRow],
+) -> Result<(), Hindrance>
+    ensures run { (r : Run) → r.world ≡ world.old
+        → IfOk result (λ _. IsRunFrom r events.now world.new) }
+    ensures shown { (r : Run) → r.world ≡ world.old
+        → IfOk result (λ _. AreShown r events.now from rows.new) }
+    ensures hindered { (r : Run) → r.world ≡ world.old
+        → IfErr result (λ hindrance. IsHinderedFrom r events.now hindrance) }
+{
+    for number in 0..events.len() {
+        let event = events[number];
+        let bodies = world.count();
+        let effect = make(world, number, event)?;
+        note(world, rows, from, number, event, small(bodies)?, effect);
+    }
+    Ok(())
+}
+
+// What the event of this number did is put into its row, if there is one.
+fn note(
+    world: &World,
+    rows: &mut [EventRow],
+    from: usize,
+    number: usize,
+    event: Event,
+    bodies: u32,
+    effect: Effect,
+)
+    ensures { IsNoted (row_with world.now event bodies effect) from number rows.old rows.new }
+{
+    if from <= number && number - from < rows.len() {
+        rows[number - from] = event_row(world, event, bodies, effect);
+    }
+}
+
+/// The board after all these events.
+pub(crate) fn after(
+    alloc: Global,
+    text: &[u8],
+    workers: u32,
+    events: &[Event],
+) -> Result<World, Hindrance>
+    ensures after { IfOk result (λ world. IsBoardAfter text.now workers events.now world) }
+    ensures hindered { IfErr result (λ h. IsHindered text.now workers events.now h) }
+{
+    let mut world = match open(alloc, text, workers) {
+        Ok(world) => world,
+        Err(hindrance) => return Err(hindrance),
+    };
+    match watch(&mut world, events, 0, &mut []) {
+        Ok(()) => Ok(world),
+        Err(hindrance) => Err(hindrance),
+    }
+}

@@ -1,0 +1,23 @@
+use Rattle.std.proofs.Common.{◌≡◌, ◌∙◌, ◌++◌, ◌+◌, ◌<◌, ℕ, sym, ap, append_assoc, take, get_or, length, arith}
+use Rattle.csv.specs.Writing.{writer_pending, writer_under}
+use Rattle.pram_run.specs.Printed.{sight_line, sight_lines}
+use Rattle.pram_run.specs.declared.sight.Sight.{Sight}
+use Rattle.pram_run.proofs.Lines.{sights-more}
+use Rattle.pram_run.proofs.print.sights_between.Goals as goal
+
+abbrev no_sight : Sight
+no_sight = record { cell = 0; step = 0; value = 0 }
+
+pub loop-place-preserved : goal.loop-place-preserved
+loop-place-preserved c =
+    let sights = c.args.sights.now in
+    let place = c.loop-place.place in
+    let front = sight_lines (take c.args.start sights) in
+    let line = sight_line (get_or sights place no_sight) in
+    let old = (writer_under c.loop-place.writer).items ++ writer_pending c.loop-place.writer in
+    let within : place < length sights = omega (arith, c.loop-place-test.true, c.requires.to) in
+    record {
+      between = c.in-Ok.ensures.between;
+      text = ap (λ text. front ++ text) c.in-Ok.ensures.text ∙ sym (append_assoc front old line)
+          ∙ ap (λ text. text ++ line) c.loop-place.invariant.text ∙ sym (sights-more sights place no_sight within);
+    }

@@ -1,0 +1,59 @@
+// assemble.js CORE.wasm EXAMPLES OUT.html: puts the page into one file. The modules of src/ are
+// written one behind the other, each as a function of its own behind those that it imports.
+import { createHash } from 'node:crypto';
+import { readFileSync, readdirSync, writeFileSync } from 'node:fs';
+import { dirname, join } from 'node:path';
+import { fileURLToPath } from 'node:url';
+
+const source = join(dirname(fileURLToPath(import.meta.url)), '..', 'src');
+const read = (name) => readFileSync(join(source, name), 'utf8');
+const IMPORT = /^import \{([^}]*)\} from '\.\/([a-z_]+)\.js';\n/gm;
+const EXPORT = /^export (?:async )?(?:function|const|let|class) (\w+)/gm;
+
+// A module and those that it imports, each behind its own imports.
+function modulesBehind(name, found = new Set()) {
+  for (const [, , imported] of read(`${name}.js`).matchAll(IMPORT)) {
+    if (!found.has(imported)) modulesBehind(imported, found);
+  }
+  return found.add(name);
+}
+
+// A module as a function of its own, which gives what it exports.
+function enclosed(name) {
+  const text = read(`${name}.js`);
+  const exported = [...text.matchAll(EXPORT)].map(([, word]) => word);
+  const body = text
+    .replace(IMPORT, (_, words, module) => `const {${words}} = ${module}_module;\n`)
+    .replace(/^export /gm, '');
+  return `const ${name}_module = (() => {\n${body}return { ${exported.join(', ')} };\n})();\n`;
+}
+
+const bundle = () => `\n${[...modulesBehind('main')].map(enclosed).join('\n')}`;
+
+function examplesOf(folder) {
+  const names = readdirSync(folder).filter((name) => name.endsWith('.pram')).sort();
+  return names.map((name) => ({
+    name: name.replace(/\.pram$/, ''),
+    text: readFileSync(join(folder, name), 'utf8'),
+  }));
+}
+
+const hash = (text) => `'sha256-${createHash('sha256').update(text).digest('base64')}'`;
+
+// No resource from outside, and no script or style but the page's own.
+const policyOf = (style, script) =>
+  `default-src 'none'; img-src data:; style-src ${hash(style)}; ` +
+  `script-src ${hash(script)} 'wasm-unsafe-eval'; base-uri 'none'; form-action 'none'`;
+
+const [core, examples, out] = process.argv.slice(2);
+const style = `\n${read('style.css')}`;
+const script = bundle();
+const parts = {
+  POLICY: policyOf(style, script),
+  STYLE: style,
+  EXAMPLES: JSON.stringify(examplesOf(examples)).replaceAll('<', '\\u003c'),
+  CORE: readFileSync(core).toString('base64'),
+  PAGE: script,
+};
+const page = read('page.html').replace(/\/\*([A-Z]+)\*\//g, (_, name) => parts[name]);
+writeFileSync(out, page);

@@ -1,0 +1,37 @@
+// Cells as a row of boxes, a window of them at a time.
+import { byId, fit, make, setText } from './dom.js';
+import { openWindow } from './window.js';
+
+const IN_SIGHT = 64;
+
+function makeBox() {
+  return make('li', { class: 'cell' },
+    make('span', { class: 'cell-number' }),
+    make('span', { class: 'cell-value' }),
+    make('span', { class: 'cell-note' }));
+}
+
+function showBox(box, cell, { value, note, kind }) {
+  box.className = `cell ${kind}`;
+  const [number, held, notes] = box.children;
+  setText(number, String(cell));
+  setText(held, String(value));
+  setText(notes, note);
+}
+
+// A row of boxes in the element of this id. `boxOf(cell)` gives a cell's value, note and class.
+export function openCells(id, label, onMove) {
+  const sight = openWindow('cell', IN_SIGHT, onMove);
+  const list = make('ol', { class: 'cells', 'aria-label': label });
+  byId(id).append(sight.bar, list);
+  return {
+    list,
+    // Shows so many cells, and tells which are in sight.
+    show(count, boxOf) {
+      const range = sight.range(count);
+      fit(list, range.length, makeBox).forEach((box, k) =>
+        showBox(box, range.first + k, boxOf(range.first + k)));
+      return range;
+    },
+  };
+}

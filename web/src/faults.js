@@ -1,0 +1,138 @@
+// What is wrong with a line, in words that help.
+import { shortened } from './numbers.js';
+
+export const FAULT = {
+  NOT_ASCII: 1,
+  BAD_HEADER: 2,
+  BAD_NUMBER: 3,
+  OUT_OF_LIMITS: 4,
+  UNKNOWN_INSTRUCTION: 5,
+  WRONG_OPERANDS: 6,
+  BAD_REGISTER: 7,
+  DUPLICATE_LABEL: 8,
+  UNKNOWN_LABEL: 9,
+  NO_CODE: 10,
+  TOO_LONG: 11,
+};
+
+// Instruction: its operands in words, and an example.
+const USAGE = {
+  set: ['a register and a number', 'set r1 5'],
+  pid: ['one register', 'pid r0'],
+  add: ['three registers', 'add r2 r0 r1'],
+  sub: ['three registers', 'sub r2 r0 r1'],
+  mul: ['three registers', 'mul r2 r0 r1'],
+  and: ['three registers', 'and r2 r0 r1'],
+  or: ['three registers', 'or r2 r0 r1'],
+  xor: ['three registers', 'xor r2 r0 r1'],
+  lt: ['three registers', 'lt r2 r0 r1'],
+  eq: ['three registers', 'eq r2 r0 r1'],
+  ld: ['two registers', 'ld r1 r0'],
+  st: ['two registers', 'st r0 r1'],
+  jz: ['a register and a label', 'jz r0 again'],
+  jmp: ['one label', 'jmp again'],
+  halt: ['no operand', 'halt'],
+};
+
+const LIMITS = {
+  cells: 'There are 1 to 65,536 cells.',
+  procs: 'There are 1 to 1,024 processors.',
+  steps: 'There are at most 4,294,967,295 steps.',
+  init: 'A cell must be one that there is, and a value is at most 4,294,967,295.',
+};
+
+const HEADER =
+  'The lines before the program are, in this order: pram 1, cells M, procs N, steps T, ' +
+  'any number of init CELL VALUE, code. With pram 2, a line rule common, rule priority or ' +
+  'rule crew stands behind steps.';
+
+function wordsOf(line) {
+  const words = line.split(';', 1)[0].split(/[ \t\r]+/).filter((word) => word !== '');
+  return words.map((word) => shortened(word, 40));
+}
+
+// The words of an instruction line, without its label.
+function instructionOf(line) {
+  const words = wordsOf(line);
+  return words[0]?.endsWith(':') ? words.slice(1) : words;
+}
+
+function foreignCharacter(line) {
+  const at = [...line].findIndex((character) => !/[\t\r\x20-\x7e]/.test(character));
+  if (at < 0) return 'This line has a character that is not allowed.';
+  const character = [...line][at];
+  const shown = /\p{C}|\s/u.test(character)
+    ? `of number ${character.codePointAt(0)}` : `“${character}”`;
+  return `The character ${shown} in column ${at + 1} is not allowed: a text is plain ASCII, ` +
+    'in comments too.';
+}
+
+function badHeader(line) {
+  const words = wordsOf(line);
+  if (words[0] === 'init' && words.length === 3) {
+    return `Cell ${words[1]} was given a value before, or init does not stand here. ${HEADER}`;
+  }
+  if (words[0] === 'rule') {
+    return `A rule is common, priority or crew, and stands only in a text of pram 2. ${HEADER}`;
+  }
+  const found = words.length > 0
+    ? `“${words.join(' ')}” does not stand here. ` : 'A line is missing. ';
+  return found + HEADER;
+}
+
+function badNumber(line) {
+  const wrong = instructionOf(line).slice(1).find((word) => !/^(\d+|r[0-3])$/.test(word));
+  return `${wrong ? `“${wrong}” must be a number` : 'A number is missing'}: digits only, as in ` +
+    '“cells 8” or “set r1 5”.';
+}
+
+function unknownInstruction(line) {
+  const [name] = instructionOf(line);
+  if (name === undefined) return 'An instruction must stand behind the label, on the same line.';
+  const labelled = wordsOf(line)[0].endsWith(':') && !/^[A-Za-z_]\w*:$/.test(wordsOf(line)[0]);
+  if (labelled) return 'A label is a letter or _, then letters, digits and _, then “:”.';
+  return `There is no instruction “${name}”. There are ${Object.keys(USAGE).join(', ')}.`;
+}
+
+function wrongOperands(line) {
+  const [name] = instructionOf(line);
+  const usage = Object.hasOwn(USAGE, name) ? USAGE[name] : undefined;
+  if (!usage) return 'The number of operands is wrong.';
+  return `“${name}” needs ${usage[0]}, as in “${usage[1]}”.`;
+}
+
+function badRegister(line) {
+  const operands = instructionOf(line).slice(1);
+  const wrong = operands.find((word) => !/^r[0-3]$/.test(word));
+  const found = wrong === undefined ? 'An operand' : `“${wrong}”`;
+  return `${found} is no register. There are r0, r1, r2 and r3.`;
+}
+
+function duplicateLabel(line) {
+  const [label] = wordsOf(line);
+  return `The label “${label.slice(0, -1)}” is defined on an earlier line.`;
+}
+
+function unknownLabel(line) {
+  const label = instructionOf(line).at(-1);
+  return `No line defines the label “${label}”. A line does so by beginning with “${label}:”.`;
+}
+
+const WORDINGS = {
+  [FAULT.NOT_ASCII]: foreignCharacter,
+  [FAULT.BAD_HEADER]: badHeader,
+  [FAULT.BAD_NUMBER]: badNumber,
+  [FAULT.OUT_OF_LIMITS]: (line) => LIMITS[wordsOf(line)[0]] ??
+    'A number is at most 4,294,967,295.',
+  [FAULT.UNKNOWN_INSTRUCTION]: unknownInstruction,
+  [FAULT.WRONG_OPERANDS]: wrongOperands,
+  [FAULT.BAD_REGISTER]: badRegister,
+  [FAULT.DUPLICATE_LABEL]: duplicateLabel,
+  [FAULT.UNKNOWN_LABEL]: unknownLabel,
+  [FAULT.NO_CODE]: () => 'The program is missing: no instruction follows the line “code”.',
+  [FAULT.TOO_LONG]: () => 'A program has at most 4,096 instructions.',
+};
+
+export function wordsOfFault(fault, line) {
+  return (WORDINGS[fault] ?? (() => 'This line is refused.'))(line);
+}

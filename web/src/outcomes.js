@@ -1,0 +1,26 @@
+// What a board answers, beside the plain machine, in words.
+import { CODE } from './core.js';
+import { grouped } from './numbers.js';
+
+const sameCells = (some, others) =>
+  some.length === others.length && some.every((value, cell) => value === others[cell]);
+
+const sameConflict = (some, other) =>
+  ['step', 'cell', 'first', 'second'].every((name) => some[name] === other[name]);
+
+function areAlike(outcome, answer) {
+  if (outcome.code !== answer.code) return false;
+  return outcome.code === CODE.DONE
+    ? sameCells(outcome.cells, answer.cells) : sameConflict(outcome, answer);
+}
+
+export function outcomeInWords(outcome, answer) {
+  if (outcome.code === CODE.UNFINISHED) {
+    return `Unfinished: the last finished step is ${grouped(outcome.step)}.`;
+  }
+  const told = outcome.code === CODE.DONE
+    ? 'Done' : `Conflict in step ${grouped(outcome.step)} at cell ${outcome.cell}`;
+  if (answer.code === CODE.TOO_FAR) return `${told}.`;
+  const alike = areAlike(outcome, answer) ? 'the same answer as' : 'ANOTHER ANSWER THAN';
+  return `${told}: ${alike} the plain machine’s.`;
+}

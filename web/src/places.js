@@ -1,0 +1,23 @@
+// Places of the machine: the cells, four registers of each processor, the counters.
+const REGISTERS = 4;
+
+export function nameOfPlace(sizes, place) {
+  const register = place - sizes.cells;
+  if (register < 0) return `cell ${place}`;
+  if (register < REGISTERS * sizes.procs) {
+    return `r${register % REGISTERS} of processor ${Math.floor(register / REGISTERS)}`;
+  }
+  return `the counter of processor ${register - REGISTERS * sizes.procs}`;
+}
+
+export const registerPlace = (sizes, processor, register) =>
+  sizes.cells + REGISTERS * processor + register;
+
+export const counterPlace = (sizes, processor) =>
+  sizes.cells + REGISTERS * sizes.procs + processor;
+
+// The four registers and the counter of a processor, in a state.
+export function registersOf(sizes, places, processor) {
+  const first = registerPlace(sizes, processor, 0);
+  return places.slice(first, first + REGISTERS);
+}

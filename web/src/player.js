@@ -1,0 +1,36 @@
+// Playing: so many beats a second, until it is paused or `beat` says that nothing is left.
+export function openPlayer(button, speed, beat) {
+  let playing = false;
+  let last = 0;
+  let owed = 0;
+
+  function set(now) {
+    playing = now;
+    button.setAttribute('aria-pressed', String(now));
+    button.textContent = now ? '❚❚ Pause' : '▶ Play';
+  }
+
+  function frame(time) {
+    if (!playing) return;
+    owed += ((time - last) / 1000) * Number(speed.value);
+    last = time;
+    const beats = Math.min(Math.floor(owed), Number(speed.value));
+    owed -= Math.floor(owed);
+    if (beats > 0 && !beat(beats)) set(false);
+    requestAnimationFrame(frame);
+  }
+
+  function start() {
+    set(true);
+    owed = 1;
+    last = performance.now();
+    requestAnimationFrame(frame);
+  }
+
+  button.addEventListener('click', () => (playing ? set(false) : start()));
+  set(false);
+  return {
+    pause: () => set(false),
+    toggle: () => button.click(),
+  };
+}

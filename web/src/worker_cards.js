@@ -1,0 +1,73 @@
+// A card for each worker and each twin: where it stands, and what may be done to it.
+import { byId, fit, make, setAttribute, setDisabled, setText } from './dom.js';
+import { DOING, bodyInWords } from './meaning.js';
+import { ACT, MOST_BODIES } from './schedule.js';
+
+const ACTIONS = ['step', 'sleep', 'lose', 'twin', 'if'];
+
+function makeCard(body, onAction) {
+  const buttons = ACTIONS.map((action) => make('button', {
+    type: 'button', 'data-action': action, click: () => onAction(action, body),
+  }));
+  return make('li', {},
+    make('h4', {}, make('span', { class: 'dot' }), make('span')),
+    make('p', { class: 'standing' }),
+    make('div', { class: 'bar' }, ...buttons));
+}
+
+export function isGoing(row) {
+  return row.doing !== DOING.LOST && row.doing !== DOING.DONE && row.doing !== DOING.CONFLICT;
+}
+
+function stateInWords(row, isAsleep) {
+  if (row.doing === DOING.LOST) return 'lost';
+  if (!isGoing(row)) return 'over';
+  return isAsleep ? 'asleep' : 'awake';
+}
+
+// What the buttons of a card say, and whether they do anything now.
+function buttonsOf(row, isAsleep, isFull) {
+  const going = isGoing(row);
+  const lost = row.doing === DOING.LOST;
+  return {
+    step: ['Step', going && !isAsleep],
+    sleep: [isAsleep ? 'Wake' : 'Sleep', going],
+    lose: [lost ? 'Bring back' : 'Lose', true],
+    twin: ['Twin', !isFull],
+    if: ['What if lost here?', going],
+  };
+}
+
+function showCard(card, name, job, row, isAsleep, isFull) {
+  const [heading, standing, bar] = card.children;
+  const state = stateInWords(row, isAsleep);
+  setAttribute(card, 'class', `card worker${row.worker} ${state}`);
+  setText(heading.firstElementChild, String(row.worker));
+  setText(heading.lastElementChild, `${name}, ${state}`);
+  setText(standing, bodyInWords(job, row));
+  const texts = buttonsOf(row, isAsleep, isFull);
+  for (const button of bar.children) {
+    const [text, isEnabled] = texts[button.dataset.action];
+    setText(button, text);
+    setAttribute(button, 'aria-label', `${text}: ${name}`);
+    setDisabled(button, !isEnabled);
+  }
+}
+
+export function openCards(onAction) {
+  return {
+    show(job, bodies, names, sleepers) {
+      const cards = fit(byId('cards'), bodies.length, (body) => makeCard(body, onAction));
+      const isFull = bodies.length >= MOST_BODIES;
+      cards.forEach((card, body) =>
+        showCard(card, names[body], job, bodies[body], sleepers.has(body), isFull));
+    },
+  };
+}
+
+export const actOfAction = (action, row, isAsleep) => {
+  if (action === 'step') return ACT.GO;
+  if (action === 'sleep') return isAsleep ? ACT.WAKE : ACT.SLEEP;
+  if (action === 'twin') return ACT.TWIN;
+  return row.doing === DOING.LOST ? ACT.BACK : ACT.LOSE;
+};

@@ -1,0 +1,369 @@
+// browser_test.js PAGE EXAMPLES PICTURES: the page in Debian's Chromium, by real clicks and keys.
+// Pictures of what a reader sees are saved to the folder PICTURES, to be looked at.
+import { readFileSync, readdirSync } from 'node:fs';
+import { join, resolve } from 'node:path';
+import { deflateRawSync } from 'node:zlib';
+import { writeAddress } from '../src/address.js';
+import { Schedule } from '../src/schedule.js';
+import { withPage } from './browser.js';
+import { report } from './report.js';
+
+const [pagePath, folder, pictures] = process.argv.slice(2);
+const address = `file://${resolve(pagePath)}`;
+const { is, end } = report();
+let page;
+let downloads;
+
+const text = (selector) =>
+  page.evaluate(`document.querySelector(${JSON.stringify(selector)}).textContent`);
+const valueOf = (selector) =>
+  page.evaluate(`document.querySelector(${JSON.stringify(selector)}).value`);
+const isShown = (selector) =>
+  page.evaluate(`document.querySelector(${JSON.stringify(selector)}).checkVisibility()`);
+const count = (selector) =>
+  page.evaluate(`document.querySelectorAll(${JSON.stringify(selector)}).length`);
+const picture = (name) => page.wholePicture(join(pictures, `${name}.png`));
+
+async function has(what, selector, words) {
+  const said = await text(selector);
+  is(what, said.includes(words) || said, true);
+}
+
+async function clicks(selector, times) {
+  for (let k = 0; k < times; k += 1) await page.click(selector);
+}
+
+// Writes a text into the editor, and waits until it was looked at.
+async function write(content) {
+  await page.click('#text');
+  await page.selectAll();
+  if (content === '') await page.press('Delete');
+  else await page.insert(content);
+  await page.until('!document.getElementById("text").classList.contains("waits")');
+}
+
+// An address with nothing else of the last one: the page is loaded anew.
+async function open(hash = '') {
+  is(`opens ${hash.slice(0, 60)}`, await page.open(address + hash), true);
+}
+
+async function testLockstep() {
+  await open();
+  await has('the first example', '#answer', 'done after 20 steps');
+  await clicks('#step-on', 3);
+  is('three steps', await valueOf('#step'), '3');
+  await page.click('#step-back');
+  is('one back', await valueOf('#step'), '2');
+  await has('the mark in the text', '.mark.current .badge', 'P0-15');
+  is('the marked line', await text('.line-number.current'), '20');
+  await page.click('#step');
+  await page.selectAll();
+  await page.insert('14');
+  await page.press('Enter', 'Enter', '\r');
+  is('to step 14', await valueOf('#step'), '14');
+  is('who is written', await text('#plain-cells li:nth-child(2) .cell-note'), 'written by P4, 12');
+  is('arrows', await count('.arrow.write'), 16);
+  await picture('lockstep');
+  await page.click('#step-end');
+  await has('the end', '#plain-said', 'the job ends after 20 steps');
+  is('the answer', await text('#plain-cells li:nth-child(4) .cell-value'), '47');
+  await page.click('#step-start');
+  is('the start', await valueOf('#step'), '0');
+}
+
+async function testLockstepKeys() {
+  await page.evaluate('document.getElementById("lockstep").focus()');
+  for (const key of ['ArrowRight', 'ArrowRight', 'ArrowRight', 'ArrowLeft']) await page.press(key);
+  is('keys on and back', await valueOf('#step'), '2');
+  await page.press('End');
+  is('key to the end', await valueOf('#step'), '20');
+  await page.press('Home');
+  is('key to the start', await valueOf('#step'), '0');
+  await page.choose('#plain-speed', '20');
+  await page.evaluate('document.getElementById("lockstep").focus()');
+  await page.press(' ', 'Space', ' ');
+  is('plays', await page.until('document.getElementById("step").value > 4', 5), true);
+  await page.press(' ', 'Space', ' ');
+  is('pauses', await page.evaluate('document.getElementById("plain-play").ariaPressed'), 'false');
+  await page.click('#plain-play');
+  is('plays to the end', await page.until('document.getElementById("step").value == 20', 10), true);
+}
+
+async function testConflict() {
+  await page.choose('#example', 'conflict');
+  await has('the answer of a conflict', '#answer', 'a conflict in step 4 at cell 0');
+  await page.click('#step-end');
+  await has('both processors', '#plain-said', 'Processor 0 writes 10 (line 15: st r1 r2). ' +
+    'Processor 1 writes 11 (line 15: st r1 r2).');
+  is('marked in the text', await count('.mark.clash'), 1);
+  is('marked in the cell', await count('.cell.is-disputed'), 1);
+  await picture('conflict');
+}
+
+async function testGallery() {
+  const files = readdirSync(folder).filter((name) => name.endsWith('.pram'));
+  is('programs in the menu', await count('#example option'), files.length + 1);
+  for (const file of files) {
+    await page.choose('#example', file.replace('.pram', ''));
+    const out = readFileSync(join(folder, file.replace('.pram', '.out')), 'utf8');
+    const [, steps] = /^done steps=(\d+)/.exec(out) ?? [];
+    await has(file, '#answer', steps ? `done after ${steps} steps` : 'a conflict in step');
+    await page.click('#tab-workers');
+    await page.click('#to-end');
+    await has(`${file} by workers`, '#outcome', 'the same answer as the plain machine');
+    await page.click('#tab-lockstep');
+  }
+}
+
+async function testFaults() {
+  const head = 'pram 1\ncells 2\nprocs 2\nsteps 2\ncode\n';
+  await write(`${head}pid r0\nld r1\n`);
+  is('a fault is said', await text('#fault'),
+    'Line 7: “ld” needs two registers, as in “ld r1 r0”.');
+  is('its line is marked', await text('.line-number.fault'), '7');
+  is('no machine', await isShown('#machine'), false);
+  is('the menu', await valueOf('#example'), 'own');
+  await picture('fault');
+  await write(`${head}pid r0\nld r1 r0\n`);
+  is('mended', await text('#fault'), '');
+  is('a machine', await isShown('#machine'), true);
+  await write('');
+  await has('an empty text', '#fault', 'Line 1: ');
+  await picture('empty');
+}
+
+const HOSTILE_TEXTS = [
+  '<script>document.title = "bad"</script>',
+  '</textarea><img src=x onerror=alert(1)>',
+  'pram 1\ncells 1\nprocs 1\nsteps 1\ncode\n<b>x</b>',
+  '\u0000\uffff\ud800',
+  '𝔘𝔫𝔦',
+  '\r\r\r',
+  ';'.repeat(5000),
+];
+
+async function testHostile() {
+  for (const content of HOSTILE_TEXTS) {
+    await write(content);
+    is(`hostile ${JSON.stringify(content.slice(0, 20))}`, (await text('#fault')).length > 0, true);
+  }
+  is('no markup came in', await count('#program img, #program b, #program script'), 0);
+  await write('pram 1\ncells 65536\nprocs 1024\nsteps 4294967295\ncode\nagain: jmp again\n');
+  await has('an endless job', '#answer', 'too far for this page');
+  await page.click('#step-on');
+  is('it is stepped', await valueOf('#step'), '1');
+  await picture('largest');
+  await page.click('#tab-workers');
+  await page.click('#all-100');
+  await has('the largest tree', '#tree-summary', 'of 2,047 nodes');
+  await picture('largest-workers');
+  await page.click('#tab-lockstep');
+}
+
+const linkTo = (content) =>
+  writeAddress({ text: content, view: 'lockstep', step: 0, schedule: new Schedule(2) }, []);
+
+// They come by a link: Chromium itself takes minutes to write so many lines into any text area.
+async function testLongTexts() {
+  const comments = '; a line\n'.repeat(110000);
+  const lines = `pram 1\ncells 4\nprocs 4\nsteps 3\ncode\npid r0\n${comments}st r0 r0\n`;
+  await open(`#${await linkTo(lines)}`);
+  await has('a text of 1 MB', '#answer', '4 cells');
+  await page.evaluate('document.getElementById("text").scrollTop = 1e9');
+  await page.until('document.querySelector("#gutter").lastElementChild.textContent === "110008"');
+  is('its last line', await text('#gutter > :last-child'), '110008');
+  await picture('long-text');
+  await open(`#${await linkTo('x'.repeat(1000000))}`);
+  await has('a line of 1 MB', '#fault', 'Line 1: ');
+  is('its words are cut', (await text('#fault')).length < 1000, true);
+  const bomb = deflateRawSync(Buffer.alloc(17000000, ';')).toString('base64url');
+  await open(`#text=${bomb}`);
+  await has('a text of 17 MB', '#link-said', "can't be read");
+}
+
+async function testWorkers() {
+  await open('#example=prefix');
+  await page.click('#tab-workers');
+  await page.choose('#worker-count', '3');
+  is('three workers', await count('#cards > li'), 3);
+  await page.click('#cards li:nth-child(2) [data-action=step]');
+  is('one step', await text('#moment-said'), '1 of 1');
+  await has('its meaning', '#steps li', 'worker 1 reads the root: nothing finished');
+  await page.click('#all-1');
+  is('all step', await text('#moment-said'), '4 of 4');
+  await page.click('#all-10');
+  await page.click('#all-100');
+  is('rounds', await text('#moment-said'), '334 of 334');
+  await page.click('#cards li:nth-child(3) [data-action=sleep]');
+  await has('asleep', '#cards li:nth-child(3) h4', 'asleep');
+  await page.click('#all-1');
+  is('the sleeper makes no step', await text('#moment-said'), '337 of 337');
+  await page.click('#cards li:nth-child(3) [data-action=sleep]');
+  await has('awake', '#cards li:nth-child(3) h4', 'awake');
+  await page.click('#cards li:nth-child(2) [data-action=lose]');
+  await has('lost', '#cards li:nth-child(2) h4', 'lost');
+  await page.click('#all-10');
+  await page.click('#cards li:nth-child(2) [data-action=lose]');
+  await has('back', '#cards li:nth-child(2) .standing', 'is about to read where it stood');
+  await has('said', '#steps li', 'worker 1 comes back, knowing nothing');
+  await page.click('#cards li:nth-child(2) [data-action=step]');
+  await has('reads its position', '#steps li', 'worker 1 reads the position of worker 1');
+}
+
+async function testPlan() {
+  await page.click('#plan-part summary');
+  await has('the command', '#plan-said', 'pramx replay program.pram --workers 3 --plan plan.csv');
+  is('the plan', (await valueOf('#plan')).startsWith('worker,act,ticks\n1,go,1\n0,go,1\n'), true);
+  await page.click('#plan-link');
+  await page.until('false', 0.5);
+  const [saved] = readdirSync(downloads).filter((name) => name.endsWith('.csv'));
+  const file = saved && readFileSync(join(downloads, saved), 'utf8');
+  is('the plan file', file, await valueOf('#plan'));
+}
+
+async function testTwinsAndTime() {
+  await page.click('#cards li:nth-child(1) [data-action=twin]');
+  is('a twin', await count('#cards > li'), 4);
+  await has('its name', '#cards li:nth-child(4) h4', 'twin 3 (of worker 0)');
+  await has('no plan for twins', '#plan-said', 'A plan has no twins');
+  await page.click('#plan-part summary');
+  await clicks('#all-100', 8);
+  await page.click('#read-cells li:nth-child(5)');
+  await picture('workers');
+  const before = await text('#moment-said');
+  await page.click('#moment-back');
+  await page.click('#moment-start');
+  has('time goes back', '#moment-said', '0 of ');
+  is('no twin yet', await count('#cards > li'), 3);
+  await page.evaluate('document.getElementById("moment").focus()');
+  await page.press('ArrowRight');
+  has('the slider by key', '#moment-said', '1 of ');
+  await page.click('#moment-on');
+  await page.click('#moment-end');
+  is('and forward', await text('#moment-said'), before);
+}
+
+async function testEnds() {
+  await page.click('#cards li:nth-child(2) [data-action=if]');
+  await has('what if', '#outcome', 'What if worker 1 is lost at moment');
+  await has('the others finish', '#outcome', 'the same answer as the plain machine');
+  await has('it is lost', '#cards li:nth-child(2) h4', 'lost');
+  await picture('what-if');
+  await page.click('#before');
+  await has('back to what was', '#cards li:nth-child(2) h4', 'awake');
+  await page.click('#to-end');
+  await has('to the end', '#outcome', 'Done: the same answer');
+  is('the cells', await text('#read-cells li:nth-child(12) .cell-value'), '31');
+  is('their step', await text('#read-cells li:nth-child(12) .cell-note'), 'step 32');
+  await page.choose('#place-kind', 'register');
+  await page.click('#place-number');
+  await page.selectAll();
+  await page.insert('3');
+  await page.choose('#place-register', '1');
+  await has('a register', '#place-said', 'r1 of processor 3: ');
+  await page.choose('#place-kind', 'counter');
+  await has('a counter', '#place-said', 'the counter of processor 3: ');
+  is('its changes', await count('#place-changes li') > 5, true);
+  await picture('end');
+  await page.click('#reset');
+  is('again', await text('#moment-said'), '0 of 0');
+}
+
+async function testWorkersKeys() {
+  await page.evaluate('document.getElementById("workers").focus()');
+  await page.press('a', 'KeyA', 'a');
+  await page.press('2', 'Digit2', '2');
+  is('keys step all and one', await text('#moment-said'), '4 of 4');
+  await page.press('ArrowLeft');
+  is('a key goes back', await text('#moment-said'), '3 of 4');
+  await page.choose('#speed', '25');
+  await page.click('#play');
+  is('plays', await page.until('+document.getElementById("moment").value > 30', 5), true);
+  await page.click('#play');
+  is('pauses', await page.evaluate('document.getElementById("play").ariaPressed'), 'false');
+}
+
+const HOSTILE_ADDRESSES = ['#text=%00', '#text=AAAA', '#acts=0*99999999', '#workers=900',
+  '#example=__proto__', '#workers=2&acts=x9', '#step=-1', '#%', '#&&=&'];
+
+async function testLink() {
+  await page.click('#copy-link');
+  await page.until('location.hash.includes("acts=")');
+  const hash = await page.evaluate('location.hash');
+  const moment = await text('#moment-said');
+  await open(hash);
+  is('a link carries the moment', await text('#moment-said'), moment);
+  is('and the view', await isShown('#workers'), true);
+  is('and the workers', await count('#cards > li'), 3);
+  await write('pram 1 ; “own”\n');
+  await has('own text', '#fault', 'The character ““” in column 10');
+  await page.until('location.hash.includes("text=")');
+  await open(await page.evaluate('location.hash'));
+  is('a link carries a text', await valueOf('#text'), 'pram 1 ; “own”\n');
+  for (const bad of HOSTILE_ADDRESSES) {
+    await open(bad);
+    await has(`a hostile address ${bad}`, '#answer', 'done after 20 steps');
+  }
+}
+
+async function testReading() {
+  await open('#example=prefix&view=workers&workers=4&acts=0.1.2.3*100');
+  await page.call('Accessibility.enable');
+  const { nodes } = await page.call('Accessibility.getFullAXTree');
+  const roles = ['button', 'textbox', 'combobox', 'slider', 'spinbutton', 'tab', 'link'];
+  const unnamed = nodes.filter((node) =>
+    roles.includes(node.role?.value) && !node.ignored && !node.name?.value);
+  is('every control has a name', unnamed.map((node) => node.role.value).join(), '');
+  const seen = new Set();
+  await page.evaluate('document.activeElement.blur(), scrollTo(0, 0)');
+  for (let k = 0; k < 120; k += 1) {
+    await page.press('Tab');
+    seen.add(await page.evaluate(`(() => {
+      const now = document.activeElement;
+      now.dataset.seen = '1';
+      return now.tagName;
+    })()`));
+  }
+  const missed = await page.evaluate(`(() => {
+    const controls = 'button, input, select, textarea, a, summary';
+    const isMissed = (one) => one.checkVisibility() && !one.disabled && one.tabIndex >= 0 &&
+      !one.dataset.seen;
+    return [...document.querySelectorAll(controls)].filter(isMissed)
+      .map((one) => one.id || one.textContent).join();
+  })()`);
+  is('Tab reaches every control', missed, '');
+}
+
+const SIZES = [
+  [360, 740, 'light'], [768, 1024, 'dark'], [1920, 1080, 'dark'], [3840, 2160, 'light'],
+];
+
+async function testWidths() {
+  for (const [width, height, scheme] of SIZES) {
+    await page.resize(width, height);
+    await page.setScheme(scheme);
+    for (const view of ['lockstep', 'workers']) {
+      await open(`#example=levels&view=${view}&step=20&workers=5&acts=0.1.2.3.4*900`);
+      const wide = await page.evaluate('document.documentElement.scrollWidth');
+      is(`${view} fits ${width}`, wide <= width || wide, true);
+      await picture(`${view}-${width}-${scheme}`);
+    }
+  }
+  await page.resize(1280, 900);
+  await page.setScheme('light');
+}
+
+await withPage(async (opened, scratch) => {
+  page = opened;
+  downloads = scratch;
+  await page.resize(1280, 900);
+  await page.call('Browser.setDownloadBehavior', { behavior: 'allow', downloadPath: scratch });
+  for (const test of [testLockstep, testLockstepKeys, testConflict, testGallery, testFaults,
+    testHostile, testLongTexts, testWorkers, testPlan, testTwinsAndTime, testEnds, testWorkersKeys,
+    testLink, testReading, testWidths]) {
+    console.log(test.name);
+    await test();
+  }
+  is('no exception and no error', page.exceptions.join('; '), '');
+});
+end();

@@ -1,0 +1,254 @@
+// core_test.js PAGE EXAMPLES [PRAMX]: the core that stands in the page, in Node. The gallery
+// against its answers, and against the program `pramx` where a path is given; walks of all three
+// rules.
+import { execFileSync } from 'node:child_process';
+import { readFileSync, readdirSync, writeFileSync } from 'node:fs';
+import { tmpdir } from 'node:os';
+import { join } from 'node:path';
+import { CODE, openCore } from '../src/core.js';
+import { FAULT, wordsOfFault } from '../src/faults.js';
+import { planOf } from '../src/plan.js';
+import { ACT, actOf, readActs, Schedule, writeActs } from '../src/schedule.js';
+import { readAddress, writeAddress } from '../src/address.js';
+import { report } from './report.js';
+
+const MOST = 4294967295;
+const [pagePath, folder, pramx] = process.argv.slice(2);
+const { is, end } = report();
+
+function coreOfPage(path) {
+  const found = /<script type="text\/plain" id="core">([^<]*)</.exec(readFileSync(path, 'utf8'));
+  return openCore(Buffer.from(found[1], 'base64'));
+}
+
+function printed(answer) {
+  if (answer.code === CODE.DONE) {
+    const cells = answer.cells.map((value, cell) => `${cell}: ${value}\n`).join('');
+    return `done steps=${answer.step}\n${cells}`;
+  }
+  if (answer.code === CODE.CONFLICT) {
+    return `conflict step=${answer.step} cell=${answer.cell} ` +
+      `processors=${answer.first},${answer.second}\n`;
+  }
+  return `code=${answer.code}\n`;
+}
+
+// What `pramx plain` prints: with a conflict its status is 1.
+function plainOf(path) {
+  try {
+    return execFileSync(pramx, ['plain', path], { encoding: 'utf8' });
+  } catch (failure) {
+    return failure.stdout;
+  }
+}
+
+// The state after each step is the one before it with the writes of the requests.
+function stepsAgree(core, text, job, answer) {
+  const last = answer.code === CODE.CONFLICT ? answer.step - 1 : answer.step;
+  for (let step = 0; step < last; step += 1) {
+    const { places } = core.state(text, job, step, MOST);
+    const { list } = core.requests(text, job, step, MOST);
+    const next = core.state(text, job, step + 1, MOST).places;
+    for (const [processor, request] of [...list.entries()].reverse()) {
+      if (request.target === 1) places[request.number] = request.value;
+      const register = job.cells + 4 * processor + request.number;
+      if (request.target === 2) places[register] = request.value;
+      places[job.cells + 4 * job.procs + processor] = request.next;
+    }
+    if (places.some((value, place) => value !== next[place])) return `step ${step + 1}`;
+  }
+  return 'agree';
+}
+
+// A walk whose workers take turns, but for these: one loses everything at some moment and comes
+// back later, one sleeps for a time, and a twin of another joins.
+function walkActs(workers, rounds) {
+  const acts = [];
+  for (let round = 0; round < rounds; round += 1) {
+    if (round === 20) acts.push(actOf(ACT.LOSE, 1));
+    if (round === 90) acts.push(actOf(ACT.BACK, 1));
+    if (round === 40) acts.push(actOf(ACT.TWIN, 0));
+    for (let body = 0; body < workers + (round >= 40 ? 1 : 0); body += 1) {
+      const isAsleep = body === 2 && round > 30 && round < 200;
+      if (!isAsleep) acts.push(actOf(ACT.GO, body));
+    }
+  }
+  return acts;
+}
+
+const isOver = (body) => body.doing >= 4;
+
+function walk(core, text) {
+  for (let rounds = 256; rounds < 2000000; rounds *= 2) {
+    const schedule = new Schedule(3, walkActs(3, rounds));
+    const events = schedule.events();
+    const scene = core.scene(text, 3, events, events.length / 2);
+    if (scene.code !== CODE.DONE) return { code: scene.code };
+    if (scene.bodies.every(isOver)) return { code: CODE.DONE, events, scene };
+  }
+  return { code: CODE.UNFINISHED };
+}
+
+// At some moments of the walk each cell is read as the machine had it.
+function readsAgree(core, text, job, events) {
+  const count = events.length / 2;
+  for (let k = 0; k <= 20; k += 1) {
+    const part = events.subarray(0, 2 * Math.floor((count * k) / 20));
+    const { cells } = core.reads(text, job, 3, part);
+    const states = new Map();
+    for (const [cell, { step, value }] of cells.entries()) {
+      if (!states.has(step)) states.set(step, core.state(text, job, step, MOST).places);
+      if (states.get(step)[cell] !== value) return `cell ${cell} at ${k} of 20`;
+    }
+  }
+  return 'agree';
+}
+
+function testProgram(core, name) {
+  const path = join(folder, `${name}.pram`);
+  const text = readFileSync(path, 'utf8');
+  const wanted = readFileSync(join(folder, `${name}.out`), 'utf8');
+  const job = core.judge(text);
+  const answer = core.answer(text, job, MOST);
+  is(`${name}: answer`, printed(answer), wanted);
+  if (pramx) is(`${name}: pramx plain`, printed(answer), plainOf(path));
+  is(`${name}: requests make the states`, stepsAgree(core, text, job, answer), 'agree');
+  const walked = walk(core, text);
+  is(`${name}: a walk ends`, walked.code, CODE.DONE);
+  if (walked.code !== CODE.DONE) return;
+  is(`${name}: its outcome`, printed(core.outcome(text, job, 3, walked.events)), wanted);
+  is(`${name}: its reads`, readsAgree(core, text, job, walked.events), 'agree');
+}
+
+function testPlan(core) {
+  const acts = readActs(3, '0.1.2*5~l1~0.2*9~b1~1*3~l2~0.2.0');
+  is('a plan', planOf(acts).split('\n').length > 20, true);
+  is('its beginning', planOf(acts).startsWith('worker,act,ticks\n0,go,1\n1,go,1\n2,go,1\n'), true);
+  is('its end', planOf(acts).endsWith('1,back,0\n1,go,3\n0,go,2\n2,stop,0\n'), true);
+}
+
+// A replay of the plan makes the same first atomic steps as the page's schedule.
+function testReplay(core, name, scratch) {
+  const acts = readActs(3, '0.1.2*50~l1~0.2*30~b1~1.0*70');
+  const plan = join(scratch, 'playground-plan.csv');
+  writeFileSync(plan, planOf(acts));
+  const path = join(folder, `${name}.pram`);
+  const out = execFileSync(pramx, ['replay', path, '--workers', '3', '--plan', plan],
+    { encoding: 'utf8', maxBuffer: 2 ** 28 });
+  const traced = out.split('\n').slice(1);
+  const events = new Schedule(3, acts).events();
+  const { rows } = core.scene(readFileSync(path, 'utf8'), 3, events, 0);
+  const kinds = ['', 'load', 'store', 'max', 'swap'];
+  const made = rows.filter((row) => row.kind > 0).map((row, k) =>
+    `${k + 1},${row.stands.worker},${kinds[row.kind]},${row.word},${row.before},${row.after}`);
+  is(`${name}: a replay of the plan`, made.find((row, k) => row !== traced[k]) ?? 'alike', 'alike');
+}
+
+function testActs() {
+  const texts = ['', '0', '0.1.2*100', '0.1.2*100~l1~0.2*7', 't0.3~3.0*50~s0~3*9~w0.b2'];
+  for (const text of texts) {
+    const acts = readActs(3, text);
+    is(`acts ${text}`, JSON.stringify(readActs(3, writeActs(acts))), JSON.stringify(acts));
+  }
+  for (const text of ['x', '0*', '*3', '3', '0*9999999', '0.1*400000', 'l9', '-1', 't3', '0..1']) {
+    let said = 'taken';
+    try {
+      readActs(3, text);
+    } catch {
+      said = 'refused';
+    }
+    is(`hostile acts ${text}`, said, 'refused');
+  }
+}
+
+async function testAddress() {
+  const text = 'pram 1 ; ünïcode & <b>=#%\n';
+  const schedule = new Schedule(2, readActs(2, '0.1*9'), 7);
+  const shown = { text, view: 'workers', step: 3, schedule };
+  const read = await readAddress(await writeAddress(shown, []), []);
+  is('an address', JSON.stringify(read), JSON.stringify(shown));
+  const bomb = { ...shown, text: ' '.repeat(20000000) };
+  is('a text too long for a link', await writeAddress(bomb, []), undefined);
+  for (const address of ['text=%%%', 'text=AAAA', 'example=none', 'workers=9', 'workers=0',
+    'workers=2&acts=x', 'workers=2&acts=0&at=5', 'step=99999999999']) {
+    const said = await readAddress(address, []).then(() => 'taken', () => 'refused');
+    is(`hostile address ${address}`, said, 'refused');
+  }
+}
+
+const REFUSED = [
+  ['', FAULT.BAD_HEADER, 1, 'pram 1'],
+  ['pram 1\ncells x', FAULT.BAD_NUMBER, 2, '“x” must be a number'],
+  ['pram 1\ncells 0', FAULT.OUT_OF_LIMITS, 2, '1 to 65,536'],
+  ['é', FAULT.NOT_ASCII, 1, '“é” in column 1'],
+  ['code x', FAULT.BAD_HEADER, 1, 'does not stand here'],
+];
+const CODE_REFUSED = [
+  ['ld r1', FAULT.WRONG_OPERANDS, '“ld” needs two registers, as in “ld r1 r0”'],
+  ['again: ld r1', FAULT.WRONG_OPERANDS, '“ld” needs two registers, as in “ld r1 r0”'],
+  ['mov r1 r2', FAULT.UNKNOWN_INSTRUCTION, 'no instruction “mov”'],
+  ['add r1 r2 r4', FAULT.BAD_REGISTER, '“r4” is no register'],
+  ['a: halt\na: halt', FAULT.DUPLICATE_LABEL, '“a” is defined on an earlier line'],
+  ['jmp nowhere', FAULT.UNKNOWN_LABEL, 'defines the label “nowhere”'],
+  ['', FAULT.NO_CODE, 'no instruction follows'],
+  ['halt\n'.repeat(4097), FAULT.TOO_LONG, 'at most 4,096'],
+  ['3: halt', FAULT.UNKNOWN_INSTRUCTION, 'A label is a letter'],
+  ['a:', FAULT.UNKNOWN_INSTRUCTION, 'must stand behind the label'],
+  ['set r1 4294967296', FAULT.OUT_OF_LIMITS, 'at most 4,294,967,295'],
+  ['set r1 x', FAULT.BAD_NUMBER, '“x” must be a number'],
+];
+
+function testRefused(core, name, text, fault, words) {
+  const judged = core.judge(text);
+  is(`${name}: fault`, [judged.code, judged.fault].join(), [CODE.NO_JOB, fault].join());
+  const line = text.split('\n')[judged.line - 1];
+  const said = wordsOfFault(judged.fault, line ?? '');
+  is(`${name}: words`, said.includes(words) || said, true);
+}
+
+function testRefusals(core) {
+  for (const [text, fault, line, words] of REFUSED) {
+    testRefused(core, JSON.stringify(text), text, fault, words);
+    is(`${JSON.stringify(text)}: line`, core.judge(text).line, line);
+  }
+  const head = 'pram 1\ncells 4\nprocs 2\nsteps 3\ncode\n';
+  for (const [code, fault, words] of CODE_REFUSED) {
+    testRefused(core, JSON.stringify(code.slice(0, 20)), head + code, fault, words);
+  }
+}
+
+function testSizes(core) {
+  const text = 'pram 1\ncells 1\nprocs 1\nsteps 4294967295\ncode\nagain: jmp again\n';
+  is('an endless job', core.answer(text, core.judge(text), 1000).code, CODE.TOO_FAR);
+  const bad = core.scene(text, 65, new Uint32Array(0), 0);
+  is('too many workers', bad.code, CODE.BAD_WORKERS);
+  is('an unknown body', core.scene(text, 2, Uint32Array.of(0, 2), 0).code, CODE.BAD_EVENT);
+  is('an unknown event', core.scene(text, 2, Uint32Array.of(7, 0), 0).code, CODE.BAD_EVENT);
+  is('a step past the end', core.state('pram 1\ncells 1\nprocs 1\nsteps 1\ncode\nhalt\n',
+    { places: 6 }, 2, 10).code, CODE.NO_STEP);
+}
+
+// Going to a far moment is quick.
+function testSpeed(core) {
+  const text = readFileSync(join(folder, 'sort.pram'), 'utf8');
+  const events = new Schedule(4, readActs(4, '0.1.2.3*99999')).events();
+  core.scene(text, 4, events, events.length / 2);
+  const start = performance.now();
+  core.scene(text, 4, events, events.length / 2 - 100);
+  const took = performance.now() - start;
+  console.log(`399,996 events: ${took.toFixed(0)} ms`);
+  is('399,996 events in a second', took < 1000 || took, true);
+}
+
+const core = await coreOfPage(pagePath);
+const names = readdirSync(folder).filter((name) => name.endsWith('.pram')).sort();
+for (const name of names) testProgram(core, name.replace(/\.pram$/, ''));
+testActs();
+testPlan(core);
+await testAddress();
+testRefusals(core);
+testSizes(core);
+testSpeed(core);
+const replayed = pramx ? ['prefix', 'broadcast', 'leader_priority'] : [];
+for (const name of replayed) testReplay(core, name, tmpdir());
+end();
