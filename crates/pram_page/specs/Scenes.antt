@@ -126,8 +126,8 @@ ActivityFits (activity.Turn q) = q ≤ LAST_PHASE
 ActivityFits _ = Unit {0}
 
 abbrev pub PhaseFits : Standing → Type 0
-PhaseFits (standing.Walks w node activity heard) = ActivityFits activity
-PhaseFits (standing.Stopped w) = Unit {0}
+PhaseFits (standing.Walks _ _ activity _) = ActivityFits activity
+PhaseFits (standing.Stopped _) = Unit {0}
 
 abbrev pub body_in : WorldData → ℕ → BodyRow
 body_in s b = body_row s.layout (slice_get s.bodies b)
