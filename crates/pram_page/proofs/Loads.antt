@@ -1,5 +1,5 @@
 -- What a reader gets that makes all its loads on the same words.
-use Rattle.std.proofs.Common.{◌≡◌, ℕ, ◌%◌, ◌==◌, nat_le, List, [], ◌∷◌, slice_index, refl, sym, ap, subst, ◌∙◌}
+use Rattle.std.proofs.Common.{arith, ◌≡◌, ℕ, ◌%◌, ◌==◌, ◌<◌, nat_le, List, [], ◌∷◌, ◌++◌, slice_index, Some, refl, sym, ap, subst, ◌∙◌}
 use Rattle.std.proofs.lemmas.Bool.{cond_both}
 use Rattle.pram_text.specs.Job.{JobData}
 use Rattle.pram_words.specs.Stamps.{stamp_of}
@@ -8,10 +8,19 @@ use Rattle.walkx.specs.declared.operation.Op.{Op}
 use Rattle.walkx.specs.declared.operation.Op.TheVariants.{Load, Store, Max, Swap, Over}
 use Rattle.walkx.specs.declared.operation.ReadOp.TheVariants as read
 use Rattle.walkx.specs.declared.operation.Reading.{Reading}
+use Rattle.walkx.specs.declared.operation.Reading.TheVariants.{At}
 use Rattle.walkx.specs.Reads.{Looking, look_of, looked, looks_for, reader_script, read_script, step_seen}
-use Rattle.walkx.specs.Scripts.{Script, asks, ends, behind, rest}
+use Rattle.walkx.specs.Records.{Record, after}
+use Rattle.walkx.specs.Scripts.{Script, asks, ends, behind, rest, op_with, heard_in}
 use Rattle.walkx.specs.Walk.{IsLayoutOf}
-use Rattle.pram_page.specs.Answers.{read_on}
+use Rattle.lawful_words.specs.Board.{Stands}
+use Rattle.lawful_words.specs.Moments.{Backed, afters}
+use Rattle.walk_laws.specs.Walks.{IsLawfulRead}
+use Rattle.walk_laws.proofs.Sounding.{was_read}
+use Rattle.walk_laws.proofs.Staying.{loads_keep}
+use Rattle.pram_world.specs.Worlds.{WorldData}
+use Rattle.pram_page.specs.declared.reads.ReadRow.{ReadRow}
+use Rattle.pram_page.specs.Answers.{AreAllRead, AreLawful, AreRead, loaded, read_in, read_on, row_of}
 
 -- ---- a script of loads
 
@@ -73,3 +82,49 @@ reads_on y words x now k found e is told =
     let s = look_of y x in
     let next : now ≡ record { cell = x.cell; heard = found ∷ x.heard } = told ∙ looked_load x found k s e in
     (ap (λ (z : Looking). z.cell) next, ap (λ (z : Looking). read_on words (look_of y z)) next ∙ read_behind words s k found (loads_rest (reader_script y x.cell) x.heard (reader_loads y x.cell)) e is)
+
+-- ---- all loads, one after the other
+
+-- the loads of a script behind a record: their answers, the newest first, and what comes of them
+record Loaded (job : JobData) (y : LayoutData) (words : List ℕ) (before : Record) (script : Script Reading) (reading : Reading) (behind : Record) : Type 0 where
+  answers : List ℕ
+  over : rest script answers ≡ ends reading
+  is : behind ≡ afters before (heard_in script answers)
+  backed : Backed job y behind words
+
+-- from a rest of the script on
+load_all : (job : JobData) (y : LayoutData) (words : List ℕ) (before : Record) (script : Script Reading) (s : Script Reading) (r : Record) (answers : List ℕ) → Stands job y words → Loads s
+    → rest script answers ≡ s → r ≡ afters before (heard_in script answers) → Backed job y r words → Loaded job y words before script (read_on words s) (loaded words r s)
+load_all job y words before script (ends reading) r answers stands l at is backed = record { answers = answers; over = at; is = is; backed = backed }
+load_all job y words before script (asks (Load k) next) r answers stands l at is backed =
+    let found = slice_index words k in
+    let longer : op_with (rest script answers) found ≡ (Load k, found) ∷ [] = ap (λ z. op_with z found) at in
+    let now : after r (Load k) found ≡ afters before (heard_in script (found ∷ answers)) =
+    ap (λ z. after z (Load k) found) is ∙ ap (λ (h : List (Op × ℕ)). afters before (h ++ heard_in script answers)) (sym longer) in
+    load_all job y words before script (next found) (after r (Load k) found) (found ∷ answers) stands (l.1 found) (ap (λ z. behind z found) at) now (loads_keep job y r k words stands backed)
+load_all job y words before script (asks (Store j v) next) r answers stands l at is backed = absurd l.0
+load_all job y words before script (asks (Max j v) next) r answers stands l at is backed = absurd l.0
+load_all job y words before script (asks (Swap j old new) next) r answers stands l at is backed = absurd l.0
+load_all job y words before script (asks (Over e) next) r answers stands l at is backed = absurd l.0
+
+lawful_over : (job : JobData) (y : LayoutData) (words : List ℕ) (before : Record) (c : ℕ) (reading : Reading) (behind : Record) → Stands job y words → c < y.cells
+    → Loaded job y words before (reader_script y c) reading behind → IsLawfulRead job y before behind c (row_of reading).step (row_of reading).value
+lawful_over job y words before c (At step value) behind stands cell l =
+    subst (λ z. IsLawfulRead job y before z c step value) (sym l.is)
+    (was_read job y before c step value l.answers cell l.over (record { words = words; stands = stands; backed = subst (λ z. Backed job y z words) l.is l.backed })).0
+
+-- *Lawful read*: what a reader gets from lawful words that bear out a record, behind that record
+lawful_in : (s : WorldData) (made : Record) (c : ℕ) → Stands s.job s.layout s.words → Backed s.job s.layout made s.words → c < s.layout.cells
+    → IsLawfulRead s.job s.layout made (loaded s.words made (reader_script s.layout c)) c (read_in s c).step (read_in s c).value
+lawful_in s made c stands backed cell =
+    lawful_over s.job s.layout s.words made c (read_on s.words (reader_script s.layout c)) (loaded s.words made (reader_script s.layout c)) stands cell
+    (load_all s.job s.layout s.words made (reader_script s.layout c) (reader_script s.layout c) made [] stands (reader_loads s.layout c) refl refl backed)
+
+some_same : (a b : ReadRow) → Some a ≡ Some b → a ≡ b
+some_same a b e = cc
+
+pub lawful_rows : (s : WorldData) (made : Record) (rows : List ReadRow) → Stands s.job s.layout s.words → Backed s.job s.layout made s.words → s.layout.cells ≡ s.job.cells
+    → AreRead s rows → AreLawful s.job s made rows
+lawful_rows s made rows stands backed cells read c row below is =
+    let this : read_in s c ≡ row = some_same (read_in s c) row (sym (read c below) ∙ is) in
+    subst (λ (x : ReadRow). IsLawfulRead s.job s.layout made (loaded s.words made (reader_script s.layout c)) c x.step x.value) this (lawful_in s made c stands backed (omega arith))

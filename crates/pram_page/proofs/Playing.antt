@@ -1,14 +1,23 @@
 -- Events that are played one after the other.
-use Rattle.std.proofs.Common.{arith, ◌≡◌, ◌≢◌, ℕ, zero, suc, ◌+◌, ◌-◌, ◌<◌, ◌≤◌, List, [], ◌∷◌, ◌++◌, length, map, take, slice_get, slice_set, get_or, Some, None, refl, sym, ap, subst, ◌∙◌, inl, inr}
+use Rattle.std.proofs.Common.{arith, ◌≡◌, ◌≢◌, ◌⊎◌, ℕ, zero, suc, ◌+◌, ◌-◌, ◌<◌, ◌≤◌, List, [], ◌∷◌, ◌++◌, length, map, take, slice_get, slice_set, get_or, Some, None, refl, sym, ap, subst, ◌∙◌, inl, inr}
 use Rattle.std.proofs.Math.Seq.{take-length}
 use Rattle.std.proofs.lemmas.Bool.{cases_lt}
 use Rattle.std.proofs.lemmas.List.{length-set}
 use Rattle.std.proofs.lemmas.Option.{slice_get_within}
 use Rattle.pram_words.specs.declared.layout.Form.TheVariants.{Compact}
-use Rattle.pram_world.specs.Runs.{Act, event, twin, load, Run, begun, acted, all_acted}
+use Rattle.pram_text.specs.Job.{JobData}
+use Rattle.pram_text.specs.Text.{Spells}
+use Rattle.pram_text.proofs.Lawful.{spells_lawful}
+use Rattle.pram_words.specs.Words.{LayoutData}
+use Rattle.lawful_words.specs.Board.{Stands}
+use Rattle.lawful_words.specs.Moments.{Backed}
+use Rattle.pram_world.specs.Laws.{IsLawfulRun}
+use Rattle.pram_world.specs.Runs.{Act, event, twin, load, Run, begun, acted, all_acted, TwinFits, TwinsFit}
+use Rattle.pram_world.proofs.Counting.{same_board}
+use Rattle.pram_world.proofs.Interleaving.{every_interleaving}
 use Rattle.pram_page.specs.declared.text.Refusal.TheVariants.{Memory}
 use Rattle.pram_page.specs.Texts.{IsRefused}
-use Rattle.pram_world.specs.Worlds.{WorldData}
+use Rattle.pram_world.specs.Worlds.{WorldData, start}
 use Rattle.pram_world.specs.declared.event.Effect.{Effect}
 use Rattle.pram_page.specs.declared.board.Event.{Event}
 use Rattle.pram_page.specs.declared.board.Hindrance.{Hindrance}
@@ -17,9 +26,13 @@ use Rattle.pram_page.specs.declared.bodies.BodyRow.{BodyRow}
 use Rattle.pram_page.specs.declared.rows.EventRow.{EventRow}
 use Rattle.pram_page.specs.declared.scene.Scene.{Scene}
 use Rattle.pram_page.specs.declared.words.WordRow.{WordRow}
-use Rattle.pram_page.specs.Events.{AreKnown, IsBoardAfter, IsHindered, IsHinderedFrom, IsKnown, IsMade, IsNotMade, IsRunFrom, act_of, effect_by, moved, run_from}
+use Rattle.pram_page.specs.declared.finding.Finding.TheVariants.{Done}
+use Rattle.pram_page.specs.declared.reads.ReadRow.{ReadRow}
+use Rattle.pram_page.specs.Answers.{AreLawful, AreRead, AreReadsFound}
+use Rattle.pram_page.specs.Events.{AreKnown, BoardAfter, IsBoardAfter, IsHindered, IsHinderedFrom, IsKnown, IsMade, IsNotMade, IsRunFrom, act_of, effect_by, moved, run_from, run_of}
 use Rattle.pram_page.specs.Scenes.{AreShown, IsBoardTold, IsNoted, IsScene, count_shown, event_row, row_with}
 use Rattle.pram_page.proofs.Buffers.{nat_cases, set_other, set_same}
+use Rattle.pram_page.proofs.Loads.{lawful_rows, same_cells}
 
 -- the rows of the events before n, as far as there is room
 abbrev pub ShownTo : ℕ → Run → List Event → ℕ → List EventRow → Type 0
@@ -125,11 +138,50 @@ hindered_at r events n e s BadWorkers at run h = h
 hindered_at r events n e s (BadEvent m) at run h = subst (λ k. IsHinderedFrom r events (BadEvent k)) (sym h.0)
     (record { at = e; is = at; known = run.known; unknown = λ k. h.1 (subst (λ w. IsKnown w e) (sym run.world) k) })
 
+-- ---- the law of runs holds of what is played
+
+-- an event that is known is a twin of one of the workers, if it is a twin
+act_fits : (workers kind body bodies : ℕ) → ((kind < 3) × (body < bodies)) ⊎ ((kind ≡ 3) × (body < workers)) → TwinFits workers (act_of (record { kind = kind; body = body }))
+act_fits workers zero body bodies known = tt
+act_fits workers (suc zero) body bodies known = tt
+act_fits workers (suc (suc zero)) body bodies known = tt
+act_fits workers (suc (suc (suc zero))) body bodies (inl known) = absurd (omega arith)
+act_fits workers (suc (suc (suc zero))) body bodies (inr known) = known.1
+act_fits workers (suc (suc (suc (suc more)))) body bodies (inl known) = absurd (omega arith)
+act_fits workers (suc (suc (suc (suc more)))) body bodies (inr known) = absurd (omega arith)
+
+board_stays : (r : Run) (a : Act) → (acted r a).world.layout ≡ r.world.layout
+board_stays r (event e) = (same_board r.world e).1
+board_stays r (twin w) = refl
+board_stays r (load k) = refl
+
+twins_fit : (workers : ℕ) (r : Run) (events : List Event) → r.world.layout.workers ≡ workers → AreKnown r events → TwinsFit workers (map act_of events)
+twins_fit workers r [] is known = tt
+twins_fit workers r (e ∷ es) is known =
+    let stays : (acted r (act_of e)).world.layout.workers ≡ workers = ap (λ (y : LayoutData). y.workers) (board_stays r (act_of e)) ∙ is in (
+      subst (λ n. TwinFits n (act_of e)) is (act_fits r.world.layout.workers e.kind e.body (length r.world.bodies) known.0),
+      twins_fit workers (acted r (act_of e)) es stays known.1,
+    )
+
+played_lawfully : (text : List ℕ) (job : JobData) (workers : ℕ) (events : List Event) → Spells text job → 1 ≤ workers → workers ≤ 64
+    → AreKnown (begun job Compact workers) events → IsLawfulRun job Compact workers (run_of job workers events)
+played_lawfully text job workers events spells some most known =
+    every_interleaving job Compact workers (map act_of events) (spells_lawful text job spells) some most (twins_fit workers (begun job Compact workers) events refl known)
+
 -- ---- the board of a text
+
+board_run : (text : List ℕ) (workers : ℕ) (events : List Event) (job : JobData) (now : WorldData) → Spells text job → 1 ≤ workers → workers ≤ 64
+    → IsRunFrom (begun job Compact workers) events now → BoardAfter workers events now job
+board_run text workers events job now spells some most run =
+    let law = played_lawfully text job workers events spells some most run.known in
+    record { some = some; most = most; run = run; job_stays = ap (λ (w : WorldData). w.job) run.world ∙ law.job_stays; lawful = law }
+
+pub board_first : (text : List ℕ) (workers : ℕ) (job : JobData) (s : WorldData) → Spells text job → 1 ≤ workers → workers ≤ 64 → s ≡ start job workers → IsBoardAfter text workers [] s
+board_first text workers job s spells some most is = (job, spells, board_run text workers [] job s spells some most (record { known = tt; world = is }))
 
 pub board_text : (text : List ℕ) (workers : ℕ) (events : List Event) (s now : WorldData) → IsBoardAfter text workers [] s → ((r : Run) → r.world ≡ s → IsRunFrom r events now) → IsBoardAfter text workers events now
 board_text text workers events s now board run =
-    (board.0, board.1, record { some = board.2.some; most = board.2.most; run = run (begun board.0 Compact workers) (sym board.2.run.world) })
+    (board.0, board.1, board_run text workers events board.0 now board.1 board.2.some board.2.most (run (begun board.0 Compact workers) (sym board.2.run.world)))
 
 pub hindered_text : (text : List ℕ) (workers : ℕ) (events : List Event) (s : WorldData) (h : Hindrance) → IsBoardAfter text workers [] s → ((r : Run) → r.world ≡ s → IsHinderedFrom r events h) → IsHindered text workers events h
 hindered_text text workers events s (Refused refusal) board found = subst (IsRefused text) (sym (found (begun board.0 Compact workers) (sym board.2.run.world))) tt
@@ -151,4 +203,20 @@ pub scene_text : (text : List ℕ) (workers : ℕ) (events : List Event) (from :
 scene_text text workers events from rows words bodies told s now board run shown is =
     let r = begun board.0 Compact workers in
     let at : r.world ≡ s = sym board.2.run.world in
-    inl (board.0, board.1, (now, record { some = board.2.some; most = board.2.most; run = run r at }, shown r at, is))
+    inl (board.0, board.1, (now, board_run text workers events board.0 now board.1 board.2.some board.2.most (run r at), shown r at, is))
+
+-- ---- the cells as readers get them
+
+-- the words of the board are lawful, and bear out the record of all atomic steps on it
+pub reads_text : (text : List ℕ) (workers : ℕ) (events : List Event) (s : WorldData) (step count : ℕ) (old rows : List ReadRow) → IsBoardAfter text workers events s → step ≡ 0 → count ≡ s.job.cells
+    → AreRead s rows → AreReadsFound text workers events old rows (Done step count)
+reads_text text workers events s step count old rows board zeroth all read =
+    let job = board.0 in
+    let r = run_of job workers events in
+    let law = board.2.lawful in
+    let here : s ≡ r.world = board.2.run.world in
+    let same : s.job ≡ job = board.2.job_stays in
+    let stands : Stands s.job s.layout s.words = subst (λ (w : WorldData). Stands w.job w.layout w.words) (sym here) law.interleaves.lawful in
+    let backed : Backed s.job s.layout r.made s.words = subst (λ (w : WorldData). Backed w.job w.layout r.made w.words) (sym here) law.interleaves.backed in
+    let lawful : AreLawful s.job s r.made rows = lawful_rows s r.made rows stands backed (same_cells s.job s.layout stands.layout) read in
+    (job, board.1, (s, board.2, (zeroth, all ∙ ap (λ (j : JobData). j.cells) same, read, subst (λ j. AreLawful j s r.made rows) same lawful)))

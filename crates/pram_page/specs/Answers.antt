@@ -5,17 +5,23 @@ use Rattle.walkx.specs.declared.operation.Reading.{Reading}
 use Rattle.walkx.specs.declared.operation.Reading.TheVariants.{At}
 use Rattle.walkx.specs.Operations as operations
 use Rattle.walkx.specs.Reads.{reader_script}
+use Rattle.walkx.specs.Records.{Record, after}
 use Rattle.walkx.specs.Scripts.{Script, asks, ends}
+use Rattle.pram_text.specs.Job.{JobData}
+use Rattle.walk_laws.specs.Walks.{IsLawfulRead}
 use Rattle.pram_world.specs.Outcomes.{IsOutcome}
 use Rattle.pram_world.specs.Worlds.{WorldData}
 use Rattle.pram_page.specs.declared.board.Event.{Event}
 use Rattle.pram_page.specs.declared.board.Hindrance.{Hindrance}
 use Rattle.pram_page.specs.declared.board.Hindrance.TheVariants as hindrance
 use Rattle.pram_page.specs.declared.finding.Finding.{Finding}
-use Rattle.pram_page.specs.declared.finding.Finding.TheVariants.{Done, Conflict, Unfinished, NoRoom, NoStep, TooFar, BadWorkers, BadEvent, Refused}
+use Rattle.pram_page.specs.declared.finding.Finding.TheVariants.{Done, Conflict, Unfinished, NoRoom}
+use Rattle.pram_page.specs.declared.finding.Finding.TheVariants.{NoStep, TooFar, BadWorkers}
+use Rattle.pram_page.specs.declared.finding.Finding.TheVariants.{BadEvent, Refused}
 use Rattle.pram_page.specs.declared.finding.Told.{Told}
 use Rattle.pram_page.specs.declared.reads.ReadRow.{ReadRow}
-use Rattle.pram_page.specs.Events.{IsBoardAfter, IsHindered}
+use Rattle.pram_page.specs.Events.{BoardAfter, IsBoardAfter, IsHindered, run_of}
+use Rattle.pram_page.specs.Texts.{OfJob}
 use Rattle.pram_page.specs.Findings.{told_of}
 
 -- why there is no board
@@ -32,20 +38,28 @@ OfWorld text workers events holds = (s : WorldData) × IsBoardAfter text workers
 
 abbrev pub IsOutcomeFound : List ℕ → ℕ → List Event → List ℕ → List ℕ → Finding → Type 0
 IsOutcomeFound text workers events old cells (Done step count) =
-    OfWorld text workers events (λ s. (step ≡ s.job.steps) × IsOutcome s (answer.Final (take count cells)))
+    OfWorld text workers events
+    (λ s. (step ≡ s.job.steps) × IsOutcome s (answer.Final (take count cells)))
 IsOutcomeFound text workers events old cells (Conflict fault count) =
     OfWorld text workers events (λ s. (count ≡ 0) × IsOutcome s (answer.Conflict fault))
-IsOutcomeFound text workers events old cells (Unfinished step) = OfWorld text workers events (λ s. IsOutcome s (answer.Unfinished step))
+IsOutcomeFound text workers events old cells (Unfinished step) =
+    OfWorld text workers events (λ s. IsOutcome s (answer.Unfinished step))
 IsOutcomeFound text workers events old cells (NoRoom needed) =
-    OfWorld text workers events (λ s. (found : List ℕ) × IsOutcome s (answer.Final found) × (needed ≡ length found) × (length old < needed))
+    OfWorld text workers events (λ s. (found : List ℕ) × IsOutcome s (answer.Final found)
+    × (needed ≡ length found) × (length old < needed))
 IsOutcomeFound text workers events old cells NoStep = ⊥
 IsOutcomeFound text workers events old cells TooFar = ⊥
-IsOutcomeFound text workers events old cells BadWorkers = IsHindered text workers events hindrance.BadWorkers
-IsOutcomeFound text workers events old cells (BadEvent n) = IsHindered text workers events (hindrance.BadEvent n)
-IsOutcomeFound text workers events old cells (Refused r) = IsHindered text workers events (hindrance.Refused r)
+IsOutcomeFound text workers events old cells BadWorkers =
+    IsHindered text workers events hindrance.BadWorkers
+IsOutcomeFound text workers events old cells (BadEvent n) =
+    IsHindered text workers events (hindrance.BadEvent n)
+IsOutcomeFound text workers events old cells (Refused r) =
+    IsHindered text workers events (hindrance.Refused r)
 
 abbrev pub IsOutcomeTold : List ℕ → ℕ → List Event → List ℕ → List ℕ → Told → Type 0
-IsOutcomeTold text workers events old cells told = (finding : Finding) × IsOutcomeFound text workers events old cells finding × (told ≡ told_of finding)
+IsOutcomeTold text workers events old cells told =
+    (finding : Finding) × IsOutcomeFound text workers events old cells finding
+    × (told ≡ told_of finding)
 
 -- ---- what readers get
 
@@ -64,13 +78,41 @@ read_in s cell = row_of (read_on s.words (reader_script s.layout cell))
 abbrev pub AreRead : WorldData → List ReadRow → Type 0
 AreRead s rows = (cell : ℕ) → cell < s.job.cells → slice_get rows cell ≡ Some (read_in s cell)
 
-abbrev pub AreReadsFound : List ℕ → ℕ → List Event → List ReadRow → List ReadRow → Finding → Type 0
-AreReadsFound text workers events old rows (Done step count) = OfWorld text workers events (λ s. (step ≡ 0) × (count ≡ s.job.cells) × AreRead s rows)
-AreReadsFound text workers events old rows (NoRoom needed) = OfWorld text workers events (λ s. (needed ≡ s.job.cells) × (length old < needed))
-AreReadsFound text workers events old rows BadWorkers = IsHindered text workers events hindrance.BadWorkers
-AreReadsFound text workers events old rows (BadEvent n) = IsHindered text workers events (hindrance.BadEvent n)
-AreReadsFound text workers events old rows (Refused r) = IsHindered text workers events (hindrance.Refused r)
+-- the record behind the loads of a script that are all answered by these words
+abbrev pub loaded : List ℕ → Record → Script Reading → Record
+loaded words r (asks op next) =
+    let found = operations.answer words op in loaded words (after r op found) (next found)
+loaded words r (ends reading) = r
+
+-- *Lawful read*: each row is one of its cell, behind the record of all atomic steps so far: what
+-- the cell held after a step that is reached, none that any body knew before being later.
+abbrev pub AreLawful : JobData → WorldData → Record → List ReadRow → Type 0
+AreLawful job s made rows =
+    (cell : ℕ) (row : ReadRow) → cell < job.cells → slice_get rows cell ≡ Some row →
+    IsLawfulRead job s.layout made (loaded s.words made (reader_script s.layout cell))
+    cell row.step row.value
+
+-- the rows of all cells, on this board, the record of all atomic steps on it being such a one
+abbrev pub AreAllRead : JobData → WorldData → Record → ℕ → ℕ → List ReadRow → Type 0
+AreAllRead job s made step count rows =
+    (step ≡ 0) × (count ≡ job.cells) × AreRead s rows × AreLawful job s made rows
+
+abbrev pub AreReadsFound
+    : List ℕ → ℕ → List Event → List ReadRow → List ReadRow → Finding → Type 0
+AreReadsFound text workers events old rows (Done step count) =
+    OfJob text (λ job. (s : WorldData) × BoardAfter workers events s job
+    × AreAllRead job s (run_of job workers events).made step count rows)
+AreReadsFound text workers events old rows (NoRoom needed) =
+    OfWorld text workers events (λ s. (needed ≡ s.job.cells) × (length old < needed))
+AreReadsFound text workers events old rows BadWorkers =
+    IsHindered text workers events hindrance.BadWorkers
+AreReadsFound text workers events old rows (BadEvent n) =
+    IsHindered text workers events (hindrance.BadEvent n)
+AreReadsFound text workers events old rows (Refused r) =
+    IsHindered text workers events (hindrance.Refused r)
 AreReadsFound text workers events old rows _ = ⊥
 
 abbrev pub AreReadsTold : List ℕ → ℕ → List Event → List ReadRow → List ReadRow → Told → Type 0
-AreReadsTold text workers events old rows told = (finding : Finding) × AreReadsFound text workers events old rows finding × (told ≡ told_of finding)
+AreReadsTold text workers events old rows told =
+    (finding : Finding) × AreReadsFound text workers events old rows finding
+    × (told ≡ told_of finding)

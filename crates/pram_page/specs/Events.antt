@@ -1,9 +1,11 @@
 -- Events of a page, and the board after them.
-use Rattle.std.specs.Prelude.{◌≡◌, ◌⊎◌, ℕ, ◌+◌, ◌<◌, ◌≤◌, ◌==◌, if◌then◌else◌, List, [], ◌∷◌, length, map, take, slice_get, Some}
+use Rattle.std.specs.Prelude.{◌≡◌, ◌⊎◌, ℕ, ◌+◌, ◌<◌, ◌≤◌, ◌==◌, if◌then◌else◌, List, [], ◌∷◌}
+use Rattle.std.specs.Prelude.{length, map, take, slice_get, Some}
 use Rattle.pram_text.specs.Job.{JobData}
 use Rattle.pram_words.specs.declared.layout.Form.TheVariants.{Compact}
 use Rattle.pram_world.specs.declared.event.Effect.{Effect}
 use Rattle.pram_world.specs.declared.event.Event.TheVariants.{Go, Stop, Back}
+use Rattle.pram_world.specs.Laws.{IsLawfulRun}
 use Rattle.pram_world.specs.Runs.{Act, event, twin, load, Run, begun, acted, all_acted}
 use Rattle.pram_world.specs.Worlds.{WorldData, happens, twinned, nothing, shown}
 use Rattle.pram_page.specs.declared.board.Event.{Event}
@@ -13,14 +15,18 @@ use Rattle.pram_page.specs.declared.codes.TheConstants.{WORKERS_MOST}
 use Rattle.pram_page.specs.declared.text.Refusal.TheVariants.{Memory}
 use Rattle.pram_page.specs.Texts.{OfJob, IsRefused}
 
--- what an event is: 0 an atomic step of the body of this number, 1 its loss, 2 its return, 3 one body more, a twin of this worker
+-- what an event is: 0 an atomic step of the body of this number, 1 its loss, 2 its return, 3 one
+-- body more, a twin of this worker
 abbrev pub act_of : Event → Act
 act_of e =
-    if e.kind == 0 then event (Go e.body) else (if e.kind == 1 then event (Stop e.body) else (if e.kind == 2 then event (Back e.body) else twin e.body))
+    if e.kind == 0 then event (Go e.body)
+    else (if e.kind == 1 then event (Stop e.body)
+    else (if e.kind == 2 then event (Back e.body) else twin e.body))
 
 -- there is such a body, or such a worker
 abbrev pub IsKnown : WorldData → Event → Type 0
-IsKnown s e = ((e.kind < 3) × (e.body < length s.bodies)) ⊎ ((e.kind ≡ 3) × (e.body < s.layout.workers))
+IsKnown s e =
+    ((e.kind < 3) × (e.body < length s.bodies)) ⊎ ((e.kind ≡ 3) × (e.body < s.layout.workers))
 
 -- ---- what an event does
 
@@ -76,11 +82,19 @@ IsHinderedFrom r events (BadEvent n) = IsUnknown r events n
 
 -- ---- the board of a text
 
--- of the job that the text spells, for so many workers, after these events
-pub record BoardAfter (workers : ℕ) (events : List Event) (s : WorldData) (job : JobData) : Type 0 where
+-- the run of these events on the board of a job, for so many workers
+abbrev pub run_of : JobData → ℕ → List Event → Run
+run_of job workers events = run_from (begun job Compact workers) events
+
+-- Of the job that the text spells, for so many workers, after these events. It is a world of the
+-- law of runs: the words are lawful and show the machine, and bear out the record of all steps.
+pub record BoardAfter (workers : ℕ) (events : List Event) (s : WorldData) (job : JobData)
+    : Type 0 where
   pub some : 1 ≤ workers
   pub most : workers ≤ WORKERS_MOST
   pub run : IsRunFrom (begun job Compact workers) events s
+  pub job_stays : s.job ≡ job
+  pub lawful : IsLawfulRun job Compact workers (run_of job workers events)
 
 abbrev pub IsBoardAfter : List ℕ → ℕ → List Event → WorldData → Type 0
 IsBoardAfter text workers events s = OfJob text (BoardAfter workers events s)
@@ -89,4 +103,5 @@ IsBoardAfter text workers events s = OfJob text (BoardAfter workers events s)
 abbrev pub IsHindered : List ℕ → ℕ → List Event → Hindrance → Type 0
 IsHindered text workers events (Refused refusal) = IsRefused text refusal
 IsHindered text workers events BadWorkers = (workers < 1) ⊎ (WORKERS_MOST < workers)
-IsHindered text workers events (BadEvent n) = OfJob text (λ job. IsUnknown (begun job Compact workers) events n)
+IsHindered text workers events (BadEvent n) =
+    OfJob text (λ job. IsUnknown (begun job Compact workers) events n)

@@ -1,14 +1,26 @@
 -- How what is found is told in numbers.
-use Rattle.std.specs.Prelude.{ℕ}
-use Rattle.pram_page.specs.declared.codes.TheConstants.{DONE, NO_ROOM, CONFLICT, UNFINISHED, NO_STEP, TOO_FAR, BAD_WORKERS, BAD_EVENT}
+use Rattle.std.specs.Prelude.{◌≡◌, ℕ, ◌==◌, ◌||◌, if◌then◌else◌, List, drop}
+use Rattle.pram_page.specs.declared.codes.TheConstants.{DONE, NO_ROOM, CONFLICT, UNFINISHED}
+use Rattle.pram_page.specs.declared.codes.TheConstants.{NO_STEP, TOO_FAR, BAD_WORKERS, BAD_EVENT}
 use Rattle.pram_page.specs.declared.finding.Finding.{Finding}
-use Rattle.pram_page.specs.declared.finding.Finding.TheVariants.{Done, Conflict, Unfinished, NoRoom, NoStep, TooFar, BadWorkers, BadEvent, Refused}
+use Rattle.pram_page.specs.declared.finding.Finding.TheVariants.{Done, Conflict, Unfinished, NoRoom}
+use Rattle.pram_page.specs.declared.finding.Finding.TheVariants.{NoStep, TooFar, BadWorkers}
+use Rattle.pram_page.specs.declared.finding.Finding.TheVariants.{BadEvent, Refused}
 use Rattle.pram_page.specs.declared.finding.Told.{Told}
 use Rattle.pram_page.specs.Texts.{refused_as}
 
 -- a code and a count alone
 abbrev pub counted : ℕ → ℕ → Told
-counted code count = record { code = code; fault = 0; line = 0; step = 0; cell = 0; first = 0; second = 0; count = count }
+counted code count = record {
+  code = code;
+  fault = 0;
+  line = 0;
+  step = 0;
+  cell = 0;
+  first = 0;
+  second = 0;
+  count = count;
+}
 
 abbrev pub told_of : Finding → Told
 told_of (Done step count) = record (counted DONE count) { step = step }
@@ -28,4 +40,23 @@ told_of NoStep = counted NO_STEP 0
 told_of TooFar = counted TOO_FAR 0
 told_of BadWorkers = counted BAD_WORKERS 0
 told_of (BadEvent number) = counted BAD_EVENT number
-told_of (Refused r) = record (counted (refused_as r).code 0) { fault = (refused_as r).fault; line = (refused_as r).line }
+told_of (Refused r) =
+    record (counted (refused_as r).code 0) {
+      fault = (refused_as r).fault;
+      line = (refused_as r).line;
+    }
+
+-- ---- buffers
+
+-- so many elements of the buffer are written
+abbrev pub count_written : Finding → ℕ
+count_written (Done step count) = count
+count_written (Conflict f count) = count
+count_written _ = 0
+
+abbrev pub told_written : Told → ℕ
+told_written told = if told.code == DONE || told.code == CONFLICT then told.count else 0
+
+-- what lies behind the first so many elements is as it was
+abbrev pub IsKeptBehind : {X : Type 0} → ℕ → List X → List X → Type 0
+IsKeptBehind count old new = drop count new ≡ drop count old

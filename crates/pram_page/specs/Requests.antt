@@ -1,23 +1,30 @@
 -- What is told of the requests of a step.
-use Rattle.std.specs.Prelude.{◌≡◌, ◌⊎◌, ℕ, ◌+◌, ◌-◌, ◌*◌, ◌<◌, ◌≤◌, ◌==◌, nat_lt, if◌then◌else◌, List, length, slice_get, slice_index, Option, Some, None}
+use Rattle.std.specs.Prelude.{◌≡◌, ◌⊎◌, ℕ, ◌+◌, ◌-◌, ◌*◌, ◌<◌, ◌≤◌, ◌==◌, nat_lt, if◌then◌else◌}
+use Rattle.std.specs.Prelude.{List, length, slice_get, slice_index, Option, Some, None}
 use Rattle.pram_text.specs.declared.instr.Instr.{Instr}
 use Rattle.pram_text.specs.Job.{JobData}
+use Rattle.pram_step.specs.declared.answer.Fault.{Fault}
 use Rattle.pram_step.specs.declared.requests.Request.{Request}
 use Rattle.pram_step.specs.Instructions.{cell_read, operand_held, request_in, requests_in}
 use Rattle.pram_step.specs.Machine.{State, counter}
 use Rattle.pram_step.specs.Runs.{AgreesAfter, IsReached, IsFirstConflict, state_after}
 use Rattle.pram_page.specs.declared.finding.Finding.{Finding}
-use Rattle.pram_page.specs.declared.finding.Finding.TheVariants.{Done, Conflict, Unfinished, NoRoom, NoStep, TooFar, BadWorkers, BadEvent, Refused}
+use Rattle.pram_page.specs.declared.finding.Finding.TheVariants.{Done, Conflict, Unfinished, NoRoom}
+use Rattle.pram_page.specs.declared.finding.Finding.TheVariants.{NoStep, TooFar, BadWorkers}
+use Rattle.pram_page.specs.declared.finding.Finding.TheVariants.{BadEvent, Refused}
 use Rattle.pram_page.specs.declared.finding.Told.{Told}
 use Rattle.pram_page.specs.declared.requests.RequestRow.{RequestRow}
 use Rattle.pram_page.specs.declared.requests.Target.{Target}
 use Rattle.pram_page.specs.declared.text.Refusal.TheVariants.{Memory}
 use Rattle.pram_page.specs.Texts.{OfJob, IsRefused}
-use Rattle.pram_page.specs.Findings.{told_of}
+use Rattle.pram_page.specs.Findings.{IsKeptBehind, count_written, told_of}
 
--- 0 where a counter is an instruction's place, 1 where the processor has halted, 2 where an address was out of range
+-- 0 where a counter is an instruction's place, 1 where the processor has halted, 2 where an address
+-- was out of range
 abbrev pub status_of : JobData → ℕ → ℕ
-status_of job counter = if nat_lt counter (length job.code) then 0 else (if counter == length job.code then 1 else 2)
+status_of job counter =
+    if nat_lt counter (length job.code) then 0
+    else (if counter == length job.code then 1 else 2)
 
 -- the cell that processor i reads in a state
 abbrev pub cell_by : JobData → State → ℕ → Option Instr → Option ℕ
@@ -36,7 +43,7 @@ abbrev pub held_part : State → Option ℕ → ℕ
 held_part s None = 0
 held_part s (Some c) = slice_index s c
 
--- what a data write goes to: nothing, a cell, or a register of processor i; its number; and the value
+-- what a data write goes to: nothing, a cell, or a register of processor i; its number; the value
 abbrev pub target_of : JobData → ℕ → Option (ℕ × ℕ) → Target
 target_of job i None = record { kind = 0; number = 0; value = 0 }
 target_of job i (Some w) =
@@ -62,27 +69,44 @@ row_in job s i =
 abbrev pub AreRows : JobData → State → List RequestRow → Type 0
 AreRows job s rows = (i : ℕ) → i < job.procs → slice_get rows i ≡ Some (row_in job s i)
 
--- ---- the step behind t steps: it agrees, or is the first conflict, and the rows are told; or an earlier one is, and none are
+-- ---- the step behind t steps: it agrees, or is the first conflict, and the rows are told; or an
+-- earlier one is, and none are
 
 -- of a job that reaches the state after t steps, and has one step more
-abbrev pub IsAskedIn : JobData → ℕ → List RequestRow → List RequestRow → Finding → Type 0
-IsAskedIn job t old rows (Done step count) =
-    (step ≡ t) × (t < job.steps) × (count ≡ job.procs) × IsReached job t × AgreesAfter job t × AreRows job (state_after job t) rows
-IsAskedIn job t old rows (Conflict fault count) =
-    IsFirstConflict job fault × (fault.step ≡ t + 1) × (count ≡ job.procs) × AreRows job (state_after job t) rows
-IsAskedIn job t old rows (NoRoom needed) = (needed ≡ job.procs) × (length old < needed)
-IsAskedIn job t old rows (Refused refusal) = refusal ≡ Memory
-IsAskedIn job t old rows _ = ⊥
+abbrev pub IsAskedIn : JobData → ℕ → List RequestRow → Finding → Type 0
+IsAskedIn job t rows (Done step count) =
+    (step ≡ t) × (t < job.steps) × (count ≡ job.procs) × IsReached job t × AgreesAfter job t
+    × AreRows job (state_after job t) rows
+IsAskedIn job t rows (Conflict fault count) =
+    IsFirstConflict job fault × (fault.step ≡ t + 1) × (count ≡ job.procs)
+    × AreRows job (state_after job t) rows
+IsAskedIn job t rows (Refused refusal) = refusal ≡ Memory
+IsAskedIn job t rows _ = ⊥
 
-abbrev pub IsAskedFor : List ℕ → ℕ → ℕ → List RequestRow → List RequestRow → Finding → Type 0
-IsAskedFor text t most old rows (Done step count) = OfJob text (λ job. IsAskedIn job t old rows (Done step count))
+-- the first conflict comes before this step
+abbrev pub IsDisputedBefore : JobData → ℕ → Fault → ℕ → Type 0
+IsDisputedBefore job t fault count =
+    IsFirstConflict job fault × (fault.step ≤ t) × (count ≡ 0)
+
+abbrev pub IsAskedFor
+    : List ℕ → ℕ → ℕ → List RequestRow → List RequestRow → Finding → Type 0
+IsAskedFor text t most old rows (Done step count) =
+    OfJob text (λ job. IsAskedIn job t rows (Done step count))
 IsAskedFor text t most old rows (Conflict fault count) =
-    OfJob text (λ job. IsAskedIn job t old rows (Conflict fault count) ⊎ (IsFirstConflict job fault × (fault.step ≤ t) × (count ≡ 0)))
-IsAskedFor text t most old rows (NoRoom needed) = OfJob text (λ job. IsAskedIn job t old rows (NoRoom needed))
+    OfJob text (λ job. IsAskedIn job t rows (Conflict fault count)
+    ⊎ IsDisputedBefore job t fault count)
+IsAskedFor text t most old rows (NoRoom needed) =
+    OfJob text (λ job. (needed ≡ job.procs) × (length old < needed))
 IsAskedFor text t most old rows NoStep = OfJob text (λ job. job.steps ≤ t)
 IsAskedFor text t most old rows TooFar = OfJob text (λ job. (most < t) × IsReached job most)
 IsAskedFor text t most old rows (Refused refusal) = IsRefused text refusal
 IsAskedFor text t most old rows _ = ⊥
 
 abbrev pub AreAsked : List ℕ → ℕ → ℕ → List RequestRow → List RequestRow → Told → Type 0
-AreAsked text t most old rows told = (finding : Finding) × IsAskedFor text t most old rows finding × (told ≡ told_of finding)
+AreAsked text t most old rows told =
+    (finding : Finding) × IsAskedFor text t most old rows finding × (told ≡ told_of finding)
+
+-- behind the rows that are told nothing is written; where memory ran out the rows may be written
+abbrev pub IsKeptAsked : List RequestRow → List RequestRow → Finding → Type 0
+IsKeptAsked old rows (Refused Memory) = Unit {0}
+IsKeptAsked old rows finding = IsKeptBehind (count_written finding) old rows

@@ -1,10 +1,13 @@
 -- What is told of a board after events.
-use Rattle.std.specs.Prelude.{◌≡◌, ◌⊎◌, ℕ, zero, suc, ◌+◌, ◌-◌, ◌<◌, ◌≤◌, ◌==◌, nat_lt, nat_le, ◌||◌, if◌then◌else◌, min, List, length, map, take, slice_get, slice_index, slice_set, Option, Some, None, unwrap_or}
+use Rattle.std.specs.Prelude.{◌≡◌, ◌⊎◌, ℕ, zero, suc, ◌+◌, ◌-◌, ◌<◌, ◌≤◌, ◌==◌, nat_lt, nat_le}
+use Rattle.std.specs.Prelude.{◌||◌, if◌then◌else◌, min, List, length, map, take, slice_get}
+use Rattle.std.specs.Prelude.{slice_index, slice_set, Option, Some, None, unwrap_or}
 use Rattle.pram_text.specs.Job.{JobData}
 use Rattle.pram_words.specs.declared.phases.Kind.{Kind}
 use Rattle.pram_words.specs.declared.phases.Kind.TheVariants.{Compute, Apply, Verify}
 use Rattle.pram_words.specs.declared.words.Word.{Word}
-use Rattle.pram_words.specs.declared.words.Word.TheVariants.{Conflict, Node, Asked, Position, Stored, Claim, Spare}
+use Rattle.pram_words.specs.declared.words.Word.TheVariants.{Conflict, Node, Asked, Position}
+use Rattle.pram_words.specs.declared.words.Word.TheVariants.{Stored, Claim, Spare}
 use Rattle.pram_words.specs.Phases.{step_at, kind_at}
 use Rattle.pram_words.specs.Stamps.{stamp_of, payload_of}
 use Rattle.pram_words.specs.Ways.{first_leaf_in}
@@ -35,7 +38,8 @@ use Rattle.pram_page.specs.declared.board.Hindrance.{Hindrance}
 use Rattle.pram_page.specs.declared.board.Hindrance.TheVariants.{Refused, BadWorkers, BadEvent}
 use Rattle.pram_page.specs.declared.codes.TheConstants.{DONE, NO_ROOM, BAD_WORKERS, BAD_EVENT}
 use Rattle.pram_page.specs.Texts.{OfJob, refused_as}
-use Rattle.pram_page.specs.Events.{BoardAfter, IsBoardAfter, IsHindered, act_of, moved, effect_by, run_from, IsRunFrom, IsHinderedFrom}
+use Rattle.pram_page.specs.Events.{BoardAfter, IsBoardAfter, IsHindered, act_of, moved, effect_by}
+use Rattle.pram_page.specs.Events.{run_from, IsRunFrom, IsHinderedFrom}
 
 -- ---- words
 
@@ -76,10 +80,13 @@ abbrev pub newer_of : LayoutData → List ℕ → Word → ℕ
 newer_of y words (Stored p k) = if older_at y words p == k then 0 else 1
 newer_of y words _ = 0
 
--- 1 where the word of a step, which held this before it, was the older one; the step changed no other word
+-- 1 where the word of a step, which held this before it, was the older one; the step changed no
+-- other word
 abbrev pub older_before : LayoutData → List ℕ → ℕ → Word → ℕ
-older_before y words before (Stored p zero) = if tasks.older before (held y words (Stored p 1)) == 0 then 1 else 0
-older_before y words before (Stored p (suc k)) = if tasks.older (held y words (Stored p 0)) before == 1 then 1 else 0
+older_before y words before (Stored p zero) =
+    if tasks.older before (held y words (Stored p 1)) == 0 then 1 else 0
+older_before y words before (Stored p (suc k)) =
+    if tasks.older (held y words (Stored p 0)) before == 1 then 1 else 0
 older_before y words before _ = 0
 
 abbrev pub word_in : LayoutData → List ℕ → ℕ → WordRow
@@ -108,12 +115,23 @@ lost n = record { phase = 0; worker = n; doing = 0; node = 0; heard = 0; step = 
 abbrev pub active_row : Activity → BodyRow → ℕ → ℕ → BodyRow
 active_row activity.Back row node heard = record row { doing = 1; node = 0; heard = heard }
 active_row activity.Begin row node heard = record row { doing = 2; node = node; heard = heard }
-active_row (activity.Turn q) row node heard = record row { phase = q; doing = 3; node = node; heard = heard; step = step_at q; pass = pass_of (kind_at q) }
-active_row (activity.Over ended.Done) row node heard = record row { doing = 4; node = node; heard = heard }
-active_row (activity.Over (ended.Conflict u)) row node heard = record row { doing = 5; node = node; heard = heard; step = u }
+active_row (activity.Turn q) row node heard =
+    record row {
+      phase = q;
+      doing = 3;
+      node = node;
+      heard = heard;
+      step = step_at q;
+      pass = pass_of (kind_at q);
+    }
+active_row (activity.Over ended.Done) row node heard =
+    record row { doing = 4; node = node; heard = heard }
+active_row (activity.Over (ended.Conflict u)) row node heard =
+    record row { doing = 5; node = node; heard = heard; step = u }
 
 abbrev pub standing_row : LayoutData → Standing → BodyRow
-standing_row y (standing.Walks w node activity heard) = active_row activity (lost w) (unwrap_or node (first_leaf_in y w)) heard
+standing_row y (standing.Walks w at activity heard) =
+    active_row activity (lost w) (unwrap_or at (first_leaf_in y w)) heard
 standing_row y (standing.Stopped w) = lost w
 
 abbrev pub body_row : LayoutData → Option Body → BodyRow
@@ -153,10 +171,12 @@ word_of_step (Some (Over ended)) = 0
 abbrev pub step_word : Option Op → StepWord
 step_word op = record { kind = kind_of_step op; word = word_of_step op }
 
--- what the word of a step is, and whether it was the older word of its place; where none was made the form is 7
+-- what the word of a step is, and whether it was the older word of its place; where none was made
+-- the form is 7
 abbrev pub step_meaning : LayoutData → List ℕ → StepWord → ℕ → StepMeaning
 step_meaning y words step before =
-    if step.kind == 0 || nat_le (length_of y) step.word then record { form = 7; which = 0; part = 0; older = 0 }
+    if step.kind == 0 || nat_le (length_of y) step.word
+    then record { form = 7; which = 0; part = 0; older = 0 }
     else record {
       form = form_of (word_at y step.word);
       which = which_of (word_at y step.word);
@@ -164,7 +184,8 @@ step_meaning y words step before =
       older = older_before y words before (word_at y step.word);
     }
 
--- of an event that led to this world with this effect, the bodies before it being so many: a twin is the next body
+-- of an event that led to this world with this effect, the bodies before it being so many: a twin
+-- is the next body
 abbrev pub row_with : WorldData → Event → ℕ → Effect → EventRow
 row_with s e bodies effect =
     let meaning = step_meaning s.layout s.words (step_word effect.op) effect.before in record {
@@ -202,11 +223,28 @@ count_shown events from rows = min rows (events - from)
 -- ---- the scene
 
 abbrev pub no_scene : Scene
-no_scene = record { code = DONE; fault = 0; line = 0; root = 0; at = 0; words = 0; bodies = 0; rows = 0; leaves = 0; finished = 0; conflict = 0 }
+no_scene = record {
+  code = DONE;
+  fault = 0;
+  line = 0;
+  root = 0;
+  at = 0;
+  words = 0;
+  bodies = 0;
+  rows = 0;
+  leaves = 0;
+  finished = 0;
+  conflict = 0;
+}
 
 -- why there is none
 abbrev pub hindered_as : Hindrance → Scene
-hindered_as (Refused r) = record no_scene { code = (refused_as r).code; fault = (refused_as r).fault; line = (refused_as r).line }
+hindered_as (Refused r) =
+    record no_scene {
+      code = (refused_as r).code;
+      fault = (refused_as r).fault;
+      line = (refused_as r).line;
+    }
 hindered_as BadWorkers = record no_scene { code = BAD_WORKERS }
 hindered_as (BadEvent at) = record no_scene { code = BAD_EVENT; at = at }
 
@@ -224,20 +262,35 @@ glance_of s shown = record no_scene {
 
 -- the front of the buffers holds the words and the bodies
 abbrev pub AreWords : WorldData → List WordRow → Type 0
-AreWords s words = (k : ℕ) → k < length_of s.layout → slice_get words k ≡ Some (word_in s.layout s.words k)
+AreWords s words =
+    (k : ℕ) → k < length_of s.layout → slice_get words k ≡ Some (word_in s.layout s.words k)
 
 abbrev pub AreBodies : WorldData → List BodyRow → Type 0
 AreBodies s bodies = (b : ℕ) → b < length s.bodies → slice_get bodies b ≡ Some (body_in s b)
+
+-- the buffers have no room for them
+abbrev pub HaveNoRoom : WorldData → List WordRow → List BodyRow → Type 0
+HaveNoRoom s words bodies =
+    (length words < length_of s.layout) ⊎ (length bodies < length s.bodies)
 
 -- the words and the bodies are told; or there is no room for them, and how many there are is told
 abbrev pub IsBoardTold : WorldData → ℕ → List WordRow → List BodyRow → Scene → Type 0
 IsBoardTold s shown words bodies told =
     (AreWords s words × AreBodies s bodies × (told ≡ glance_of s shown))
-    ⊎ (((length words < length_of s.layout) ⊎ (length bodies < length s.bodies)) × (told ≡ record (glance_of s shown) { code = NO_ROOM }))
+    ⊎ (HaveNoRoom s words bodies × (told ≡ record (glance_of s shown) { code = NO_ROOM }))
 
 -- what is told of the board of a text after events, and of what they did; or why there is none
-abbrev pub IsScene : List ℕ → ℕ → List Event → ℕ → List EventRow → List WordRow → List BodyRow → Scene → Type 0
+abbrev pub IsScene
+    : List ℕ → ℕ → List Event → ℕ → List EventRow → List WordRow → List BodyRow → Scene → Type 0
 IsScene text workers events from rows words bodies told =
-    OfJob text (λ job. (s : WorldData) × BoardAfter workers events s job × AreShown (begun job Compact workers) events from rows
+    OfJob text (λ job. (s : WorldData) × BoardAfter workers events s job
+    × AreShown (begun job Compact workers) events from rows
     × IsBoardTold s (count_shown (length events) from (length rows)) words bodies told)
     ⊎ ((h : Hindrance) × IsHindered text workers events h × (told ≡ hindered_as h))
+
+-- so many words and bodies are written, as is told
+abbrev pub words_told : Scene → ℕ
+words_told told = if told.code == DONE then told.words else 0
+
+abbrev pub bodies_told : Scene → ℕ
+bodies_told told = if told.code == DONE then told.bodies else 0

@@ -1,14 +1,19 @@
 -- What is told of a text.
 use Rattle.std.specs.Prelude.{◌≡◌, ◌⊎◌, ℕ, ◌<◌, List, length}
 use Rattle.pram_text.specs.declared.fault.TextKind.{TextKind}
-use Rattle.pram_text.specs.declared.fault.TextKind.TheVariants.{NotAscii, BadHeader, BadNumber, OutOfLimits, UnknownInstruction, WrongOperands, BadRegister, DuplicateLabel, UnknownLabel, NoCode, TooLong}
+use Rattle.pram_text.specs.declared.fault.TextKind.TheVariants.{NotAscii, BadHeader, BadNumber}
+use Rattle.pram_text.specs.declared.fault.TextKind.TheVariants.{OutOfLimits, UnknownInstruction}
+use Rattle.pram_text.specs.declared.fault.TextKind.TheVariants.{WrongOperands, BadRegister}
+use Rattle.pram_text.specs.declared.fault.TextKind.TheVariants.{DuplicateLabel, UnknownLabel}
+use Rattle.pram_text.specs.declared.fault.TextKind.TheVariants.{NoCode, TooLong}
 use Rattle.pram_text.specs.declared.fault.TextKind.TheVariants as kind
 use Rattle.pram_text.specs.declared.instr.Rule.{Rule}
 use Rattle.pram_text.specs.declared.instr.Rule.TheVariants.{Common, Priority, Crew}
 use Rattle.pram_text.specs.Job.{JobData}
 use Rattle.pram_text.specs.Text.{Spells, Bears}
 use Rattle.pram_step.specs.Machine.{place_count}
-use Rattle.pram_page.specs.declared.codes.TheConstants.{DONE, NO_JOB, MEMORY, TEXT_TOO_LONG, TEXT_MOST}
+use Rattle.pram_page.specs.declared.codes.TheConstants.{DONE, NO_JOB, MEMORY, TEXT_TOO_LONG}
+use Rattle.pram_page.specs.declared.codes.TheConstants.{TEXT_MOST}
 use Rattle.pram_page.specs.declared.text.Judgement.{Judgement}
 use Rattle.pram_page.specs.declared.text.Refusal.{Refusal}
 use Rattle.pram_page.specs.declared.text.Refusal.TheVariants.{NoJob, TextTooLong, Memory}
@@ -45,7 +50,8 @@ IsRefused text TextTooLong = TEXT_MOST < length text
 IsRefused text Memory = Unit {0}
 
 abbrev pub refused_as : Refusal → Refused
-refused_as (NoJob fault) = record { code = NO_JOB; fault = fault_code fault.kind; line = fault.line }
+refused_as (NoJob fault) =
+    record { code = NO_JOB; fault = fault_code fault.kind; line = fault.line }
 refused_as TextTooLong = record { code = TEXT_TOO_LONG; fault = 0; line = 0 }
 refused_as Memory = record { code = MEMORY; fault = 0; line = 0 }
 

@@ -1,6 +1,7 @@
 //! What the bodies of a board are doing.
 ghost use Rattle.std.specs.Prelude.{◌≡◌, ◌≤◌, length, unwrap_or};
 ghost use Rattle.pram_words.specs.Ways.{first_leaf_in};
+ghost use Rattle.pram_page.specs.Findings.{IsKeptBehind};
 ghost use Rattle.pram_page.specs.Scenes.{ActivityFits, AreBodies, PhaseFits, active_row};
 ghost use Rattle.pram_page.specs.Scenes.{body_in, lost as lost_row, pass_of, standing_row};
 
@@ -28,7 +29,8 @@ pub struct BodyRow {
 /// What each body is doing is written to the front of the rows.
 pub(crate) fn write_bodies(world: &World, rows: &mut [BodyRow])
     requires { length world.now.bodies ≤ length rows.old }
-    ensures { AreBodies world.now rows.new }
+    ensures bodies { AreBodies world.now rows.new }
+    ensures behind { IsKeptBehind (length world.now.bodies) rows.old rows.new }
 {
     for b in 0..world.count() {
         rows[b] = body_row(world, b);

@@ -1,7 +1,9 @@
 //! The states of the plain machine.
+ghost use Rattle.std.specs.Bool.{OnFalse};
 ghost use Rattle.std.specs.Prelude.{◌≡◌, ◌≤◌, ◌↔◌, IfOk, IsTrue, length, take};
 ghost use Rattle.pram_step.specs.Laws.{AllStopped};
 ghost use Rattle.pram_step.specs.Machine.{place_count};
+ghost use Rattle.pram_page.specs.Findings.{IsKeptBehind, count_written, told_written};
 ghost use Rattle.pram_page.specs.Moments.{IsAnswered, IsMoment, IsStateFound, IsAnswerFound};
 ghost use Rattle.pram_page.specs.Moments.{IsStateTold};
 
@@ -32,7 +34,8 @@ pub extern "C" fn pram_page_answer(
     cells: &mut [u32],
     told: &mut Told,
 )
-    ensures { IsAnswered text.now most cells.old cells.new told.new }
+    ensures told { IsAnswered text.now most cells.old cells.new told.new }
+    ensures behind { IsKeptBehind (told_written told.new) cells.old cells.new }
 {
     *told = tell(answer(alloc, text, most, cells));
 }
@@ -48,20 +51,22 @@ pub extern "C" fn pram_page_state(
     places: &mut [u32],
     told: &mut Told,
 )
-    ensures { IsStateTold text.now step most places.old places.new told.new }
+    ensures told { IsStateTold text.now step most places.old places.new told.new }
+    ensures behind { IsKeptBehind (told_written told.new) places.old places.new }
 {
     *told = tell(state(alloc, text, step, most, places));
 }
 
 fn answer(alloc: Global, text: &[u8], most: u32, cells: &mut [u32]) -> Finding
-    ensures { IsAnswerFound text.now most cells.old cells.new result }
+    ensures found { IsAnswerFound text.now most cells.old cells.new result }
+    ensures behind { IsKeptBehind (count_written result) cells.old cells.new }
 {
     laws::states_have_all_places();
     let job = match take_job(alloc, text) {
         Ok(job) => job,
         Err(refusal) => return Finding::Refused(refusal),
     };
-    match go_to(alloc, &job, job.steps(), most) {
+    match go_to_end(alloc, &job, most) {
         Err(_) => Finding::Refused(Refusal::Memory),
         Ok(Moment::TooFar) => Finding::TooFar,
         Ok(Moment::Disputed(fault)) => Finding::Conflict { fault, count: 0 },
@@ -82,7 +87,8 @@ fn answer(alloc: Global, text: &[u8], most: u32, cells: &mut [u32]) -> Finding
 }
 
 fn state(alloc: Global, text: &[u8], step: u32, most: u32, places: &mut [u32]) -> Finding
-    ensures { IsStateFound text.now step most places.old places.new result }
+    ensures found { IsStateFound text.now step most places.old places.new result }
+    ensures behind { IsKeptBehind (count_written result) places.old places.new }
 {
     laws::states_have_all_places();
     let job = match take_job(alloc, text) {
@@ -111,12 +117,21 @@ fn state(alloc: Global, text: &[u8], step: u32, most: u32, places: &mut [u32]) -
 pub(crate) fn copy(values: &[u32], buffer: &mut [u32]) -> bool
     ensures room { IsTrue result ↔ (length values.now ≤ length buffer.old) }
     ensures copied { IsTrue result → take (length values.now) buffer.new ≡ values.now }
+    ensures behind { IsTrue result → IsKeptBehind (length values.now) buffer.old buffer.new }
+    ensures kept { OnFalse result (buffer.new ≡ buffer.old) }
 {
     if values.len() > buffer.len() {
         return false;
     }
     buffer[..values.len()].copy_from_slice(values);
     true
+}
+
+// The state after the last step.
+fn go_to_end(alloc: Global, job: &Job, most: u32) -> Result<Moment, AllocError>
+    ensures { IfOk result (IsMoment job.now job.now.steps most) }
+{
+    go_to(alloc, job, job.steps(), most)
 }
 
 /// The state after so many steps.

@@ -1,6 +1,7 @@
 //! What a board answers.
 ghost use Rattle.std.specs.Prelude.{◌≡◌};
 ghost use Rattle.pram_page.specs.Answers.{IsOutcomeFound, IsOutcomeTold, finding_of};
+ghost use Rattle.pram_page.specs.Findings.{IsKeptBehind, count_written, told_written};
 
 use crate::board::{Event, Hindrance};
 use crate::finding::{Finding, Told, tell};
@@ -21,13 +22,15 @@ pub extern "C" fn pram_page_outcome(
     cells: &mut [u32],
     told: &mut Told,
 )
-    ensures { IsOutcomeTold text.now workers events.now cells.old cells.new told.new }
+    ensures told { IsOutcomeTold text.now workers events.now cells.old cells.new told.new }
+    ensures behind { IsKeptBehind (told_written told.new) cells.old cells.new }
 {
     *told = tell(outcome(alloc, text, workers, events, cells));
 }
 
 fn outcome(alloc: Global, text: &[u8], workers: u32, events: &[Event], cells: &mut [u32]) -> Finding
-    ensures { IsOutcomeFound text.now workers events.now cells.old cells.new result }
+    ensures found { IsOutcomeFound text.now workers events.now cells.old cells.new result }
+    ensures behind { IsKeptBehind (count_written result) cells.old cells.new }
 {
     let world = match after(alloc, text, workers, events) {
         Ok(world) => world,

@@ -1,6 +1,7 @@
 //! The cells of a board as readers get them.
 ghost use Rattle.std.specs.Prelude.{◌≡◌, ◌<◌, ◌≤◌, length};
 ghost use Rattle.pram_page.specs.Answers.{AreRead, AreReadsFound, AreReadsTold, read_in};
+ghost use Rattle.pram_page.specs.Findings.{IsKeptBehind, count_written, told_written};
 
 use crate::board::Event;
 use crate::finding::{Finding, Told, tell};
@@ -19,7 +20,7 @@ pub struct ReadRow {
 }
 
 /// Tells what a reader of each cell answers that makes its loads after the events, and before any
-/// further one.
+/// further one: each is a lawful read.
 #[unsafe(no_mangle)]
 pub extern "C" fn pram_page_reads(
     alloc: Global,
@@ -29,7 +30,8 @@ pub extern "C" fn pram_page_reads(
     cells: &mut [ReadRow],
     told: &mut Told,
 )
-    ensures { AreReadsTold text.now workers events.now cells.old cells.new told.new }
+    ensures told { AreReadsTold text.now workers events.now cells.old cells.new told.new }
+    ensures behind { IsKeptBehind (told_written told.new) cells.old cells.new }
 {
     *told = tell(reads(alloc, text, workers, events, cells));
 }
@@ -41,7 +43,8 @@ fn reads(
     events: &[Event],
     cells: &mut [ReadRow],
 ) -> Finding
-    ensures { AreReadsFound text.now workers events.now cells.old cells.new result }
+    ensures found { AreReadsFound text.now workers events.now cells.old cells.new result }
+    ensures behind { IsKeptBehind (count_written result) cells.old cells.new }
 {
     let world = match after(alloc, text, workers, events) {
         Ok(world) => world,
@@ -58,7 +61,8 @@ fn reads(
 // What a reader of each cell answers is written to the front of the rows.
 fn write_reads(world: &World, rows: &mut [ReadRow])
     requires { world.now.job.cells ≤ length rows.old }
-    ensures { AreRead world.now rows.new }
+    ensures read { AreRead world.now rows.new }
+    ensures behind { IsKeptBehind world.now.job.cells rows.old rows.new }
 {
     world.facts();
     for cell in 0..world.job().cells() {

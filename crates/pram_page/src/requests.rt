@@ -1,10 +1,13 @@
 //! What the processors ask for in a step.
-ghost use Rattle.std.specs.Prelude.{◌≡◌, ℕ, ◌<◌, ◌≤◌, IfSome, length};
+ghost use Rattle.std.specs.Prelude.{◌≡◌, ◌≢◌, ℕ, ◌<◌, ◌≤◌, IfSome, length};
 ghost use Rattle.pram_step.specs.Machine.{IsDataPlace, counter as counter_of, place_count};
 ghost use Rattle.pram_step.specs.Machine.{register as register_of};
 ghost use Rattle.pram_step.specs.Runs.{IsStateAfter};
-ghost use Rattle.pram_page.specs.Requests.{AreAsked, AreRows, IsAskedFor, IsAskedIn, cell_in};
-ghost use Rattle.pram_page.specs.Requests.{cell_part, held_part, row_in, status_of, target_of};
+ghost use Rattle.pram_page.specs.declared.codes.TheConstants.{MEMORY};
+ghost use Rattle.pram_page.specs.Findings.{IsKeptBehind, told_written};
+ghost use Rattle.pram_page.specs.Requests.{AreAsked, AreRows, IsAskedFor, IsAskedIn, IsKeptAsked};
+ghost use Rattle.pram_page.specs.Requests.{cell_in, cell_part, held_part, row_in, status_of};
+ghost use Rattle.pram_page.specs.Requests.{target_of};
 
 use crate::finding::{Finding, Told, tell};
 use crate::machine::{Moment, go_to};
@@ -42,7 +45,7 @@ pub struct Target {
 }
 
 /// Tells what each processor asks for in the step behind these, and whether that step is against
-/// the rule, and where. At most `most` steps are made.
+/// the rule, and where. At most `most` steps are made, and none where the rows have no room.
 #[unsafe(no_mangle)]
 pub extern "C" fn pram_page_requests(
     alloc: Global,
@@ -52,13 +55,16 @@ pub extern "C" fn pram_page_requests(
     rows: &mut [RequestRow],
     told: &mut Told,
 )
-    ensures { AreAsked text.now step most rows.old rows.new told.new }
+    ensures told { AreAsked text.now step most rows.old rows.new told.new }
+    ensures behind { told.new.code ≢ MEMORY
+        → IsKeptBehind (told_written told.new) rows.old rows.new }
 {
     *told = tell(requests(alloc, text, step, most, rows));
 }
 
 fn requests(alloc: Global, text: &[u8], step: u32, most: u32, rows: &mut [RequestRow]) -> Finding
-    ensures { IsAskedFor text.now step most rows.old rows.new result }
+    ensures found { IsAskedFor text.now step most rows.old rows.new result }
+    ensures behind { IsKeptAsked rows.old rows.new result }
 {
     let job = match take_job(alloc, text) {
         Ok(job) => job,
@@ -66,6 +72,11 @@ fn requests(alloc: Global, text: &[u8], step: u32, most: u32, rows: &mut [Reques
     };
     if step >= job.steps() {
         return Finding::NoStep;
+    }
+    if rows.len() < job.procs() as usize {
+        return Finding::NoRoom {
+            needed: u64::from(job.procs()),
+        };
     }
     match go_to(alloc, &job, step, most) {
         Err(_) => Finding::Refused(Refusal::Memory),
@@ -79,14 +90,13 @@ fn requests(alloc: Global, text: &[u8], step: u32, most: u32, rows: &mut [Reques
 fn ask(alloc: Global, job: &Job, step: u32, mut state: State, rows: &mut [RequestRow]) -> Finding
     requires reached { IsStateAfter job.now step state }
     requires within { step < job.now.steps }
-    ensures { IsAskedIn job.now step rows.old rows.new result }
+    requires room { job.now.procs ≤ length rows.old }
+    ensures asked { IsAskedIn job.now step rows.new result }
+    ensures behind { IsKeptBehind job.now.procs rows.old rows.new }
 {
     laws::states_have_all_places();
     let _ = job.steps();
     let count = u64::from(job.procs());
-    if rows.len() < job.procs() as usize {
-        return Finding::NoRoom { needed: count };
-    }
     write_rows(job, &state, rows);
     match make_step(alloc, job, &mut state) {
         Ok(()) => Finding::Done { step, count },
@@ -113,7 +123,8 @@ fn ask(alloc: Global, job: &Job, step: u32, mut state: State, rows: &mut [Reques
 fn write_rows(job: &Job, state: &State, rows: &mut [RequestRow])
     requires reached { (t : ℕ) × IsStateAfter job.now t state.now }
     requires room { job.now.procs ≤ length rows.old }
-    ensures { AreRows job.now state.now rows.new }
+    ensures rows { AreRows job.now state.now rows.new }
+    ensures behind { IsKeptBehind job.now.procs rows.old rows.new }
 {
     for processor in 0..job.procs() {
         rows[processor as usize] = row(job, state, processor);

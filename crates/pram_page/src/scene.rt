@@ -1,9 +1,10 @@
 //! A board after events, and what each event did.
-ghost use Rattle.std.specs.Prelude.{◌≡◌, ℕ, ◌≤◌, IfErr, IfOk, length};
+ghost use Rattle.std.specs.Prelude.{◌≡◌, ℕ, ◌-◌, ◌≤◌, IfErr, IfOk, OnErr, length};
 ghost use Rattle.pram_world.specs.Runs.{Run};
 ghost use Rattle.pram_page.specs.Events.{IsBoardAfter, IsHindered, IsHinderedFrom, IsRunFrom};
-ghost use Rattle.pram_page.specs.Scenes.{AreShown, IsBoardTold, IsNoted, IsScene, glance_of};
-ghost use Rattle.pram_page.specs.Scenes.{hindered_as, row_with};
+ghost use Rattle.pram_page.specs.Findings.{IsKeptBehind};
+ghost use Rattle.pram_page.specs.Scenes.{AreShown, IsBoardTold, IsNoted, IsScene, bodies_told};
+ghost use Rattle.pram_page.specs.Scenes.{glance_of, hindered_as, row_with, words_told};
 
 use crate::board::{Event, Hindrance, make, open};
 use crate::bodies::{BodyRow, write_bodies};
@@ -48,7 +49,10 @@ pub extern "C" fn pram_page_scene(
     bodies: &mut [BodyRow],
     told: &mut Scene,
 )
-    ensures { IsScene text.now workers events.now from rows.new words.new bodies.new told.new }
+    ensures scene { IsScene text.now workers events.now from rows.new words.new bodies.new told.new }
+    ensures rows { IsKeptBehind (length events.now - from) rows.old rows.new }
+    ensures words { IsKeptBehind (words_told told.new) words.old words.new }
+    ensures bodies { IsKeptBehind (bodies_told told.new) bodies.old bodies.new }
 {
     *told = match show(alloc, text, workers, events, from, rows, words, bodies) {
         Ok(scene) => scene,
@@ -108,6 +112,10 @@ fn show(
     ensures shown { IfOk result
         (λ told. IsScene text.now workers events.now from rows.new words.new bodies.new told) }
     ensures hindered { IfErr result (λ h. IsHindered text.now workers events.now h) }
+    ensures rows { IsKeptBehind (length events.now - from) rows.old rows.new }
+    ensures words { IfOk result (λ told. IsKeptBehind (words_told told) words.old words.new) }
+    ensures bodies { IfOk result (λ told. IsKeptBehind (bodies_told told) bodies.old bodies.new) }
+    ensures kept { OnErr result ((words.new ≡ words.old) × (bodies.new ≡ bodies.old)) }
 {
     let mut world = match open(alloc, text, workers) {
         Ok(world) => world,
@@ -134,6 +142,9 @@ fn tell_board(
 ) -> Result<Scene, Hindrance>
     ensures told { IfOk result (λ told. IsBoardTold world.now shown words.new bodies.new told) }
     ensures memory { IfErr result (λ h. h ≡ Hindrance.Refused Refusal.Memory) }
+    ensures words { IfOk result (λ told. IsKeptBehind (words_told told) words.old words.new) }
+    ensures bodies { IfOk result (λ told. IsKeptBehind (bodies_told told) bodies.old bodies.new) }
+    ensures kept { OnErr result ((words.new ≡ words.old) × (bodies.new ≡ bodies.old)) }
 {
     let count = small(world.count())?;
     let seen = glance(world, count, small(shown)?);
@@ -193,6 +204,7 @@ pub(crate) fn watch(
         → IfOk result (λ _. AreShown r events.now from rows.new) }
     ensures hindered { (r : Run) → r.world ≡ world.old
         → IfErr result (λ hindrance. IsHinderedFrom r events.now hindrance) }
+    ensures rows { IsKeptBehind (length events.now - from) rows.old rows.new }
 {
     for number in 0..events.len() {
         let event = events[number];

@@ -2,7 +2,8 @@
 use crate::board::Event;
 use crate::bodies::BodyRow;
 use crate::codes::{
-    BAD_EVENT, BAD_WORKERS, CONFLICT, DONE, NO_JOB, NO_ROOM, NO_STEP, TOO_FAR, UNFINISHED,
+    BAD_EVENT, BAD_WORKERS, CONFLICT, DONE, NO_JOB, NO_ROOM, NO_STEP, TEXT_MOST, TEXT_TOO_LONG,
+    TOO_FAR, UNFINISHED,
 };
 use crate::finding::Told;
 use crate::machine::{pram_page_answer, pram_page_state};
@@ -68,6 +69,9 @@ fn a_text_is_judged(rt: HostRuntime) -> Result<(), Fail> {
     assert_eq!(rt; (told.rule, told.instructions, told.places), (0, 5, 12));
     pram_page_judge(rt.alloc(), b"pram 1\ncells 0\n", &mut told);
     assert_eq!(rt; (told.code, told.fault, told.line), (NO_JOB, 4, 2));
+    let long = vec![in rt.alloc(); b' '; TEXT_MOST + 1]?;
+    pram_page_judge(rt.alloc(), &long, &mut told);
+    assert_eq!(rt; (told.code, told.fault, told.line), (TEXT_TOO_LONG, 0, 0));
     Ok(())
 }
 
@@ -83,6 +87,10 @@ fn an_answer_is_told(rt: HostRuntime) -> Result<(), Fail> {
     pram_page_answer(rt.alloc(), DISPUTED.as_bytes(), 100, &mut cells, &mut told);
     assert_eq!(rt; (told.code, told.step, told.cell), (CONFLICT, 5, 4));
     assert_eq!(rt; (told.first, told.second), (1, 3));
+    let mut few = [6; 1];
+    pram_page_answer(rt.alloc(), SWAP.as_bytes(), 100, &mut few, &mut told);
+    assert_eq!(rt; (told.code, told.count), (NO_ROOM, 2));
+    assert_eq!(rt; few, [6]);
     Ok(())
 }
 
@@ -98,6 +106,17 @@ fn a_state_is_told(rt: HostRuntime) -> Result<(), Fail> {
     let mut few = [0; 3];
     pram_page_state(rt.alloc(), SWAP.as_bytes(), 5, 100, &mut few, &mut told);
     assert_eq!(rt; (told.code, told.count), (NO_ROOM, 12));
+    pram_page_state(
+        rt.alloc(),
+        DISPUTED.as_bytes(),
+        5,
+        9,
+        &mut places,
+        &mut told,
+    );
+    assert_eq!(rt; (told.code, told.step, told.count), (CONFLICT, 5, 0));
+    pram_page_state(rt.alloc(), SWAP.as_bytes(), 5, 4, &mut places, &mut told);
+    assert_eq!(rt; told.code, TOO_FAR);
     Ok(())
 }
 
@@ -147,6 +166,12 @@ fn requests_are_told(rt: HostRuntime) -> Result<(), Fail> {
         &mut told,
     );
     assert_eq!(rt; told.code, NO_STEP);
+    // The room is looked at before any step is made.
+    let mut few = [NO_ROW; 3];
+    pram_page_requests(rt.alloc(), DISPUTED.as_bytes(), 4, 0, &mut few, &mut told);
+    assert_eq!(rt; (told.code, told.count), (NO_ROOM, 4));
+    pram_page_requests(rt.alloc(), DISPUTED.as_bytes(), 4, 0, &mut rows, &mut told);
+    assert_eq!(rt; told.code, TOO_FAR);
     Ok(())
 }
 
@@ -257,6 +282,164 @@ fn a_scene_is_told(rt: HostRuntime) -> Result<(), Fail> {
     Ok(())
 }
 
+const LOSS: Event = Event { kind: 1, body: 0 };
+
+const RETURN: Event = Event { kind: 2, body: 0 };
+
+const TWIN: Event = Event { kind: 3, body: 0 };
+
+const TWIN_GOES: Event = Event { kind: 0, body: 1 };
+
+// What an event of this kind did that is no atomic step, to this body.
+fn no_step(event: u32, body: u32, now: BodyRow) -> EventRow {
+    EventRow {
+        form: 7,
+        event,
+        body,
+        now,
+        ..NO_EVENT
+    }
+}
+
+#[test]
+fn a_loss_a_twin_and_a_return_are_told(rt: HostRuntime) -> Result<(), Fail> {
+    let first = [GO, GO, LOSS, GO, TWIN, RETURN];
+    let mut events = [TWIN_GOES; 120];
+    events[..6].copy_from_slice(&first);
+    let mut rows = [NO_EVENT; 4];
+    let mut words = [NO_WORD; 18];
+    let mut bodies = [NO_BODY; 3];
+    let mut told = NO_SCENE;
+    pram_page_scene(
+        rt.alloc(),
+        COUNTER.as_bytes(),
+        1,
+        &events,
+        2,
+        &mut rows,
+        &mut words,
+        &mut bodies,
+        &mut told,
+    );
+    assert_eq!(rt; (told.code, told.rows, told.bodies), (DONE, 4, 2));
+    // The body that is lost makes no step.
+    assert_eq!(rt; rows[0], no_step(1, 0, NO_BODY));
+    assert_eq!(rt; rows[1], no_step(0, 0, NO_BODY));
+    let begins = BodyRow {
+        doing: 2,
+        node: 1,
+        ..NO_BODY
+    };
+    assert_eq!(rt; rows[2], no_step(3, 1, begins));
+    let returns = BodyRow {
+        doing: 1,
+        ..NO_BODY
+    };
+    assert_eq!(rt; rows[3], no_step(2, 0, returns));
+    // The twin alone came to the end; the other one is still coming back.
+    assert_eq!(rt; bodies[0], returns);
+    assert_eq!(rt; (bodies[1].worker, bodies[1].doing), (0, 4));
+    assert_eq!(rt; (told.root, told.finished, told.conflict), (6, 2, 0));
+    // A body that is over makes no step.
+    pram_page_scene(
+        rt.alloc(),
+        COUNTER.as_bytes(),
+        1,
+        &events,
+        119,
+        &mut rows,
+        &mut words,
+        &mut bodies,
+        &mut told,
+    );
+    assert_eq!(rt; told.rows, 1);
+    assert_eq!(rt; rows[0], no_step(0, 1, bodies[1]));
+    assert_eq!(rt; rows[3], no_step(2, 0, returns));
+    Ok(())
+}
+
+#[test]
+fn bad_sizes_have_codes_of_their_own(rt: HostRuntime) -> Result<(), Fail> {
+    let mut told = NO_SCENE;
+    for workers in [0, 65, u32::MAX] {
+        pram_page_scene(
+            rt.alloc(),
+            COUNTER.as_bytes(),
+            workers,
+            &[],
+            0,
+            &mut [],
+            &mut [],
+            &mut [],
+            &mut told,
+        );
+        assert_eq!(rt;
+            told,
+            Scene {
+                code: BAD_WORKERS,
+                ..no_scene()
+            }
+        );
+    }
+    // Of no board: a body, a worker and a kind of event.
+    for event in [
+        Event { kind: 0, body: 1 },
+        Event { kind: 3, body: 1 },
+        Event { kind: 4, body: 0 },
+    ] {
+        pram_page_scene(
+            rt.alloc(),
+            COUNTER.as_bytes(),
+            1,
+            &[GO, event],
+            0,
+            &mut [],
+            &mut [],
+            &mut [],
+            &mut told,
+        );
+        assert_eq!(rt;
+            told,
+            Scene {
+                code: BAD_EVENT,
+                at: 1,
+                ..no_scene()
+            }
+        );
+    }
+    // Rows from behind the last event are none, and how many words and bodies there are is told.
+    let mut rows = [NO_EVENT; 1];
+    let mut words = [NO_WORD; 17];
+    let mut bodies = [NO_BODY; 1];
+    pram_page_scene(
+        rt.alloc(),
+        COUNTER.as_bytes(),
+        1,
+        &[GO],
+        usize::MAX,
+        &mut rows,
+        &mut words,
+        &mut bodies,
+        &mut told,
+    );
+    assert_eq!(rt;
+        (told.code, told.words, told.bodies, told.rows),
+        (NO_ROOM, 18, 1, 0)
+    );
+    assert_eq!(rt;
+        (rows, words, bodies),
+        ([NO_EVENT; 1], [NO_WORD; 17], [NO_BODY; 1])
+    );
+    Ok(())
+}
+
+fn no_scene() -> Scene {
+    Scene {
+        code: DONE,
+        ..NO_SCENE
+    }
+}
+
 #[test]
 fn reads_are_told(rt: HostRuntime) -> Result<(), Fail> {
     let events = [GO; 53];
@@ -272,6 +455,35 @@ fn reads_are_told(rt: HostRuntime) -> Result<(), Fail> {
     );
     assert_eq!(rt; (told.code, told.count), (DONE, 1));
     assert_eq!(rt; cells[0], ReadRow { step: 1, value: 4 });
+    pram_page_reads(rt.alloc(), COUNTER.as_bytes(), 1, &[], &mut [], &mut told);
+    assert_eq!(rt; (told.code, told.count), (NO_ROOM, 1));
+    pram_page_reads(
+        rt.alloc(),
+        COUNTER.as_bytes(),
+        1,
+        &[TWIN, Event { kind: 2, body: 2 }],
+        &mut cells,
+        &mut told,
+    );
+    assert_eq!(rt; (told.code, told.count), (BAD_EVENT, 1));
+    Ok(())
+}
+
+#[test]
+fn a_conflict_of_a_board_is_told(rt: HostRuntime) -> Result<(), Fail> {
+    let mut cells = [8; 5];
+    let mut told = NOTHING;
+    pram_page_outcome(
+        rt.alloc(),
+        DISPUTED.as_bytes(),
+        1,
+        &[GO; 2000],
+        &mut cells,
+        &mut told,
+    );
+    assert_eq!(rt; (told.code, told.step, told.cell), (CONFLICT, 5, 4));
+    assert_eq!(rt; (told.first, told.second, told.count), (1, 3, 0));
+    assert_eq!(rt; cells, [8; 5]);
     Ok(())
 }
 

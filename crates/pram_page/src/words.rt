@@ -2,6 +2,7 @@
 ghost use Rattle.std.specs.Prelude.{◌≡◌, ◌<◌, ◌≤◌, length};
 ghost use Rattle.pram_words.specs.Words.{IsWord, length_of};
 ghost use Rattle.walkx.specs.Tasks.{older as older_of_two};
+ghost use Rattle.pram_page.specs.Findings.{IsKeptBehind};
 ghost use Rattle.pram_page.specs.Scenes.{AreWords, form_of, newer_of, part_of, which_of};
 ghost use Rattle.pram_page.specs.Scenes.{word_in};
 
@@ -37,7 +38,8 @@ pub struct Meaning {
 /// What each word is and holds is written to the front of the rows.
 pub(crate) fn write_words(world: &World, rows: &mut [WordRow])
     requires { length_of world.now.layout ≤ length rows.old }
-    ensures { AreWords world.now rows.new }
+    ensures words { AreWords world.now rows.new }
+    ensures behind { IsKeptBehind (length_of world.now.layout) rows.old rows.new }
 {
     for k in 0..world.layout().length() {
         rows[k as usize] = word_row(world, k);

@@ -1,4 +1,4 @@
-use Rattle.std.proofs.Common.{rules, arith, ◌≡◌, ℕ, ◌+◌, ◌-◌, ◌<◌, sym, subst}
+use Rattle.std.proofs.Common.{rules, arith, ◌≡◌, ◌+◌, ◌-◌, sym, subst}
 use Rattle.pram_step.specs.Laws.{AllStopped}
 use Rattle.pram_step.specs.Runs.{IsStateAfter}
 use Rattle.pram_page.proofs.machine.go_to.Goals as goal

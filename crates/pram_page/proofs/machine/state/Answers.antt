@@ -4,8 +4,8 @@ use Rattle.pram_step.specs.Runs.{IsStateAfter}
 use Rattle.pram_page.proofs.Buffers.{length_after}
 use Rattle.pram_page.proofs.machine.state.Goals as goal
 
-pub returns-then-copy : goal.returns-then-copy
-returns-then-copy c =
+pub returns-then-copy-clause-found : goal.returns-then-copy-clause-found
+returns-then-copy-clause-found c =
     let job = c.in-Ok.job in
     let state = c.in-Ok-Reached.state in
     let after : IsStateAfter job c.args.step state = rw c.in-Ok-Reached.field-0-is at c.in-Ok-Reached.ensures in
@@ -15,8 +15,8 @@ returns-then-copy c =
     let copied : take (length c.places.result.now) c.copy.new.buffer ≡ state = told ∙ c.places.ensures in
     (job, c.in-Ok.ensures.spells, (refl, omega arith, count, subst (IsStateAfter job c.args.step) (sym copied) after))
 
-pub returns : goal.returns
-returns c =
+pub returns-clause-found : goal.returns-clause-found
+returns-clause-found c =
     let job = c.in-Ok.job in
     let state = c.in-Ok-Reached.state in
     let after : IsStateAfter job c.args.step state = rw c.in-Ok-Reached.field-0-is at c.in-Ok-Reached.ensures in

@@ -2,7 +2,7 @@ use Rattle.std.proofs.Common.{rules, arith, ◌≡◌, ◌<◌, sym, ap, subst, 
 use Rattle.pram_words.specs.Words.{Admits, length_of}
 use Rattle.walk_laws.proofs.Staying.{word_admitted}
 use Rattle.walkx.specs.declared.operation.ReadOp.TheVariants as read
-use Rattle.walkx.specs.Reads.{HeardAdmitted, Looking, LooksFit, LooksOnBoard, look_of, looked, looks_for}
+use Rattle.walkx.specs.Reads.{HeardAdmitted, Looking, LooksFit, look_of, looked, looks_for}
 use Rattle.walkx.specs.Serving.{Follows}
 use Rattle.pram_page.specs.Answers.{read_on}
 use Rattle.pram_page.proofs.Loads.{reads_on, same_cells}

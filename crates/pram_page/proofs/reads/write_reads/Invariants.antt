@@ -1,6 +1,10 @@
 use Rattle.std.proofs.Common.{◌≡◌, ℕ, ◌<◌, slice_get, Some}
 use Rattle.pram_page.specs.Answers.{read_in}
+use Rattle.pram_page.specs.Findings.{IsKeptBehind}
 use Rattle.pram_page.proofs.reads.write_reads.Given as goal
 
 abbrev pub invariant-loop-cell : goal.invariant-loop-cell
-invariant-loop-cell l = (i : ℕ) → i < l.cell → slice_get l.rows i ≡ Some (read_in l.world i)
+invariant-loop-cell l = record {
+  read : (i : ℕ) → i < l.cell → slice_get l.rows i ≡ Some (read_in l.world i);
+  behind : IsKeptBehind l.world.job.cells l.fn.rows l.rows;
+}

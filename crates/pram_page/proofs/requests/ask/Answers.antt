@@ -4,8 +4,8 @@ use Rattle.pram_step.specs.Steps.{Agrees}
 use Rattle.pram_page.specs.Requests.{AreRows}
 use Rattle.pram_page.proofs.requests.ask.Goals as goal
 
-pub returns-in-Ok : goal.returns-in-Ok
-returns-in-Ok c =
+pub returns-in-Ok-clause-asked : goal.returns-in-Ok-clause-asked
+returns-in-Ok-clause-asked c =
     let job = c.args.job.now in
     let is = c.requires.reached.state in
-    (refl, omega arith, search rules, c.requires.reached.reached, subst (λ s. Agrees job (requests_in job s)) is c.in-Ok.ensures.agrees, subst (λ s. AreRows job s c.write_rows.new.rows) is c.write_rows.ensures)
+    (refl, omega arith, search rules, c.requires.reached.reached, subst (λ s. Agrees job (requests_in job s)) is c.in-Ok.ensures.agrees, subst (λ s. AreRows job s c.write_rows.new.rows) is c.write_rows.ensures.rows)

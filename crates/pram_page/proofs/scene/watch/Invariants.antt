@@ -1,7 +1,7 @@
-use Rattle.std.proofs.Common.{◌≡◌, ℕ, ◌+◌, ◌<◌, length, take, slice_get, Some}
+use Rattle.std.proofs.Common.{◌≡◌, ◌-◌, length, take}
 use Rattle.pram_world.specs.Runs.{Run}
-use Rattle.pram_page.specs.declared.board.Event.{Event}
 use Rattle.pram_page.specs.Events.{IsRunFrom}
+use Rattle.pram_page.specs.Findings.{IsKeptBehind}
 use Rattle.pram_page.proofs.Playing.{ShownTo}
 use Rattle.pram_page.proofs.scene.watch.Given as goal
 
@@ -9,4 +9,5 @@ abbrev pub invariant-loop-number : goal.invariant-loop-number
 invariant-loop-number l = record {
   run : (r : Run) → r.world ≡ l.fn.world → IsRunFrom r (take l.number l.events) l.world;
   shown : (r : Run) → r.world ≡ l.fn.world → ShownTo l.number r l.events l.from l.rows;
+  rows : IsKeptBehind (length l.events - l.from) l.fn.rows l.rows;
 }
