@@ -49,7 +49,8 @@ pub extern "C" fn pram_page_scene(
     bodies: &mut [BodyRow],
     told: &mut Scene,
 )
-    ensures scene { IsScene text.now workers events.now from rows.new words.new bodies.new told.new }
+    ensures scene { IsScene text.now workers events.now from rows.new words.new bodies.new
+        told.new }
     ensures rows { IsKeptBehind (length events.now - from) rows.old rows.new }
     ensures words { IsKeptBehind (words_told told.new) words.old words.new }
     ensures bodies { IsKeptBehind (bodies_told told.new) bodies.old bodies.new }
