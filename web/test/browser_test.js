@@ -210,13 +210,23 @@ async function testWorkers() {
   await has('reads its position', '#steps li', 'worker 1 reads the position of worker 1');
 }
 
+// The name of a saved file with this ending, once it is there.
+async function downloaded(ending) {
+  for (let polls = 0; polls < 50; polls += 1) {
+    const found = readdirSync(downloads).find((name) => name.endsWith(ending));
+    if (found) return found;
+    await page.until('false', 0.1);
+  }
+  return undefined;
+}
+
 async function testPlan() {
   await page.click('#plan-part summary');
+  await page.until("document.querySelector('#plan-said').textContent !== ''", 5);
   await has('the command', '#plan-said', 'pramx replay program.pram --workers 3 --plan plan.csv');
   is('the plan', (await valueOf('#plan')).startsWith('worker,act,ticks\n1,go,1\n0,go,1\n'), true);
   await page.click('#plan-link');
-  await page.until('false', 0.5);
-  const [saved] = readdirSync(downloads).filter((name) => name.endsWith('.csv'));
+  const saved = await downloaded('.csv');
   const file = saved && readFileSync(join(downloads, saved), 'utf8');
   is('the plan file', file, await valueOf('#plan'));
 }
