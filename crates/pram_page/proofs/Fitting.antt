@@ -1,5 +1,5 @@
 -- The phases of bodies are those of their job.
-use Rattle.std.proofs.Common.{arith, ◌≡◌, ℕ, ◌≤◌, slice_get, Option, Some, None, refl, sym, ap, subst, ◌∙◌}
+use Rattle.std.proofs.Common.{arith, ◌≡◌, ℕ, slice_get, Option, Some, None, refl, subst}
 use Rattle.std.specs.Option.{option_map}
 use Rattle.pram_text.specs.Job.{JobData, IsJob}
 use Rattle.walkx.specs.Activities.{activity_of}
@@ -7,7 +7,6 @@ use Rattle.walkx.specs.Doing.{Doing}
 use Rattle.walkx.specs.Doing as doing
 use Rattle.walkx.specs.Walk.{IsPhase}
 use Rattle.pram_world.specs.declared.event.Standing.{Standing}
-use Rattle.pram_world.specs.declared.event.Standing.TheVariants as standing
 use Rattle.pram_world.specs.Interleavings.{IsInterleaved}
 use Rattle.pram_world.specs.Standings.{standing_of}
 use Rattle.pram_world.specs.Worlds.{Body, walks, stopped, WorldData}

@@ -20,7 +20,7 @@ use Rattle.walk_laws.proofs.Sounding.{was_read}
 use Rattle.walk_laws.proofs.Staying.{loads_keep}
 use Rattle.pram_world.specs.Worlds.{WorldData}
 use Rattle.pram_page.specs.declared.reads.ReadRow.{ReadRow}
-use Rattle.pram_page.specs.Answers.{AreAllRead, AreLawful, AreRead, loaded, read_in, read_on, row_of}
+use Rattle.pram_page.specs.Answers.{AreLawful, AreRead, loaded, read_in, read_on, row_of}
 
 -- ---- a script of loads
 

@@ -1,5 +1,5 @@
 -- Events that are played one after the other.
-use Rattle.std.proofs.Common.{arith, ◌≡◌, ◌≢◌, ◌⊎◌, ℕ, zero, suc, ◌+◌, ◌-◌, ◌<◌, ◌≤◌, List, [], ◌∷◌, ◌++◌, length, map, take, slice_get, slice_set, get_or, Some, None, refl, sym, ap, subst, ◌∙◌, inl, inr}
+use Rattle.std.proofs.Common.{arith, ◌≡◌, ◌⊎◌, ℕ, zero, suc, ◌+◌, ◌-◌, ◌<◌, ◌≤◌, List, [], ◌∷◌, ◌++◌, length, map, take, slice_get, slice_set, get_or, Some, refl, sym, ap, subst, ◌∙◌, inl, inr}
 use Rattle.std.proofs.Math.Seq.{take-length}
 use Rattle.std.proofs.lemmas.Bool.{cases_lt}
 use Rattle.std.proofs.lemmas.List.{length-set}
@@ -12,7 +12,7 @@ use Rattle.pram_words.specs.Words.{LayoutData}
 use Rattle.lawful_words.specs.Board.{Stands}
 use Rattle.lawful_words.specs.Moments.{Backed}
 use Rattle.pram_world.specs.Laws.{IsLawfulRun}
-use Rattle.pram_world.specs.Runs.{Act, event, twin, load, Run, begun, acted, all_acted, TwinFits, TwinsFit}
+use Rattle.pram_world.specs.Runs.{Act, event, twin, load, Run, begun, acted, TwinFits, TwinsFit}
 use Rattle.pram_world.proofs.Counting.{same_board}
 use Rattle.pram_world.proofs.Interleaving.{every_interleaving}
 use Rattle.pram_page.specs.declared.text.Refusal.TheVariants.{Memory}

@@ -1,13 +1,13 @@
 -- What is told of the plain machine.
-use Rattle.std.specs.Prelude.{◌≡◌, ◌⊎◌, ℕ, ◌<◌, ◌≤◌, List, length, take}
+use Rattle.std.specs.Prelude.{◌≡◌, ℕ, ◌<◌, ◌≤◌, List, length, take}
 use Rattle.pram_text.specs.Job.{JobData}
 use Rattle.pram_step.specs.declared.answer.RunAnswer.TheVariants as answer
 use Rattle.pram_step.specs.Machine.{place_count}
 use Rattle.pram_step.specs.Runs.{IsReached, IsStateAfter, IsFirstConflict, IsAnswer}
 use Rattle.pram_page.specs.declared.finding.Finding.{Finding}
-use Rattle.pram_page.specs.declared.finding.Finding.TheVariants.{Done, Conflict, Unfinished, NoRoom}
-use Rattle.pram_page.specs.declared.finding.Finding.TheVariants.{NoStep, TooFar, BadWorkers}
-use Rattle.pram_page.specs.declared.finding.Finding.TheVariants.{BadEvent, Refused}
+use Rattle.pram_page.specs.declared.finding.Finding.TheVariants.{Done, Conflict, NoRoom}
+use Rattle.pram_page.specs.declared.finding.Finding.TheVariants.{NoStep, TooFar}
+use Rattle.pram_page.specs.declared.finding.Finding.TheVariants.{Refused}
 use Rattle.pram_page.specs.declared.finding.Told.{Told}
 use Rattle.pram_page.specs.declared.machine.Moment.{Moment}
 use Rattle.pram_page.specs.declared.machine.Moment.TheVariants as moment

@@ -4,14 +4,13 @@ use Rattle.std.specs.Prelude.{List, length, slice_get, slice_index, Option, Some
 use Rattle.pram_text.specs.declared.instr.Instr.{Instr}
 use Rattle.pram_text.specs.Job.{JobData}
 use Rattle.pram_step.specs.declared.answer.Fault.{Fault}
-use Rattle.pram_step.specs.declared.requests.Request.{Request}
-use Rattle.pram_step.specs.Instructions.{cell_read, operand_held, request_in, requests_in}
+use Rattle.pram_step.specs.Instructions.{cell_read, operand_held, request_in}
 use Rattle.pram_step.specs.Machine.{State, counter}
 use Rattle.pram_step.specs.Runs.{AgreesAfter, IsReached, IsFirstConflict, state_after}
 use Rattle.pram_page.specs.declared.finding.Finding.{Finding}
-use Rattle.pram_page.specs.declared.finding.Finding.TheVariants.{Done, Conflict, Unfinished, NoRoom}
-use Rattle.pram_page.specs.declared.finding.Finding.TheVariants.{NoStep, TooFar, BadWorkers}
-use Rattle.pram_page.specs.declared.finding.Finding.TheVariants.{BadEvent, Refused}
+use Rattle.pram_page.specs.declared.finding.Finding.TheVariants.{Done, Conflict, NoRoom}
+use Rattle.pram_page.specs.declared.finding.Finding.TheVariants.{NoStep, TooFar}
+use Rattle.pram_page.specs.declared.finding.Finding.TheVariants.{Refused}
 use Rattle.pram_page.specs.declared.finding.Told.{Told}
 use Rattle.pram_page.specs.declared.requests.RequestRow.{RequestRow}
 use Rattle.pram_page.specs.declared.requests.Target.{Target}

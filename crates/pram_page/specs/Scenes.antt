@@ -1,8 +1,7 @@
 -- What is told of a board after events.
 use Rattle.std.specs.Prelude.{◌≡◌, ◌⊎◌, ℕ, zero, suc, ◌+◌, ◌-◌, ◌<◌, ◌≤◌, ◌==◌, nat_lt, nat_le}
-use Rattle.std.specs.Prelude.{◌||◌, if◌then◌else◌, min, List, length, map, take, slice_get}
+use Rattle.std.specs.Prelude.{◌||◌, if◌then◌else◌, min, List, length, take, slice_get}
 use Rattle.std.specs.Prelude.{slice_index, slice_set, Option, Some, None, unwrap_or}
-use Rattle.pram_text.specs.Job.{JobData}
 use Rattle.pram_words.specs.declared.phases.Kind.{Kind}
 use Rattle.pram_words.specs.declared.phases.Kind.TheVariants.{Compute, Apply, Verify}
 use Rattle.pram_words.specs.declared.words.Word.{Word}
@@ -38,8 +37,8 @@ use Rattle.pram_page.specs.declared.board.Hindrance.{Hindrance}
 use Rattle.pram_page.specs.declared.board.Hindrance.TheVariants.{Refused, BadWorkers, BadEvent}
 use Rattle.pram_page.specs.declared.codes.TheConstants.{DONE, NO_ROOM, BAD_WORKERS, BAD_EVENT}
 use Rattle.pram_page.specs.Texts.{OfJob, refused_as}
-use Rattle.pram_page.specs.Events.{BoardAfter, IsBoardAfter, IsHindered, act_of, moved, effect_by}
-use Rattle.pram_page.specs.Events.{run_from, IsRunFrom, IsHinderedFrom}
+use Rattle.pram_page.specs.Events.{BoardAfter, IsHindered, act_of, moved, effect_by}
+use Rattle.pram_page.specs.Events.{run_from}
 
 -- ---- words
 

@@ -1,4 +1,4 @@
-use Rattle.std.proofs.Common.{rules, arith, subst, sym, refl}
+use Rattle.std.proofs.Common.{rules, arith, subst, refl}
 use Rattle.pram_step.specs.Instructions.{requests_in}
 use Rattle.pram_step.specs.Steps.{Agrees}
 use Rattle.pram_page.specs.Requests.{AreRows}

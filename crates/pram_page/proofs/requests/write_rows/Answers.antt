@@ -1,4 +1,4 @@
-use Rattle.std.proofs.Common.{rules, arith}
+use Rattle.std.proofs.Common.{rules}
 use Rattle.pram_page.specs.Requests.{row_in}
 use Rattle.pram_page.proofs.Buffers.{kept_set, written}
 use Rattle.pram_page.proofs.requests.write_rows.Goals as goal
