@@ -52,6 +52,7 @@ module _ (job job' : Option (List ℕ)) where
     pub line-refused : (l : Line) (fault : CommandFault) → fault_status fault ≡ 2 → ExplainsLine l job job' plan plan' fault → IsRefused l job job' plan plan'
     line-refused (line.Check file) fault refused known = job-refused fault refused known
     line-refused (line.Plain file) fault refused known = job-refused fault refused known
+    line-refused (line.Steps file from to) fault refused known = job-refused fault refused known
     line-refused (line.Run file workers name progress) fault refused known = both-refused workers.count fault refused known
     line-refused (line.Watch file workers cells rounds name progress) fault refused known = watch-refused workers.count (cells_of cells.text.now) fault refused known
     line-refused (line.Replay file workers name) fault refused known = both-refused workers.count fault refused known
@@ -95,6 +96,7 @@ module _ (job job' : Option (List ℕ)) where
         → HasCause l j p o job job' plan plan'
     line-cause (line.Check file) = job-cause
     line-cause (line.Plain file) = job-cause
+    line-cause (line.Steps file from to) = job-cause
     line-cause (line.Run file workers name progress) = both-cause workers.count
     line-cause (line.Watch file workers cells rounds name progress) = watch-cause workers.count (cells_of cells.text.now)
     line-cause (line.Replay file workers name) = both-cause workers.count

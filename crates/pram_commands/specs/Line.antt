@@ -2,7 +2,7 @@
 use Rattle.std.specs.Prelude.{ℕ, List, Option, None, option_map}
 use Rattle.std.specs.Borrow.{Bor}
 use Rattle.pram_commands.specs.declared.line.Line.{Line}
-use Rattle.pram_commands.specs.declared.line.Line.TheVariants.{Check, Plain, Run, Watch, Replay}
+use Rattle.pram_commands.specs.declared.line.Line.TheVariants.{Check, Plain, Steps, Run, Watch, Replay}
 
 abbrev pub text_of : Option (Bor (List ℕ)) → Option (List ℕ)
 text_of = option_map (λ s. s.now)
@@ -10,6 +10,7 @@ text_of = option_map (λ s. s.now)
 abbrev pub file_of : Line → List ℕ
 file_of (Check file) = file.now
 file_of (Plain file) = file.now
+file_of (Steps file from to) = file.now
 file_of (Run file workers plan progress) = file.now
 file_of (Watch file workers cells rounds plan progress) = file.now
 file_of (Replay file workers plan) = file.now
@@ -17,6 +18,7 @@ file_of (Replay file workers plan) = file.now
 abbrev pub plan_of : Line → Option (List ℕ)
 plan_of (Check file) = None
 plan_of (Plain file) = None
+plan_of (Steps file from to) = None
 plan_of (Run file workers plan progress) = text_of plan
 plan_of (Watch file workers cells rounds plan progress) = text_of plan
 plan_of (Replay file workers plan) = text_of plan

@@ -10,13 +10,15 @@ use Rattle.stop_plan.specs.declared.plan.PlanKind.{PlanKind}
 use Rattle.pram_io.specs.Plain.{GivesFault, PrintsAnswer, PrintsBeginning, PrintsSummary, PrintsSummaryBeginning}
 use Rattle.pram_io.specs.Transfer.{GivesMoreThan}
 use Rattle.pram_io.specs.declared.transfer.TheConstants.{MOST}
+use Rattle.pram_steps.specs.Shown.{PrintsSteps, PrintsStepsBeginning}
+use Rattle.pram_steps.specs.declared.window.Window.{Window}
 use Rattle.pram_commands.specs.CellLists.{cells_of}
 use Rattle.pram_commands.specs.Inputs.{Explains, ExplainsJob, ExplainsWatch, GivesOutside, GivesPlanFault, GivesSomeJob}
 use Rattle.pram_commands.specs.Replayed.{PrintsReplay, PrintsReplayBeginning}
 use Rattle.pram_commands.specs.Threads.{PrintsRun, PrintsRunBeginning, PrintsWatch, PrintsWatchBeginning}
 use Rattle.pram_commands.specs.declared.fault.CommandFault.{CommandFault}
 use Rattle.pram_commands.specs.declared.line.Line.{Line}
-use Rattle.pram_commands.specs.declared.line.Line.TheVariants.{Check, Plain, Run, Watch, Replay}
+use Rattle.pram_commands.specs.declared.line.Line.TheVariants.{Check, Plain, Steps, Run, Watch, Replay}
 use Rattle.pram_commands.specs.declared.refusal.TheConstants.{DONE, CONFLICT, UNFINISHED}
 
 -- the bytes of a plan's source; where there is none, it has none
@@ -55,6 +57,14 @@ pub record PrintsWithStatus (source source' sink sink' : Option (List ℕ)) (sta
   pub prints : PrintsAnswer source source' sink sink' answer
   pub of_answer : status ≡ status_of answer
 
+-- The source gave a job, the sink took the steps of a window and the answer, and the status is that
+-- of the answer.
+pub record StepsWithStatus (source source' : Option (List ℕ)) (window : Window)
+    (sink sink' : Option (List ℕ)) (status : ℕ) : Type 0 where
+  pub answer : RunAnswer
+  pub prints : PrintsSteps source source' window sink sink' answer
+  pub of_answer : status ≡ status_of answer
+
 -- The sources gave a job and a plan, the sink took their replay, and the status is that of its
 -- answer.
 pub record ReplaysWithStatus (job job' plan plan' : Option (List ℕ)) (workers : ℕ)
@@ -85,6 +95,8 @@ IsDone (Check file) job job' plan plan' sink sink' status =
     PrintsSummary job job' sink sink' × (status ≡ DONE)
 IsDone (Plain file) job job' plan plan' sink sink' status =
     PrintsWithStatus job job' sink sink' status
+IsDone (Steps file from to) job job' plan plan' sink sink' status =
+    StepsWithStatus job job' (record { from = from; to = to }) sink sink' status
 IsDone (Run file workers plan_file progress) job job' plan plan' sink sink' status =
     RunsWithStatus job job' plan plan' workers.count sink sink' status
 IsDone (Watch file workers cells rounds plan_file progress) job job' plan plan' sink sink' status =
@@ -98,6 +110,8 @@ abbrev pub BeginsToPrint : Line → (job job' plan plan' sink sink' : Option (Li
 BeginsToPrint (Check file) job job' plan plan' sink sink' =
     PrintsSummaryBeginning job job' sink sink'
 BeginsToPrint (Plain file) job job' plan plan' sink sink' = PrintsBeginning job job' sink sink'
+BeginsToPrint (Steps file from to) job job' plan plan' sink sink' =
+    PrintsStepsBeginning job job' (record { from = from; to = to }) sink sink'
 BeginsToPrint (Run file workers plan_file progress) job job' plan plan' sink sink' =
     PrintsRunBeginning job job' plan plan' workers.count sink sink'
 BeginsToPrint (Watch file workers cells rounds plan_file progress) job job' plan plan' sink sink' =
@@ -110,6 +124,7 @@ BeginsToPrint (Replay file workers plan_file) job job' plan plan' sink sink' =
 abbrev pub MayStop : Line → Type 0
 MayStop (Check file) = ⊥
 MayStop (Plain file) = ⊥
+MayStop (Steps file from to) = ⊥
 MayStop (Run file workers plan_file progress) = ⊤
 MayStop (Watch file workers cells rounds plan_file progress) = ⊤
 MayStop (Replay file workers plan_file) = ⊤
@@ -118,6 +133,7 @@ MayStop (Replay file workers plan_file) = ⊤
 abbrev pub ExplainsLine : Line → (job job' plan plan' : Option (List ℕ)) → CommandFault → Type 0
 ExplainsLine (Check file) job job' plan plan' fault = ExplainsJob job job' fault
 ExplainsLine (Plain file) job job' plan plan' fault = ExplainsJob job job' fault
+ExplainsLine (Steps file from to) job job' plan plan' fault = ExplainsJob job job' fault
 ExplainsLine (Run file workers plan_file progress) job job' plan plan' fault =
     Explains job job' plan plan' workers.count fault
 ExplainsLine (Watch file workers cells rounds plan_file progress) job job' plan plan' fault =
@@ -143,6 +159,7 @@ GivesNoBoth job job' plan plan' workers =
 abbrev pub IsRefused : Line → (job job' plan plan' : Option (List ℕ)) → Type 0
 IsRefused (Check file) job job' plan plan' = GivesNoJob job job'
 IsRefused (Plain file) job job' plan plan' = GivesNoJob job job'
+IsRefused (Steps file from to) job job' plan plan' = GivesNoJob job job'
 IsRefused (Run file workers plan_file progress) job job' plan plan' =
     GivesNoBoth job job' plan plan' workers.count
 IsRefused (Watch file workers cells rounds plan_file progress) job job' plan plan' =
@@ -164,6 +181,8 @@ abbrev pub HasCause : Line → (job_failed plan_failed sink_failed : Bool)
 HasCause (Check file) job_failed plan_failed sink_failed job job' plan plan' =
     IsTrue job_failed ⊎ (IsTrue sink_failed ⊎ GivesMoreThan MOST job job')
 HasCause (Plain file) job_failed plan_failed sink_failed job job' plan plan' =
+    IsTrue job_failed ⊎ (IsTrue sink_failed ⊎ GivesMoreThan MOST job job')
+HasCause (Steps file from to) job_failed plan_failed sink_failed job job' plan plan' =
     IsTrue job_failed ⊎ (IsTrue sink_failed ⊎ GivesMoreThan MOST job job')
 HasCause (Run file workers plan_file progress) job_failed plan_failed sink_failed job job' plan plan' =
     BothHaveCause job_failed plan_failed sink_failed job job' plan plan'

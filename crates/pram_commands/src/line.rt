@@ -16,6 +16,13 @@ pub enum Line<'a> {
     Plain {
         file: &'a str,
     },
+    /// Run the job on the plain machine, and print what each processor asks for in each step from
+    /// one to another, counted from 1.
+    Steps {
+        file: &'a str,
+        from: u32,
+        to: u32,
+    },
     /// Run the job on threads. Where `progress` is asked for, standard error tells how far it is.
     Run {
         file: &'a str,
@@ -48,6 +55,7 @@ impl<'a> Line<'a> {
         match *self {
             Line::Check { file }
             | Line::Plain { file }
+            | Line::Steps { file, .. }
             | Line::Run { file, .. }
             | Line::Watch { file, .. }
             | Line::Replay { file, .. } => file,
@@ -59,7 +67,7 @@ impl<'a> Line<'a> {
         ensures { text_of result ≡ plan_of self.now }
     {
         match *self {
-            Line::Check { .. } | Line::Plain { .. } => None,
+            Line::Check { .. } | Line::Plain { .. } | Line::Steps { .. } => None,
             Line::Run { plan, .. } | Line::Watch { plan, .. } | Line::Replay { plan, .. } => plan,
         }
     }

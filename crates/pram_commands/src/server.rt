@@ -14,6 +14,7 @@ use crate::runs::run;
 use crate::watches::watch;
 use pram_io::{Empty, Sink, Source, check, plain};
 use pram_step::RunAnswer;
+use pram_steps::{Window, steps};
 use std::alloc::Global;
 use std::rt::Clock;
 use std::sync::Wait;
@@ -158,6 +159,10 @@ fn do_line<R: Threads + Wait + Clock + Eprint + Sync, J: Source, P: Source, O: S
             Ok(DONE)
         }
         Line::Plain { .. } => Ok(answer_status(&plain(alloc, job, out)?)),
+        Line::Steps { from, to, .. } => {
+            let answer = steps(alloc, Window { from, to }, job, out)?;
+            Ok(answer_status(&answer))
+        }
         Line::Run {
             workers,
             progress,

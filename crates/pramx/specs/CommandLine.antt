@@ -1,5 +1,5 @@
 -- The program's command, and what a line holds of the matches of its words.
-use Rattle.std.specs.Prelude.{◌≡◌, ◌≤◌, ◌⊎◌, ℕ, Bool, true, false, List, Option, Some, None, Result, IsErrAnd, IsSomeAnd, codes, pos}
+use Rattle.std.specs.Prelude.{◌≡◌, ◌≤◌, ◌⊎◌, ◌-◌, ◌^◌, MatchOption, ℕ, Bool, true, false, List, Option, Some, None, Result, IsErrAnd, IsSomeAnd, codes, pos}
 use Rattle.std.specs.Str.Parse.{digits_value, without_leading_plus}
 use Rattle.clap.specs.Words.{App, FailsBy, Row, Rule, Text, fault_of, first_of, kind_of, new_app, new_rule, one_of, subcommand_of, takes, with_rule, with_subcommand}
 use Rattle.clap.specs.declared.builder.action.ArgAction.TheVariants.{Set, SetTrue}
@@ -9,7 +9,7 @@ use Rattle.clap.specs.declared.builder.value_parser.ValueParser.TheVariants.{Sig
 use Rattle.pram_commands.specs.CellLists.{SpellsCells}
 use Rattle.pram_commands.specs.Line.{text_of}
 use Rattle.pram_commands.specs.declared.line.Line.{Line}
-use Rattle.pram_commands.specs.declared.line.Line.TheVariants.{Check, Plain, Run, Watch, Replay}
+use Rattle.pram_commands.specs.declared.line.Line.TheVariants.{Check, Plain, Steps, Run, Watch, Replay}
 
 -- FILE
 abbrev pub file_rule : Rule
@@ -52,6 +52,24 @@ rounds_rule = record (new_rule (codes "rounds")) {
   parser = Some (Signed (pos 1) (pos 1000000));
 }
 
+-- --from A
+abbrev pub from_rule : Rule
+from_rule = record (new_rule (codes "from")) {
+  long = Some (codes "from");
+  value_names = 1;
+  action = Some Set;
+  parser = Some (Signed (pos 1) (pos 4294967295));
+}
+
+-- --to B
+abbrev pub to_rule : Rule
+to_rule = record (new_rule (codes "to")) {
+  long = Some (codes "to");
+  value_names = 1;
+  action = Some Set;
+  parser = Some (Signed (pos 1) (pos 4294967295));
+}
+
 -- --progress
 abbrev pub progress_rule : Rule
 progress_rule = record (new_rule (codes "progress")) {
@@ -62,6 +80,10 @@ progress_rule = record (new_rule (codes "progress")) {
 -- NAME FILE
 abbrev pub on_file : Text → App
 on_file name = with_rule (new_app name) file_rule
+
+-- steps FILE [--from A] [--to B]
+abbrev pub on_steps : App
+on_steps = with_rule (with_rule (on_file (codes "steps")) from_rule) to_rule
 
 -- NAME FILE --workers W [--plan P]
 abbrev pub with_workers : Text → App
@@ -85,9 +107,11 @@ bare =
 -- the program's command
 abbrev pub pramx : App
 pramx =
-    with_subcommand (with_subcommand (with_subcommand (with_subcommand (with_subcommand bare
+    with_subcommand (with_subcommand (with_subcommand (with_subcommand (with_subcommand
+    (with_subcommand bare
     (on_file (codes "check")).top)
     (on_file (codes "plain")).top)
+    on_steps.top)
     on_run.top)
     on_watch.top)
     (with_workers (codes "replay")).top
@@ -115,6 +139,17 @@ abbrev pub IsNumberOf : Text → List Row → ℕ → Type 0
 IsNumberOf option rows number = IsSomeAnd (one_of option rows)
     (λ text. number ≡ digits_value 10 (without_leading_plus text))
 
+-- The same, or this number where the option is left out.
+abbrev pub IsNumberOr : Text → List Row → ℕ → ℕ → Type 0
+IsNumberOr option rows other number =
+    MatchOption (first_of option rows) (number ≡ other) (λ _. IsNumberOf option rows number)
+
+-- The subcommand `steps` was met, with this file and these steps.
+pub record HasSteps (matches : Option (Text × List Row)) (file : Text) (from to : ℕ) : Type 0 where
+  pub of_file : HasFile matches (codes "steps") file
+  pub has_from : IsNumberOr (codes "from") of_file.rows 1 from
+  pub has_to : IsNumberOr (codes "to") of_file.rows (2 ^ 32 - 1) to
+
 -- The flag is set where the option stands.
 pub record IsFlag (found : Option Text) (flag : Bool) : Type 0 where
   pub set : found ≡ Some (codes "true") → flag ≡ true
@@ -138,6 +173,7 @@ pub record HasWatch (matches : Option (Text × List Row)) (name file : Text) (wo
 abbrev pub IsMet : Option (Text × List Row) → Line → Type 0
 IsMet matches (Check file) = HasFile matches (codes "check") file.now
 IsMet matches (Plain file) = HasFile matches (codes "plain") file.now
+IsMet matches (Steps file from to) = HasSteps matches file.now from to
 IsMet matches (Run file workers plan progress) =
     HasRun matches (codes "run") file.now workers.count (text_of plan) progress
 IsMet matches (Watch file workers cells rounds plan progress) =

@@ -1,9 +1,10 @@
 //! The command line.
-ghost use Rattle.std.specs.Prelude.{◌≡◌, ◌≢◌, Some, codes, false, map, IfOk, IfErr, IfSome};
+ghost use Rattle.std.specs.Prelude.{◌≡◌, ◌≢◌, ◌-◌, ◌^◌, Some, codes, false, map, IfOk, IfErr, IfSome};
 ghost use Rattle.clap.specs.Words.{app_of, first_of, found_of, kind_of, rows_of, rule_of, subcommand_of, subcommand_rows_of};
-ghost use Rattle.pramx.specs.CommandLine.{AreRefused, FailsByWords, HasBadCells, IsMet, IsNumberOf, pramx};
+ghost use Rattle.pramx.specs.CommandLine.{AreRefused, FailsByWords, HasBadCells, IsMet, IsNumberOf, IsNumberOr, pramx};
 ghost use Rattle.pramx.specs.CommandLine.{cells_rule, file_rule, plan_rule, progress_rule, rounds_rule};
-ghost use Rattle.pramx.specs.CommandLine.{on_file, on_run, on_watch, with_workers, workers_rule};
+ghost use Rattle.pramx.specs.CommandLine.{from_rule, on_file, on_run, on_steps, on_watch, to_rule};
+ghost use Rattle.pramx.specs.CommandLine.{with_workers, workers_rule};
 
 use clap::error::ErrorKind;
 use clap::{Arg, ArgAction, ArgMatches, Command, Error, value_parser};
@@ -14,9 +15,13 @@ const EXAMPLES: &str = "\
 Examples:
   pramx check examples/prefix.pram
   pramx plain examples/prefix.pram
+  pramx steps examples/prefix.pram --from 1 --to 5
   pramx run examples/prefix.pram --workers 4
   pramx watch examples/prefix.pram --workers 4 --cells 0,11 --rounds 3
   pramx replay examples/prefix.pram --workers 4";
+
+/// The most steps of a job.
+const MOST_STEPS: i64 = 4_294_967_295;
 
 /// The most rounds of a watch.
 const MOST_ROUNDS: i64 = 1_000_000;
@@ -74,6 +79,7 @@ fn command<'a>(alloc: Global) -> Result<Command<'a>, AllocError>
         "Say whether a text spells a job, and how large it is",
     )?;
     let plain = file_command(alloc, "plain", "Run a job on the plain machine")?;
+    let steps = steps_command(alloc)?;
     let run = run_command(alloc)?;
     let watch = watch_command(alloc)?;
     let replay = workers_command(
@@ -88,9 +94,22 @@ fn command<'a>(alloc: Global) -> Result<Command<'a>, AllocError>
         .subcommand_required(true)
         .subcommand(check)?
         .subcommand(plain)?
+        .subcommand(steps)?
         .subcommand(run)?
         .subcommand(watch)?
         .subcommand(replay)
+}
+
+fn steps_command<'a>(alloc: Global) -> Result<Command<'a>, AllocError>
+    ensures { IfOk result (λ c. app_of c ≡ on_steps) }
+{
+    file_command(
+        alloc,
+        "steps",
+        "Run a job on the plain machine, and print what each processor asks for in each step",
+    )?
+    .arg(from_arg(alloc))?
+    .arg(to_arg(alloc))
 }
 
 fn run_command<'a>(alloc: Global) -> Result<Command<'a>, AllocError>
@@ -139,6 +158,30 @@ fn file_arg<'a>(alloc: Global) -> Arg<'a>
         .help("The text of the job")
         .required(true)
         .action(ArgAction::Set)
+}
+
+fn from_arg<'a>(alloc: Global) -> Arg<'a>
+    ensures rule { rule_of result ≡ from_rule }
+    ensures local { result.global ≡ false }
+{
+    Arg::new(alloc, "from")
+        .long("from")
+        .value_name("A")
+        .help("The first step to print, from 1; 1 if it is left out")
+        .action(ArgAction::Set)
+        .value_parser(value_parser!(u32).range(1..=MOST_STEPS))
+}
+
+fn to_arg<'a>(alloc: Global) -> Arg<'a>
+    ensures rule { rule_of result ≡ to_rule }
+    ensures local { result.global ≡ false }
+{
+    Arg::new(alloc, "to")
+        .long("to")
+        .value_name("B")
+        .help("The last step to print, from 1; the job's last if it is left out")
+        .action(ArgAction::Set)
+        .value_parser(value_parser!(u32).range(1..=MOST_STEPS))
 }
 
 fn workers_arg<'a>(alloc: Global) -> Arg<'a>
@@ -208,6 +251,10 @@ fn line_of<'a>(matches: &ArgMatches<'a>) -> Option<Line<'a>>
     match name {
         "check" => return Some(Line::Check { file }),
         "plain" => return Some(Line::Plain { file }),
+        "steps" => {
+            let (from, to) = window_of(inner)?;
+            return Some(Line::Steps { file, from, to });
+        }
         _ => {}
     }
     let count = inner.get_one::<u32>("workers")?;
@@ -241,6 +288,31 @@ fn line_of<'a>(matches: &ArgMatches<'a>) -> Option<Line<'a>>
             plan,
         }),
         _ => None,
+    }
+}
+
+// The steps of a window.
+fn window_of(inner: &ArgMatches<'_>) -> Option<(u32, u32)>
+    ensures from { IfSome result (λ w. IsNumberOr (codes "from")
+        (rows_of (found_of inner.now)) 1 w.0) }
+    ensures to { IfSome result (λ w. IsNumberOr (codes "to")
+        (rows_of (found_of inner.now)) (2 ^ 32 - 1) w.1) }
+{
+    let from = number_or(inner, "from", 1)?;
+    let to = number_or(inner, "to", u32::MAX)?;
+    Some((from, to))
+}
+
+// The number of an option, or another one where the option is left out.
+fn number_or(inner: &ArgMatches<'_>, option: &str, other: u32) -> Option<u32>
+    ensures { IfSome result (IsNumberOr option.now (rows_of (found_of inner.now)) other) }
+{
+    match inner.get_str(option) {
+        Some(_) => {
+            let number = inner.get_one::<u32>(option)?;
+            Some(number)
+        }
+        None => Some(other),
     }
 }
 

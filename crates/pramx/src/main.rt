@@ -1,5 +1,5 @@
 //! Runs programs of a synchronous parallel machine: `pramx check FILE`, `pramx plain FILE`,
-//! `pramx run FILE --workers W`, `pramx watch FILE --workers W --cells C,C,.. --rounds R`,
+//! `pramx steps FILE`, `pramx run FILE --workers W`, `pramx watch FILE --workers W --cells C,C,.. --rounds R`,
 //! `pramx replay FILE --workers W`.
 #![tactic(auto)]
 

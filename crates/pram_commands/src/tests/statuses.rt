@@ -1,6 +1,6 @@
 //! What a line that was served writes and answers. In texts and outputs `/` stands for a line feed.
 use crate::Line;
-use crate::tests::served::{CHECK, PLAIN, serve_text};
+use crate::tests::served::{CHECK, FILE, PLAIN, serve_text};
 use std::alloc::{AllocError, Global};
 use std::process::Abort;
 use std::rt::Clock;
@@ -111,4 +111,41 @@ fn check_answers_with_a_status(rt: HostRuntime) -> Result<(), Fail> {
         ),
     ];
     expect(&rt, rt.alloc(), &CHECK, &rows)
+}
+
+#[test]
+fn steps_answers_with_a_status(rt: HostRuntime) -> Result<(), Fail> {
+    let steps = Line::Steps {
+        file: FILE,
+        from: 2,
+        to: 3,
+    };
+    let rows = [
+        (
+            "pram 1/cells 1/procs 3/steps 2/code/pid r0/st r1 r0/",
+            "step,processor,place,instruction,writes,value,next/\
+             2,0,1,st r1 r0,cell 0,0,2/\
+             2,1,1,st r1 r0,cell 0,1,2/\
+             2,2,1,st r1 r0,cell 0,2,2/\
+             conflict step=2 cell=0 processors=0,1/",
+            "",
+            1,
+        ),
+        (
+            "pram 1/cells 1/procs 1/steps 4/code/set r0 7/halt/",
+            "step,processor,place,instruction,writes,value,next/\
+             2,0,1,halt,,,2/\
+             3,0,2,halted,,,2/\
+             done steps=4/0: 0/",
+            "",
+            0,
+        ),
+        (
+            "pram 1/cells 1/procs 1/steps 1/code/",
+            "",
+            "text line=6 kind=NoCode/",
+            2,
+        ),
+    ];
+    expect(&rt, rt.alloc(), &steps, &rows)
 }

@@ -9,6 +9,12 @@ const CHECK: &[&str] = &["pramx", "check", "f"];
 
 const PLAIN: &[&str] = &["pramx", "plain", "f"];
 
+const STEPS: &[&str] = &["pramx", "steps", "f"];
+
+const FROM: &[&str] = &["pramx", "steps", "f", "--from", "101"];
+
+const FROM_TO: &[&str] = &["pramx", "steps", "--to", "4294967295", "f", "--from=9"];
+
 const RUN: &[&str] = &[
     "pramx",
     "run",
@@ -53,12 +59,23 @@ fn words_make_a_watch(rt: HostRuntime) -> Result<(), Fail> {
     Ok(())
 }
 
+fn steps(from: u32, to: u32) -> Line<'static> {
+    Line::Steps {
+        file: "f",
+        from,
+        to,
+    }
+}
+
 #[test]
 fn words_make_a_line(rt: HostRuntime) -> Result<(), Fail> {
     let alloc = rt.alloc();
     for (words, line) in [
         (CHECK, Line::Check { file: "f" }),
         (PLAIN, Line::Plain { file: "f" }),
+        (STEPS, steps(1, u32::MAX)),
+        (FROM, steps(101, u32::MAX)),
+        (FROM_TO, steps(9, u32::MAX)),
         (
             RUN,
             Line::Run {
@@ -104,6 +121,10 @@ const NO_WORKERS: &[&str] = &["pramx", "run", "job.txt"];
 const NO_WORKER: &[&str] = &["pramx", "run", "job.txt", "--workers", "0"];
 
 const TOO_MANY: &[&str] = &["pramx", "replay", "job.txt", "--workers", "65"];
+
+const FROM_ZERO: &[&str] = &["pramx", "steps", "f", "--from", "0"];
+
+const TO_NO_NUMBER: &[&str] = &["pramx", "steps", "f", "--to", "last"];
 
 const NO_CELLS: &[&str] = &["pramx", "watch", "f", "--workers", "1", "--rounds", "1"];
 
@@ -172,6 +193,8 @@ fn other_words_are_refused(rt: HostRuntime) {
         (NO_WORKERS, ErrorKind::MissingRequiredArgument),
         (NO_WORKER, ErrorKind::ValueValidation),
         (TOO_MANY, ErrorKind::ValueValidation),
+        (FROM_ZERO, ErrorKind::ValueValidation),
+        (TO_NO_NUMBER, ErrorKind::ValueValidation),
         (NO_CELLS, ErrorKind::MissingRequiredArgument),
         (BAD_CELLS, ErrorKind::ValueValidation),
         (EMPTY_CELL, ErrorKind::ValueValidation),
@@ -197,6 +220,7 @@ Usage: pramx <COMMAND>
 Commands:
   check   Say whether a text spells a job, and how large it is
   plain   Run a job on the plain machine
+  steps   Run a job on the plain machine, and print what each processor asks for in each step
   run     Run a job on threads
   watch   Run a job on threads, and read cells while they run
   replay  Run a job on one thread, and print each step
@@ -209,6 +233,7 @@ Options:
 Examples:
   pramx check examples/prefix.pram
   pramx plain examples/prefix.pram
+  pramx steps examples/prefix.pram --from 1 --to 5
   pramx run examples/prefix.pram --workers 4
   pramx watch examples/prefix.pram --workers 4 --cells 0,11 --rounds 3
   pramx replay examples/prefix.pram --workers 4

@@ -1,0 +1,3 @@
+pub mod Lines
+pub mod Plain
+pub mod Reaching

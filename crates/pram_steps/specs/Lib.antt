@@ -1,0 +1,4 @@
+pub mod Inner
+pub mod Instructions
+pub mod Rows
+pub mod Shown

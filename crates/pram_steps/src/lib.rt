@@ -1,0 +1,15 @@
+//! What each processor asks for in each step of a job, printed as CSV.
+#![tactic(auto)]
+
+mod instruction;
+mod job;
+mod print;
+mod row;
+#[cfg(test)]
+mod tests;
+mod window;
+
+pub use instruction::instruction_text;
+pub use job::steps;
+pub use print::print_steps;
+pub use window::Window;
