@@ -1,6 +1,7 @@
 //! The exit statuses, and what standard error tells of a line that was not done.
-ghost use Rattle.std.specs.Prelude.{◌≡◌, ◌⊎◌, false};
-ghost use Rattle.pram_commands.specs.Inner.Refusals.{refusal_status};
+ghost use Rattle.std.specs.Prelude.{◌≡◌, ◌≢◌, ◌⊎◌, codes, false};
+ghost use Rattle.std.specs.Io.KnownBytes.{Appends};
+ghost use Rattle.pram_commands.specs.Inner.Refusals.{TakesTold, refusal_status, refusal_text};
 
 use pram_io::{Sink, put};
 use pram_text::TextKind;
@@ -63,6 +64,8 @@ impl Refusal<'_> {
 }
 
 impl fmt::Display for Refusal<'_> {
+    ghost output = { refusal_text };
+
     fn fmt<W: fmt::Write>(&self, f: &mut fmt::Formatter<W>) -> fmt::Result {
         match self {
             Refusal::Text { line, kind } => writeln!(f, "text line={line} kind={kind:?}"),
@@ -80,7 +83,13 @@ impl fmt::Display for Refusal<'_> {
 /// Tells a refusal, and gives its status. Where there is no memory to tell it, it tells that.
 pub fn tell<E: Sink>(alloc: Global, refusal: Refusal<'_>, err: &mut E) -> u8
     requires { E.has_failed err.old ≡ false }
-    ensures { (result ≡ MEMORY) ⊎ (result ≡ refusal_status refusal.entry) }
+    ensures status { (result ≡ MEMORY) ⊎ (result ≡ refusal_status refusal.entry) }
+
+    // Where the sink does not fail, it took the refusal, or that there is no memory.
+    ensures told { E.has_failed err.new ≡ false → result ≢ MEMORY
+        → TakesTold refusal.entry (E.taken err.old) (E.taken err.new) }
+    ensures memory { E.has_failed err.new ≡ false → result ≡ MEMORY
+        → Appends (E.taken err.old) (E.taken err.new) (codes "memory\n") }
 {
     match format!(in alloc; "{refusal}") {
         Ok(text) => {

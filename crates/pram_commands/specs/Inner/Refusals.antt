@@ -1,5 +1,6 @@
--- The statuses of refusals, and the files that they name.
-use Rattle.std.specs.Prelude.{ℕ, List, [], Option, Some, None, unwrap_or}
+-- The statuses of refusals, the files that they name, and what is told of them.
+use Rattle.std.specs.Prelude.{◌≡◌, ◌++◌, ℕ, List, [], Option, Some, None, codes, decimal, unwrap_or}
+use Rattle.std.specs.Io.KnownBytes.{Appends}
 use Rattle.pram_commands.specs.Line.{file_of, plan_of}
 use Rattle.pram_commands.specs.declared.fault.CommandFault.{CommandFault}
 use Rattle.pram_commands.specs.declared.fault.CommandFault.TheVariants as fault
@@ -37,3 +38,18 @@ told_cell _ = None
 abbrev pub cell_at_fault : CommandFault → Option ℕ
 cell_at_fault (fault.OutsideCell cell) = Some cell
 cell_at_fault _ = None
+
+-- what standard error tells of a refusal; the kinds of a bad text print as they are derived, of which no clause speaks
+abbrev pub refusal_text : Refusal → Option (List ℕ)
+refusal_text (refusal.Text line kind) = None
+refusal_text (refusal.Plan row kind) = None
+refusal_text (refusal.Cell cell) = Some (codes "watch cell=" ++ decimal cell ++ codes "\n")
+refusal_text (refusal.File name) = Some (codes "file " ++ name.now ++ codes "\n")
+refusal_text refusal.Output = Some (codes "file -\n")
+refusal_text (refusal.Size name) = Some (codes "size " ++ name.now ++ codes "\n")
+refusal_text refusal.Memory = Some (codes "memory\n")
+refusal_text refusal.Word = Some (codes "error: a word of the line is not UTF-8\n")
+
+-- the sink took what is told of the refusal
+abbrev pub TakesTold : Refusal → (sink sink' : Option (List ℕ)) → Type 0
+TakesTold told sink sink' = (text : List ℕ) → refusal_text told ≡ Some text → Appends sink sink' text
