@@ -104,14 +104,18 @@ bare =
     let a = new_app (codes "pramx") in
     record a { top = record a.top { has_version = true; subcommand_required = true } }
 
+-- with those of the plain machine alone
+abbrev pub on_machine : App
+on_machine =
+    with_subcommand (with_subcommand (with_subcommand bare
+    (on_file (codes "check")).top)
+    (on_file (codes "plain")).top)
+    on_steps.top
+
 -- the program's command
 abbrev pub pramx : App
 pramx =
-    with_subcommand (with_subcommand (with_subcommand (with_subcommand (with_subcommand
-    (with_subcommand bare
-    (on_file (codes "check")).top)
-    (on_file (codes "plain")).top)
-    on_steps.top)
+    with_subcommand (with_subcommand (with_subcommand on_machine
     on_run.top)
     on_watch.top)
     (with_workers (codes "replay")).top
@@ -144,9 +148,9 @@ abbrev pub IsNumberOr : Text → List Row → ℕ → ℕ → Type 0
 IsNumberOr option rows other number =
     MatchOption (first_of option rows) (number ≡ other) (λ _. IsNumberOf option rows number)
 
--- The subcommand `steps` was met, with this file and these steps.
-pub record HasSteps (matches : Option (Text × List Row)) (file : Text) (from to : ℕ) : Type 0 where
-  pub of_file : HasFile matches (codes "steps") file
+-- The subcommand of this name was met, with this file and these steps.
+pub record HasSteps (matches : Option (Text × List Row)) (name file : Text) (from to : ℕ) : Type 0 where
+  pub of_file : HasFile matches name file
   pub has_from : IsNumberOr (codes "from") of_file.rows 1 from
   pub has_to : IsNumberOr (codes "to") of_file.rows (2 ^ 32 - 1) to
 
@@ -173,7 +177,7 @@ pub record HasWatch (matches : Option (Text × List Row)) (name file : Text) (wo
 abbrev pub IsMet : Option (Text × List Row) → Line → Type 0
 IsMet matches (Check file) = HasFile matches (codes "check") file.now
 IsMet matches (Plain file) = HasFile matches (codes "plain") file.now
-IsMet matches (Steps file from to) = HasSteps matches file.now from to
+IsMet matches (Steps file from to) = HasSteps matches (codes "steps") file.now from to
 IsMet matches (Run file workers plan progress) =
     HasRun matches (codes "run") file.now workers.count (text_of plan) progress
 IsMet matches (Watch file workers cells rounds plan progress) =

@@ -3,7 +3,8 @@ ghost use Rattle.std.specs.Prelude.{◌≡◌, ◌≢◌, ◌-◌, ◌^◌, Some
 ghost use Rattle.clap.specs.Words.{app_of, first_of, found_of, kind_of, rows_of, rule_of, subcommand_of, subcommand_rows_of};
 ghost use Rattle.pramx.specs.CommandLine.{AreRefused, FailsByWords, HasBadCells, IsMet, IsNumberOf, IsNumberOr, pramx};
 ghost use Rattle.pramx.specs.CommandLine.{cells_rule, file_rule, plan_rule, progress_rule, rounds_rule};
-ghost use Rattle.pramx.specs.CommandLine.{from_rule, on_file, on_run, on_steps, on_watch, to_rule};
+ghost use Rattle.pramx.specs.CommandLine.{from_rule, on_file, on_machine, on_run, on_steps};
+ghost use Rattle.pramx.specs.CommandLine.{on_watch, to_rule};
 ghost use Rattle.pramx.specs.CommandLine.{with_workers, workers_rule};
 
 use clap::error::ErrorKind;
@@ -73,13 +74,7 @@ fn cells_error(alloc: Global, text: &str) -> Result<Error, AllocError>
 fn command<'a>(alloc: Global) -> Result<Command<'a>, AllocError>
     ensures { IfOk result (λ c. app_of c ≡ pramx) }
 {
-    let check = file_command(
-        alloc,
-        "check",
-        "Say whether a text spells a job, and how large it is",
-    )?;
-    let plain = file_command(alloc, "plain", "Run a job on the plain machine")?;
-    let steps = steps_command(alloc)?;
+    let machine = machine_command(alloc)?;
     let run = run_command(alloc)?;
     let watch = watch_command(alloc)?;
     let replay = workers_command(
@@ -87,6 +82,23 @@ fn command<'a>(alloc: Global) -> Result<Command<'a>, AllocError>
         "replay",
         "Run a job on one thread, and print each step",
     )?;
+    machine
+        .subcommand(run)?
+        .subcommand(watch)?
+        .subcommand(replay)
+}
+
+// The program with the subcommands of the plain machine alone.
+fn machine_command<'a>(alloc: Global) -> Result<Command<'a>, AllocError>
+    ensures { IfOk result (λ c. app_of c ≡ on_machine) }
+{
+    let check = file_command(
+        alloc,
+        "check",
+        "Say whether a text spells a job, and how large it is",
+    )?;
+    let plain = file_command(alloc, "plain", "Run a job on the plain machine")?;
+    let steps = steps_command(alloc)?;
     Command::new(alloc, "pramx")
         .version("0.1.0")
         .about("Runs programs of a synchronous parallel machine with shared memory.")
@@ -94,10 +106,7 @@ fn command<'a>(alloc: Global) -> Result<Command<'a>, AllocError>
         .subcommand_required(true)
         .subcommand(check)?
         .subcommand(plain)?
-        .subcommand(steps)?
-        .subcommand(run)?
-        .subcommand(watch)?
-        .subcommand(replay)
+        .subcommand(steps)
 }
 
 fn steps_command<'a>(alloc: Global) -> Result<Command<'a>, AllocError>

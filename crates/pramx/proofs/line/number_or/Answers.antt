@@ -1,4 +1,4 @@
-use Rattle.std.proofs.Common.{◌≡◌, ◌∙◌, ℕ, Option, None, Some, MatchOption, subst, sym, refl}
+use Rattle.std.proofs.Common.{◌≡◌, ◌∙◌, ℕ, List, Option, None, Some, MatchOption, subst, sym, refl}
 use Rattle.clap.specs.Words.{Text, Row, first_of, found_of, one_of, one_text, rows_of}
 use Rattle.clap.proofs.WalkLemmas.{first_value-rows, one_text-rows}
 use Rattle.pramx.specs.CommandLine.{IsNumberOf, IsNumberOr}
@@ -13,9 +13,9 @@ returns-in-None c =
     let rows = rows_of (found_of c.args.inner.now) in
     subst (Fact c.args.other c.args.other c.args.option.now rows) (c.in-None.ensures ∙ first_value-rows (found_of c.args.inner.now) c.args.option.now) refl
 
-pub returns-in-Some : goal.returns-in-Some
-returns-in-Some c =
+pub returns-in_ok-number-in-Some : goal.returns-in_ok-number-in-Some
+returns-in_ok-number-in-Some c =
     let found = found_of c.args.inner.now in
     let option = c.args.option.now in
-    let number : IsNumberOf option (rows_of found) c.in_ok-number.number = rw (← one_text-rows found option) (number_of (one_text found option) _ c.in_ok-number.ensures.none (λ text is. (c.in_ok-number.ensures.value text is).0.1)) in
-    subst (Fact c.args.other c.in_ok-number.number option (rows_of found)) (c.in-Some.ensures ∙ first_value-rows found option) number
+    let number : IsNumberOf option (rows_of found) c.in_ok-number-in-Some.number = rw (← one_text-rows found option) (number_of (one_text found option) _ c.in_ok-number-in-Some.ensures.none (λ text is. (c.in_ok-number-in-Some.ensures.value text is).0.1)) in
+    subst (Fact c.args.other c.in_ok-number-in-Some.number option (rows_of found)) (c.in-Some.ensures ∙ first_value-rows found option) number
