@@ -7,3 +7,9 @@ pub mod Looking
 pub mod Works
 pub mod Memory
 pub mod Faults
+pub mod Playing
+pub mod Due
+pub mod Telling
+pub mod Stepping
+pub mod Passes
+pub mod Working

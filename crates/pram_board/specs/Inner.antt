@@ -1,2 +1,4 @@
 -- What private contracts cite.
 pub mod Asked
+pub mod Plays
+pub mod Rests

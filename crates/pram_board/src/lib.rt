@@ -3,13 +3,18 @@
 #![tactic(auto)]
 
 mod board;
+mod carry;
+mod compute;
+mod hand;
 mod look;
 mod outcome;
+mod parts;
 mod plays;
 mod seat;
 mod task;
 #[cfg(test)]
 mod tests;
+mod turns;
 mod work;
 
 pub use board::Board;

@@ -1,8 +1,8 @@
 //! Workers on a board.
 ghost use Rattle.std.specs.Prelude.{◌≡◌};
-ghost use Rattle.pram_board.specs.Inner.Asked.{over_in};
 
 use crate::board::Board;
+use crate::hand::Work;
 use crate::seat::Seat;
 use stop_plan::Gate;
 use walkx::{Ended, Op, Worker};
@@ -17,13 +17,15 @@ pub enum Stay {
 }
 
 impl Board {
-    ghost use Rattle.std.specs.Prelude.{◌≡◌, Some, None};
+    ghost use Rattle.std.specs.Prelude.{◌≡◌, ◌<◌, ◌^◌, Some, None, false, true};
     ghost use Rattle.walkx.specs.declared.operation.Ended.{Ended};
     ghost use Rattle.walkx.specs.Records.{Knows};
     ghost use Rattle.walkx.specs.Serving.{Serves};
+    ghost use Rattle.walkx.specs.Turns.{turning};
     ghost use Rattle.walkx.specs.Walk.{end_of};
     ghost use Rattle.lawful_words.specs.Moments.{Sound};
     ghost use Rattle.pram_board.specs.Inner.Asked.{Asks};
+    ghost use Rattle.pram_board.specs.Inner.Plays.{GoesOn};
     ghost use Rattle.pram_board.specs.Worked.{EndShows, Ticked, Worked, end_in};
 
     /// One atomic step of a worker, or none where it is over. The seat is to know the worker: it
@@ -83,23 +85,109 @@ impl Board {
         self.facts();
         seat.facts();
         let mut made = 0;
-        let mut op = worker.ask(&self.task.job, &self.task.layout);
         loop {
-            if let Some(ended) = ended_in(op) {
+            if let Some(ended) = worker.ended() {
                 return Stay::Ended(ended);
             }
             if limit == Some(made) {
                 return Stay::Stopped;
             }
-            gate.pass(worker.number(), made);
-            op = self.advance(seat, worker, op);
-            made += 1;
+            self.go_on(seat, worker, &mut made, gate, limit.is_some());
         }
     }
 
-    // One atomic step of a worker, which asks for it, and what the worker asks for next.
-    #[inline(always)]
-    fn advance(&self, seat: &mut Seat, worker: &mut Worker, op: Op) -> Op
+    // One atomic step of a worker; or whole turns up to the end of the phase, where the worker is
+    // at the start of one and there is no limit.
+    fn go_on<G: Gate>(
+        &self,
+        seat: &mut Seat,
+        worker: &mut Worker,
+        made: &mut u64,
+        gate: &G,
+        limited: bool,
+    )
+        requires desk { seat.old.desk ≡ self.now }
+        requires serves { Serves self.now.task.job self.now.task.layout worker.old }
+        requires knows { Knows self.now.task.job self.now.task.layout seat.old.record_of
+            worker.old.walking }
+        requires going { end_of worker.old.walking.now ≡ None }
+        requires room { made.old < 2 ^ 63 }
+        ensures goes { GoesOn self.now.task limited (seat.old, made.old) worker.old.walking
+            (seat.new, made.new) worker.new.walking }
+        ensures sound { Sound self.now.task.job self.now.task.layout seat.new.record_of }
+        ensures desk { seat.new.desk ≡ self.now }
+        ensures serves { Serves self.now.task.job self.now.task.layout worker.new }
+        ensures knows { Knows self.now.task.job self.now.task.layout seat.new.record_of
+            worker.new.walking }
+    {
+        if limited {
+            return self.go_one(seat, worker, made, gate);
+        }
+        match worker.turn() {
+            Some((node, phase)) => self.go_through(seat, worker, made, gate, node, phase),
+            None => self.go_one(seat, worker, made, gate),
+        }
+    }
+
+    // One atomic step of a worker.
+    fn go_one<G: Gate>(&self, seat: &mut Seat, worker: &mut Worker, made: &mut u64, gate: &G)
+        requires desk { seat.old.desk ≡ self.now }
+        requires serves { Serves self.now.task.job self.now.task.layout worker.old }
+        requires knows { Knows self.now.task.job self.now.task.layout seat.old.record_of
+            worker.old.walking }
+        requires going { end_of worker.old.walking.now ≡ None }
+        ensures goes { GoesOn self.now.task true (seat.old, made.old) worker.old.walking
+            (seat.new, made.new) worker.new.walking }
+        ensures sound { Sound self.now.task.job self.now.task.layout seat.new.record_of }
+        ensures desk { seat.new.desk ≡ self.now }
+        ensures serves { Serves self.now.task.job self.now.task.layout worker.new }
+        ensures knows { Knows self.now.task.job self.now.task.layout seat.new.record_of
+            worker.new.walking }
+    {
+        gate.pass(worker.number(), *made);
+        *made = made.wrapping_add(1);
+        let _ = self.tick(seat, worker);
+    }
+
+    // Whole turns up to the end of the phase.
+    fn go_through<G: Gate>(
+        &self,
+        seat: &mut Seat,
+        worker: &mut Worker,
+        made: &mut u64,
+        gate: &G,
+        node: u32,
+        phase: u64,
+    )
+        requires desk { seat.old.desk ≡ self.now }
+        requires turn { worker.old.walking ≡ turning worker.old.walking.number node phase }
+        requires serves { Serves self.now.task.job self.now.task.layout worker.old }
+        requires knows { Knows self.now.task.job self.now.task.layout seat.old.record_of
+            worker.old.walking }
+        requires room { made.old < 2 ^ 63 }
+        ensures goes { GoesOn self.now.task false (seat.old, made.old) worker.old.walking
+            (seat.new, made.new) worker.new.walking }
+        ensures sound { Sound self.now.task.job self.now.task.layout seat.new.record_of }
+        ensures desk { seat.new.desk ≡ self.now }
+        ensures serves { Serves self.now.task.job self.now.task.layout worker.new }
+        ensures knows { Knows self.now.task.job self.now.task.layout seat.new.record_of
+            worker.new.walking }
+    {
+        self.facts();
+        let work = Work {
+            board: self,
+            job: &self.task.job,
+            layout: self.task.layout,
+            gate,
+            worker: worker.number(),
+        };
+        work.turns(seat, made, node, phase);
+        worker.begin_at(1);
+        seat.facts();
+    }
+
+    // One atomic step of a worker, which asks for it.
+    fn advance(&self, seat: &mut Seat, worker: &mut Worker, op: Op)
         requires desk { seat.old.desk ≡ self.now }
         requires serves { Serves self.now.task.job self.now.task.layout worker.old }
         requires knows { Knows self.now.task.job self.now.task.layout seat.old.record_of
@@ -108,7 +196,6 @@ impl Board {
         requires going { end_of worker.old.walking.now ≡ None }
         ensures ticked { Ticked self.now.task seat.old worker.old.walking seat.new
             worker.new.walking }
-        ensures asks { Asks self.now.task worker.new.walking result }
         ensures sound { Sound self.now.task.job self.now.task.layout seat.new.record_of }
         ensures desk { seat.new.desk ≡ self.now }
         ensures serves { Serves self.now.task.job self.now.task.layout worker.new }
@@ -116,17 +203,6 @@ impl Board {
             worker.new.walking }
     {
         let answer = self.step(seat, op);
-        worker.proceed(&self.task.job, &self.task.layout, answer)
-    }
-}
-
-// How a worker ended that asks for this, if it did.
-#[inline(always)]
-fn ended_in(op: Op) -> Option<Ended>
-    ensures { result ≡ over_in op }
-{
-    match op {
-        Op::Over(ended) => Some(ended),
-        Op::Load(_) | Op::Store(_, _) | Op::Max(_, _) | Op::Swap(_, _, _) => None,
+        worker.tell(&self.task.job, &self.task.layout, answer);
     }
 }

@@ -4,6 +4,7 @@ pub mod Doing
 pub mod Activities
 pub mod Tasks
 pub mod Walk
+pub mod Turns
 pub mod Reads
 pub mod Records
 pub mod Codes

@@ -31,13 +31,14 @@ impl Model for Worker {
 }
 
 impl Worker {
-    ghost use Rattle.std.specs.Prelude.{◌≡◌, ◌<◌, None, length};
+    ghost use Rattle.std.specs.Prelude.{◌≡◌, ◌<◌, IfSome, None, length};
     ghost use Rattle.pram_text.specs.Job.{JobData};
     ghost use Rattle.pram_words.specs.Words.{LayoutData};
     ghost use Rattle.walkx.specs.Activities.{activity_of};
     ghost use Rattle.walkx.specs.Inner.Stages.{post_of};
     ghost use Rattle.walkx.specs.Serving.{Serves};
-    ghost use Rattle.walkx.specs.Walk.{AsksAdmitted, HearsAdmitted, IsBoard, IsLayoutOf};
+    ghost use Rattle.walkx.specs.Turns.{beginning, turning};
+    ghost use Rattle.walkx.specs.Walk.{Fits, AsksAdmitted, HearsAdmitted, IsBoard, IsLayoutOf};
     ghost use Rattle.walkx.specs.Walk.{IsStepOn, ask_of, come_back, end_of, started, told};
 
     /// Worker w, at its first leaf.
@@ -105,6 +106,27 @@ impl Worker {
             Stage::Over(ended) => Activity::Over(ended),
             _ => Activity::Turn(self.phase),
         }
+    }
+
+    /// The node and the phase of the turn that the worker is at the start of, if it is at one.
+    pub fn turn(&self) -> Option<(u32, u64)>
+        ensures { IfSome result (λ t. self.now.walking ≡ turning self.now.walking.number t.0 t.1) }
+    {
+        match (self.stage, self.node) {
+            (Stage::Node, Some(node)) => Some((node, self.phase)),
+            _ => None,
+        }
+    }
+
+    /// The worker has heard whole turns, up to one that has it begin at this node.
+    pub fn begin_at(&mut self, node: u32)
+        ensures value { self.new.walking ≡ beginning self.old.walking.number node }
+        ensures serves { (job : JobData) (y : LayoutData) → Fits job y self.new.walking →
+            Serves job y self.new }
+    {
+        self.node = Some(node);
+        self.stage = Stage::Begin;
+        self.count = 0;
     }
 
     /// How many atomic steps of the script in progress are behind the worker.

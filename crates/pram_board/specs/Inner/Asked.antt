@@ -1,8 +1,6 @@
--- What `work` keeps in hand between two atomic steps.
-use Rattle.std.specs.Prelude.{◌≡◌, Option, Some, None}
-use Rattle.walkx.specs.declared.operation.Ended.{Ended}
+-- What a worker asks for.
+use Rattle.std.specs.Prelude.{◌≡◌, None}
 use Rattle.walkx.specs.declared.operation.Op.{Op}
-use Rattle.walkx.specs.declared.operation.Op.TheVariants.{Load, Store, Max, Swap, Over}
 use Rattle.walkx.specs.Walk.{Walking, AsksAdmitted, IsStepOn, ask_of, end_of}
 use Rattle.pram_board.specs.declared.task.Task.{Task}
 
@@ -11,8 +9,3 @@ pub record Asks (t : Task) (w : Walking) (op : Op) : Type 0 where
   pub is : op ≡ ask_of t.job t.layout w
   pub admitted : AsksAdmitted t.job t.layout op
   pub step : end_of w.now ≡ None → IsStepOn t.layout op
-
--- how a worker ended that asks for this, if it did
-abbrev pub over_in : Op → Option Ended
-over_in (Over e) = Some e
-over_in _ = None

@@ -1,11 +1,9 @@
-use Rattle.std.proofs.Common.{◌≡◌, refl, ap, sym, subst, ◌∙◌}
+use Rattle.std.proofs.Common.{refl, ap, sym, subst, ◌∙◌}
 use Rattle.walkx.specs.declared.operation.Op.{Op}
 use Rattle.walkx.specs.Records.{after}
-use Rattle.walkx.specs.Walk.{AsksAdmitted, HearsAdmitted, IsStepOn, ask_of, told}
+use Rattle.walkx.specs.Walk.{HearsAdmitted, IsStepOn, ask_of, told}
 use Rattle.lawful_words.specs.Moments.{Sound}
 use Rattle.pram_board.specs.Seats.{Desk, Place, hears}
-use Rattle.pram_board.specs.Worked.{Ticked}
-use Rattle.pram_board.proofs.Asked.{asks_of}
 use Rattle.pram_board.proofs.Keeps.{may_as}
 use Rattle.pram_board.proofs.Steps.{may_step, admits}
 use Rattle.pram_board.proofs.Told.{knows_told}
@@ -19,8 +17,8 @@ step-answer-requires-clause-allowed c =
     may_as t t c.args.seat.now.record_of _ (ask_of t.job t.layout w) c.args.op refl refl (sym asks.is)
     (may_step t c.args.seat.now.record_of w c.requires.serves.fits c.requires.knows (subst (IsStepOn t.layout) asks.is (asks.step c.requires.going)))
 
-pub proceed-requires-clause-admitted : goal.proceed-requires-clause-admitted
-proceed-requires-clause-admitted c =
+pub tell-requires-clause-admitted : goal.tell-requires-clause-admitted
+tell-requires-clause-admitted c =
     let t = c.args.self.now.task in
     let w = c.args.worker.now.walking in
     let found = c.step-answer.result in
@@ -36,11 +34,8 @@ returns-clause-ticked c =
     record {
       found = found;
       seat = c.step-answer.ensures.grows ∙ ap (λ op. hears c.args.seat.now op found) (c.requires.asks).is;
-      worker = c.proceed.ensures.told ∙ ap (λ d. told d.task.job d.task.layout w found) c.self.view_is;
+      worker = c.tell.ensures.told ∙ ap (λ d. told d.task.job d.task.layout w found) c.self.view_is;
     }
 
-pub returns-clause-asks : goal.returns-clause-asks
-returns-clause-asks c = asks_of c.self.inside.task c.args.self.now.task c.proceed.new.self.walking c.proceed.result (ap (λ d. d.task) c.self.view_is) c.proceed.ensures.asks c.proceed.ensures.admitted c.proceed.ensures.step
-
 pub returns-clause-knows : goal.returns-clause-knows
-returns-clause-knows c = knows_told c.args.self.now.task c.args.seat.now c.args.worker.now.walking c.step-answer.new.seat c.proceed.new.self.walking (returns-clause-ticked c) c.requires.serves.fits c.requires.knows
+returns-clause-knows c = knows_told c.args.self.now.task c.args.seat.now c.args.worker.now.walking c.step-answer.new.seat c.tell.new.self.walking (returns-clause-ticked c) c.requires.serves.fits c.requires.knows

@@ -1,5 +1,4 @@
-use Rattle.std.proofs.Common.{◌≡◌, Some, ap, sym, subst, ◌∙◌}
-use Rattle.walkx.specs.Walk.{ask_of}
+use Rattle.std.proofs.Common.{Some, ap, sym, subst, ◌∙◌}
 use Rattle.lawful_words.specs.Moments.{Sound}
 use Rattle.pram_board.specs.Seats.{Desk}
 use Rattle.pram_board.proofs.Asked.{asks_of}

@@ -3,7 +3,6 @@ use Rattle.walkx.specs.Bound.{most_steps}
 use Rattle.walkx.specs.Records.{Knows}
 use Rattle.walkx.specs.Serving.{Serves}
 use Rattle.lawful_words.specs.Moments.{Sound}
-use Rattle.pram_board.specs.Inner.Asked.{Asks}
 use Rattle.pram_board.specs.Worked.{Ran}
 use Rattle.pram_board.proofs.board.Board.work.Given as goal
 
@@ -13,7 +12,6 @@ invariant-loop-ended g l = record {
   serves : Serves l.self.task.job l.self.task.layout l.worker;
   knows : Knows l.self.task.job l.self.task.layout l.seat.record_of l.worker.walking;
   sound : Sound l.self.task.job l.self.task.layout l.seat.record_of;
-  asks : Asks l.self.task l.worker.walking l.op;
   ran : Ran l.self.task l.fn.seat l.fn.worker.walking l.made l.seat l.worker.walking;
   most : l.made ≤ most_steps l.self.task.job l.self.task.layout;
   within : IfSome l.limit (λ k. l.made ≤ k);
