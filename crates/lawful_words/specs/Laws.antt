@@ -17,20 +17,27 @@ use Rattle.lawful_words.specs.Writes.{Floor, MayWrite}
 
 -- the words that a board starts with stand
 abbrev pub StartWordsAreLawful : Type 0
-StartWordsAreLawful = (job : JobData) (form : Form) (workers : ℕ) → IsJob job → 1 ≤ workers → workers ≤ 64 →
+StartWordsAreLawful = (job : JobData) (form : Form) (workers : ℕ) → IsJob job → 1 ≤ workers →
+    workers ≤ 64 →
     Stands job (layout_of job form workers) (start_words (layout_of job form workers) job)
 
 -- what may be written while words stand, in a phase with its floor
 abbrev pub WritesKeepWordsLawful : Type 0
-WritesKeepWordsLawful = (job : JobData) (y : LayoutData) (words : List ℕ) (q x : ℕ) → Stands job y words → 1 ≤ q → q ≤ 3 * job.steps →
+WritesKeepWordsLawful = (job : JobData) (y : LayoutData) (words : List ℕ) (q x : ℕ) →
+    Stands job y words → 1 ≤ q → q ≤ 3 * job.steps →
     step_at q ≡ suc x → Floor job y q x words → MayWrite job y words q x
 
 -- Of a place after step x, the newest word that is no newer than x has the value.
 abbrev pub FinishedStepsAreHeld : Type 0
-FinishedStepsAreHeld = (job : JobData) (y : LayoutData) (words : List ℕ) (x p : ℕ) → Stands job y words → p < places_of y → x ≤ finished y words →
-    (stamp_at y words p 0 ≤ x → x < stamp_at y words p 1 → payload_of (held y words (Stored p 0)) ≡ slice_index (state_after job x) p)
-    × (stamp_at y words p 1 ≤ x → x < stamp_at y words p 0 → payload_of (held y words (Stored p 1)) ≡ slice_index (state_after job x) p)
-    × (stamp_at y words p 0 ≤ x → stamp_at y words p 1 ≤ x → newer_payload (held y words (Stored p 0)) (held y words (Stored p 1)) ≡ slice_index (state_after job x) p)
+FinishedStepsAreHeld = (job : JobData) (y : LayoutData) (words : List ℕ) (x p : ℕ) →
+    Stands job y words → p < places_of y → x ≤ finished y words →
+    (stamp_at y words p 0 ≤ x → x < stamp_at y words p 1 →
+      payload_of (held y words (Stored p 0)) ≡ slice_index (state_after job x) p)
+    × (stamp_at y words p 1 ≤ x → x < stamp_at y words p 0 →
+      payload_of (held y words (Stored p 1)) ≡ slice_index (state_after job x) p)
+    × (stamp_at y words p 0 ≤ x → stamp_at y words p 1 ≤ x →
+      newer_payload (held y words (Stored p 0)) (held y words (Stored p 1))
+      ≡ slice_index (state_after job x) p)
 
 -- a record that the words bear out
 abbrev pub BackedIsFaithful : Type 0

@@ -7,8 +7,10 @@ use Rattle.walkx.specs.Operations.{words_after, answer}
 use Rattle.walkx.specs.Records.{Record, empty, after, both}
 use Rattle.lawful_words.specs.Board.{Stands, Grows}
 
--- the moment of a step: words that stood then gave this answer, and have grown to those of now; Earlier holds of them
-pub record Moment (job : JobData) (y : LayoutData) (op : Op) (found : ℕ) (Earlier : List ℕ → Type 0) (now : List ℕ) : Type 0 where
+-- the moment of a step: words that stood then gave this answer, and have grown to those of now;
+-- Earlier holds of them
+pub record Moment (job : JobData) (y : LayoutData) (op : Op) (found : ℕ) (Earlier : List ℕ →
+    Type 0) (now : List ℕ) : Type 0 where
   pub words : List ℕ
   pub stands : Stands job y words
   pub heard : found ≡ answer words op

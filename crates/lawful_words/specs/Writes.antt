@@ -16,11 +16,13 @@ use Rattle.lawful_words.specs.Steps.{phase_written}
 use Rattle.lawful_words.specs.Board.{held, root, stamp_at, IsLate, Done}
 use Rattle.lawful_words.specs.Moments.{Keeps}
 
--- Of a place of which a and b were heard: the older one as heard still stands, or the place was written in step x + 1 or later.
+-- Of a place of which a and b were heard: the older one as heard still stands, or the place was
+-- written in step x + 1 or later.
 pub record PlaceAsHeard (job : JobData) (y : LayoutData) (x p a b : ℕ) (now : List ℕ) : Type 0 where
   pub value : newer_payload a b ≡ slice_index (state_after job x) p
   pub stands : held y now (Stored p (older a b)) ≡ older_word a b →
-      (stamp_at y now p 0 ≤ x) × (stamp_at y now p 1 ≤ x) × (first_is_older (held y now (Stored p 0)) (held y now (Stored p 1)) ≡ first_is_older a b)
+      (stamp_at y now p 0 ≤ x) × (stamp_at y now p 1 ≤ x)
+        × (first_is_older (held y now (Stored p 0)) (held y now (Stored p 1)) ≡ first_is_older a b)
   pub written : held y now (Stored p (older a b)) ≢ older_word a b → IsLate y x p now
 
 -- the floor of the phase: the words stand in it or behind it
@@ -33,18 +35,26 @@ pub record Does (job : JobData) (y : LayoutData) (q : ℕ) (op : Op) (words : Li
   pub keeps : Keeps job y op words
   pub still : q ≤ root y words → words_after words op ≡ words
 
--- A part of a request; a node whose children are finished; a leaf with no processor; a leaf whose work is done; a place, by a write
--- that wins; the step, as a conflict; the claim of a cell that is written.
+-- A part of a request; a node whose children are finished; a leaf with no processor; a leaf whose
+-- work is done; a place, by a write that wins; the step, as a conflict; the claim of a cell that is
+-- written.
 pub record MayWrite (job : JobData) (y : LayoutData) (words : List ℕ) (q x : ℕ) : Type 0 where
   pub request : (i j : ℕ) → i < y.procs → j < 3 → kind_at q ≡ Compute →
-      Does job y q (Max (number_of y (Asked i j)) (stamped_word (suc x) (part_after job x i j))) words
-  pub inner : (n : ℕ) → 1 ≤ n → n < y.leaves → q ≤ held y words (Node (2 * n)) → q ≤ held y words (Node (2 * n + 1)) →
+      Does job y q
+        (Max (number_of y (Asked i j)) (stamped_word (suc x) (part_after job x i j))) words
+  pub inner : (n : ℕ) → 1 ≤ n → n < y.leaves → q ≤ held y words (Node (2 * n)) →
+      q ≤ held y words (Node (2 * n + 1)) →
       Does job y q (Max (number_of y (Node n)) q) words
-  pub padded : (n : ℕ) → y.leaves + y.procs ≤ n → n < 2 * y.leaves → Does job y q (Max (number_of y (Node n)) q) words
-  pub leaf : (i : ℕ) → i < y.procs → (root y words + 1 ≡ q → Done job.rule (kind_at q) job y x words i) →
+  pub padded : (n : ℕ) → y.leaves + y.procs ≤ n → n < 2 * y.leaves →
+      Does job y q (Max (number_of y (Node n)) q) words
+  pub leaf : (i : ℕ) → i < y.procs →
+      (root y words + 1 ≡ q → Done job.rule (kind_at q) job y x words i) →
       Does job y q (Max (number_of y (Node (y.leaves + i))) q) words
-  pub place : (p i v a b : ℕ) → q ≡ phase_written job.rule x → Asks job x p i v → Wins job x p i → PlaceAsHeard job y x p a b words →
-      Does job y q (Swap (number_of y (Stored p (older a b))) (older_word a b) (stamped_word (suc x) v)) words
-  pub conflict : kind_at q ≡ Verify → (AgreesAfter job x → ⊥) → Does job y q (Swap (number_of y Conflict) 0 (suc x)) words
+  pub place : (p i v a b : ℕ) → q ≡ phase_written job.rule x → Asks job x p i v → Wins job x p i →
+      PlaceAsHeard job y x p a b words →
+      Does job y q (Swap (number_of y (Stored p (older a b))) (older_word a b)
+        (stamped_word (suc x) v)) words
+  pub conflict : kind_at q ≡ Verify → (AgreesAfter job x → ⊥) →
+      Does job y q (Swap (number_of y Conflict) 0 (suc x)) words
   pub claim : (c i v : ℕ) → IsWord y (Claim c) → kind_at q ≡ Apply → Asks job x c i v →
       Does job y q (Max (number_of y (Claim c)) (stamped_word (suc x) (claim_of job i))) words

@@ -1,9 +1,11 @@
--- A code for tasks, by which they are told apart: what lets a task stand in what contracts see of a seat.
+-- A code for tasks, by which they are told apart: what lets a task stand in what contracts see of a
+-- seat.
 use Rattle.std.specs.Prelude.{◌≡◌, ℕ, zero, suc, Bool, List, refl}
 use Rattle.std.specs.Coded.{Coded, code_by, coded×, coded_ℕ, coded_bool, coded_list}
 use Rattle.pram_text.specs.Job.{JobData}
 use Rattle.pram_text.specs.declared.instr.Instr.{Instr}
-use Rattle.pram_text.specs.declared.instr.Instr.TheVariants.{Set, Pid, Add, Sub, Mul, And, Or, Xor, Lt, Eq, Ld, St, Jz, Jmp, Halt}
+use Rattle.pram_text.specs.declared.instr.Instr.TheVariants.{Set, Pid, Add, Sub, Mul, And, Or, Xor}
+use Rattle.pram_text.specs.declared.instr.Instr.TheVariants.{Lt, Eq, Ld, St, Jz, Jmp, Halt}
 use Rattle.pram_text.specs.declared.instr.Rule.{Rule}
 use Rattle.pram_text.specs.declared.instr.Rule.TheVariants.{Common, Priority, Crew}
 use Rattle.pram_words.specs.declared.layout.Form.{Form}
@@ -60,10 +62,14 @@ instr_from_kind (suc (suc (suc (suc (suc (suc (suc zero))))))) p = Xor p.0 p.1.0
 instr_from_kind (suc (suc (suc (suc (suc (suc (suc (suc zero)))))))) p = Lt p.0 p.1.0 p.1.1
 instr_from_kind (suc (suc (suc (suc (suc (suc (suc (suc (suc zero))))))))) p = Eq p.0 p.1.0 p.1.1
 instr_from_kind (suc (suc (suc (suc (suc (suc (suc (suc (suc (suc zero)))))))))) p = Ld p.0 p.1.0
-instr_from_kind (suc (suc (suc (suc (suc (suc (suc (suc (suc (suc (suc zero))))))))))) p = St p.0 p.1.0
-instr_from_kind (suc (suc (suc (suc (suc (suc (suc (suc (suc (suc (suc (suc zero)))))))))))) p = Jz p.0 p.1.0
-instr_from_kind (suc (suc (suc (suc (suc (suc (suc (suc (suc (suc (suc (suc (suc zero))))))))))))) p = Jmp p.0
-instr_from_kind (suc (suc (suc (suc (suc (suc (suc (suc (suc (suc (suc (suc (suc (suc n)))))))))))))) p = Halt
+instr_from_kind (suc (suc (suc (suc (suc (suc (suc (suc (suc (suc (suc zero))))))))))) p =
+    St p.0 p.1.0
+instr_from_kind (suc (suc (suc (suc (suc (suc (suc (suc (suc (suc (suc (suc zero)))))))))))) p =
+    Jz p.0 p.1.0
+instr_from_kind
+    (suc (suc (suc (suc (suc (suc (suc (suc (suc (suc (suc (suc (suc zero))))))))))))) p = Jmp p.0
+instr_from_kind
+    (suc (suc (suc (suc (suc (suc (suc (suc (suc (suc (suc (suc (suc (suc n)))))))))))))) p = Halt
 
 instr_from : ℕ × (ℕ × (ℕ × ℕ)) → Instr
 instr_from p = instr_from_kind p.0 p.1
@@ -107,18 +113,36 @@ pub coded_rule : Coded Rule
 coded_rule = code_by ℕ coded_ℕ rule_number rule_from rule_again
 
 pub coded_instr : Coded Instr
-coded_instr = code_by (ℕ × (ℕ × (ℕ × ℕ))) (coded× coded_ℕ (coded× coded_ℕ (coded× coded_ℕ coded_ℕ))) parts_of instr_from instr_again
+coded_instr =
+    code_by (ℕ × (ℕ
+    × (ℕ × ℕ))) (coded× coded_ℕ (coded× coded_ℕ (coded× coded_ℕ coded_ℕ))) parts_of instr_from
+    instr_again
 
 pub coded_form : Coded Form
 coded_form = code_by ℕ coded_ℕ form_number form_from form_again
 
 abbrev pub coded_job : Coded JobData
 coded_job =
-    code_by (Rule × (ℕ × (ℕ × (ℕ × (List ℕ × List Instr))))) (coded× coded_rule (coded× coded_ℕ (coded× coded_ℕ (coded× coded_ℕ (coded× (coded_list coded_ℕ) (coded_list coded_instr)))))) (λ j. (j.rule, (j.cells, (j.procs, (j.steps, (j.init, j.code)))))) (λ p. record { rule = p.0; cells = p.1.0; procs = p.1.1.0; steps = p.1.1.1.0; init = p.1.1.1.1.0; code = p.1.1.1.1.1 }) (λ _. refl)
+    code_by (Rule
+      × (ℕ × (ℕ × (ℕ × (List ℕ × List Instr)))))
+      (coded× coded_rule
+      (coded× coded_ℕ
+      (coded× coded_ℕ (coded× coded_ℕ (coded× (coded_list coded_ℕ) (coded_list coded_instr))))))
+      (λ j. (j.rule, (j.cells, (j.procs, (j.steps, (j.init, j.code)))))) (λ p.
+      record { rule = p.0; cells = p.1.0; procs = p.1.1.0; steps = p.1.1.1.0; init =
+      p.1.1.1.1.0; code = p.1.1.1.1.1 }) (λ _. refl)
 
 abbrev pub coded_layout : Coded LayoutData
 coded_layout =
-    code_by (Form × (ℕ × (ℕ × (ℕ × (ℕ × Bool))))) (coded× coded_form (coded× coded_ℕ (coded× coded_ℕ (coded× coded_ℕ (coded× coded_ℕ coded_bool))))) (λ y. (y.form, (y.leaves, (y.cells, (y.procs, (y.workers, y.claims)))))) (λ p. record { form = p.0; leaves = p.1.0; cells = p.1.1.0; procs = p.1.1.1.0; workers = p.1.1.1.1.0; claims = p.1.1.1.1.1 }) (λ _. refl)
+    code_by (Form
+      × (ℕ × (ℕ × (ℕ × (ℕ × Bool)))))
+      (coded× coded_form
+      (coded× coded_ℕ (coded× coded_ℕ (coded× coded_ℕ (coded× coded_ℕ coded_bool))))) (λ y.
+      (y.form, (y.leaves, (y.cells, (y.procs, (y.workers, y.claims)))))) (λ p.
+      record { form = p.0; leaves = p.1.0; cells = p.1.1.0; procs = p.1.1.1.0; workers =
+      p.1.1.1.1.0; claims = p.1.1.1.1.1 }) (λ _. refl)
 
 abbrev pub coded_task : Coded Task
-coded_task = code_by (JobData × LayoutData) (coded× coded_job coded_layout) (λ t. (t.job, t.layout)) (λ p. record { job = p.0; layout = p.1 }) (λ _. refl)
+coded_task =
+    code_by (JobData × LayoutData) (coded× coded_job coded_layout) (λ t. (t.job, t.layout)) (λ p.
+    record { job = p.0; layout = p.1 }) (λ _. refl)

@@ -19,7 +19,9 @@ abbrev pub viewing : Task → Record → View
 viewing t r = record { live = true; task = t; heard = r }
 
 abbrev pub nothing : Task
-nothing = record { job = record { rule = Common; cells = 0; procs = 0; steps = 0; init = []; code = [] }; layout = record { form = Compact; leaves = 0; cells = 0; procs = 0; workers = 0; claims = false } }
+nothing = record { job = record { rule = Common; cells = 0; procs = 0; steps = 0; init = []; code =
+    [] }; layout = record { form = Compact; leaves = 0; cells = 0; procs = 0; workers = 0; claims =
+    false } }
 
 abbrev pub idle : View
 idle = record { live = false; task = nothing; heard = empty }
@@ -40,15 +42,20 @@ pub record Holds (t : Task) (s : State (Unit {0}) View) : Type 0 where
 
 -- ---- what an atomic step may be
 
--- whatever standing words bear out the record, this step of its seat leaves words that stand and have grown
+-- whatever standing words bear out the record, this step of its seat leaves words that stand and
+-- have grown
 abbrev pub May : Task → Record → Op → Type 0
-May t r op = IsStepOn t.layout op × ((words : List ℕ) → Stands t.job t.layout words → Backed t.job t.layout r words → Keeps t.job t.layout op words)
+May t r op = IsStepOn t.layout op
+    × ((words : List ℕ) → Stands t.job t.layout words → Backed t.job t.layout r words →
+    Keeps t.job t.layout op words)
 
 -- ---- what an atomic step tells
 
 -- the seat has made this step and heard this answer, which agrees with all that it heard before
 abbrev pub Heard : Op → ℕ → Me (Unit {0}) View → Me (Unit {0}) View → Type 0
-Heard op found me now = (now ≡ (record { live = me.0.live; task = me.0.task; heard = after me.0.heard op found }, me.1)) × Sound me.0.task.job me.0.task.layout (after me.0.heard op found)
+Heard op found me now =
+    (now ≡ (record { live = me.0.live; task = me.0.task; heard = after me.0.heard op found }, me.1))
+    × Sound me.0.task.job me.0.task.layout (after me.0.heard op found)
 
 abbrev pub Loaded : Step (Unit {0}) → Me (Unit {0}) View → ℕ → Me (Unit {0}) View → Type 0
 Loaded step me found now = Heard (Load step.word) found me now

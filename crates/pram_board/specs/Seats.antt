@@ -28,7 +28,9 @@ pub record Desk : Type 0 where
   pub task : Task
 
 abbrev pub coded_desk : Coded Desk
-coded_desk = code_by (TableId × Task) (coded× table_id_coded coded_task) (λ d. (d.id, d.task)) (λ p. record { id = p.0; task = p.1 }) (λ _. refl)
+coded_desk =
+    code_by (TableId × Task) (coded× table_id_coded coded_task) (λ d. (d.id, d.task)) (λ p.
+    record { id = p.0; task = p.1 }) (λ _. refl)
 
 -- a seat of a board, with the record of its steps
 pub record Place : Type 0 where
@@ -36,11 +38,15 @@ pub record Place : Type 0 where
   pub record_of : Record
 
 abbrev pub coded_place : Coded Place
-coded_place = code_by (Desk × Record) (coded× coded_desk coded_record) (λ p. (p.desk, p.record_of)) (λ p. record { desk = p.0; record_of = p.1 }) (λ _. refl)
+coded_place =
+    code_by (Desk × Record) (coded× coded_desk coded_record) (λ p. (p.desk, p.record_of)) (λ p.
+    record { desk = p.0; record_of = p.1 }) (λ _. refl)
 
 -- a new board, with a seat of it that has seen nothing
 abbrev pub IsOpened : JobData → Form → ℕ → Desk × Place → Type 0
-IsOpened job form workers made = (made.0.task ≡ record { job = job; layout = layout_of job form workers }) × (made.1 ≡ record { desk = made.0; record_of = empty })
+IsOpened job form workers made =
+    (made.0.task ≡ record { job = job; layout = layout_of job form workers })
+    × (made.1 ≡ record { desk = made.0; record_of = empty })
 
 -- the seat with one more step, and with more steps, the newest first
 abbrev pub hears : Place → Op → ℕ → Place
@@ -76,7 +82,8 @@ pub record KnowsConflict (y : LayoutData) (r : Record) : Type 0 where
 pub record Progressed (t : Task) (p q : Place) (progress : Progress) : Type 0 where
   pub root : ℕ
   pub named : ℕ
-  pub is : q ≡ hears (hears p (Load (number_of t.layout (Node 1))) root) (Load (number_of t.layout Conflict)) named
+  pub is : q ≡ hears (hears p (Load (number_of t.layout (Node 1))) root)
+      (Load (number_of t.layout Conflict)) named
   pub step : progress.step ≡ step_seen root named
   pub conflict : progress.conflict ≡ (if named == 0 then None else Some named)
   pub well : ProgressWell t.job t.layout p.record_of q.record_of progress.step named
@@ -86,7 +93,8 @@ pub record Progressed (t : Task) (p q : Place) (progress : Progress) : Type 0 wh
 abbrev pub IsReading : Task → Record → Record → ℕ → Reading → Type 0
 IsReading t before behind c (At step value) = IsLawfulRead t.job t.layout before behind c step value
 
--- the loads of a reader of the cell, at most five, what it then answers, and that this is a lawful read
+-- the loads of a reader of the cell, at most five, what it then answers, and that this is a lawful
+-- read
 pub record WasRead (t : Task) (p q : Place) (c : ℕ) (reading : Reading) : Type 0 where
   pub answers : List ℕ
   pub is : q ≡ hears_all p (heard_in (reader_script t.layout c) answers)

@@ -93,7 +93,8 @@ impl Board {
     }
 
     /// One seat that has seen what both had seen. Between the two records there is no order; what
-    /// it does from now on comes after both. It takes no memory and one load, which is in no record.
+    /// it does from now on comes after both. It takes no memory and one load, which is in no
+    /// record.
     pub fn join(&self, first: Seat, second: Seat) -> Seat
         requires first { first.desk ≡ self.now }
         requires second { second.desk ≡ self.now }

@@ -24,7 +24,8 @@ impl<'a, G: Gate> Work<'a, G> {
         requires processor { i < self.now.layout.procs }
         requires phase { phase ≤ 3 * self.now.job.now.steps }
         requires due { IsNext self.now.job.now self.now.layout (task_of self.now.job.now.rule
-            (kind_at phase) self.now.job.now self.now.layout (step_at phase) i) (seat.old, made.old) }
+            (kind_at phase) self.now.job.now self.now.layout (step_at phase) i)
+            (seat.old, made.old) }
         ensures at { IsAt self.now.board.now self.now.job.now self.now.layout seat.new }
         ensures plays { (after : Script Then) → Plays self.now.job.now self.now.layout (task_of
             self.now.job.now.rule (kind_at phase) self.now.job.now self.now.layout (step_at phase) i
@@ -217,7 +218,8 @@ impl<'a, G: Gate> Work<'a, G> {
             node phase) (seat.old, made.old) }
         ensures at { IsAt self.now.board.now self.now.job.now self.now.layout seat.new }
         ensures plays { Plays self.now.job.now self.now.layout (leaves_up self.now.layout worker
-            node phase) (seat.old, made.old) (ends (behind_turn result phase)) (seat.new, made.new) }
+            node phase) (seat.old, made.old) (ends (behind_turn result phase))
+            (seat.new, made.new) }
     {
         if is_root(node) {
             return None;
@@ -230,7 +232,8 @@ impl<'a, G: Gate> Work<'a, G> {
     /// Turns of a phase, from the start of the one at this node until the root is finished.
     pub(crate) fn turns(&self, seat: &mut Seat, made: &mut u64, start: u32, phase: u64)
         requires at { IsAt self.now.board.now self.now.job.now self.now.layout seat.old }
-        requires fits { Fits self.now.job.now self.now.layout (turning self.now.worker start phase) }
+        requires fits { Fits self.now.job.now self.now.layout
+            (turning self.now.worker start phase) }
         requires knows { Knows self.now.job.now self.now.layout seat.old.record_of
             (turning self.now.worker start phase) }
         requires room { made.old < 2 ^ 63 }

@@ -7,7 +7,11 @@ use Rattle.pram_io.specs.declared.print.PrintFault.TheVariants as print
 use Rattle.pram_io.specs.declared.transfer.TakeFault.{TakeFault}
 use Rattle.pram_io.specs.declared.transfer.TakeFault.TheVariants as take
 use Rattle.pram_commands.specs.declared.fault.CommandFault.{CommandFault}
-use Rattle.pram_commands.specs.declared.fault.CommandFault.TheVariants.{Text, Plan, OutsideCell, JobDevice, PlanDevice, OutDevice, JobTooLarge, PlanTooLarge, Memory}
+use Rattle.pram_commands.specs.declared.fault.CommandFault.TheVariants.{Text, Plan}
+use Rattle.pram_commands.specs.declared.fault.CommandFault.TheVariants.{OutsideCell, JobDevice}
+use Rattle.pram_commands.specs.declared.fault.CommandFault.TheVariants.{PlanDevice, OutDevice}
+use Rattle.pram_commands.specs.declared.fault.CommandFault.TheVariants.{JobTooLarge, PlanTooLarge}
+use Rattle.pram_commands.specs.declared.fault.CommandFault.TheVariants.{Memory}
 use Rattle.pram_commands.specs.declared.refusal.TheConstants.{REFUSED, FAILED, MEMORY}
 
 -- where the work is a job's alone

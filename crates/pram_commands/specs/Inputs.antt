@@ -8,7 +8,11 @@ use Rattle.stop_plan.specs.Plan.{PlanData}
 use Rattle.stop_plan.specs.Records.{FirstFault, SpellsPlan, records_of}
 use Rattle.stop_plan.specs.declared.plan.PlanKind.{PlanKind}
 use Rattle.pram_commands.specs.declared.fault.CommandFault.{CommandFault}
-use Rattle.pram_commands.specs.declared.fault.CommandFault.TheVariants.{Text, Plan, OutsideCell, JobDevice, PlanDevice, OutDevice, JobTooLarge, PlanTooLarge, Memory}
+use Rattle.pram_commands.specs.declared.fault.CommandFault.TheVariants.{Text, Plan}
+use Rattle.pram_commands.specs.declared.fault.CommandFault.TheVariants.{OutsideCell, JobDevice}
+use Rattle.pram_commands.specs.declared.fault.CommandFault.TheVariants.{PlanDevice, OutDevice}
+use Rattle.pram_commands.specs.declared.fault.CommandFault.TheVariants.{JobTooLarge, PlanTooLarge}
+use Rattle.pram_commands.specs.declared.fault.CommandFault.TheVariants.{Memory}
 
 -- The source gave a text that spells a job.
 abbrev pub GivesSomeJob : Option (List ℕ) → Option (List ℕ) → Type 0

@@ -2,7 +2,8 @@
 use Rattle.std.specs.Prelude.{ℕ, List, Option, None, option_map}
 use Rattle.std.specs.Borrow.{Bor}
 use Rattle.pram_commands.specs.declared.line.Line.{Line}
-use Rattle.pram_commands.specs.declared.line.Line.TheVariants.{Check, Plain, Steps, Run, Watch, Replay}
+use Rattle.pram_commands.specs.declared.line.Line.TheVariants.{Check, Plain, Steps}
+use Rattle.pram_commands.specs.declared.line.Line.TheVariants.{Run, Watch, Replay}
 
 abbrev pub text_of : Option (Bor (List ℕ)) → Option (List ℕ)
 text_of = option_map (λ s. s.now)

@@ -7,18 +7,22 @@ use Rattle.pram_step.specs.declared.answer.RunAnswer.{RunAnswer}
 use Rattle.pram_step.specs.declared.answer.RunAnswer.TheVariants.{Final, Conflict, Unfinished}
 use Rattle.pram_text.specs.declared.fault.TextKind.{TextKind}
 use Rattle.stop_plan.specs.declared.plan.PlanKind.{PlanKind}
-use Rattle.pram_io.specs.Plain.{GivesFault, PrintsAnswer, PrintsBeginning, PrintsSummary, PrintsSummaryBeginning}
+use Rattle.pram_io.specs.Plain.{GivesFault, PrintsAnswer, PrintsBeginning}
+use Rattle.pram_io.specs.Plain.{PrintsSummary, PrintsSummaryBeginning}
 use Rattle.pram_io.specs.Transfer.{GivesMoreThan}
 use Rattle.pram_io.specs.declared.transfer.TheConstants.{MOST}
 use Rattle.pram_steps.specs.Shown.{PrintsSteps, PrintsStepsBeginning}
 use Rattle.pram_steps.specs.declared.window.Window.{Window}
 use Rattle.pram_commands.specs.CellLists.{cells_of}
-use Rattle.pram_commands.specs.Inputs.{Explains, ExplainsJob, ExplainsWatch, GivesOutside, GivesPlanFault, GivesSomeJob}
+use Rattle.pram_commands.specs.Inputs.{Explains, ExplainsJob, ExplainsWatch}
+use Rattle.pram_commands.specs.Inputs.{GivesOutside, GivesPlanFault, GivesSomeJob}
 use Rattle.pram_commands.specs.Replayed.{PrintsReplay, PrintsReplayBeginning}
-use Rattle.pram_commands.specs.Threads.{PrintsRun, PrintsRunBeginning, PrintsWatch, PrintsWatchBeginning}
+use Rattle.pram_commands.specs.Threads.{PrintsRun, PrintsRunBeginning}
+use Rattle.pram_commands.specs.Threads.{PrintsWatch, PrintsWatchBeginning}
 use Rattle.pram_commands.specs.declared.fault.CommandFault.{CommandFault}
 use Rattle.pram_commands.specs.declared.line.Line.{Line}
-use Rattle.pram_commands.specs.declared.line.Line.TheVariants.{Check, Plain, Steps, Run, Watch, Replay}
+use Rattle.pram_commands.specs.declared.line.Line.TheVariants.{Check, Plain, Steps}
+use Rattle.pram_commands.specs.declared.line.Line.TheVariants.{Run, Watch, Replay}
 use Rattle.pram_commands.specs.declared.refusal.TheConstants.{DONE, CONFLICT, UNFINISHED}
 
 -- the bytes of a plan's source; where there is none, it has none
@@ -184,9 +188,11 @@ HasCause (Plain file) job_failed plan_failed sink_failed job job' plan plan' =
     IsTrue job_failed ⊎ (IsTrue sink_failed ⊎ GivesMoreThan MOST job job')
 HasCause (Steps file from to) job_failed plan_failed sink_failed job job' plan plan' =
     IsTrue job_failed ⊎ (IsTrue sink_failed ⊎ GivesMoreThan MOST job job')
-HasCause (Run file workers plan_file progress) job_failed plan_failed sink_failed job job' plan plan' =
+HasCause (Run file workers plan_file progress) job_failed plan_failed sink_failed job job' plan
+    plan' =
     BothHaveCause job_failed plan_failed sink_failed job job' plan plan'
-HasCause (Watch file workers cells rounds plan_file progress) job_failed plan_failed sink_failed job job' plan plan' =
+HasCause (Watch file workers cells rounds plan_file progress) job_failed plan_failed sink_failed job
+    job' plan plan' =
     BothHaveCause job_failed plan_failed sink_failed job job' plan plan'
 HasCause (Replay file workers plan_file) job_failed plan_failed sink_failed job job' plan plan' =
     BothHaveCause job_failed plan_failed sink_failed job job' plan plan'

@@ -1,5 +1,5 @@
--- What runs and watches on threads say of their job, and of the sources and the sink by their bytes before and
--- after.
+-- What runs and watches on threads say of their job, and of the sources and the sink by their bytes
+-- before and after.
 use Rattle.std.specs.Prelude.{◌≡◌, ◌++◌, ℕ, List, Option, map, slice_index, All}
 use Rattle.std.specs.List.{repeat}
 use Rattle.std.specs.List.Sorted.{IsNonDecreasingBy}

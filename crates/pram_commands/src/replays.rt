@@ -1,8 +1,10 @@
 //! From the bytes of a job and of a plan to the bytes of their replay.
-ghost use Rattle.std.specs.Prelude.{◌≡◌, ◌≢◌, ◌≤◌, ◌⊎◌, ◌↔◌, false, IfOk, IfErr, OnErr, IsErrOf, IsTrue};
+ghost use Rattle.std.specs.Prelude.{◌≡◌, ◌≢◌, ◌≤◌, ◌⊎◌, ◌↔◌, false};
+ghost use Rattle.std.specs.Prelude.{IfOk, IfErr, OnErr, IsErrOf, IsTrue};
 ghost use Rattle.pram_io.specs.Transfer.{GivesSome};
 ghost use Rattle.pram_commands.specs.Inputs.{Explains, IsOfJob};
-ghost use Rattle.pram_commands.specs.Replayed.{BeginsReplay, PrintsReplay, PrintsReplayBeginning, TakesReplay};
+ghost use Rattle.pram_commands.specs.Replayed.{BeginsReplay, PrintsReplay};
+ghost use Rattle.pram_commands.specs.Replayed.{PrintsReplayBeginning, TakesReplay};
 
 use crate::fault::CommandFault;
 use crate::inputs::take_inputs;

@@ -1,10 +1,14 @@
 //! The work of a line.
-ghost use Rattle.std.specs.Prelude.{◌≡◌, ◌≢◌, ◌<◌, ◌≤◌, ◌⊎◌, ◌↔◌, false, IfOk, IfErr, OnErr, IsErrOf, IsTrue};
+ghost use Rattle.std.specs.Prelude.{◌≡◌, ◌≢◌, ◌<◌, ◌≤◌, ◌⊎◌, ◌↔◌};
+ghost use Rattle.std.specs.Prelude.{false, IfOk, IfErr, OnErr, IsErrOf, IsTrue};
 ghost use Rattle.pram_io.specs.Transfer.{GivesSome};
 ghost use Rattle.pram_commands.specs.Faults.{fault_status};
-ghost use Rattle.pram_commands.specs.Inner.Refusals.{cell_at_fault, file_at_fault, refusal_status, told_cell, told_file};
-ghost use Rattle.pram_commands.specs.Serve.{BeginsToPrint, ExplainsLine, HasCause, IsDone, IsRefused, MayStop};
-ghost use Rattle.pram_commands.specs.Serve.{bytes_after, bytes_before, left_failed, some_failed, status_of};
+ghost use Rattle.pram_commands.specs.Inner.Refusals.{cell_at_fault, file_at_fault, refusal_status};
+ghost use Rattle.pram_commands.specs.Inner.Refusals.{told_cell, told_file};
+ghost use Rattle.pram_commands.specs.Serve.{BeginsToPrint, ExplainsLine, HasCause};
+ghost use Rattle.pram_commands.specs.Serve.{IsDone, IsRefused, MayStop};
+ghost use Rattle.pram_commands.specs.Serve.{bytes_after, bytes_before, left_failed};
+ghost use Rattle.pram_commands.specs.Serve.{some_failed, status_of};
 
 use crate::fault::CommandFault;
 use crate::line::Line;
@@ -21,9 +25,9 @@ use std::sync::Wait;
 use std::thread::Threads;
 
 /// Does what the line asks, and answers the exit status. The job comes from `job` in place of the
-/// line's file, and the plan from `plan`; where that is none, the plan has no rows. Refusals are told
-/// on `err`, and how far a run is on the runtime's standard error; where either fails, the status
-/// stays.
+/// line's file, and the plan from `plan`; where that is none, the plan has no rows. Refusals are
+/// told on `err`, and how far a run is on the runtime's standard error; where either fails, the
+/// status stays.
 pub fn serve<R: Threads + Wait + Clock + Eprint + Sync, J: Source, P: Source, O: Sink, E: Sink>(
     rt: &R,
     alloc: Global,

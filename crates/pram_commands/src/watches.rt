@@ -1,9 +1,11 @@
 //! From the bytes of a job and of a plan to the bytes of a watch, by threads.
-ghost use Rattle.std.specs.Prelude.{◌≡◌, ◌≢◌, ◌<◌, ◌⊎◌, ◌↔◌, All, false, IfOk, IfErr, OnErr, IsErrOf, IsTrue};
+ghost use Rattle.std.specs.Prelude.{◌≡◌, ◌≢◌, ◌<◌, ◌⊎◌, ◌↔◌, All};
+ghost use Rattle.std.specs.Prelude.{false, IfOk, IfErr, OnErr, IsErrOf, IsTrue};
 ghost use Rattle.pram_io.specs.Transfer.{GivesSome};
 ghost use Rattle.pram_commands.specs.CellLists.{cells_of};
 ghost use Rattle.pram_commands.specs.Inputs.{ExplainsWatch, IsOfJob, first_outside};
-ghost use Rattle.pram_commands.specs.Threads.{BeginsWatch, PrintsWatch, PrintsWatchBeginning, TakesWatch};
+ghost use Rattle.pram_commands.specs.Threads.{BeginsWatch, PrintsWatch};
+ghost use Rattle.pram_commands.specs.Threads.{PrintsWatchBeginning, TakesWatch};
 
 use crate::cell_list::CellList;
 use crate::fault::CommandFault;
@@ -20,9 +22,9 @@ use std::sync::Wait;
 use std::thread::Threads;
 use stop_plan::Plan;
 
-/// Does what `run` does, with a reader beside the workers: it goes so many rounds through the cells,
-/// and what each read told is printed before the answer, in order. The cells are judged after the
-/// job and its plan. The reads stand in memory until the workers are done.
+/// Does what `run` does, with a reader beside the workers: it goes so many rounds through the
+/// cells, and what each read told is printed before the answer, in order. The cells are judged
+/// after the job and its plan. The reads stand in memory until the workers are done.
 pub fn watch<R: Threads + Wait + Clock + Eprint + Sync, J: Source, P: Source, O: Sink>(
     rt: &R,
     alloc: Global,

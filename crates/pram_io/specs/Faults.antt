@@ -1,6 +1,7 @@
 -- What a call answers where a call below it fails.
 use Rattle.pram_io.specs.declared.job.PlainFault.{PlainFault}
-use Rattle.pram_io.specs.declared.job.PlainFault.TheVariants.{ReadDevice, WriteDevice, TooLarge, Memory}
+use Rattle.pram_io.specs.declared.job.PlainFault.TheVariants.{ReadDevice, WriteDevice}
+use Rattle.pram_io.specs.declared.job.PlainFault.TheVariants.{TooLarge, Memory}
 use Rattle.pram_io.specs.declared.print.PrintFault.{PrintFault}
 use Rattle.pram_io.specs.declared.print.PrintFault.TheVariants as print
 use Rattle.pram_io.specs.declared.transfer.TakeFault.{TakeFault}

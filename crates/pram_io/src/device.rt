@@ -1,5 +1,6 @@
 //! Where bytes come from and where they go, and that a device failed.
-ghost use Rattle.std.specs.Prelude.{◌≡◌, ◌≤◌, ◌<◌, ◌||◌, ℕ, Bool, false, List, [], Option, Some, None, is_err, length, IfOk};
+ghost use Rattle.std.specs.Prelude.{◌≡◌, ◌≤◌, ◌<◌, ◌||◌, ℕ, Bool, false, List};
+ghost use Rattle.std.specs.Prelude.{[], Option, Some, None, is_err, length, IfOk};
 ghost use Rattle.std.specs.Io.KnownBytes.{ReadConsumes, WriteAppends};
 
 /// A pull or a push failed.

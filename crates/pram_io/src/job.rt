@@ -2,7 +2,8 @@
 ghost use Rattle.std.specs.Prelude.{◌≡◌, ◌≢◌, ◌↔◌, false, IfOk, IfErr, IsErrOf, IsTrue, OnOk};
 ghost use Rattle.pram_io.specs.declared.job.PlainFault.TheVariants.{Memory};
 ghost use Rattle.pram_io.specs.Faults.{fault_of_print, fault_of_take};
-ghost use Rattle.pram_io.specs.Plain.{GivesJob, PrintsAnswer, PrintsBeginning, PrintsSummary, PrintsSummaryBeginning, TextBears};
+ghost use Rattle.pram_io.specs.Plain.{GivesJob, PrintsAnswer, PrintsBeginning};
+ghost use Rattle.pram_io.specs.Plain.{PrintsSummary, PrintsSummaryBeginning, TextBears};
 ghost use Rattle.pram_io.specs.Transfer.{GivesMoreThan, GivesSome};
 
 use crate::device::{Sink, Source};

@@ -1,5 +1,6 @@
 //! The answer of a run, and the summary of a job, as text.
-ghost use Rattle.std.specs.Prelude.{◌≡◌, ◌++◌, ◌↔◌, false, string_bytes, IfOk, OnOk, IsErrOf, IsTrue};
+ghost use Rattle.std.specs.Prelude.{◌≡◌, ◌++◌, ◌↔◌, false, string_bytes};
+ghost use Rattle.std.specs.Prelude.{IfOk, OnOk, IsErrOf, IsTrue};
 ghost use Rattle.std.specs.Io.KnownBytes.{Appends};
 ghost use Rattle.pram_io.specs.declared.print.PrintFault.TheVariants.{Device, Memory};
 ghost use Rattle.pram_io.specs.Printed.{cell_lines, conflict_line, printed, rule_mark, summary};

@@ -1,5 +1,6 @@
 //! A source taken whole, and bytes put into a sink.
-ghost use Rattle.std.specs.Prelude.{◌≡◌, ◌≤◌, ◌↔◌, false, is_err, vec_len, IfOk, IsErrOf, IsTrue, OnOk};
+ghost use Rattle.std.specs.Prelude.{◌≡◌, ◌≤◌, ◌↔◌, false, is_err};
+ghost use Rattle.std.specs.Prelude.{vec_len, IfOk, IsErrOf, IsTrue, OnOk};
 ghost use Rattle.std.specs.Io.KnownBytes.{Appends};
 ghost use Rattle.pram_io.specs.Transfer.{AppendsBeginning, Gives, GivesMoreThan, GivesSome};
 

@@ -25,8 +25,10 @@ IsUnfinished (Final cells) = ⊥
 IsUnfinished (Conflict fault) = ⊥
 IsUnfinished (Unfinished step) = Unit {0}
 
--- The outcome of the world after the plan's schedule, and the atomic steps of that run. It is unfinished only where the plan stops every worker.
-pub record IsReplay (job : JobData) (plan : PlanData) (answer : RunAnswer) (trace : List TraceRow) : Type 0 where
+-- The outcome of the world after the plan's schedule, and the atomic steps of that run. It is
+-- unfinished only where the plan stops every worker.
+pub record IsReplay (job : JobData) (plan : PlanData) (answer : RunAnswer) (trace : List TraceRow) :
+    Type 0 where
   pub schedule : List Event
   pub is : IsSchedule world_events (running job plan.workers) plan schedule
   pub outcome : IsOutcome (run (start job plan.workers) schedule) answer

@@ -15,9 +15,11 @@ pub record HasSeen (y : LayoutData) (r : Record) (step : ℕ) : Type 0 where
   pub shows : Shows y r step
   pub most : (t : ℕ) → Shows y r t → t ≤ step
 
--- The answer of the job, and the record shows the last step, or heard word 0 as the step of the conflict. It is unfinished only where the
--- plan stops every worker, after the step that the record has seen, which is reached.
+-- The answer of the job, and the record shows the last step, or heard word 0 as the step of the
+-- conflict. It is unfinished only where the plan stops every worker, after the step that the record
+-- has seen, which is reached.
 abbrev pub IsRun : Task → PlanData → Record → RunAnswer → Type 0
 IsRun t plan r (Final cells) = IsAnswer t.job (Final cells) × Shows t.layout r t.job.steps
-IsRun t plan r (Conflict fault) = IsAnswer t.job (Conflict fault) × Heard t.layout r word.Conflict fault.step
+IsRun t plan r (Conflict fault) = IsAnswer t.job (Conflict fault)
+    × Heard t.layout r word.Conflict fault.step
 IsRun t plan r (Unfinished step) = StopsAll plan × HasSeen t.layout r step × IsReached t.job step

@@ -11,7 +11,8 @@ use Rattle.pram_run.specs.declared.trace.StepKind.TheVariants.{Load, Store, Max,
 use Rattle.pram_run.specs.declared.trace.TraceRow.{TraceRow}
 
 abbrev pub row_with : ℕ → StepKind → ℕ → ℕ → ℕ → TraceRow
-row_with worker kind word before after = record { before = before; after = after; word = word; worker = worker; kind = kind }
+row_with worker kind word before after =
+    record { before = before; after = after; word = word; worker = worker; kind = kind }
 
 -- the row of a step on these words, if it is an atomic step
 abbrev pub row_by : ℕ → ℕ → ℕ → Op → Option TraceRow

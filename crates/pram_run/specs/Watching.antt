@@ -14,29 +14,36 @@ use Rattle.pram_run.specs.declared.sight.Sight.{Sight}
 abbrev pub PartBeginsWith : Record → Record → Type 0
 PartBeginsWith first empty = empty ≡ first
 PartBeginsWith first (after r op found) = (after r op found ≡ first) ⊎ PartBeginsWith first r
-PartBeginsWith first (both r s) = (both r s ≡ first) ⊎ (PartBeginsWith first r ⊎ PartBeginsWith first s)
+PartBeginsWith first (both r s) = (both r s ≡ first)
+    ⊎ (PartBeginsWith first r ⊎ PartBeginsWith first s)
 
--- the reads of a list, one after the other, each lawful, from one seat's record to the one behind them
+-- the reads of a list, one after the other, each lawful, from one seat's record to the one behind
+-- them
 abbrev pub HasRead : Task → Place → List Sight → Place → Type 0
 HasRead t p [] q = q ≡ p
-HasRead t p (sight ∷ sights) q = (next : Place) × WasRead t p next sight.cell (At sight.step sight.value) × HasRead t next sights q
+HasRead t p (sight ∷ sights) q = (next : Place)
+    × WasRead t p next sight.cell (At sight.step sight.value) × HasRead t next sights q
 
 -- what the cell holds after the step, which is reached
 pub record IsTrueSight (t : Task) (sight : Sight) : Type 0 where
   pub reached : IsReached t.job sight.step
   pub value : sight.value ≡ slice_index (state_after t.job sight.step) sight.cell
 
--- The list has so many rounds through the cells, in order, from the seat p to the seat q: each entry is a read, so it tells what its cell
--- holds after its step; no step is below one that p knew, and the steps never fall.
-pub record IsWatch (t : Task) (cells : List ℕ) (rounds : ℕ) (p : Place) (sights : List Sight) (q : Place) : Type 0 where
+-- The list has so many rounds through the cells, in order, from the seat p to the seat q: each
+-- entry is a read, so it tells what its cell holds after its step; no step is below one that p
+-- knew, and the steps never fall.
+pub record IsWatch (t : Task) (cells : List ℕ) (rounds : ℕ) (p : Place) (sights : List Sight) (q :
+    Place) : Type 0 where
   pub listed : map (λ sight. sight.cell) sights ≡ repeat rounds cells
   pub reads : HasRead t p sights q
   pub tells : All (λ sight. IsTrueSight t sight) sights
-  pub least : All (λ sight. (known : ℕ) → KnowsStep t.layout p.record_of known → known ≤ sight.step) sights
+  pub least : All (λ sight. (known : ℕ) → KnowsStep t.layout p.record_of known →
+      known ≤ sight.step) sights
   pub rises : IsNonDecreasingBy (λ sight. sight.step) sights
 
 -- It was so, and one part of the later record begins with the record behind the reads.
-pub record HasWatched (t : Task) (cells : List ℕ) (rounds : ℕ) (p : Place) (sights : List Sight) (later : Record) : Type 0 where
+pub record HasWatched (t : Task) (cells : List ℕ) (rounds : ℕ) (p : Place) (sights : List Sight)
+    (later : Record) : Type 0 where
   pub seat : Place
   pub watch : IsWatch t cells rounds p sights seat
   pub part : PartBeginsWith seat.record_of later

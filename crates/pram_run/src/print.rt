@@ -1,10 +1,12 @@
 //! Traces and sights as text, written with `csv`.
-ghost use Rattle.std.specs.Prelude.{◌≡◌, ◌≤◌, ◌++◌, ◌↔◌, false, decimal, length, map, take, IfOk, OnOk, IsErrOf, IsTrue};
+ghost use Rattle.std.specs.Prelude.{◌≡◌, ◌≤◌, ◌++◌, ◌↔◌, false, decimal, length};
+ghost use Rattle.std.specs.Prelude.{map, take, IfOk, OnOk, IsErrOf, IsTrue};
 ghost use Rattle.std.specs.Io.KnownBytes.{Appends};
 ghost use Rattle.csv.specs.Writing.{default_writer, field_text, row_text, text_written};
 ghost use Rattle.pram_io.specs.Transfer.{AppendsBeginning};
 ghost use Rattle.pram_run.specs.Inner.Printing.{IsBetweenRecords};
-ghost use Rattle.pram_run.specs.Printed.{kind_word, row_line, row_lines, sight_line, sight_lines, sights_text, trace_text};
+ghost use Rattle.pram_run.specs.Printed.{kind_word, row_line, row_lines, sight_line};
+ghost use Rattle.pram_run.specs.Printed.{sight_lines, sights_text, trace_text};
 
 use crate::sight::Sight;
 use crate::trace::{StepKind, Trace, TraceRow};

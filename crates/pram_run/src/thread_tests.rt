@@ -118,7 +118,8 @@ fn rules_of_writing_by_threads(rt: HostRuntime) -> Result<(), Fail> {
     ];
     for (rule, value, disputed) in jobs {
         let text = format!(in rt.alloc();
-            "pram 2\ncells 5\nprocs 4\nsteps 5\nrule {rule}\ninit 1 1\ninit 3 1\ncode\npid r0\nld r1 r0\njz r1 end\nset r2 4\nst r2 {value}\nend: halt\n"
+            "pram 2\ncells 5\nprocs 4\nsteps 5\nrule {rule}\ninit 1 1\ninit 3 1\ncode\n\
+             pid r0\nld r1 r0\njz r1 end\nset r2 4\nst r2 {value}\nend: halt\n"
         )?;
         let wanted = match disputed {
             None => Wanted::Cells(&[0, 1, 0, 1, 1]),

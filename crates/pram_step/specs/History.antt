@@ -26,7 +26,8 @@ last_by (Some v) s before = suc s
 
 unfoldable pub last_write : JobData → ℕ → ℕ → ℕ
 last_write job zero p = 0
-last_write job (suc s) p = last_by (first_written job p 0 (requests_after job s)) s (last_write job s p)
+last_write job (suc s) p =
+    last_by (first_written job p 0 (requests_after job s)) s (last_write job s p)
 
 -- the last step before step x that writes it, or 0
 abbrev pub write_before : JobData → ℕ → ℕ → ℕ

@@ -1,13 +1,17 @@
 -- The table of the fifteen instructions, and what a processor asks for in a state.
-use Rattle.std.specs.Prelude.{◌≡◌, ℕ, zero, suc, ◌+◌, ◌-◌, ◌*◌, ◌%◌, ◌^◌, ◌<◌, ◌≤◌, ◌==◌, nat_lt, if◌then◌else◌, List, [], ◌∷◌, map, slice_get, slice_index, Option, Some, None, bit_and, bit_or, bit_xor}
+use Rattle.std.specs.Prelude.{◌≡◌, ℕ, zero, suc, ◌+◌, ◌-◌, ◌*◌, ◌%◌, ◌^◌}
+use Rattle.std.specs.Prelude.{◌<◌, ◌≤◌, ◌==◌, nat_lt, if◌then◌else◌, List, [], ◌∷◌, map}
+use Rattle.std.specs.Prelude.{slice_get, slice_index, Option, Some, None, bit_and, bit_or, bit_xor}
 use Rattle.std.specs.List.{range_with_len}
 use Rattle.pram_text.specs.declared.instr.Instr.{Instr}
-use Rattle.pram_text.specs.declared.instr.Instr.TheVariants.{Set, Pid, Add, Sub, Mul, And, Or, Xor, Lt, Eq, Ld, St, Jz, Jmp, Halt}
+use Rattle.pram_text.specs.declared.instr.Instr.TheVariants.{Set, Pid, Add, Sub, Mul, And, Or, Xor}
+use Rattle.pram_text.specs.declared.instr.Instr.TheVariants.{Lt, Eq, Ld, St, Jz, Jmp, Halt}
 use Rattle.pram_text.specs.Job.{JobData}
 use Rattle.pram_step.specs.declared.instructions.Operands.{Operands}
 use Rattle.pram_step.specs.declared.instructions.Operands.TheVariants as operands
 use Rattle.pram_step.specs.declared.requests.Request.{Request}
-use Rattle.pram_step.specs.Machine.{State, register_place, IsDataPlace, register, counter, halted, out_of_range}
+use Rattle.pram_step.specs.Machine.{State, register_place, IsDataPlace, register}
+use Rattle.pram_step.specs.Machine.{counter, halted, out_of_range}
 
 -- ---- the table
 
@@ -36,13 +40,15 @@ cell_read job _ a = None
 
 -- a register takes a value
 abbrev pub gives : JobData → ℕ → ℕ → ℕ → ℕ → Request
-gives job i counter r value = record { put = Some (register_place job i r, value); next = counter + 1 }
+gives job i counter r value =
+    record { put = Some (register_place job i r, value); next = counter + 1 }
 
 -- no data, and this next counter
 abbrev pub goes_to : ℕ → Request
 goes_to place = record { put = None; next = place }
 
--- What processor i asks for by the instruction at its counter: its operands hold a and b, the cell that it reads holds v.
+-- What processor i asks for by the instruction at its counter: its operands hold a and b, the cell
+-- that it reads holds v.
 unfoldable pub decided : JobData → ℕ → ℕ → Instr → ℕ → ℕ → ℕ → Request
 decided job i counter (Set r k) a b v = gives job i counter r k
 decided job i counter (Pid r) a b v = gives job i counter r i
@@ -54,9 +60,11 @@ decided job i counter (Or r _ _) a b v = gives job i counter r (bit_or a b)
 decided job i counter (Xor r _ _) a b v = gives job i counter r (bit_xor a b)
 decided job i counter (Lt r _ _) a b v = gives job i counter r (if nat_lt a b then 1 else 0)
 decided job i counter (Eq r _ _) a b v = gives job i counter r (if a == b then 1 else 0)
-decided job i counter (Ld r _) a b v = if nat_lt a job.cells then gives job i counter r v else goes_to (out_of_range job)
+decided job i counter (Ld r _) a b v = if nat_lt a job.cells then gives job i counter r v
+    else goes_to (out_of_range job)
 decided job i counter (St _ _) a b v =
-    if nat_lt a job.cells then record { put = Some (a, b); next = counter + 1 } else goes_to (out_of_range job)
+    if nat_lt a job.cells then record { put = Some (a, b); next = counter + 1 }
+      else goes_to (out_of_range job)
 decided job i counter (Jz r place) a b v = goes_to (if a == 0 then place else counter + 1)
 decided job i counter (Jmp place) a b v = goes_to place
 decided job i counter Halt a b v = goes_to (halted job)
@@ -81,7 +89,8 @@ part_of request zero = place_part request
 part_of request (suc zero) = value_part request
 part_of request (suc (suc j)) = request.next
 
--- data goes to a cell or a register of processor i, numbers fit, and the counter goes to an instruction, or the processor stops
+-- data goes to a cell or a register of processor i, numbers fit, and the counter goes to an
+-- instruction, or the processor stops
 pub record HasShape (job : JobData) (i : ℕ) (request : Request) : Type 0 where
   pub data_place : (place value : ℕ) → request.put ≡ Some (place, value) → IsDataPlace job i place
   pub data_value : (place value : ℕ) → request.put ≡ Some (place, value) → value < 2 ^ 32
@@ -98,11 +107,14 @@ cell_held job s instr a = elim (cell_read job instr a) [ None ↦ 0 | Some cell 
 
 abbrev pub decided_in : JobData → State → ℕ → Instr → Request
 decided_in job s i instr =
-    decided job i (counter job s i) instr (operand_held job s i instr 0) (operand_held job s i instr 1) (cell_held job s instr (operand_held job s i instr 0))
+    decided job i (counter job s i) instr (operand_held job s i instr 0)
+      (operand_held job s i instr 1) (cell_held job s instr (operand_held job s i instr 0))
 
 -- A processor whose counter is no instruction's place asks for no data and stays.
 unfoldable pub request_in : JobData → State → ℕ → Request
-request_in job s i = elim (slice_get job.code (counter job s i)) [ None ↦ goes_to (counter job s i) | Some instr ↦ decided_in job s i instr ]
+request_in job s i =
+    elim (slice_get job.code (counter job s i)) [ None ↦ goes_to
+    (counter job s i) | Some instr ↦ decided_in job s i instr ]
 
 -- the requests of all processors, each from the state before the step
 unfoldable pub requests_in : JobData → State → List Request

@@ -1,5 +1,6 @@
 -- The machine's places, and what they hold at the start.
-use Rattle.std.specs.Prelude.{ℕ, ◌+◌, ◌*◌, ◌<◌, ◌≤◌, ◌⊎◌, List, ◌++◌, length, replicate, slice_index}
+use Rattle.std.specs.Prelude.{ℕ, ◌+◌, ◌*◌, ◌<◌, ◌≤◌, ◌⊎◌}
+use Rattle.std.specs.Prelude.{List, ◌++◌, length, replicate, slice_index}
 use Rattle.pram_text.specs.Job.{JobData}
 use Rattle.pram_text.specs.Places.{register_at, counters_at, places_in}
 
@@ -18,7 +19,8 @@ place_count job = places_in job.cells job.procs
 
 -- the place is a cell, or a register of processor i
 abbrev pub IsDataPlace : JobData → ℕ → ℕ → Type 0
-IsDataPlace job i p = (p < job.cells) ⊎ ((register_place job i 0 ≤ p) × (p < register_place job i 4))
+IsDataPlace job i p = (p < job.cells)
+    ⊎ ((register_place job i 0 ≤ p) × (p < register_place job i 4))
 
 -- The cells hold their start values, all else 0.
 abbrev pub start : JobData → State
@@ -30,7 +32,8 @@ register job s i r = slice_index s (register_place job i r)
 abbrev pub counter : JobData → State → ℕ → ℕ
 counter job s i = slice_index s (counter_place job i)
 
--- A counter below K is the place of an instruction. K says that the processor has halted, K + 1 that an address was out of range.
+-- A counter below K is the place of an instruction. K says that the processor has halted, K + 1
+-- that an address was out of range.
 abbrev pub halted : JobData → ℕ
 halted job = length job.code
 

@@ -67,6 +67,7 @@ IsOutcome job (outcome.Conflict step cell first second) =
 
 -- The same, of the state its cells alone.
 abbrev pub IsAnswer : JobData → RunAnswer → Type 0
-IsAnswer job (answer.Final cells) = (s : State) × IsStateAfter job job.steps s × (cells ≡ take job.cells s)
+IsAnswer job (answer.Final cells) = (s : State) × IsStateAfter job job.steps s
+    × (cells ≡ take job.cells s)
 IsAnswer job (answer.Conflict fault) = IsFault job fault
 IsAnswer job (answer.Unfinished step) = ⊥

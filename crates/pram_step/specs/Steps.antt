@@ -1,5 +1,8 @@
--- What a step does, and when it is against the rule. All is said of the list of requests, one of each processor.
-use Rattle.std.specs.Prelude.{◌≡◌, ◌≢◌, ℕ, ◌+◌, ◌<◌, ◌≤◌, ◌==◌, if◌then◌else◌, List, [], ◌∷◌, length, map, slice_get, slice_index, Option, Some, None, unwrap_or, MatchOption}
+-- What a step does, and when it is against the rule. All is said of the list of requests, one of
+-- each processor.
+use Rattle.std.specs.Prelude.{◌≡◌, ◌≢◌, ℕ, ◌+◌, ◌<◌, ◌≤◌, ◌==◌}
+use Rattle.std.specs.Prelude.{if◌then◌else◌, List, [], ◌∷◌, length, map, slice_get}
+use Rattle.std.specs.Prelude.{slice_index, Option, Some, None, unwrap_or, MatchOption}
 use Rattle.std.specs.List.{range_with_len}
 use Rattle.std.specs.Option.{option_or}
 use Rattle.pram_text.specs.declared.instr.Rule.{Rule}
@@ -14,7 +17,8 @@ use Rattle.pram_step.specs.Instructions.{requests_in}
 
 -- what processor i writes to a place; its next counter is a write to its counter's place
 abbrev pub written : JobData → ℕ → ℕ → Request → Option ℕ
-written job p i r = if p == counter_place job i then Some r.next else (elim r.put [ None ↦ None | Some w ↦ if w.0 == p then Some w.1 else None ])
+written job p i r = if p == counter_place job i then Some r.next
+    else (elim r.put [ None ↦ None | Some w ↦ if w.0 == p then Some w.1 else None ])
 
 -- the writers of a place: processor i writes v to it
 pub record Writes (job : JobData) (requests : List Request) (p i v : ℕ) : Type 0 where
@@ -43,7 +47,8 @@ pub record Clashes (job : JobData) (requests : List Request) (cell i j : ℕ) : 
 abbrev pub Agrees : JobData → List Request → Type 0
 Agrees job requests = (cell i j : ℕ) → Clashes job requests cell i j → ⊥
 
--- The dispute of a step that does not agree: the least cell in which two clash, its least writer, and the least that clashes with that one.
+-- The dispute of a step that does not agree: the least cell in which two clash, its least writer,
+-- and the least that clashes with that one.
 pub record IsDispute (job : JobData) (requests : List Request) (d : Dispute) : Type 0 where
   pub clash : Clashes job requests d.cell d.first d.second
   pub least_cell : (cell i j : ℕ) → Clashes job requests cell i j → d.cell ≤ cell
@@ -54,7 +59,8 @@ pub record IsDispute (job : JobData) (requests : List Request) (d : Dispute) : T
 abbrev pub IsVerdict : JobData → List Request → Option Dispute → Type 0
 IsVerdict job requests found = MatchOption found (Agrees job requests) (IsDispute job requests)
 
--- A step that is refused is in conflict, by its dispute. Want of memory says nothing of the requests.
+-- A step that is refused is in conflict, by its dispute. Want of memory says nothing of the
+-- requests.
 abbrev pub IsStepFault : JobData → List Request → StepFault → Type 0
 IsStepFault job requests (Conflict cell first second) =
     IsDispute job requests (record { cell = cell; first = first; second = second })
@@ -71,10 +77,13 @@ Counts Crew job requests p i = Unit {0}
 -- Each place that a write counts for holds its value, each other place what it held.
 pub record IsNext (job : JobData) (requests : List Request) (old new : State) : Type 0 where
   pub len : length new ≡ length old
-  pub written_to : (p i v : ℕ) → p < length old → Writes job requests p i v → Counts job.rule job requests p i → slice_index new p ≡ v
-  pub kept : (p : ℕ) → p < length old → ((i v : ℕ) → Writes job requests p i v → ⊥) → slice_index new p ≡ slice_index old p
+  pub written_to : (p i v : ℕ) → p < length old → Writes job requests p i v →
+      Counts job.rule job requests p i → slice_index new p ≡ v
+  pub kept : (p : ℕ) → p < length old → ((i v : ℕ) → Writes job requests p i v → ⊥) →
+      slice_index new p ≡ slice_index old p
 
--- the value that the first of these processors that writes to the place gives it, the first being processor i
+-- the value that the first of these processors that writes to the place gives it, the first being
+-- processor i
 abbrev pub first_written : JobData → ℕ → ℕ → List Request → Option ℕ
 first_written job p i [] = None
 first_written job p i (r ∷ rs) = option_or (written job p i r) (first_written job p (i + 1) rs)

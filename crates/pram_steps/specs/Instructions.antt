@@ -1,7 +1,9 @@
--- Instructions as a text spells them. A jump names a label there, whose place the job keeps: here it names that place.
+-- Instructions as a text spells them. A jump names a label there, whose place the job keeps: here
+-- it names that place.
 use Rattle.std.specs.Prelude.{ℕ, List, ◌++◌, codes, decimal}
 use Rattle.pram_text.specs.declared.instr.Instr.{Instr}
-use Rattle.pram_text.specs.declared.instr.Instr.TheVariants.{Set, Pid, Add, Sub, Mul, And, Or, Xor, Lt, Eq, Ld, St, Jz, Jmp, Halt}
+use Rattle.pram_text.specs.declared.instr.Instr.TheVariants.{Set, Pid, Add, Sub, Mul, And, Or, Xor}
+use Rattle.pram_text.specs.declared.instr.Instr.TheVariants.{Lt, Eq, Ld, St, Jz, Jmp, Halt}
 
 -- a name, and the registers behind it
 abbrev pub one_register : List ℕ → ℕ → List ℕ

@@ -1,5 +1,6 @@
 -- What each processor asks for in each step, as text.
-use Rattle.std.specs.Prelude.{ℕ, ◌+◌, ◌-◌, ◌==◌, nat_lt, min, if◌then◌else◌, List, [], ◌++◌, Option, Some, None, slice_get, codes, decimal}
+use Rattle.std.specs.Prelude.{ℕ, ◌+◌, ◌-◌, ◌==◌, nat_lt, min, if◌then◌else◌, List}
+use Rattle.std.specs.Prelude.{[], ◌++◌, Option, Some, None, slice_get, codes, decimal}
 use Rattle.std.specs.List.{flat_map, range_with_len}
 use Rattle.pram_text.specs.declared.instr.Instr.{Instr}
 use Rattle.pram_text.specs.Job.{JobData}
@@ -23,7 +24,8 @@ instruction_at job counter = instruction_or_stop job counter (slice_get job.code
 -- what data of processor i goes to: nothing, a cell, or one of its own registers
 abbrev pub target_text : JobData → ℕ → Option (ℕ × ℕ) → List ℕ
 target_text job i None = []
-target_text job i (Some w) = if nat_lt w.0 job.cells then codes "cell " ++ decimal w.0 else codes "r" ++ decimal (w.0 - register_place job i 0)
+target_text job i (Some w) = if nat_lt w.0 job.cells then codes "cell " ++ decimal w.0
+    else codes "r" ++ decimal (w.0 - register_place job i 0)
 
 -- the data, if there is any
 abbrev pub value_text : Option (ℕ × ℕ) → List ℕ
@@ -34,8 +36,10 @@ value_text (Some w) = decimal w.1
 unfoldable pub row_line : JobData → State → ℕ → ℕ → List ℕ
 row_line job s n i =
     decimal n ++ codes "," ++ decimal i ++ codes "," ++ decimal (counter job s i) ++ codes ","
-    ++ instruction_at job (counter job s i) ++ codes "," ++ target_text job i (request_in job s i).put ++ codes ","
-    ++ value_text (request_in job s i).put ++ codes "," ++ decimal (request_in job s i).next ++ codes "\n"
+    ++ instruction_at job (counter job s i) ++ codes ","
+      ++ target_text job i (request_in job s i).put ++ codes ","
+    ++ value_text (request_in job s i).put ++ codes "," ++ decimal (request_in job s i).next
+      ++ codes "\n"
 
 -- the rows of step n, one of each processor
 abbrev pub rows_in : JobData → State → ℕ → List ℕ
@@ -52,6 +56,7 @@ lines_behind job t count = flat_map (step_lines job) (range_with_len t count)
 abbrev pub header : List ℕ
 header = codes "step,processor,place,instruction,writes,value,next\n"
 
--- the header, and the rows of the steps from one to another, those that there are: the last of all is `last`
+-- the header, and the rows of the steps from one to another, those that there are: the last of all
+-- is `last`
 abbrev pub rows_text : JobData → ℕ → ℕ → ℕ → List ℕ
 rows_text job from to last = header ++ lines_behind job (from - 1) (min to last - (from - 1))

@@ -1,4 +1,5 @@
--- What printing the steps of a job says of the source and the sink, by their bytes before and after.
+-- What printing the steps of a job says of the source and the sink, by their bytes before and
+-- after.
 use Rattle.std.specs.Prelude.{ℕ, ◌++◌, List, Option}
 use Rattle.std.specs.Io.KnownBytes.{Appends}
 use Rattle.pram_text.specs.Job.{JobData}
@@ -19,27 +20,32 @@ last_step job (Unfinished step) = step
 
 -- the rows of a window, and then the answer
 abbrev pub steps_text : JobData → Window → RunAnswer → List ℕ
-steps_text job window answer = rows_text job window.from window.to (last_step job answer) ++ printed answer job.steps
+steps_text job window answer =
+    rows_text job window.from window.to (last_step job answer) ++ printed answer job.steps
 
 -- This is the job's answer, and the sink took its steps and the answer.
-pub record TakesSteps (job : JobData) (window : Window) (sink sink' : Option (List ℕ)) (answer : RunAnswer) : Type 0 where
+pub record TakesSteps (job : JobData) (window : Window) (sink sink' : Option (List ℕ)) (answer :
+    RunAnswer) : Type 0 where
   pub answers : IsAnswer job answer
   pub prints : Appends sink sink' (steps_text job window answer)
 
 -- The sink took a beginning of these.
-pub record BeginsSteps (job : JobData) (window : Window) (sink sink' : Option (List ℕ)) : Type 0 where
+pub record BeginsSteps (job : JobData) (window : Window) (sink sink' : Option (List ℕ)) :
+    Type 0 where
   pub answer : RunAnswer
   pub answers : IsAnswer job answer
   pub prints : AppendsBeginning sink sink' (steps_text job window answer)
 
 -- The source gave a job, and the sink took its steps and its answer.
-pub record PrintsSteps (source source' : Option (List ℕ)) (window : Window) (sink sink' : Option (List ℕ)) (answer : RunAnswer) : Type 0 where
+pub record PrintsSteps (source source' : Option (List ℕ)) (window : Window) (sink sink' :
+    Option (List ℕ)) (answer : RunAnswer) : Type 0 where
   pub job : JobData
   pub gives : GivesJob source source' job
   pub takes : TakesSteps job window sink sink' answer
 
 -- The source gave a job, and the sink took a beginning of these.
-pub record PrintsStepsBeginning (source source' : Option (List ℕ)) (window : Window) (sink sink' : Option (List ℕ)) : Type 0 where
+pub record PrintsStepsBeginning (source source' : Option (List ℕ)) (window : Window) (sink sink' :
+    Option (List ℕ)) : Type 0 where
   pub job : JobData
   pub gives : GivesJob source source' job
   pub begins : BeginsSteps job window sink sink'

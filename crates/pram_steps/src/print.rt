@@ -1,5 +1,6 @@
 //! The steps of a job and its answer, printed.
-ghost use Rattle.std.specs.Prelude.{◌≡◌, ◌+◌, ◌-◌, ◌⊎◌, ◌++◌, ◌↔◌, false, length, IfOk, OnErr, OnOk, IsErrOf, IsTrue};
+ghost use Rattle.std.specs.Prelude.{◌≡◌, ◌+◌, ◌-◌, ◌⊎◌, ◌++◌, ◌↔◌, false};
+ghost use Rattle.std.specs.Prelude.{length, IfOk, OnErr, OnOk, IsErrOf, IsTrue};
 ghost use Rattle.std.specs.Io.KnownBytes.{Appends};
 ghost use Rattle.pram_step.specs.Laws.{AllStopped};
 ghost use Rattle.pram_step.specs.Machine.{place_count};

@@ -1,11 +1,13 @@
 //! The rows of a step, written with `csv`.
-ghost use Rattle.std.specs.Prelude.{◌≡◌, ◌+◌, ◌<◌, ◌++◌, decimal, length, map, string_bytes, IfOk, IfSome, OnOk};
+ghost use Rattle.std.specs.Prelude.{◌≡◌, ◌+◌, ◌<◌, ◌++◌, decimal, length};
+ghost use Rattle.std.specs.Prelude.{map, string_bytes, IfOk, IfSome, OnOk};
 ghost use Rattle.std.specs.Io.KnownBytes.{Appends};
 ghost use Rattle.csv.specs.Writing.{default_writer, field_text, row_text, text_written};
 ghost use Rattle.pram_step.specs.Machine.{IsDataPlace, counter as counter_of, place_count};
 ghost use Rattle.pram_step.specs.Runs.{IsStateAfter};
 ghost use Rattle.pram_steps.specs.Inner.Printing.{IsBetweenRecords};
-ghost use Rattle.pram_steps.specs.Rows.{instruction_at, row_line, rows_in, stop_word, target_text, value_text};
+ghost use Rattle.pram_steps.specs.Rows.{instruction_at, row_line, rows_in};
+ghost use Rattle.pram_steps.specs.Rows.{stop_word, target_text, value_text};
 
 use crate::instruction::instruction_text;
 use csv::{Error, Writer};

@@ -1,14 +1,20 @@
 -- What a line says by itself, or its fault by the order of judgement.
-use Rattle.std.specs.Prelude.{ℕ, ◌-◌, Bool, false, not, ◌&&◌, ◌||◌, ◌==◌, nat_le, if◌then◌else◌, [], ◌∷◌, take, length, slice_index, codes, Option, Some, None, Result, Ok, Err}
+use Rattle.std.specs.Prelude.{ℕ, ◌-◌, Bool, false, not, ◌&&◌, ◌||◌, ◌==◌}
+use Rattle.std.specs.Prelude.{nat_le, if◌then◌else◌, [], ◌∷◌, take, length, slice_index, codes}
+use Rattle.std.specs.Prelude.{Option, Some, None, Result, Ok, Err}
 use Rattle.std.specs.Char.{is_ascii_digit, is_ascii_alphabetic, is_ascii_alphanumeric}
 use Rattle.std.specs.List.{list_all}
 use Rattle.std.specs.Option.{ok_or}
 use Rattle.std.specs.Str.{bytes_eq}
 use Rattle.std.specs.Str.Parse.{digits_value}
 use Rattle.pram_text.specs.declared.fault.TextKind.{TextKind}
-use Rattle.pram_text.specs.declared.fault.TextKind.TheVariants.{BadHeader, BadNumber, OutOfLimits, UnknownInstruction, WrongOperands, BadRegister, UnknownLabel}
+use Rattle.pram_text.specs.declared.fault.TextKind.TheVariants.{BadHeader, BadNumber}
+use Rattle.pram_text.specs.declared.fault.TextKind.TheVariants.{OutOfLimits, UnknownInstruction}
+use Rattle.pram_text.specs.declared.fault.TextKind.TheVariants.{WrongOperands, BadRegister}
+use Rattle.pram_text.specs.declared.fault.TextKind.TheVariants.{UnknownLabel}
 use Rattle.pram_text.specs.declared.instr.Instr.{Instr}
-use Rattle.pram_text.specs.declared.instr.Instr.TheVariants.{Set, Pid, Add, Sub, Mul, And, Or, Xor, Lt, Eq, Ld, St, Jz, Jmp, Halt}
+use Rattle.pram_text.specs.declared.instr.Instr.TheVariants.{Set, Pid, Add, Sub, Mul, And, Or, Xor}
+use Rattle.pram_text.specs.declared.instr.Instr.TheVariants.{Lt, Eq, Ld, St, Jz, Jmp, Halt}
 use Rattle.pram_text.specs.declared.instr.Rule.{Rule}
 use Rattle.pram_text.specs.declared.instr.Rule.TheVariants.{Common, Priority, Crew}
 use Rattle.pram_text.specs.declared.limits.TheConstants.{MAX_CELLS, MAX_PROCS}
@@ -32,7 +38,8 @@ number_of word = digits_value 10 word
 unfoldable pub number_in : ℕ → ℕ → Word → Result ℕ TextKind
 number_in low high word =
     if is_number word
-    then (if nat_le low (number_of word) && nat_le (number_of word) high then Ok (number_of word) else Err OutOfLimits)
+    then (if nat_le low (number_of word) && nat_le (number_of word) high then Ok (number_of word)
+      else Err OutOfLimits)
     else Err BadNumber
 
 -- the greatest number of 32 bits
@@ -58,7 +65,8 @@ unfoldable pub version_of : Line → Result ℕ TextKind
 version_of (first ∷ number ∷ []) =
     if not (bytes_eq first (codes "pram")) then Err BadHeader
     else (if not (is_number number) then Err BadNumber
-    else (if (number_of number == 1) || (number_of number == 2) then Ok (number_of number) else Err BadHeader))
+    else (if (number_of number == 1) || (number_of number == 2) then Ok (number_of number)
+      else Err BadHeader))
 version_of _ = Err BadHeader
 
 abbrev pub cells_of : Line → Result ℕ TextKind

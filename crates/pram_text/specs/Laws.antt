@@ -1,5 +1,6 @@
 -- What the laws say of a text.
-use Rattle.std.specs.Prelude.{◌≡◌, ◌⊎◌, ◌↔◌, ℕ, ◌+◌, ◌≤◌, ◌<◌, ◌==◌, List, [], ◌∷◌, ◌++◌, length, count_by, IsTrue, None}
+use Rattle.std.specs.Prelude.{◌≡◌, ◌⊎◌, ◌↔◌, ℕ, ◌+◌, ◌≤◌, ◌<◌, ◌==◌}
+use Rattle.std.specs.Prelude.{List, [], ◌∷◌, ◌++◌, length, count_by, IsTrue, None}
 use Rattle.std.specs.List.{list_all, join_with_byte}
 use Rattle.pram_text.specs.declared.fault.TextKind.{TextKind}
 use Rattle.pram_text.specs.declared.fault.TextKind.TheVariants.{UnknownLabel}
@@ -28,16 +29,19 @@ SpelledJobIsLawful = (text : List ℕ) (job : JobData) → Spells text job → I
 
 abbrev pub SpelledBearsNothing : Type 0
 SpelledBearsNothing =
-    (text : List ℕ) (job : JobData) (line : ℕ) (kind : TextKind) → Spells text job → Bears text line kind → ⊥
+    (text : List ℕ) (job : JobData) (line : ℕ) (kind : TextKind) → Spells text job →
+      Bears text line kind → ⊥
 
 abbrev pub OneFault : Type 0
 OneFault =
     (text : List ℕ) (line other_line : ℕ) (kind other_kind : TextKind)
-    → Bears text line kind → Bears text other_line other_kind → (line ≡ other_line) × (kind ≡ other_kind)
+    → Bears text line kind → Bears text other_line other_kind → (line ≡ other_line)
+      × (kind ≡ other_kind)
 
 abbrev pub JobOrFault : Type 0
 JobOrFault =
-    (text : List ℕ) → ((job : JobData) × Spells text job) ⊎ ((line : ℕ) × (kind : TextKind) × Bears text line kind)
+    (text : List ℕ) → ((job : JobData) × Spells text job)
+      ⊎ ((line : ℕ) × (kind : TextKind) × Bears text line kind)
 
 abbrev pub FaultIsWithin : Type 0
 FaultIsWithin =
@@ -48,7 +52,8 @@ FaultIsWithin =
 abbrev pub UnknownLabelComesLast : Type 0
 UnknownLabelComesLast =
     (text : List ℕ) (line : ℕ) (kind : TextKind) → Bears text line kind
-    → ((k : ℕ) → k < length (lines_of text) → fault_at (lines_of text) k ≡ None) → kind ≡ UnknownLabel
+    → ((k : ℕ) → k < length (lines_of text) → fault_at (lines_of text) k ≡ None) →
+      kind ≡ UnknownLabel
 
 -- both texts spell the same jobs
 abbrev pub SpellsSame : List ℕ → List ℕ → Type 0

@@ -1,5 +1,6 @@
 -- The lines of a text, and the words of a line.
-use Rattle.std.specs.Prelude.{ℕ, Bool, true, false, ◌&&◌, ◌||◌, ◌==◌, nat_le, List, [], ◌∷◌, filter, map}
+use Rattle.std.specs.Prelude.{ℕ, Bool, true, false, ◌&&◌, ◌||◌, ◌==◌}
+use Rattle.std.specs.Prelude.{nat_le, List, [], ◌∷◌, filter, map}
 use Rattle.std.specs.List.{slice_split, before_first, enumerate_from}
 
 abbrev pub Word : Type 0

@@ -1,4 +1,5 @@
--- The places of the machine of a job: M cells, then four registers of each of N processors, then the counter of each.
+-- The places of the machine of a job: M cells, then four registers of each of N processors, then
+-- the counter of each.
 use Rattle.std.specs.Prelude.{ℕ, ◌+◌, ◌*◌}
 
 -- register r of processor i

@@ -1,19 +1,29 @@
 -- A text spells a job; a line of a text bears a fault.
-use Rattle.std.specs.Prelude.{◌≡◌, ◌≢◌, ℕ, ◌+◌, ◌<◌, ◌≤◌, Bool, false, not, ◌&&◌, ◌==◌, nat_le, if◌then◌else◌, List, [], ◌∷◌, ◌++◌, length, take, map, codes, All, AllPairs, Option, Some, None, unwrap_or, Result, Ok, Err, IfSome, IsTrue, ◌⊎◌, zero, suc, drop, option_map, slice_index, slice_index_or, position}
+use Rattle.std.specs.Prelude.{◌≡◌, ◌≢◌, ℕ, ◌+◌, ◌<◌, ◌≤◌, Bool}
+use Rattle.std.specs.Prelude.{false, not, ◌&&◌, ◌==◌, nat_le, if◌then◌else◌, List}
+use Rattle.std.specs.Prelude.{[], ◌∷◌, ◌++◌, length, take, map, codes}
+use Rattle.std.specs.Prelude.{All, AllPairs, Option, Some, None, unwrap_or, Result}
+use Rattle.std.specs.Prelude.{Ok, Err, IfSome, IsTrue, ◌⊎◌, zero, suc}
+use Rattle.std.specs.Prelude.{drop, option_map, slice_index, slice_index_or, position}
 use Rattle.std.specs.List.{list_all, list_any, after_first, filter_map}
 use Rattle.std.specs.Map.{lookup}
 use Rattle.std.specs.Option.{option_or}
 use Rattle.std.specs.Result.{result_ok, result_err, result_unwrap_or}
 use Rattle.std.specs.Str.{bytes_eq}
 use Rattle.pram_text.specs.declared.fault.TextKind.{TextKind}
-use Rattle.pram_text.specs.declared.fault.TextKind.TheVariants.{NotAscii, BadHeader, UnknownInstruction, DuplicateLabel, NoCode, TooLong, Memory}
+use Rattle.pram_text.specs.declared.fault.TextKind.TheVariants.{NotAscii, BadHeader}
+use Rattle.pram_text.specs.declared.fault.TextKind.TheVariants.{UnknownInstruction, DuplicateLabel}
+use Rattle.pram_text.specs.declared.fault.TextKind.TheVariants.{NoCode, TooLong}
+use Rattle.pram_text.specs.declared.fault.TextKind.TheVariants.{Memory}
 use Rattle.pram_text.specs.declared.instr.Instr.{Instr}
 use Rattle.pram_text.specs.declared.instr.Rule.TheVariants.{Common}
 use Rattle.pram_text.specs.declared.instr.Rule.{Rule}
 use Rattle.pram_text.specs.declared.limits.TheConstants.{MAX_CODE}
 use Rattle.pram_text.specs.Job.{JobData}
-use Rattle.pram_text.specs.Lines.{Word, Line, lines_of, words_of, worded, numbered, is_allowed, is_filled}
-use Rattle.pram_text.specs.Judgement.{version_of, cells_of, procs_of, steps_of, rule_of, init_of, is_code, label_of, unlabelled, is_name, instr_of}
+use Rattle.pram_text.specs.Lines.{Word, Line, lines_of, words_of}
+use Rattle.pram_text.specs.Lines.{worded, numbered, is_allowed, is_filled}
+use Rattle.pram_text.specs.Judgement.{version_of, cells_of, procs_of, steps_of, rule_of, init_of}
+use Rattle.pram_text.specs.Judgement.{is_code, label_of, unlabelled, is_name, instr_of}
 
 -- ---- labels
 
@@ -48,7 +58,8 @@ pub record SpellsInit (cells : ℕ) (inits : List Line) (init : List ℕ) : Type
 pub record IsLabelled (body : List Line) : Type 0 where
   pub few : length body ≤ MAX_CODE
   pub names : All (λ line. IfSome (label_of line) (λ label. IsTrue (is_name label))) body
-  pub once : AllPairs (λ a b. (label : Word) → label_of a ≡ Some label → label_of b ≢ Some label) body
+  pub once : AllPairs (λ a b. (label : Word) → label_of a ≡ Some label →
+      label_of b ≢ Some label) body
 
 -- Each line says its instruction, a label standing for its place.
 pub record SpellsCode (body : List Line) (code : List Instr) : Type 0 where
@@ -62,7 +73,8 @@ SpellsRule (suc zero) rule lines = (lines ≡ []) × (rule ≡ Common)
 SpellsRule version rule lines = (line : Line) × (lines ≡ line ∷ []) × (rule_of line ≡ Ok rule)
 
 -- The header: four lines, and those of the rule.
-pub record SpellsHeader (version cells procs steps : ℕ) (rule : Rule) (lines : List Line) : Type 0 where
+pub record SpellsHeader (version cells procs steps : ℕ) (rule : Rule) (lines : List Line) :
+    Type 0 where
   pub version_line : Line
   pub cells_line : Line
   pub procs_line : Line
@@ -126,7 +138,8 @@ label_fault body line = new_label_fault (λ label. list_any (defines label) body
 unfoldable pub instr_fault : List Line → Line → Option TextKind
 instr_fault body line =
     if nat_le MAX_CODE (length body) then Some TooLong
-    else option_or (label_fault body line) (result_err (instr_of (λ label. Some 0) (unlabelled line)))
+    else option_or (label_fault body line)
+      (result_err (instr_of (λ label. Some 0) (unlabelled line)))
 
 -- whether the line `code` stands among lines without a fault, behind the first four
 abbrev pub has_code : List Line → Bool
@@ -177,7 +190,8 @@ numbered_body lines = after_first (λ l. is_code l.1) (drop 4 (numbered lines))
 
 -- the fault of one of these instruction lines, whose own are none: its jump's label is not defined
 abbrev pub label_fault_at : List Line → ℕ → Option TextKind
-label_fault_at body k = result_err (instr_of (place_of body) (unlabelled (slice_index_or body k [])))
+label_fault_at body k =
+    result_err (instr_of (place_of body) (unlabelled (slice_index_or body k [])))
 
 -- The first of so many with a fault has this one.
 pub record IsFirst (fault : ℕ → Option TextKind) (len place : ℕ) (kind : TextKind) : Type 0 where
@@ -195,7 +209,8 @@ Bears text line kind =
     × (k : ℕ) × (line ≡ slice_index (map (λ l. l.0) body) k)
     × IsFirst (label_fault_at (map (λ l. l.1) body)) (length body) k kind)
 
--- A refusal names a fault of the text. Where memory ran out it says nothing of it, and names line 0.
+-- A refusal names a fault of the text. Where memory ran out it says nothing of it, and names line
+-- 0.
 abbrev pub IsRefusal : List ℕ → ℕ → TextKind → Type 0
 IsRefusal text line Memory = line ≡ 0
 IsRefusal text line kind = Bears text line kind

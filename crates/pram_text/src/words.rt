@@ -92,7 +92,8 @@ pub(crate) fn is_word(word: &[u8], name: &str) -> bool
     word == name.as_bytes()
 }
 
-/// Whether every byte may stand in a text. It looks at all of them, so that many are judged at once.
+/// Whether every byte may stand in a text. It looks at all of them, so that many are judged at
+/// once.
 pub(crate) fn is_lawful(line: &[u8]) -> bool
     ensures { result ≡ list_all is_allowed line.now }
 {

@@ -13,13 +13,15 @@ use Rattle.pram_words.specs.Start.{StartsAdmitted}
 -- a word and its two halves give each other back
 abbrev pub StampsUndo : Type 0
 StampsUndo =
-    ((stamp payload : ℕ) → payload < 2 ^ 32 → (stamp_of (stamped_word stamp payload) ≡ stamp) × (payload_of (stamped_word stamp payload) ≡ payload))
+    ((stamp payload : ℕ) → payload < 2 ^ 32 → (stamp_of (stamped_word stamp payload) ≡ stamp)
+      × (payload_of (stamped_word stamp payload) ≡ payload))
     × ((word : ℕ) → stamped_word (stamp_of word) (payload_of word) ≡ word)
 
 -- a phase and its step and kind give each other back
 abbrev pub PhasesUndo : Type 0
 PhasesUndo =
-    ((step : ℕ) (kind : Kind) → 1 ≤ step → (step_at (phase_of step kind) ≡ step) × (kind_at (phase_of step kind) ≡ kind))
+    ((step : ℕ) (kind : Kind) → 1 ≤ step → (step_at (phase_of step kind) ≡ step)
+      × (kind_at (phase_of step kind) ≡ kind))
     × ((phase : ℕ) → 1 ≤ phase → phase_of (step_at phase) (kind_at phase) ≡ phase)
 
 -- no two things share a word, and the words have the numbers from 0 up to the length
@@ -28,13 +30,16 @@ WordsKeepApart = (y : LayoutData) → IsLayout y → IsNumbering y
 
 -- the values that a word may have are those that the board admits at its number
 abbrev pub WordsHaveRanges : Type 0
-WordsHaveRanges = (y : LayoutData) (job : JobData) → IsLayout y → job.steps < 2 ^ 32 → HasRanges y job
+WordsHaveRanges = (y : LayoutData) (job : JobData) → IsLayout y → job.steps < 2 ^ 32 →
+    HasRanges y job
 
 -- the words of a board start in their ranges, each as its kind says
 abbrev pub WordsStartAdmitted : Type 0
-WordsStartAdmitted = (job : JobData) (form : Form) (workers : ℕ) → IsJob job → 1 ≤ workers → workers ≤ 64 → StartsAdmitted (layout_of job form workers) job
+WordsStartAdmitted = (job : JobData) (form : Form) (workers : ℕ) → IsJob job → 1 ≤ workers →
+    workers ≤ 64 → StartsAdmitted (layout_of job form workers) job
 
 -- a worker begins at the leaf where its turns lead from the root
 abbrev pub WorkersBeginAtLeaves : Type 0
 WorkersBeginAtLeaves = (y : LayoutData) (worker : ℕ) → IsLayout y
-    → (y.leaves ≤ first_leaf_in y worker) × (first_leaf_in y worker < 2 * y.leaves) × (first_leaf_in y worker ≡ way_of y worker (depth_of y.leaves))
+    → (y.leaves ≤ first_leaf_in y worker) × (first_leaf_in y worker < 2 * y.leaves)
+      × (first_leaf_in y worker ≡ way_of y worker (depth_of y.leaves))

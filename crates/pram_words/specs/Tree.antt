@@ -10,7 +10,8 @@ digits_of n = 32 - leading_zeros w32 n
 unfoldable pub leaves_of : ℕ → ℕ
 leaves_of n = 2 ^ digits_of (n - 1)
 
--- how far a node lies below the root; the first leaf of a tree of l leaves is the node l, so the tree has the height `depth_of l`
+-- how far a node lies below the root; the first leaf of a tree of l leaves is the node l, so the
+-- tree has the height `depth_of l`
 unfoldable pub depth_of : ℕ → ℕ
 depth_of n = digits_of n - 1
 
@@ -22,7 +23,9 @@ first_leaf_of l worker = l + worker % l
 abbrev pub turns_right : ℕ → ℕ → ℕ → Bool
 turns_right l worker n = bit_at (worker % l) (depth_of l - 1 - depth_of n) == 1
 
--- the same in words: at depth d of a tree of height h, the bit h - 1 - d of the worker's number mod l is 1
+-- the same in words: at depth d of a tree of height h, the bit h - 1 - d of the worker's number mod
+-- l is 1
 abbrev pub IsTurn : ℕ → ℕ → ℕ → Bool → Type 0
 IsTurn l worker n right =
-    (h d : ℕ) → l ≡ 2 ^ h → 2 ^ d ≤ n → n < 2 ^ (d + 1) → (IsTrue right) ↔ (bit_at (worker % l) (h - 1 - d) ≡ 1)
+    (h d : ℕ) → l ≡ 2 ^ h → 2 ^ d ≤ n → n < 2 ^ (d + 1) →
+      (IsTrue right) ↔ (bit_at (worker % l) (h - 1 - d) ≡ 1)

@@ -1,5 +1,7 @@
 -- The words of a board: which there are, where each lies, and what each may hold.
-use Rattle.std.specs.Prelude.{◌≡◌, ◌≢◌, ◌↔◌, ℕ, Bool, true, false, IsTrue, ◌+◌, ◌-◌, ◌*◌, ◌/◌, ◌%◌, ◌^◌, ◌<◌, ◌≤◌, ◌==◌, ◌&&◌, nat_lt, List, length, slice_index, if◌then◌else◌}
+use Rattle.std.specs.Prelude.{◌≡◌, ◌≢◌, ◌↔◌, ℕ, Bool, true, false, IsTrue}
+use Rattle.std.specs.Prelude.{◌+◌, ◌-◌, ◌*◌, ◌/◌, ◌%◌, ◌^◌, ◌<◌, ◌≤◌}
+use Rattle.std.specs.Prelude.{◌==◌, ◌&&◌, nat_lt, List, length, slice_index, if◌then◌else◌}
 use Rattle.pram_text.specs.Job.{JobData}
 use Rattle.pram_text.specs.Places.{counters_at, places_in}
 use Rattle.pram_text.specs.declared.limits.TheConstants.{MAX_CELLS, MAX_PROCS}
@@ -8,7 +10,8 @@ use Rattle.pram_text.specs.declared.instr.Rule.TheVariants.{Common, Priority, Cr
 use Rattle.pram_words.specs.declared.layout.Form.{Form}
 use Rattle.pram_words.specs.declared.layout.Form.TheVariants.{Compact, Wide}
 use Rattle.pram_words.specs.declared.words.Word.{Word}
-use Rattle.pram_words.specs.declared.words.Word.TheVariants.{Conflict, Node, Asked, Position, Stored, Claim, Spare}
+use Rattle.pram_words.specs.declared.words.Word.TheVariants.{Conflict, Node, Asked, Position}
+use Rattle.pram_words.specs.declared.words.Word.TheVariants.{Stored, Claim, Spare}
 use Rattle.pram_words.specs.Stamps.{stamp_of, payload_of}
 use Rattle.pram_words.specs.Tree.{leaves_of}
 
@@ -36,7 +39,9 @@ has_claims Crew = true
 
 -- the layout of a job's board, in a form, for so many workers
 abbrev pub layout_of : JobData → Form → ℕ → LayoutData
-layout_of job form workers = record { form = form; leaves = leaves_of job.procs; cells = job.cells; procs = job.procs; workers = workers; claims = has_claims job.rule }
+layout_of job form workers =
+    record { form = form; leaves = leaves_of job.procs; cells = job.cells; procs =
+    job.procs; workers = workers; claims = has_claims job.rule }
 
 -- places: the cells, then four registers for each processor, then its counter
 abbrev pub places_of : LayoutData → ℕ
@@ -84,14 +89,16 @@ abbrev pub compact_word : LayoutData → ℕ → Word
 compact_word y k =
     if k == 0 then Conflict
     else (if nat_lt k (requests_at y) then Node k
-    else (if nat_lt k (positions_at y) then Asked ((k - requests_at y) / 3) ((k - requests_at y) % 3)
+    else (if nat_lt k (positions_at y) then Asked ((k - requests_at y) / 3)
+      ((k - requests_at y) % 3)
     else (if nat_lt k (places_at y) then Position (k - positions_at y)
     else (if nat_lt k (claims_at y) then Stored ((k - places_at y) / 2) ((k - places_at y) % 2)
     else Claim (k - claims_at y)))))
 
--- ---- the wide form: lines of 8 words. Word 0, each inner node and each position lie on a line of their own; then each leaf has
--- a block of two lines, with all that belongs to its processor: the leaf's node, the three request words, the two words of the
--- counter and of each register; then the cells, two words each, and the claims.
+-- ---- the wide form: lines of 8 words. Word 0, each inner node and each position lie on a line of
+-- their own; then each leaf has a block of two lines, with all that belongs to its processor: the
+-- leaf's node, the three request words, the two words of the counter and of each register; then the
+-- cells, two words each, and the claims.
 
 -- the first word of the block of leaf i, the first word of a cell, and the first claim word
 abbrev pub block_at : LayoutData → ℕ → ℕ
@@ -107,7 +114,8 @@ wide_claims_at y = cells_at y + 2 * y.cells
 abbrev pub wide_place : LayoutData → ℕ → ℕ
 wide_place y p =
     if nat_lt p y.cells then cells_at y + 2 * p
-    else (if nat_lt p (counters_of y) then block_at y ((p - y.cells) / 4) + 6 + 2 * ((p - y.cells) % 4)
+    else (if nat_lt p (counters_of y) then block_at y ((p - y.cells) / 4) + 6
+      + 2 * ((p - y.cells) % 4)
     else block_at y (p - counters_of y) + 4)
 
 abbrev pub wide_number : LayoutData → Word → ℕ
@@ -121,7 +129,8 @@ wide_number y (Spare k) = k
 
 -- the word that begins line q
 abbrev pub line_word : LayoutData → ℕ → Word
-line_word y q = if q == 0 then Conflict else (if nat_lt q y.leaves then Node q else Position (q - y.leaves))
+line_word y q = if q == 0 then Conflict
+    else (if nat_lt q y.leaves then Node q else Position (q - y.leaves))
 
 -- the word of number k, which lies at place s of the block of leaf i
 abbrev pub block_word : LayoutData → ℕ → ℕ → ℕ → Word
@@ -135,7 +144,8 @@ block_word y k i s =
 abbrev pub wide_word : LayoutData → ℕ → Word
 wide_word y k =
     if nat_lt k (block_at y 0) then (if k % 8 == 0 then line_word y (k / 8) else Spare k)
-    else (if nat_lt k (cells_at y) then block_word y k ((k - block_at y 0) / 16) ((k - block_at y 0) % 16)
+    else (if nat_lt k (cells_at y) then block_word y k ((k - block_at y 0) / 16)
+      ((k - block_at y 0) % 16)
     else (if nat_lt k (wide_claims_at y) then Stored ((k - cells_at y) / 2) (k % 2)
     else Claim (k - wide_claims_at y)))
 
@@ -161,13 +171,14 @@ most_length y = by_form y.form 146496 156160 + (if y.claims then MAX_CELLS else 
 unfoldable pub word_at : LayoutData → ℕ → Word
 word_at y k = by_form y.form (compact_word y k) (wide_word y k)
 
--- the words that a board has: those that it needs, and a spare one for each number below the length that none of these has
+-- the words that a board has: those that it needs, and a spare one for each number below the length
+-- that none of these has
 abbrev pub IsWord : LayoutData → Word → Type 0
 IsWord y (Spare k) = (k < length_of y) × ((a : Word) → IsNeeded y a → number_of y a ≢ k)
 IsWord y a = IsNeeded y a
 
--- the words of a board and the numbers below its length stand one for one; in the compact form a node's word has the node's
--- number; the second word of a place follows the first
+-- the words of a board and the numbers below its length stand one for one; in the compact form a
+-- node's word has the node's number; the second word of a place follows the first
 pub record IsNumbering (y : LayoutData) : Type 0 where
   pub conflict : number_of y Conflict ≡ 0
   pub node : y.form ≡ Compact → (n : ℕ) → number_of y (Node n) ≡ n
@@ -180,9 +191,11 @@ pub record IsNumbering (y : LayoutData) : Type 0 where
 abbrev pub IsStamped : ℕ → ℕ → ℕ → Type 0
 IsStamped steps most v = (stamp_of v ≤ steps) × (payload_of v ≤ most)
 
--- the greatest payload of a part of a request, and of a place: a data place plus 1, any value, a counter
+-- the greatest payload of a part of a request, and of a place: a data place plus 1, any value, a
+-- counter
 abbrev pub most_asked : LayoutData → JobData → ℕ → ℕ
-most_asked y job j = if j == 0 then counters_of y else (if j == 1 then 2 ^ 32 - 1 else length job.code + 1)
+most_asked y job j = if j == 0 then counters_of y
+    else (if j == 1 then 2 ^ 32 - 1 else length job.code + 1)
 
 abbrev pub most_stored : LayoutData → JobData → ℕ → ℕ
 most_stored y job p = if nat_lt p (counters_of y) then 2 ^ 32 - 1 else length job.code + 1
@@ -203,7 +216,8 @@ Admits y job k v = (k < length_of y) × IsInRange y job (word_at y k) v
 
 -- what a word may have is admitted at its number, and fits 64 bits
 pub record HasRanges (y : LayoutData) (job : JobData) : Type 0 where
-  pub admitted : (a : Word) (v : ℕ) → IsWord y a → IsInRange y job a v ↔ Admits y job (number_of y a) v
+  pub admitted : (a : Word) (v : ℕ) → IsWord y a →
+      IsInRange y job a v ↔ Admits y job (number_of y a) v
   pub fits : (a : Word) (v : ℕ) → IsInRange y job a v → v < 2 ^ 64
 
 -- the words of a whole board, each with a value that it may have

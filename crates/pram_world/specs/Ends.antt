@@ -20,7 +20,8 @@ abbrev pub steps_of : WorldData → ℕ → ℕ → WorldData
 steps_of s b zero = s
 steps_of s b (suc n) = happens (steps_of s b n) (Go b)
 
--- Body b made atomic steps until it was over, each while it was going, and no more than the own-step bound.
+-- Body b made atomic steps until it was over, each while it was going, and no more than the
+-- own-step bound.
 pub record Finished (s : WorldData) (b : ℕ) (now : WorldData) (e : Ended) : Type 0 where
   pub steps : ℕ
   pub is : now ≡ steps_of s b steps

@@ -14,7 +14,8 @@ use Rattle.pram_world.specs.Interleavings.{Interleaves}
 use Rattle.pram_world.specs.Runs.{Act, Run, begun, all_acted, TwinsFit, steps_in, AllLeave}
 use Rattle.pram_world.specs.Worlds.{Walks}
 
--- the job and the board stay, and the world is as said above, with the record of all atomic steps; the observer's record is borne out too
+-- the job and the board stay, and the world is as said above, with the record of all atomic steps;
+-- the observer's record is borne out too
 pub record IsLawfulRun (job : JobData) (form : Form) (workers : ℕ) (r : Run) : Type 0 where
   pub job_stays : r.world.job ≡ job
   pub board_stays : r.world.layout ≡ layout_of job form workers
@@ -23,20 +24,30 @@ pub record IsLawfulRun (job : JobData) (form : Form) (workers : ℕ) (r : Run) :
 
 -- *every interleaving*: each beginning of a run is a run, so this holds at every moment
 abbrev pub EveryInterleaving : Type 0
-EveryInterleaving = (job : JobData) (form : Form) (workers : ℕ) (acts : List Act) → IsJob job → 1 ≤ workers → workers ≤ 64 → TwinsFit workers acts →
+EveryInterleaving = (job : JobData) (form : Form) (workers : ℕ) (acts : List Act) → IsJob job →
+    1 ≤ workers → workers ≤ 64 → TwinsFit workers acts →
     IsLawfulRun job form workers (all_acted (begun job form workers) acts)
 
--- Behind such acts, an observer that reads a cell, whatever happens between its loads, has a lawful read within five of them.
+-- Behind such acts, an observer that reads a cell, whatever happens between its loads, has a lawful
+-- read within five of them.
 abbrev pub EveryReadIsLawful : Type 0
-EveryReadIsLawful = (job : JobData) (form : Form) (workers : ℕ) (acts later : List Act) (c step value : ℕ) (answers : List ℕ) →
-    IsJob job → 1 ≤ workers → workers ≤ 64 → TwinsFit workers acts → TwinsFit workers later → c < job.cells →
-    let y = layout_of job form workers in let before = all_acted (begun job form workers) acts in let behind = all_acted before later in
-    rest (reader_script y c) answers ≡ ends (At step value) → behind.loads ≡ afters before.loads (heard_in (reader_script y c) answers) →
-    IsLawfulRead job y before.loads behind.loads c step value × (length (heard_in (reader_script y c) answers) ≤ 5)
+EveryReadIsLawful =
+    (job : JobData) (form : Form) (workers : ℕ) (acts later : List Act) (c step value : ℕ)
+    (answers : List ℕ) →
+    IsJob job → 1 ≤ workers → workers ≤ 64 → TwinsFit workers acts → TwinsFit workers later →
+      c < job.cells →
+    let y = layout_of job form workers in let before =
+      all_acted (begun job form workers) acts in let behind = all_acted before later in
+    rest (reader_script y c) answers ≡ ends (At step value) →
+      behind.loads ≡ afters before.loads (heard_in (reader_script y c) answers) →
+    IsLawfulRead job y before.loads behind.loads c step value
+      × (length (heard_in (reader_script y c) answers) ≤ 5)
 
--- Behind such acts, a body makes no more atomic steps than the own-step bound, whatever happens, until it is stopped or brought back.
+-- Behind such acts, a body makes no more atomic steps than the own-step bound, whatever happens,
+-- until it is stopped or brought back.
 abbrev pub EveryBodyIsBounded : Type 0
-EveryBodyIsBounded = (job : JobData) (form : Form) (workers : ℕ) (acts later : List Act) (b : ℕ) (w : Walking) →
+EveryBodyIsBounded =
+    (job : JobData) (form : Form) (workers : ℕ) (acts later : List Act) (b : ℕ) (w : Walking) →
     IsJob job → 1 ≤ workers → workers ≤ 64 → TwinsFit workers acts → TwinsFit workers later →
     let y = layout_of job form workers in let before = all_acted (begun job form workers) acts in
     Walks before.world b w → AllLeave b later → steps_in before b later ≤ most_steps job y

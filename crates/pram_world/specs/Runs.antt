@@ -1,5 +1,7 @@
--- Runs: what is done with a world, the record of all atomic steps so far, and what an observer has loaded between.
-use Rattle.std.specs.Prelude.{◌≢◌, ℕ, ◌+◌, ◌<◌, ◌==◌, ◌&&◌, if◌then◌else◌, List, [], ◌∷◌, slice_get, slice_index, Option, Some, None}
+-- Runs: what is done with a world, the record of all atomic steps so far, and what an observer has
+-- loaded between.
+use Rattle.std.specs.Prelude.{◌≢◌, ℕ, ◌+◌, ◌<◌, ◌==◌, ◌&&◌, if◌then◌else◌, List}
+use Rattle.std.specs.Prelude.{[], ◌∷◌, slice_get, slice_index, Option, Some, None}
 use Rattle.std.specs.List.{AllByRecursion}
 use Rattle.std.specs.Option.{is_none}
 use Rattle.pram_text.specs.Job.{JobData}
@@ -10,9 +12,11 @@ use Rattle.walkx.specs.Records.{Record, empty, after}
 use Rattle.walkx.specs.Walk.{ask_of, end_of}
 use Rattle.pram_world.specs.declared.event.Event.{Event}
 use Rattle.pram_world.specs.declared.event.Event.TheVariants.{Go, Stop, Back}
-use Rattle.pram_world.specs.Worlds.{Body, walks, stopped, WorldData, start_on, twinned, happens, going}
+use Rattle.pram_world.specs.Worlds.{Body, walks, stopped, WorldData}
+use Rattle.pram_world.specs.Worlds.{start_on, twinned, happens, going}
 
--- an event happens, there is one body more, which is this worker newly started, or an observer loads this word
+-- an event happens, there is one body more, which is this worker newly started, or an observer
+-- loads this word
 pub data Act : Type 0 where
   event : Event → Act
   twin : ℕ → Act
@@ -32,7 +36,8 @@ abbrev pub noted_by : WorldData → Option Body → Record → Record
 noted_by s None made = made
 noted_by s (Some (stopped n)) made = made
 noted_by s (Some (walks w)) made =
-    if is_none (end_of w.now) then after made (ask_of s.job s.layout w) (answer s.words (ask_of s.job s.layout w)) else made
+    if is_none (end_of w.now) then after made (ask_of s.job s.layout w)
+      (answer s.words (ask_of s.job s.layout w)) else made
 
 abbrev pub noted : WorldData → Event → Record → Record
 noted s (Go b) made = noted_by s (slice_get s.bodies b) made
@@ -40,7 +45,8 @@ noted s (Stop b) made = made
 noted s (Back b) made = made
 
 abbrev pub acted : Run → Act → Run
-acted r (event e) = record { world = happens r.world e; made = noted r.world e r.made; loads = r.loads }
+acted r (event e) = record { world = happens r.world e; made = noted r.world e r.made; loads =
+    r.loads }
 acted r (twin w) = record r { world = twinned r.world w }
 acted r (load k) = record r { loads = after r.loads (Load k) (slice_index r.world.words k) }
 

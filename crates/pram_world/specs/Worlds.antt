@@ -1,5 +1,7 @@
 -- The model world: words, bodies that walk on them, and events.
-use Rattle.std.specs.Prelude.{◌≡◌, ◌≢◌, ℕ, ◌≤◌, Bool, false, List, [], ◌∷◌, ◌++◌, length, map, take, slice_get, slice_index, slice_set, Option, Some, None}
+use Rattle.std.specs.Prelude.{◌≡◌, ◌≢◌, ℕ, ◌≤◌, Bool, false, List}
+use Rattle.std.specs.Prelude.{[], ◌∷◌, ◌++◌, length, map, take, slice_get}
+use Rattle.std.specs.Prelude.{slice_index, slice_set, Option, Some, None}
 use Rattle.std.specs.List.{range_with_len}
 use Rattle.std.specs.Option.{is_none}
 use Rattle.pram_text.specs.Job.{JobData}
@@ -57,13 +59,15 @@ IsTwinned s w b now = (b ≡ length s.bodies) × (now ≡ twinned s w)
 
 -- ---- what happens
 
--- The body's next operation is made, and it hears the answer. One that is over asks for nothing, and hears nothing.
+-- The body's next operation is made, and it hears the answer. One that is over asks for nothing,
+-- and hears nothing.
 abbrev pub went : WorldData → ℕ → Option Body → WorldData
 went s b None = s
 went s b (Some (stopped n)) = s
 went s b (Some (walks w)) = record s {
   words = words_after s.words (ask_of s.job s.layout w);
-  bodies = slice_set s.bodies b (walks (told s.job s.layout w (answer s.words (ask_of s.job s.layout w))));
+  bodies = slice_set s.bodies b
+      (walks (told s.job s.layout w (answer s.words (ask_of s.job s.layout w))));
 }
 
 abbrev pub replaced : WorldData → ℕ → (ℕ → Body) → Option Body → WorldData
@@ -99,7 +103,8 @@ nothing = record { op = None; before = 0; after = 0 }
 
 -- an atomic step on word k
 abbrev pub step_on : ℕ → List ℕ → Op → Effect
-step_on k words op = record { op = Some op; before = slice_index words k; after = slice_index (words_after words op) k }
+step_on k words op = record { op = Some op; before = slice_index words k; after =
+    slice_index (words_after words op) k }
 
 abbrev pub effect_of : List ℕ → Op → Effect
 effect_of words (Load k) = step_on k words (Load k)
@@ -133,9 +138,12 @@ goes (Some (walks w)) = is_none (end_of w.now)
 abbrev pub going : WorldData → ℕ → Bool
 going s b = goes (slice_get s.bodies b)
 
--- *A stale write changes no word*: where the phase of a body is at most the root, its step changes no word but its own position.
+-- *A stale write changes no word*: where the phase of a body is at most the root, its step changes
+-- no word but its own position.
 abbrev pub StaleChangesNothing : WorldData → Event → WorldData → Type 0
-StaleChangesNothing s (Go b) now = (w : Walking) → Walks s b w → phase_now w.now ≤ root s.layout s.words → (a : Word) → IsWord s.layout a → a ≢ Position w.number →
+StaleChangesNothing s (Go b) now = (w : Walking) → Walks s b w →
+    phase_now w.now ≤ root s.layout s.words → (a : Word) → IsWord s.layout a →
+    a ≢ Position w.number →
     held s.layout now.words a ≡ held s.layout s.words a
 StaleChangesNothing s (Stop b) now = now.words ≡ s.words
 StaleChangesNothing s (Back b) now = now.words ≡ s.words

@@ -30,7 +30,8 @@ fn world(rt: &impl AllocGlobal, text: &str) -> Result<World, Fail>
 // Processors 1 and 3 write to cell 4 in step 5.
 fn one_cell(rt: &impl AllocGlobal, rule: &str, value: &str) -> Result<String, Fail> {
     Ok(format!(in rt.alloc();
-        "pram 2\ncells 5\nprocs 4\nsteps 5\nrule {rule}\ninit 1 1\ninit 3 1\ncode\npid r0\nld r1 r0\njz r1 end\nset r2 4\nst r2 {value}\nend: halt\n"
+        "pram 2\ncells 5\nprocs 4\nsteps 5\nrule {rule}\ninit 1 1\ninit 3 1\ncode\n\
+         pid r0\nld r1 r0\njz r1 end\nset r2 4\nst r2 {value}\nend: halt\n"
     )?)
 }
 

@@ -184,9 +184,9 @@ impl World {
         }
     }
 
-    /// What holds of a world at every moment, whatever happened to it: its words are lawful and show
-    /// the machine, and there is a record of atomic steps that they bear out and that knows every
-    /// body. It does nothing.
+    /// What holds of a world at every moment, whatever happened to it: its words are lawful and
+    /// show the machine, and there is a record of atomic steps that they bear out and that knows
+    /// every body. It does nothing.
     pub fn facts(&self)
         ensures lawful { IsLawful self.now }
         ensures interleaved { IsInterleaved self.now }

@@ -1,7 +1,10 @@
 -- The program's command, and what a line holds of the matches of its words.
-use Rattle.std.specs.Prelude.{◌≡◌, ◌≤◌, ◌⊎◌, ◌-◌, ◌^◌, MatchOption, ℕ, Bool, true, false, List, Option, Some, None, Result, IsErrAnd, IsSomeAnd, codes, pos}
+use Rattle.std.specs.Prelude.{◌≡◌, ◌≤◌, ◌⊎◌, ◌-◌, ◌^◌, MatchOption, ℕ, Bool, true, false}
+use Rattle.std.specs.Prelude.{List, Option, Some, None, Result, IsErrAnd, IsSomeAnd, codes, pos}
 use Rattle.std.specs.Str.Parse.{digits_value, without_leading_plus}
-use Rattle.clap.specs.Words.{App, FailsBy, Row, Rule, Text, fault_of, first_of, kind_of, new_app, new_rule, one_of, subcommand_of, takes, with_rule, with_subcommand}
+use Rattle.clap.specs.Words.{App, FailsBy, Row, Rule, Text}
+use Rattle.clap.specs.Words.{fault_of, first_of, kind_of, new_app, new_rule}
+use Rattle.clap.specs.Words.{one_of, subcommand_of, takes, with_rule, with_subcommand}
 use Rattle.clap.specs.declared.builder.action.ArgAction.TheVariants.{Set, SetTrue}
 use Rattle.clap.specs.declared.error.Error.{Error}
 use Rattle.clap.specs.declared.error.kind.ErrorKind.TheVariants.{OutOfMemory, ValueValidation}
@@ -9,7 +12,8 @@ use Rattle.clap.specs.declared.builder.value_parser.ValueParser.TheVariants.{Sig
 use Rattle.pram_commands.specs.CellLists.{SpellsCells}
 use Rattle.pram_commands.specs.Line.{text_of}
 use Rattle.pram_commands.specs.declared.line.Line.{Line}
-use Rattle.pram_commands.specs.declared.line.Line.TheVariants.{Check, Plain, Steps, Run, Watch, Replay}
+use Rattle.pram_commands.specs.declared.line.Line.TheVariants.{Check, Plain, Steps}
+use Rattle.pram_commands.specs.declared.line.Line.TheVariants.{Run, Watch, Replay}
 
 -- FILE
 abbrev pub file_rule : Rule
@@ -149,7 +153,8 @@ IsNumberOr option rows other number =
     MatchOption (first_of option rows) (number ≡ other) (λ _. IsNumberOf option rows number)
 
 -- The subcommand of this name was met, with this file and these steps.
-pub record HasSteps (matches : Option (Text × List Row)) (name file : Text) (from to : ℕ) : Type 0 where
+pub record HasSteps (matches : Option (Text × List Row)) (name file : Text) (from to : ℕ) :
+    Type 0 where
   pub of_file : HasFile matches name file
   pub has_from : IsNumberOr (codes "from") of_file.rows 1 from
   pub has_to : IsNumberOr (codes "to") of_file.rows (2 ^ 32 - 1) to

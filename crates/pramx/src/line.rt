@@ -1,8 +1,12 @@
 //! The command line.
-ghost use Rattle.std.specs.Prelude.{◌≡◌, ◌≢◌, ◌-◌, ◌^◌, Some, codes, false, map, IfOk, IfErr, IfSome};
-ghost use Rattle.clap.specs.Words.{app_of, first_of, found_of, kind_of, rows_of, rule_of, subcommand_of, subcommand_rows_of};
-ghost use Rattle.pramx.specs.CommandLine.{AreRefused, FailsByWords, HasBadCells, IsMet, IsNumberOf, IsNumberOr, pramx};
-ghost use Rattle.pramx.specs.CommandLine.{cells_rule, file_rule, plan_rule, progress_rule, rounds_rule};
+ghost use Rattle.std.specs.Prelude.{◌≡◌, ◌≢◌, ◌-◌, ◌^◌, Some, codes};
+ghost use Rattle.std.specs.Prelude.{false, map, IfOk, IfErr, IfSome};
+ghost use Rattle.clap.specs.Words.{app_of, first_of, found_of, kind_of};
+ghost use Rattle.clap.specs.Words.{rows_of, rule_of, subcommand_of, subcommand_rows_of};
+ghost use Rattle.pramx.specs.CommandLine.{AreRefused, FailsByWords, HasBadCells, IsMet};
+ghost use Rattle.pramx.specs.CommandLine.{IsNumberOf, IsNumberOr, pramx};
+ghost use Rattle.pramx.specs.CommandLine.{cells_rule, file_rule, plan_rule};
+ghost use Rattle.pramx.specs.CommandLine.{progress_rule, rounds_rule};
 ghost use Rattle.pramx.specs.CommandLine.{from_rule, on_file, on_machine, on_run, on_steps};
 ghost use Rattle.pramx.specs.CommandLine.{on_watch, to_rule};
 ghost use Rattle.pramx.specs.CommandLine.{with_workers, workers_rule};

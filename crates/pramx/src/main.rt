@@ -1,6 +1,6 @@
 //! Runs programs of a synchronous parallel machine: `pramx check FILE`, `pramx plain FILE`,
-//! `pramx steps FILE`, `pramx run FILE --workers W`, `pramx watch FILE --workers W --cells C,C,.. --rounds R`,
-//! `pramx replay FILE --workers W`.
+//! `pramx steps FILE`, `pramx run FILE --workers W`, `pramx replay FILE --workers W` and
+//! `pramx watch FILE --workers W --cells C,C,.. --rounds R`.
 #![tactic(auto)]
 
 ghost use Rattle.std.specs.Prelude.{◌≡◌, ◌≤◌, false};

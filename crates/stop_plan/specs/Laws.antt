@@ -8,21 +8,25 @@ use Rattle.stop_plan.specs.Schedule.{Events, IsSchedule, Running}
 
 -- records spell at most one plan
 abbrev pub OnePlan : Type 0
-OnePlan = (workers : ℕ) (all : List Record) (plan other : PlanData) → SpellsPlan workers all plan → SpellsPlan workers all other → plan ≡ other
+OnePlan = (workers : ℕ) (all : List Record) (plan other : PlanData) → SpellsPlan workers all plan →
+    SpellsPlan workers all other → plan ≡ other
 
 -- records have at most one first fault, which is never that memory ran out
 abbrev pub OneFault : Type 0
-OneFault = (workers : ℕ) (all : List Record) (row other : ℕ) (kind another : PlanKind) → FirstFault workers all row kind → FirstFault workers all other another
+OneFault = (workers : ℕ) (all : List Record) (row other : ℕ) (kind another : PlanKind) →
+    FirstFault workers all row kind → FirstFault workers all other another
     → (row ≡ other) × (kind ≡ another) × (kind ≢ Memory)
 
 -- records spell a plan or have a first fault
 abbrev pub PlanOrFault : Type 0
 PlanOrFault = (workers : ℕ) (all : List Record)
-    → ((plan : PlanData) × SpellsPlan workers all plan) ⊎ ((row : ℕ) × (kind : PlanKind) × FirstFault workers all row kind)
+    → ((plan : PlanData) × SpellsPlan workers all plan)
+      ⊎ ((row : ℕ) × (kind : PlanKind) × FirstFault workers all row kind)
 
 -- and never both
 abbrev pub NeverBoth : Type 0
-NeverBoth = (workers : ℕ) (all : List Record) (plan : PlanData) (row : ℕ) (kind : PlanKind) → SpellsPlan workers all plan → FirstFault workers all row kind → ⊥
+NeverBoth = (workers : ℕ) (all : List Record) (plan : PlanData) (row : ℕ) (kind : PlanKind) →
+    SpellsPlan workers all plan → FirstFault workers all row kind → ⊥
 
 -- each row of a plan names one of its workers
 abbrev pub RowsNameWorkers : Type 0
@@ -31,5 +35,6 @@ RowsNameWorkers = (workers : ℕ) (all : List Record) (plan : PlanData) → Spel
 
 -- a plan has at most one schedule
 abbrev pub OneSchedule : Type 0 → Type 0
-OneSchedule Event = (events : Events Event) (runs : Running Event) (plan : PlanData) (schedule other : List Event)
+OneSchedule Event =
+    (events : Events Event) (runs : Running Event) (plan : PlanData) (schedule other : List Event)
     → IsSchedule events runs plan schedule → IsSchedule events runs plan other → schedule ≡ other

@@ -1,5 +1,7 @@
 -- The records of a text of a plan: what is wrong with a record, and the plan that they spell.
-use Rattle.std.specs.Prelude.{◌≡◌, ◌<◌, ◌+◌, ◌^◌, ℕ, Bool, false, ◌&&◌, List, [], ◌∷◌, Option, Some, None, Result, Ok, Err, if◌then◌else◌, nat_lt, take, codes, option_and_then}
+use Rattle.std.specs.Prelude.{◌≡◌, ◌<◌, ◌+◌, ◌^◌, ℕ, Bool, false, ◌&&◌}
+use Rattle.std.specs.Prelude.{List, [], ◌∷◌, Option, Some, None, Result, Ok}
+use Rattle.std.specs.Prelude.{Err, if◌then◌else◌, nat_lt, take, codes, option_and_then}
 use Rattle.std.specs.List.{slice_get, filter_map}
 use Rattle.std.specs.Result.{result_ok}
 use Rattle.std.specs.Str.{all_ascii_digits, bytes_eq}
@@ -9,7 +11,8 @@ use Rattle.csv.specs.Reading.{default_config, records, strip_bom}
 use Rattle.stop_plan.specs.declared.plan.Act.{Act}
 use Rattle.stop_plan.specs.declared.plan.Act.TheVariants.{Go, Sleep, Back, Stop}
 use Rattle.stop_plan.specs.declared.plan.PlanKind.{PlanKind}
-use Rattle.stop_plan.specs.declared.plan.PlanKind.TheVariants.{BadRow, BadWorker, BadAct, BadNumber, AfterStop, Memory}
+use Rattle.stop_plan.specs.declared.plan.PlanKind.TheVariants.{BadRow, BadWorker, BadAct}
+use Rattle.stop_plan.specs.declared.plan.PlanKind.TheVariants.{BadNumber, AfterStop, Memory}
 use Rattle.stop_plan.specs.declared.plan.PlanFault.{PlanFault}
 use Rattle.stop_plan.specs.declared.plan.Row.{Row}
 use Rattle.stop_plan.specs.Plan.{PlanData, stops}
@@ -32,7 +35,9 @@ is_number (b ∷ bs) = all_ascii_digits (b ∷ bs)
 
 -- the number that a field spells, if it is below a bound
 unfoldable pub number_below : ℕ → Field → Option ℕ
-number_below bound field = if is_number field && nat_lt (digits_value 10 field) bound then Some (digits_value 10 field) else None
+number_below bound field =
+    if is_number field && nat_lt (digits_value 10 field) bound then Some (digits_value 10 field)
+    else None
 
 unfoldable pub act_of : Field → Option Act
 act_of field =
@@ -55,7 +60,8 @@ row_with_ticks worker act (Some ticks) = Ok (record { worker = worker; act = act
 
 abbrev pub row_with_act : ℕ → Option Act → Field → Result Row PlanKind
 row_with_act worker None ticks = Err BadAct
-row_with_act worker (Some act) ticks = row_with_ticks worker act (number_below (ticks_end act) ticks)
+row_with_act worker (Some act) ticks =
+    row_with_ticks worker act (number_below (ticks_end act) ticks)
 
 abbrev pub row_with_worker : Option ℕ → Field → Field → Result Row PlanKind
 row_with_worker None act ticks = Err BadWorker
@@ -84,11 +90,13 @@ fault_below (Ok row) rows = if stops rows row.worker then Some AfterStop else No
 -- what is wrong with a record, given the records before it
 unfoldable pub fault_of : ℕ → List Record → Record → Option PlanKind
 fault_of workers [] fields = if is_header fields then None else Some BadRow
-fault_of workers (header ∷ below) fields = fault_below (row_of workers fields) (rows_of workers (header ∷ below))
+fault_of workers (header ∷ below) fields =
+    fault_below (row_of workers fields) (rows_of workers (header ∷ below))
 
 -- what is wrong with the record at a place, counted from 0
 unfoldable pub fault_at : ℕ → List Record → ℕ → Option PlanKind
-fault_at workers all place = option_and_then (fault_of workers (take place all)) (slice_get all place)
+fault_at workers all place =
+    option_and_then (fault_of workers (take place all)) (slice_get all place)
 
 -- the records spell the plan: none is bad, and its rows are theirs
 pub record SpellsPlan (workers : ℕ) (all : List Record) (plan : PlanData) : Type 0 where

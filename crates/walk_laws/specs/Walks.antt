@@ -22,23 +22,29 @@ abbrev pub phase_now : Doing → ℕ
 phase_now (doing.Turn q) = q
 phase_now _ = 0
 
--- A step that keeps the words. Where the phase q is behind them, no word but worker w's position changes: q = 0 for a script of loads.
+-- A step that keeps the words. Where the phase q is behind them, no word but worker w's position
+-- changes: q = 0 for a script of loads.
 pub record Goes (job : JobData) (y : LayoutData) (w q : ℕ) (op : Op) (words : List ℕ) : Type 0 where
   pub keeps : Keeps job y op words
-  pub stale : q ≤ root y words → (a : Word) → IsWord y a → a ≢ Position w → held y (words_after words op) a ≡ held y words a
+  pub stale : q ≤ root y words → (a : Word) → IsWord y a → a ≢ Position w →
+      held y (words_after words op) a ≡ held y words a
 
 -- Its next operation goes well, and the words that it leaves bear out the record with it.
-pub record Moves (job : JobData) (y : LayoutData) (r : Record) (w : Walking) (words : List ℕ) : Type 0 where
+pub record Moves (job : JobData) (y : LayoutData) (r : Record) (w : Walking) (words : List ℕ) :
+    Type 0 where
   pub goes : Goes job y w.number (phase_now w.now) (ask_of job y w) words
-  pub backed : Backed job y (after r (ask_of job y w) (answer words (ask_of job y w))) (words_after words (ask_of job y w))
+  pub backed : Backed job y (after r (ask_of job y w) (answer words (ask_of job y w)))
+      (words_after words (ask_of job y w))
 
 -- its steps with these answers, the newest first
 abbrev pub steps_of : JobData → LayoutData → Walking → List ℕ → List (Op × ℕ)
 steps_of job y w [] = []
-steps_of job y w (found ∷ earlier) = (ask_of job y (told_all job y w earlier), found) ∷ steps_of job y w earlier
+steps_of job y w (found ∷ earlier) =
+    (ask_of job y (told_all job y w earlier), found) ∷ steps_of job y w earlier
 
 -- an answer of a read, the record before the read and the one behind it being these
-pub record IsLawfulRead (job : JobData) (y : LayoutData) (before behind : Record) (c step value : ℕ) : Type 0 where
+pub record IsLawfulRead (job : JobData) (y : LayoutData) (before behind : Record) (c step value :
+    ℕ) : Type 0 where
   pub reached : IsReached job step
   pub holds : value ≡ slice_index (state_after job step) c
   pub lasts : (t : ℕ) → KnowsStep y before t → t ≤ step
@@ -62,7 +68,8 @@ pub record IsConflict (job : JobData) (t : ℕ) : Type 0 where
   pub step : fault.step ≡ t
 
 -- what a load of the root and then one of word 0 say: the step that they show, and a conflict
-pub record ProgressWell (job : JobData) (y : LayoutData) (before behind : Record) (step u : ℕ) : Type 0 where
+pub record ProgressWell (job : JobData) (y : LayoutData) (before behind : Record) (step u : ℕ) :
+    Type 0 where
   pub reached : IsReached job step
   pub shows : Shows y behind step
   pub lasts : (t : ℕ) → KnowsStep y before t → t ≤ step

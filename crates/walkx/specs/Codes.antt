@@ -37,7 +37,8 @@ op_from_kind : ℕ → Gv → Op
 op_from_kind zero b = Load (numbered b)
 op_from_kind (suc zero) b = Store (numbered (left_of b)) (numbered (right_of b))
 op_from_kind (suc (suc zero)) b = Max (numbered (left_of b)) (numbered (right_of b))
-op_from_kind (suc (suc (suc zero))) b = Swap (numbered (left_of b)) (numbered (left_of (right_of b))) (numbered (right_of (right_of b)))
+op_from_kind (suc (suc (suc zero))) b =
+    Swap (numbered (left_of b)) (numbered (left_of (right_of b))) (numbered (right_of (right_of b)))
 op_from_kind (suc (suc (suc (suc zero)))) b = Over Done
 op_from_kind (suc (suc (suc (suc (suc n))))) b = Over (Conflict (numbered b))
 

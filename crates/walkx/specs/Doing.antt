@@ -2,7 +2,8 @@
 use Rattle.std.specs.Prelude.{ℕ}
 use Rattle.walkx.specs.declared.operation.Ended.{Ended}
 
--- It comes back, and loads its position; it begins, and looks for the phase; it makes a turn in this phase; it is over.
+-- It comes back, and loads its position; it begins, and looks for the phase; it makes a turn in
+-- this phase; it is over.
 pub data Doing : Type 0 where
   Back : Doing
   Begin : Doing

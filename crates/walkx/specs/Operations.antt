@@ -9,7 +9,8 @@ abbrev pub words_after : List ℕ → Op → List ℕ
 words_after words (Load k) = words
 words_after words (Store k value) = slice_set words k value
 words_after words (Max k value) = slice_set words k (max (slice_index words k) value)
-words_after words (Swap k old new) = slice_set words k (either (slice_index words k == old) new (slice_index words k))
+words_after words (Swap k old new) =
+    slice_set words k (either (slice_index words k == old) new (slice_index words k))
 words_after words (Over ended) = words
 
 -- what it answers: the word as it was, but for a store

@@ -5,7 +5,8 @@ use Rattle.pram_words.specs.Words.{LayoutData}
 use Rattle.walkx.specs.declared.operation.Op.{Op}
 use Rattle.walkx.specs.Walk.{Walking, heard_of}
 
--- none; a record followed by one step with its answer; two records joined, with no order between them
+-- none; a record followed by one step with its answer; two records joined, with no order between
+-- them
 pub data Record : Type 0 where
   empty : Record
   after : Record → Op → ℕ → Record

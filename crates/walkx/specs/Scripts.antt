@@ -1,4 +1,5 @@
--- A script: operations, of which each next one is a function of the answers before it, and what comes of them.
+-- A script: operations, of which each next one is a function of the answers before it, and what
+-- comes of them.
 use Rattle.std.specs.Prelude.{ℕ, List, [], ◌∷◌, ◌++◌, Option, Some, None}
 use Rattle.walkx.specs.declared.operation.Op.{Op}
 

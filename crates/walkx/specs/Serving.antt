@@ -1,4 +1,5 @@
--- What callers of the code carry from call to call: the worker or reader goes with the board, and its code stands where it does.
+-- What callers of the code carry from call to call: the worker or reader goes with the board, and
+-- its code stands where it does.
 use Rattle.std.specs.Prelude.{◌<◌}
 use Rattle.pram_text.specs.Job.{JobData}
 use Rattle.pram_words.specs.Words.{LayoutData}

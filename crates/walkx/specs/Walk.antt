@@ -1,5 +1,7 @@
 -- The walk: the scripts back, begin and turn, and a worker that goes through them.
-use Rattle.std.specs.Prelude.{◌≡◌, ℕ, ◌+◌, ◌-◌, ◌*◌, ◌/◌, ◌%◌, ◌<◌, ◌≤◌, ◌&&◌, ◌==◌, nat_le, if◌then◌else◌, List, [], ◌∷◌, ◌++◌, Option, Some, None, IfSome, unwrap_or}
+use Rattle.std.specs.Prelude.{◌≡◌, ℕ, ◌+◌, ◌-◌, ◌*◌, ◌/◌, ◌%◌, ◌<◌}
+use Rattle.std.specs.Prelude.{◌≤◌, ◌&&◌, ◌==◌, nat_le, if◌then◌else◌, List, [], ◌∷◌}
+use Rattle.std.specs.Prelude.{◌++◌, Option, Some, None, IfSome, unwrap_or}
 use Rattle.std.specs.List.{AllByRecursion}
 use Rattle.pram_text.specs.Job.{JobData, IsJob}
 use Rattle.pram_words.specs.Phases.{step_at, kind_at}
@@ -17,7 +19,8 @@ use Rattle.walkx.specs.Tasks.{task_of}
 
 -- ---- the scripts
 
--- what comes of a script: the worker begins at a node, makes a turn at a node in a phase, or is over
+-- what comes of a script: the worker begins at a node, makes a turn at a node in a phase, or is
+-- over
 pub data Then : Type 0 where
   begins : ℕ → Then
   turns : ℕ → ℕ → Then
@@ -27,17 +30,21 @@ pub data Then : Type 0 where
 abbrev pub back_script : LayoutData → ℕ → Script Then
 back_script y w = asks (Load (number_of y (Position w))) (λ n. ends (begins n))
 
--- The root shows the last phase that is finished everywhere. Behind a third pass a conflict is looked for.
+-- The root shows the last phase that is finished everywhere. Behind a third pass a conflict is
+-- looked for.
 unfoldable pub begin_script : JobData → LayoutData → ℕ → Script Then
 begin_script job y n = asks (Load (number_of y (Node 1))) (λ root.
     if root % 3 == 0 then asks (Load (number_of y Conflict)) (λ u.
-    if u == 0 then (if root == 3 * job.steps then ends (stops ended.Done) else ends (turns n (root + 1))) else ends (stops (ended.Conflict u)))
+    if u == 0 then (if root == 3 * job.steps then ends (stops ended.Done)
+      else ends (turns n (root + 1))) else ends (stops (ended.Conflict u)))
     else ends (turns n (root + 1)))
 
--- the child of an inner node with an unfinished child to which worker w goes, its children having been heard
+-- the child of an inner node with an unfinished child to which worker w goes, its children having
+-- been heard
 abbrev pub way_down : LayoutData → ℕ → ℕ → ℕ → ℕ → ℕ → ℕ
 way_down y w n q l r =
-    if nat_le q l then 2 * n + 1 else (if nat_le q r then 2 * n else (if turns_right_in y w n then 2 * n + 1 else 2 * n))
+    if nat_le q l then 2 * n + 1
+      else (if nat_le q r then 2 * n else (if turns_right_in y w n then 2 * n + 1 else 2 * n))
 
 abbrev pub stands_at : LayoutData → ℕ → ℕ → ℕ → Script Then
 stands_at y w n q = asks (Store (number_of y (Position w)) n) (λ stored. ends (turns n q))
@@ -51,17 +58,20 @@ leaf_script job y n q =
     if nat_le (y.leaves + job.procs) n then marks y n q
     else task_of job.rule (kind_at q) job y (step_at q) (n - y.leaves) (marks y n q)
 
--- A finished node is left upward, a leaf is worked at and marked, an inner node is marked or left downward.
+-- A finished node is left upward, a leaf is worked at and marked, an inner node is marked or left
+-- downward.
 unfoldable pub turn_script : JobData → LayoutData → ℕ → ℕ → ℕ → Script Then
 turn_script job y w n q = asks (Load (number_of y (Node n))) (λ found.
     if nat_le q found then (if n == 1 then ends (begins 1) else stands_at y w (n / 2) q)
     else (if nat_le y.leaves n then leaf_script job y n q
-    else asks (Load (number_of y (Node (2 * n)))) (λ l. asks (Load (number_of y (Node (2 * n + 1)))) (λ r.
+    else asks (Load (number_of y (Node (2 * n)))) (λ l.
+      asks (Load (number_of y (Node (2 * n + 1)))) (λ r.
     if nat_le q l && nat_le q r then marks y n q else stands_at y w (way_down y w n q l r) q))))
 
 -- ---- a worker
 
--- its number, the node where it stands (none stands for its first leaf), the script in progress, and the answers heard in it, the newest first
+-- its number, the node where it stands (none stands for its first leaf), the script in progress,
+-- and the answers heard in it, the newest first
 pub record Walking : Type 0 where
   pub number : ℕ
   pub node : Option ℕ
@@ -102,8 +112,10 @@ ask_of job y w = next_op w.now (rest_of job y w)
 -- the worker with one answer more, this being the rest of its script
 abbrev pub goes_on : Walking → ℕ → Script Then → Walking
 goes_on w found (asks op next) = record w { heard = found ∷ w.heard }
-goes_on w found (ends (begins n)) = record { number = w.number; node = Some n; now = doing.Begin; heard = [] }
-goes_on w found (ends (turns n q)) = record { number = w.number; node = Some n; now = doing.Turn q; heard = [] }
+goes_on w found (ends (begins n)) =
+    record { number = w.number; node = Some n; now = doing.Begin; heard = [] }
+goes_on w found (ends (turns n q)) =
+    record { number = w.number; node = Some n; now = doing.Turn q; heard = [] }
 goes_on w found (ends (stops e)) = record w { now = doing.Over e; heard = found ∷ w.heard }
 
 abbrev pub told_by : Doing → Walking → ℕ → Script Then → Walking
@@ -122,7 +134,9 @@ end_of _ = None
 
 -- the begin of a phase
 abbrev pub phase_begun : LayoutData → Doing → List (Op × ℕ)
-phase_begun y (doing.Turn q) = (if (q - 1) % 3 == 0 then (Load (number_of y Conflict), 0) ∷ [] else []) ++ (Load (number_of y (Node 1)), q - 1) ∷ []
+phase_begun y (doing.Turn q) =
+    (if (q - 1) % 3 == 0 then (Load (number_of y Conflict), 0) ∷ [] else [])
+    ++ (Load (number_of y (Node 1)), q - 1) ∷ []
 phase_begun y _ = []
 
 -- the operations with their answers that brought the worker where it stands, the newest first
@@ -173,7 +187,8 @@ abbrev pub IsPhase : JobData → Doing → Type 0
 IsPhase job (doing.Turn q) = (1 ≤ q) × (q ≤ 3 * job.steps)
 IsPhase job _ = Unit {0}
 
--- What is left of the script matches what the worker is doing: it goes on, or it ended as the worker did.
+-- What is left of the script matches what the worker is doing: it goes on, or it ended as the
+-- worker did.
 abbrev pub Matches : Doing → Script Then → Type 0
 Matches (doing.Over e) script = script ≡ ends (stops e)
 Matches _ script = (op : Op) × (first_op script ≡ Some op)

@@ -4,7 +4,8 @@ use Rattle.walkx.specs.declared.operation.Op.{Op}
 use Rattle.walkx.specs.Walk.{Walking, AsksAdmitted, IsStepOn, ask_of, end_of}
 use Rattle.pram_board.specs.declared.task.Task.{Task}
 
--- the worker's next operation, which is admitted, and a step on the board where the worker is not over
+-- the worker's next operation, which is admitted, and a step on the board where the worker is not
+-- over
 pub record Asks (t : Task) (w : Walking) (op : Op) : Type 0 where
   pub is : op ≡ ask_of t.job t.layout w
   pub admitted : AsksAdmitted t.job t.layout op

@@ -1,5 +1,7 @@
--- A part of a script that was played through a seat: what each function of straight work promises, and what it asks for.
-use Rattle.std.specs.Prelude.{◌≡◌, ◌<◌, ◌≤◌, ℕ, Bool, false, ◌⊎◌, ◌+◌, ◌%◌, ◌^◌, List, [], ◌∷◌, length, Option, Some, None}
+-- A part of a script that was played through a seat: what each function of straight work promises,
+-- and what it asks for.
+use Rattle.std.specs.Prelude.{◌≡◌, ◌<◌, ◌≤◌, ℕ, Bool, false, ◌⊎◌, ◌+◌, ◌%◌}
+use Rattle.std.specs.Prelude.{◌^◌, List, [], ◌∷◌, length, Option, Some, None}
 use Rattle.pram_text.specs.Job.{JobData}
 use Rattle.pram_words.specs.Words.{LayoutData}
 use Rattle.walkx.specs.declared.operation.Op.{Op}
@@ -19,11 +21,14 @@ pub record IsAt (d : Desk) (job : JobData) (y : LayoutData) (p : Place) : Type 0
 -- each of these answers, the newest first, was one to an operation of the script
 abbrev pub AllAsked : Script Then → List ℕ → Type 0
 AllAsked script [] = Unit {0}
-AllAsked script (found ∷ earlier) = ((op : Op) × (first_op (rest script earlier) ≡ Some op)) × AllAsked script earlier
+AllAsked script (found ∷ earlier) = ((op : Op) × (first_op (rest script earlier) ≡ Some op))
+    × AllAsked script earlier
 
--- From this script, a seat and a count of atomic steps one comes to that script, seat and count: there are answers that the board
--- gave to the operations of the script, in its order, and no step beside them.
-pub record Plays (job : JobData) (y : LayoutData) (script : Script Then) (p : Place × ℕ) (behind : Script Then) (q : Place × ℕ) : Type 0 where
+-- From this script, a seat and a count of atomic steps one comes to that script, seat and count:
+-- there are answers that the board gave to the operations of the script, in its order, and no step
+-- beside them.
+pub record Plays (job : JobData) (y : LayoutData) (script : Script Then) (p : Place
+    × ℕ) (behind : Script Then) (q : Place × ℕ) : Type 0 where
   pub answers : List ℕ
   pub asked : AllAsked script answers
   pub comes : rest script answers ≡ behind
@@ -42,7 +47,8 @@ or_both_late None after next = after
 or_both_late (Some v) after next = next v.0 v.1
 
 -- a worker that the seat knew began a script, of which this is left now
-pub record Reached (job : JobData) (y : LayoutData) (script : Script Then) (p : Place × ℕ) : Type 0 where
+pub record Reached (job : JobData) (y : LayoutData) (script : Script Then) (p : Place
+    × ℕ) : Type 0 where
   pub by : Walking
   pub began : Place × ℕ
   pub fresh : by.heard ≡ []
@@ -59,7 +65,8 @@ abbrev pub IsNext : JobData → LayoutData → (Script Then → Script Then) →
 IsNext job y part p = (after : Script Then) × Reached job y (part after) p
 
 -- so many ticks of a worker, which are counted, and what it then is
-pub record Went (t : Task) (p : Place × ℕ) (w : Walking) (q : Place × ℕ) (now : Walking) : Type 0 where
+pub record Went (t : Task) (p : Place × ℕ) (w : Walking) (q : Place
+    × ℕ) (now : Walking) : Type 0 where
   pub ticks : ℕ
   pub ran : Ran t p.0 w ticks q.0 now
   pub count : q.1 % 2 ^ 64 ≡ (p.1 + ticks) % 2 ^ 64
@@ -67,4 +74,5 @@ pub record Went (t : Task) (p : Place × ℕ) (w : Walking) (q : Place × ℕ) (
 
 -- at least one; and one only, unless there is no limit and the worker goes on
 abbrev pub GoesOn : Task → Bool → Place × ℕ → Walking → Place × ℕ → Walking → Type 0
-GoesOn t limited p w q now = (went : Went t p w q now) × (1 ≤ went.ticks) × ((went.ticks ≡ 1) ⊎ ((limited ≡ false) × (end_of now.now ≡ None)))
+GoesOn t limited p w q now = (went : Went t p w q now) × (1 ≤ went.ticks)
+    × ((went.ticks ≡ 1) ⊎ ((limited ≡ false) × (end_of now.now ≡ None)))

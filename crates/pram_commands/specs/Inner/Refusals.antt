@@ -39,7 +39,8 @@ abbrev pub cell_at_fault : CommandFault → Option ℕ
 cell_at_fault (fault.OutsideCell cell) = Some cell
 cell_at_fault _ = None
 
--- what standard error tells of a refusal; the kinds of a bad text print as they are derived, of which no clause speaks
+-- what standard error tells of a refusal; the kinds of a bad text print as they are derived, of
+-- which no clause speaks
 abbrev pub refusal_text : Refusal → Option (List ℕ)
 refusal_text (refusal.Text line kind) = None
 refusal_text (refusal.Plan row kind) = None
@@ -52,4 +53,5 @@ refusal_text refusal.Word = Some (codes "error: a word of the line is not UTF-8\
 
 -- the sink took what is told of the refusal
 abbrev pub TakesTold : Refusal → (sink sink' : Option (List ℕ)) → Type 0
-TakesTold told sink sink' = (text : List ℕ) → refusal_text told ≡ Some text → Appends sink sink' text
+TakesTold told sink sink' = (text : List ℕ) → refusal_text told ≡ Some text →
+    Appends sink sink' text

@@ -1,4 +1,5 @@
-//! Replays served: answers, traces, and plans that are refused. In texts `/` stands for a line feed.
+//! Replays served: answers, traces, and plans that are refused. In texts `/` stands for a line
+//! feed.
 ghost use Rattle.std.specs.Prelude.{◌≤◌};
 
 use crate::tests::served::{FILE, Served, serve_sources, serve_text};

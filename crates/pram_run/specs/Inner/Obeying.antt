@@ -18,11 +18,14 @@ use Rattle.pram_run.specs.declared.runner.Obeyed.{Obeyed}
 abbrev pub ShowsEnd : Task → Record → Type 0
 ShowsEnd t r = Shows t.layout r t.job.steps ⊎ ((u : ℕ) × (u ≢ 0) × Heard t.layout r Conflict u)
 
--- What the later record tells of the job's answer. It is unfinished only where the earlier record did not show the end.
+-- What the later record tells of the job's answer. It is unfinished only where the earlier record
+-- did not show the end.
 abbrev pub IsEnding : Task → Record → Record → RunAnswer → Type 0
 IsEnding t before r (Final cells) = IsAnswer t.job (Final cells) × Shows t.layout r t.job.steps
-IsEnding t before r (answer.Conflict fault) = IsAnswer t.job (answer.Conflict fault) × Heard t.layout r Conflict fault.step
-IsEnding t before r (Unfinished step) = (ShowsEnd t before → ⊥) × HasSeen t.layout r step × IsReached t.job step
+IsEnding t before r (answer.Conflict fault) = IsAnswer t.job (answer.Conflict fault)
+    × Heard t.layout r Conflict fault.step
+IsEnding t before r (Unfinished step) = (ShowsEnd t before → ⊥) × HasSeen t.layout r step
+    × IsReached t.job step
 
 -- a seat of the same board, each part of whose record begins with that of the earlier one
 pub record GoesOn (before after : Place) : Type 0 where

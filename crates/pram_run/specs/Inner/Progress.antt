@@ -11,13 +11,16 @@ use Rattle.pram_run.specs.Replays.{running, world_events}
 use Rattle.pram_run.specs.Traces.{trace_of}
 
 -- the world is the one behind these events, and the rows are its atomic steps so far
-pub record IsBehind (job : JobData) (workers : ℕ) (events : List Event) (s : WorldData) (rows : List TraceRow) : Type 0 where
+pub record IsBehind (job : JobData) (workers : ℕ) (events : List Event) (s : WorldData) (rows :
+    List TraceRow) : Type 0 where
   pub world : s ≡ run (start job workers) events
   pub trace : rows ≡ trace_of (start job workers) events
 
 -- whatever was made before, this has come of it
-abbrev pub Makes : WorldData → List TraceRow → WorldData → List TraceRow → (JobData → ℕ → List Event → List Event) → Type 0
-Makes s rows now later next = (job : JobData) (workers : ℕ) (events : List Event) → IsBehind job workers events s rows → IsBehind job workers (next job workers events) now later
+abbrev pub Makes : WorldData → List TraceRow → WorldData → List TraceRow →
+    (JobData → ℕ → List Event → List Event) → Type 0
+Makes s rows now later next = (job : JobData) (workers : ℕ) (events : List Event) →
+    IsBehind job workers events s rows → IsBehind job workers (next job workers events) now later
 
 -- a worker's events, those of a row, and a round
 abbrev pub one_step : ℕ → JobData → ℕ → List Event → List Event
@@ -27,14 +30,16 @@ abbrev pub go_on : ℕ → ℕ → JobData → ℕ → List Event → List Event
 go_on worker ticks job workers events = events ++ replicate ticks (Go worker)
 
 abbrev pub row_events : Row → JobData → ℕ → List Event → List Event
-row_events row job workers events = events ++ events_of_act world_events row.worker row.ticks row.act
+row_events row job workers events =
+    events ++ events_of_act world_events row.worker row.ticks row.act
 
 abbrev pub one_round : ℕ → JobData → ℕ → List Event → List Event
 one_round turns job workers events = after_turns world_events (running job workers) 0 turns events
 
 -- the events after the turn of one worker: a step, if it still runs
 abbrev pub turn : JobData → ℕ → ℕ → List Event → List Event
-turn job workers worker events = if running job workers events worker then events ++ Go worker ∷ [] else events
+turn job workers worker events = if running job workers events worker then events ++ Go worker ∷ []
+    else events
 
 abbrev pub one_turn : ℕ → JobData → ℕ → List Event → List Event
 one_turn worker job workers events = turn job workers worker events

@@ -1,5 +1,5 @@
-//! Growths of memory that are refused, as by `rt try --fail-alloc`: each call tells it, and the same
-//! call then succeeds.
+//! Growths of memory that are refused, as by `rt try --fail-alloc`: each call tells it, and the
+//! same call then succeeds.
 ghost use Rattle.std.specs.Prelude.{◌≡◌, IfOk};
 
 use super::SWAP;

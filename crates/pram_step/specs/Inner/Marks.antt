@@ -1,5 +1,6 @@
 -- What a pass over the requests knows of those that it has looked at.
-use Rattle.std.specs.Prelude.{◌≡◌, ℕ, ◌+◌, ◌<◌, ◌≤◌, List, length, take, slice_get, slice_index, Option, Some, MatchOption}
+use Rattle.std.specs.Prelude.{◌≡◌, ℕ, ◌+◌, ◌<◌, ◌≤◌, List, length}
+use Rattle.std.specs.Prelude.{take, slice_get, slice_index, Option, Some, MatchOption}
 use Rattle.pram_text.specs.Job.{JobData}
 use Rattle.pram_step.specs.declared.answer.Fault.{Fault}
 use Rattle.pram_step.specs.declared.requests.Request.{Request}
@@ -25,7 +26,8 @@ PutsNone requests place = (i v : ℕ) → Puts requests place i v → ⊥
 
 -- Of each cell that these requests write to, the mark names the least processor that does.
 pub record AreMarked (cells : ℕ) (requests : List Request) (marks : List ℕ) : Type 0 where
-  pub writes : (cell i v : ℕ) → cell < cells → Puts requests cell i v → (w : ℕ) × Puts requests cell (slice_index marks cell) w
+  pub writes : (cell i v : ℕ) → cell < cells → Puts requests cell i v → (w : ℕ)
+      × Puts requests cell (slice_index marks cell) w
   pub least : (cell i v : ℕ) → cell < cells → Puts requests cell i v → slice_index marks cell ≤ i
 
 -- all data goes to cells and registers of the processor's own
@@ -35,7 +37,8 @@ pub record AreOwn (job : JobData) (requests : List Request) : Type 0 where
 -- Where the requests before processor i's were obeyed, from some start, it is obeyed then too.
 abbrev pub ObeysNext : JobData → List Request → ℕ → State → State → Type 0
 ObeysNext job requests i old new =
-    (start : State) → length start ≡ place_count job → old ≡ after_requests job (take i requests) start
+    (start : State) → length start ≡ place_count job →
+      old ≡ after_requests job (take i requests) start
     → new ≡ after_requests job (take (i + 1) requests) start
 
 -- The run of the job ended in this state, or by this fault.

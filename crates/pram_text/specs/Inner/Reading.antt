@@ -1,7 +1,9 @@
 -- What a reader holds of the lines with words that it has read.
 use Rattle.std.specs.BTreeMap.{BTreeMap, get_by}
 use Rattle.std.specs.Cmp.Lexicographic.{slice_cmp}
-use Rattle.std.specs.Prelude.{◌≡◌, ◌≢◌, ℕ, ◌==◌, Bool, true, false, ◌&&◌, if◌then◌else◌, List, [], ◌∷◌, ◌++◌, length, map, Option, Some, None, Result, Ok, Err, ◌⊎◌, slice_index, slice_index_or, is_some, Vec}
+use Rattle.std.specs.Prelude.{◌≡◌, ◌≢◌, ℕ, ◌==◌, Bool, true, false, ◌&&◌, if◌then◌else◌}
+use Rattle.std.specs.Prelude.{List, [], ◌∷◌, ◌++◌, length, map, Option, Some, None}
+use Rattle.std.specs.Prelude.{Result, Ok, Err, ◌⊎◌, slice_index, slice_index_or, is_some, Vec}
 use Rattle.std.specs.Global.{Global}
 use Rattle.std.specs.Borrow.{Bor}
 use Rattle.std.specs.Ordering.{nat_cmp}
@@ -12,7 +14,8 @@ use Rattle.pram_text.specs.declared.fault.TextKind.{TextKind}
 use Rattle.pram_text.specs.declared.fault.TextKind.TheVariants.{Memory}
 use Rattle.pram_text.specs.declared.head.Head.{Head}
 use Rattle.pram_text.specs.declared.head.Next.{Next}
-use Rattle.pram_text.specs.declared.head.Next.TheVariants.{Version, Cells, Procs, Steps, Rules, Start, Code}
+use Rattle.pram_text.specs.declared.head.Next.TheVariants.{Version, Cells, Procs, Steps}
+use Rattle.pram_text.specs.declared.head.Next.TheVariants.{Rules, Start, Code}
 use Rattle.pram_text.specs.declared.instr.Rule.TheVariants.{Common}
 use Rattle.pram_text.specs.declared.instr.Instr.{Instr}
 use Rattle.pram_text.specs.declared.instr.Instr.TheVariants.{Halt}
@@ -21,9 +24,13 @@ use Rattle.pram_text.specs.declared.program.Written.{Written}
 use Rattle.pram_text.specs.declared.reader.Reader.{Reader}
 use Rattle.pram_text.specs.Job.{JobData}
 use Rattle.pram_text.specs.Lines.{Word, Line, words_of, worded, is_filled}
-use Rattle.pram_text.specs.Judgement.{version_of, cells_of, procs_of, steps_of, unlabelled, instr_of}
+use Rattle.pram_text.specs.Judgement.{version_of, cells_of, procs_of}
+use Rattle.pram_text.specs.Judgement.{steps_of, unlabelled, instr_of}
 use Rattle.pram_text.specs.Inner.Statement.{resolved}
-use Rattle.pram_text.specs.Text.{place_of, is_named, new_label_fault, NamesCells, IsLabelled, SpellsHeader, code_line, SpellsLines, words_fault, line_fault, init_fault, instr_fault, end_fault, has_code, body_of, label_fault_at, IsFirst}
+use Rattle.pram_text.specs.Text.{place_of, is_named, new_label_fault, NamesCells, IsLabelled}
+use Rattle.pram_text.specs.Text.{SpellsHeader, code_line, SpellsLines, words_fault, line_fault}
+use Rattle.pram_text.specs.Text.{init_fault, instr_fault, end_fault, has_code, body_of}
+use Rattle.pram_text.specs.Text.{label_fault_at, IsFirst}
 
 -- ---- the header
 
@@ -57,7 +64,8 @@ HoldsHead _ lines head = IsHeader lines head
 
 -- one line more
 abbrev pub TakesHead : List Line → Line → Result Head TextKind → Type 0
-TakesHead before line (Ok head) = (words_fault before line ≡ None) × HoldsHead head.next (before ++ line ∷ []) head × (head.next ≢ Code)
+TakesHead before line (Ok head) = (words_fault before line ≡ None)
+    × HoldsHead head.next (before ++ line ∷ []) head × (head.next ≢ Code)
 TakesHead before line (Err kind) = words_fault before line ≡ Some kind
 
 -- ---- start values
@@ -72,8 +80,10 @@ pub record HoldsStart (cells : ℕ) (inits : List Line) (start : List (Option �
   pub found : (c : ℕ) → given start c ≡ lookup (λ d. d == c) pairs
 
 abbrev pub TakesStart : ℕ → List Line → Line → Result (Unit {0}) TextKind → List (Option ℕ) → Type 0
-TakesStart cells inits line (Ok _) start = (init_fault cells inits line ≡ None) × HoldsStart cells (inits ++ line ∷ []) start
-TakesStart cells inits line (Err kind) start = kind ≢ Memory → init_fault cells inits line ≡ Some kind
+TakesStart cells inits line (Ok _) start = (init_fault cells inits line ≡ None)
+    × HoldsStart cells (inits ++ line ∷ []) start
+TakesStart cells inits line (Err kind) start = kind ≢ Memory →
+    init_fault cells inits line ≡ Some kind
 
 -- ---- instructions
 
@@ -86,9 +96,12 @@ abbrev pub define_fault : BTreeMap (Bor (List ℕ)) ℕ → Option Word → Opti
 define_fault places label = new_label_fault (λ name. is_some (place_at places name)) label
 
 -- one label more
-abbrev pub Defines : BTreeMap (Bor (List ℕ)) ℕ → Option Word → ℕ → Result (Unit {0}) TextKind → BTreeMap (Bor (List ℕ)) ℕ → Type 0
+abbrev pub Defines : BTreeMap (Bor (List ℕ)) ℕ → Option Word → ℕ → Result (Unit {0}) TextKind →
+    BTreeMap (Bor (List ℕ)) ℕ → Type 0
 Defines old label place (Ok _) new =
-    (define_fault old label ≡ None) × ((name : Word) → place_at new name ≡ (if is_named label name then Some place else place_at old name))
+    (define_fault old label ≡ None)
+      × ((name : Word) →
+      place_at new name ≡ (if is_named label name then Some place else place_at old name))
 Defines old label place (Err kind) new = kind ≢ Memory → define_fault old label ≡ Some kind
 
 -- each label's place
@@ -98,26 +111,32 @@ HoldsPlaces body places = (name : Word) → place_at places name ≡ place_of bo
 pub record HoldsCode (body : List Line) (program : Program) : Type 0 where
   pub labelled : IsLabelled body
   pub places : HoldsPlaces body program.places
-  pub said : (find : Word → Option ℕ) → map (λ line. instr_of find (unlabelled line)) body ≡ map (λ w. resolved find w.statement) program.written.items
+  pub said : (find : Word → Option ℕ) →
+      map (λ line. instr_of find (unlabelled line)) body ≡ map (λ w.
+      resolved find w.statement) program.written.items
 
 -- the numbers of the lines with instructions
 abbrev pub numbers_of : Program → List ℕ
 numbers_of program = map (λ w. w.line) program.written.items
 
 abbrev pub TakesCode : List Line → Line → Result (Unit {0}) TextKind → Program → Type 0
-TakesCode body line (Ok _) program = (instr_fault body line ≡ None) × HoldsCode (body ++ line ∷ []) program
+TakesCode body line (Ok _) program = (instr_fault body line ≡ None)
+    × HoldsCode (body ++ line ∷ []) program
 TakesCode body line (Err kind) program = kind ≢ Memory → instr_fault body line ≡ Some kind
 
 -- the fault of what a place of a list is to say
 abbrev pub fault_of_place : List (Result Instr TextKind) → ℕ → Option TextKind
 fault_of_place outcomes k = result_err (slice_index_or outcomes k (Ok Halt))
 
--- the statements' instructions, where `find` finds the places of labels, or the number of the first line where it does not
+-- the statements' instructions, where `find` finds the places of labels, or the number of the first
+-- line where it does not
 abbrev pub IsCoded : (Word → Option ℕ) → List Written → Result (Vec Instr Global) TextFault → Type 0
-IsCoded find written (Ok code) = map (λ w. resolved find w.statement) written ≡ map (λ i. Ok i) code.items
+IsCoded find written (Ok code) =
+    map (λ w. resolved find w.statement) written ≡ map (λ i. Ok i) code.items
 IsCoded find written (Err fault) =
     fault.kind ≢ Memory → (k : ℕ) × (fault.line ≡ slice_index (map (λ w. w.line) written) k)
-    × IsFirst (fault_of_place (map (λ w. resolved find w.statement) written)) (length written) k fault.kind
+    × IsFirst (fault_of_place (map (λ w. resolved find w.statement) written))
+      (length written) k fault.kind
 
 -- ---- the whole
 
@@ -125,11 +144,15 @@ IsCoded find written (Err fault) =
 abbrev pub HoldsAt : Next → List Line → Reader → Type 0
 HoldsAt Start before reader =
     (front : List Line) × (inits : List Line) × (before ≡ front ++ inits)
-    × IsHeader front reader.head × HoldsStart reader.head.cells inits reader.start.items × HoldsCode [] reader.program
+    × IsHeader front reader.head × HoldsStart reader.head.cells inits reader.start.items
+      × HoldsCode [] reader.program
 HoldsAt Code before reader =
-    (front : List Line) × (inits : List Line) × (body : List Line) × (before ≡ front ++ (inits ++ code_line ∷ body))
-    × IsHeader front reader.head × HoldsStart reader.head.cells inits reader.start.items × HoldsCode body reader.program
-HoldsAt next before reader = HoldsHead next before reader.head × (reader.start.items ≡ []) × HoldsCode [] reader.program
+    (front : List Line) × (inits : List Line) × (body : List Line)
+      × (before ≡ front ++ (inits ++ code_line ∷ body))
+    × IsHeader front reader.head × HoldsStart reader.head.cells inits reader.start.items
+      × HoldsCode body reader.program
+HoldsAt next before reader = HoldsHead next before reader.head × (reader.start.items ≡ [])
+    × HoldsCode [] reader.program
 
 abbrev pub Holds : List Line → Reader → Type 0
 Holds before reader = HoldsAt reader.head.next before reader
@@ -142,26 +165,33 @@ number_if false number = []
 -- one line with words more
 abbrev pub TakesWords : List Line → Line → Reader → ℕ → Result (Unit {0}) TextKind → Reader → Type 0
 TakesWords before line old number (Ok _) reader =
-    (words_fault before line ≡ None) × Holds (before ++ line ∷ []) reader × (numbers_of reader.program ≡ numbers_of old.program ++ number_if (has_code before) number)
-TakesWords before line old number (Err kind) reader = kind ≢ Memory → words_fault before line ≡ Some kind
+    (words_fault before line ≡ None) × Holds (before ++ line ∷ []) reader
+      × (numbers_of reader.program ≡ numbers_of old.program ++ number_if (has_code before) number)
+TakesWords before line old number (Err kind) reader = kind ≢ Memory →
+    words_fault before line ≡ Some kind
 
 -- one line more
-abbrev pub TakesLine : List Line → List ℕ → Reader → ℕ → Result (Unit {0}) TextKind → Reader → Type 0
+abbrev pub TakesLine : List Line → List ℕ → Reader → ℕ → Result (Unit {0}) TextKind → Reader →
+    Type 0
 TakesLine before line old number (Ok _) reader =
     (line_fault before line ≡ None) × Holds (before ++ worded (line ∷ [])) reader
-    × (numbers_of reader.program ≡ numbers_of old.program ++ number_if (has_code before && is_filled (words_of line)) number)
-TakesLine before line old number (Err kind) reader = kind ≢ Memory → line_fault before line ≡ Some kind
+    × (numbers_of reader.program ≡ numbers_of old.program
+      ++ number_if (has_code before && is_filled (words_of line)) number)
+TakesLine before line old number (Err kind) reader = kind ≢ Memory →
+    line_fault before line ≡ Some kind
 
 -- ---- the end
 
 -- the first jump to an unknown label, and the number of its line
 abbrev pub IsUnknown : List Line → List ℕ → TextFault → Type 0
 IsUnknown before numbers fault =
-    (k : ℕ) × (fault.line ≡ slice_index numbers k) × IsFirst (label_fault_at (body_of before)) (length (body_of before)) k fault.kind
+    (k : ℕ) × (fault.line ≡ slice_index numbers k)
+      × IsFirst (label_fault_at (body_of before)) (length (body_of before)) k fault.kind
 
 -- what lines that were all read make: where they lack something, a fault of their last one
 abbrev pub Finishes : List Line → List ℕ → ℕ → Result JobData TextFault → Type 0
 Finishes before numbers last (Ok job) = SpellsLines job before
 Finishes before numbers last (Err fault) =
     fault.kind ≢ Memory
-    → ((end_fault before ≡ Some fault.kind) × (fault.line ≡ last)) ⊎ ((end_fault before ≡ None) × IsUnknown before numbers fault)
+    → ((end_fault before ≡ Some fault.kind) × (fault.line ≡ last))
+      ⊎ ((end_fault before ≡ None) × IsUnknown before numbers fault)

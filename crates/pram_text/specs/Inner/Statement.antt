@@ -8,35 +8,44 @@ use Rattle.pram_text.specs.declared.statement.Mnemonic.{Mnemonic}
 use Rattle.pram_text.specs.declared.statement.Mnemonic.TheVariants as m
 use Rattle.pram_text.specs.declared.statement.Statement.{Statement}
 use Rattle.pram_text.specs.Lines.{Word, Line}
-use Rattle.pram_text.specs.Judgement.{no_operand, one_register, two_registers, three_registers, register_number, register_label, one_label, place_in, instr_of, ◌>>=◌}
+use Rattle.pram_text.specs.Judgement.{no_operand, one_register, two_registers, three_registers}
+use Rattle.pram_text.specs.Judgement.{register_number, register_label, one_label, place_in}
+use Rattle.pram_text.specs.Judgement.{instr_of, ◌>>=◌}
 
 -- ---- operands
 
--- What was read of the operands is what the definitions say of them, whatever instruction they make.
+-- What was read of the operands is what the definitions say of them, whatever instruction they
+-- make.
 abbrev pub ReadsNone : Line → Result (Unit {0}) TextKind → Type 0
 ReadsNone operands result = (instr : Instr) → no_operand instr operands ≡ (result >>= λ _. Ok instr)
 
 abbrev pub ReadsOne : Line → Result ℕ TextKind → Type 0
-ReadsOne operands result = (make : ℕ → Instr) → one_register make operands ≡ (result >>= λ r. Ok (make r))
+ReadsOne operands result = (make : ℕ → Instr) →
+    one_register make operands ≡ (result >>= λ r. Ok (make r))
 
 abbrev pub ReadsTwo : Line → Result (ℕ × ℕ) TextKind → Type 0
-ReadsTwo operands result = (make : ℕ → ℕ → Instr) → two_registers make operands ≡ (result >>= λ p. Ok (make p.0 p.1))
+ReadsTwo operands result = (make : ℕ → ℕ → Instr) →
+    two_registers make operands ≡ (result >>= λ p. Ok (make p.0 p.1))
 
 abbrev pub ReadsThree : Line → Result (ℕ × ℕ × ℕ) TextKind → Type 0
-ReadsThree operands result = (make : ℕ → ℕ → ℕ → Instr) → three_registers make operands ≡ (result >>= λ p. Ok (make p.0 p.1 p.2))
+ReadsThree operands result = (make : ℕ → ℕ → ℕ → Instr) →
+    three_registers make operands ≡ (result >>= λ p. Ok (make p.0 p.1 p.2))
 
 abbrev pub ReadsNumber : Line → Result (ℕ × ℕ) TextKind → Type 0
-ReadsNumber operands result = (make : ℕ → ℕ → Instr) → register_number make operands ≡ (result >>= λ p. Ok (make p.0 p.1))
+ReadsNumber operands result = (make : ℕ → ℕ → Instr) →
+    register_number make operands ≡ (result >>= λ p. Ok (make p.0 p.1))
 
 abbrev pub ReadsJump : Line → Result (ℕ × Bor (List ℕ)) TextKind → Type 0
 ReadsJump operands result =
     (find : Word → Option ℕ) (make : ℕ → ℕ → Instr)
-    → register_label find make operands ≡ (result >>= λ p. place_in find p.1.now >>= λ place. Ok (make p.0 place))
+    → register_label find make operands ≡ (result >>= λ p. place_in find p.1.now >>= λ place.
+      Ok (make p.0 place))
 
 abbrev pub ReadsLabel : Line → Result (Bor (List ℕ)) TextKind → Type 0
 ReadsLabel operands result =
     (find : Word → Option ℕ) (make : ℕ → Instr)
-    → one_label find make operands ≡ (result >>= λ label. place_in find label.now >>= λ place. Ok (make place))
+    → one_label find make operands ≡ (result >>= λ label. place_in find label.now >>= λ place.
+      Ok (make place))
 
 -- ---- names of instructions
 
@@ -67,7 +76,9 @@ aimed instr place' = instr
 
 -- the statement's instruction, where `find` finds the place of its label
 abbrev pub resolved : (Word → Option ℕ) → Statement → Result Instr TextKind
-resolved find statement = elim statement.target [ None ↦ Ok statement.instr | Some label ↦ place_in find label.now >>= λ place. Ok (aimed statement.instr place) ]
+resolved find statement =
+    elim statement.target [ None ↦ Ok statement.instr | Some label ↦ place_in find label.now >>=
+    λ place. Ok (aimed statement.instr place) ]
 
 -- What was read of a line is what it says, wherever its label is.
 abbrev pub ReadsLine : Line → Result Statement TextKind → Type 0

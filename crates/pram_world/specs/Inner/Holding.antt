@@ -20,12 +20,15 @@ use Rattle.pram_world.specs.Worlds.{Body, walks, stopped, number, WorldData, Wal
 abbrev pub Fitting : JobData → LayoutData → Walking → Type 0
 Fitting = Fits
 
--- The words stand, and bear out one record of all steps, which knows every worker; each body has the number of a worker.
+-- The words stand, and bear out one record of all steps, which knows every worker; each body has
+-- the number of a worker.
 pub record Holds (s : WorldData) (made : Record) : Type 0 where
   pub stands : Stands s.job s.layout s.words
   pub backed : Backed s.job s.layout made s.words
-  pub known : (b : ℕ) (w : Walking) → Walks s b w → Knows s.job s.layout made w × Fitting s.job s.layout w
-  pub numbers : (b : ℕ) (body : Body) → slice_get s.bodies b ≡ Some body → number body < s.layout.workers
+  pub known : (b : ℕ) (w : Walking) → Walks s b w → Knows s.job s.layout made w
+      × Fitting s.job s.layout w
+  pub numbers : (b : ℕ) (body : Body) → slice_get s.bodies b ≡ Some body →
+      number body < s.layout.workers
 
 -- what a body is to contracts
 abbrev pub body_of : Runner → Body
@@ -33,13 +36,16 @@ body_of (runner.Walks k) = walks k.walking
 body_of (runner.Stopped n) = stopped n
 
 abbrev pub world_of : JobData → LayoutData → List ℕ → List Runner → WorldData
-world_of job y words runners = record { job = job; layout = y; words = words; bodies = map body_of runners }
+world_of job y words runners =
+    record { job = job; layout = y; words = words; bodies = map body_of runners }
 
 -- the bodies keep their stages
 abbrev pub AllServe : JobData → LayoutData → List Runner → Type 0
-AllServe job y runners = (b : ℕ) (k : WorkerData) → slice_get runners b ≡ Some (runner.Walks k) → Serves job y k
+AllServe job y runners = (b : ℕ) (k : WorkerData) → slice_get runners b ≡ Some (runner.Walks k) →
+    Serves job y k
 
-pub record IsWorld (job : JobData) (y : LayoutData) (words : List ℕ) (runners : List Runner) : Type 0 where
+pub record IsWorld (job : JobData) (y : LayoutData) (words : List ℕ) (runners : List Runner) :
+    Type 0 where
   pub made : Record
   pub holds : Holds (world_of job y words runners) made
   pub serve : AllServe job y runners
@@ -54,7 +60,8 @@ IsOnBoard most (Over ended) = Unit {0}
 
 -- what a worker hears of a step that had this effect
 abbrev pub IsHeard : Effect → ℕ → Type 0
-IsHeard effect found = (words : List ℕ) (op : Op) → effect ≡ effect_of words op → found ≡ answer words op
+IsHeard effect found = (words : List ℕ) (op : Op) → effect ≡ effect_of words op →
+    found ≡ answer words op
 
 -- so many workers, newly started, on any board that has them
 pub record AreStarted (workers : ℕ) (runners : List Runner) : Type 0 where

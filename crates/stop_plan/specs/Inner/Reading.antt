@@ -1,7 +1,9 @@
 -- How far a reader of a plan's text has come.
-use Rattle.std.specs.Prelude.{◌≡◌, ◌+◌, ◌<◌, ◌≤◌, ℕ, Bool, true, false, List, [], ◌∷◌, ◌++◌, Option, None, Some, length}
+use Rattle.std.specs.Prelude.{◌≡◌, ◌+◌, ◌<◌, ◌≤◌, ℕ, Bool, true, false}
+use Rattle.std.specs.Prelude.{List, [], ◌∷◌, ◌++◌, Option, None, Some, length}
 use Rattle.csv.specs.Machine.{ends_at_end}
-use Rattle.csv.specs.Reading.{Ready, default_config, is_flexible, reader_config, reader_state, reader_trim, records_from, source_of}
+use Rattle.csv.specs.Reading.{Ready, default_config, is_flexible, reader_config}
+use Rattle.csv.specs.Reading.{reader_state, reader_trim, records_from, source_of}
 use Rattle.csv.specs.declared.reader.Reader.{Reader}
 use Rattle.csv.specs.declared.reader.Trim.TheVariants as trim
 use Rattle.stop_plan.specs.declared.plan.PlanFault.{PlanFault}
@@ -24,27 +26,34 @@ bytes_left remaining reader = length (bytes_or_none (source_of remaining reader)
     bytes_or_none (Some bytes) = bytes
 
 -- the reader gave the first records of a text, and has the rest before it
-pub record HasRead {R : Type 0} (remaining : R → Option (List ℕ)) (text : List ℕ) (given : List Record) (reader : Reader R) : Type 0 where
+pub record HasRead {R : Type 0} (remaining : R →
+    Option (List ℕ)) (text : List ℕ) (given : List Record) (reader : Reader R) : Type 0 where
   pub bytes : List ℕ
   pub unread : source_of remaining reader ≡ Some bytes
   pub settled : ends_at_end (reader_state reader) ≡ false
-  pub rest : records_of text ≡ given ++ records_from default_config (length bytes + 1) (reader_state reader) bytes
+  pub rest : records_of text ≡ given
+      ++ records_from default_config (length bytes + 1) (reader_state reader) bytes
   pub shorter : length given + length bytes ≤ length text
 
 -- what a read makes of it: one more record, or the end of the text
-abbrev pub AfterRead : {R : Type 0} → (R → Option (List ℕ)) → List ℕ → List Record → Reader R → Bool → Record → Type 0
-AfterRead remaining text given reader true fields = HasRead remaining text (given ++ fields ∷ []) reader
+abbrev pub AfterRead : {R : Type 0} → (R → Option (List ℕ)) → List ℕ → List Record → Reader R →
+    Bool → Record → Type 0
+AfterRead remaining text given reader true fields =
+    HasRead remaining text (given ++ fields ∷ []) reader
 AfterRead remaining text given reader false fields = records_of text ≡ given
 
 -- a read leads a reader on, whatever it read before
-abbrev pub ReadsOn : {R : Type 0} → (R → Option (List ℕ)) → Reader R → Reader R → Bool → Record → Type 0
+abbrev pub ReadsOn : {R : Type 0} → (R → Option (List ℕ)) → Reader R → Reader R → Bool → Record →
+    Type 0
 ReadsOn remaining old new found fields =
-    (text : List ℕ) (given : List Record) → HasRead remaining text given old → AfterRead remaining text given new found fields
+    (text : List ℕ) (given : List Record) → HasRead remaining text given old →
+      AfterRead remaining text given new found fields
 
 -- and leaves fewer bytes
 abbrev pub LeavesFewer : {R : Type 0} → (R → Option (List ℕ)) → Reader R → Reader R → Type 0
 LeavesFewer remaining old new =
-    (text : List ℕ) (given : List Record) → HasRead remaining text given old → bytes_left remaining new < bytes_left remaining old
+    (text : List ℕ) (given : List Record) → HasRead remaining text given old →
+      bytes_left remaining new < bytes_left remaining old
 
 -- the record of this number has no fault, and brings the rows to these
 abbrev pub TakesRecord : ℕ → ℕ → List Row → Record → List Row → Type 0
@@ -56,4 +65,5 @@ TakesRecord workers row rows fields next =
 abbrev pub RefusesRecord : ℕ → ℕ → List Row → Record → PlanFault → Type 0
 RefusesRecord workers row rows fields fault =
     (fault.row ≡ row)
-    × ((given : List Record) → length given + 1 ≡ row → rows ≡ rows_of workers given → fault_of workers given fields ≡ Some fault.kind)
+    × ((given : List Record) → length given + 1 ≡ row → rows ≡ rows_of workers given →
+      fault_of workers given fields ≡ Some fault.kind)

@@ -12,25 +12,31 @@ use Rattle.walkx.specs.declared.stage.Glance.{Glance}
 use Rattle.walkx.specs.declared.stage.Glance.TheVariants as glance
 use Rattle.walkx.specs.Scripts.{Script, asks, ends, behind}
 use Rattle.walkx.specs.Tasks.{newer_payload}
-use Rattle.walkx.specs.Reads.{HeardAdmitted, Looking, look_of, looks_for, read_script, reader_script, step_seen, lesser, told_at}
+use Rattle.walkx.specs.Reads.{HeardAdmitted, Looking, look_of, looks_for, read_script}
+use Rattle.walkx.specs.Reads.{reader_script, step_seen, lesser, told_at}
 
 -- the first word was heard once more
 abbrev pub reads_again : ℕ → ℕ → ℕ → ℕ → Script Reading
-reads_again s a b again = if again == a then ends (At s (payload_of a)) else told_at (lesser again b)
+reads_again s a b again = if again == a then ends (At s (payload_of a))
+    else told_at (lesser again b)
 
 -- both words were heard
 abbrev pub reads_both : LayoutData → ℕ → ℕ → ℕ → ℕ → Script Reading
 reads_both y c s a b =
     if nat_le (stamp_of a) s then
-    (if nat_le (stamp_of b) s then ends (At s (newer_payload a b)) else asks (Load (number_of y (Stored c 0))) (λ again. reads_again s a b again))
+    (if nat_le (stamp_of b) s then ends (At s (newer_payload a b))
+      else asks (Load (number_of y (Stored c 0))) (λ again. reads_again s a b again))
     else (if nat_le (stamp_of b) s then ends (At s (payload_of b)) else told_at (lesser a b))
 
 abbrev pub script_of_glance : LayoutData → ℕ → Glance → Script Reading
 script_of_glance y c glance.Begin = reader_script y c
-script_of_glance y c (glance.Look root) = asks (Load (number_of y Conflict)) (λ u. read_script y c (step_seen root u))
+script_of_glance y c (glance.Look root) =
+    asks (Load (number_of y Conflict)) (λ u. read_script y c (step_seen root u))
 script_of_glance y c (glance.First s) = read_script y c s
-script_of_glance y c (glance.Second s a) = asks (Load (number_of y (Stored c 1))) (λ b. reads_both y c s a b)
-script_of_glance y c (glance.Again s a b) = asks (Load (number_of y (Stored c 0))) (λ again. reads_again s a b again)
+script_of_glance y c (glance.Second s a) =
+    asks (Load (number_of y (Stored c 1))) (λ b. reads_both y c s a b)
+script_of_glance y c (glance.Again s a b) =
+    asks (Load (number_of y (Stored c 0))) (λ again. reads_again s a b again)
 script_of_glance y c (glance.Over reading) = ends reading
 
 -- an answer to a stage, and a stage behind it
@@ -38,7 +44,8 @@ abbrev pub HearsGlance : JobData → LayoutData → ℕ → Glance → ℕ → T
 HearsGlance job y c g answer = HeardAdmitted job y (looks_for (script_of_glance y c g)) answer
 
 abbrev pub StandsBehindGlance : LayoutData → ℕ → Glance → ℕ → Glance → Type 0
-StandsBehindGlance y c old answer new = script_of_glance y c new ≡ behind (script_of_glance y c old) answer
+StandsBehindGlance y c old answer new =
+    script_of_glance y c new ≡ behind (script_of_glance y c old) answer
 
 -- a root that was heard is a phase behind a step
 abbrev pub IsGlance : Glance → Type 0

@@ -19,7 +19,8 @@ pub record PostData : Type 0 where
   pub phase : ℕ
 
 abbrev pub post_data : JobData → LayoutData → ℕ → ℕ → ℕ → PostData
-post_data job y worker node phase = record { job = job; layout = y; worker = worker; node = node; phase = phase }
+post_data job y worker node phase =
+    record { job = job; layout = y; worker = worker; node = node; phase = phase }
 
 -- the worker and its node are on the job's board
 pub record IsPost (at : PostData) : Type 0 where
@@ -48,7 +49,8 @@ then_marks at = marks at.layout at.node at.phase
 
 -- part j of the processor's request is raised to this payload
 abbrev pub part_raised : PostData → ℕ → ℕ → Op
-part_raised at j payload = Max (number_of at.layout (Asked (processor_of at) j)) (stamped_word (step_of at) payload)
+part_raised at j payload =
+    Max (number_of at.layout (Asked (processor_of at) j)) (stamped_word (step_of at) payload)
 
 -- a cell with a claim word
 abbrev pub IsCell : LayoutData → ℕ → Type 0
