@@ -144,7 +144,7 @@ pub record ClaimsFor (job : JobData) (s c payload : ℕ) : Type 0 where
 pub data IsClaimed (job : JobData) (f root c word : ℕ) : Type 0 where
   claimed_before : stamp_of word ≡ last_write job f c →
       ((s : ℕ) → stamp_of word ≡ suc s → ClaimsFor job s c (payload_of word)
-        × ((i v : ℕ) → Asks job s c i v → claim_of job i ≤ payload_of word)) →
+      × ((i v : ℕ) → Asks job s c i v → claim_of job i ≤ payload_of word)) →
       IsClaimed job f root c word
   claimed_now : stamp_of word ≡ suc f → ClaimsFor job f c (payload_of word) → 3 * f + 1 ≤ root →
       IsClaimed job f root c word

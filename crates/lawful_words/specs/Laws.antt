@@ -32,12 +32,12 @@ abbrev pub FinishedStepsAreHeld : Type 0
 FinishedStepsAreHeld = (job : JobData) (y : LayoutData) (words : List ℕ) (x p : ℕ) →
     Stands job y words → p < places_of y → x ≤ finished y words →
     (stamp_at y words p 0 ≤ x → x < stamp_at y words p 1 →
-      payload_of (held y words (Stored p 0)) ≡ slice_index (state_after job x) p)
+    payload_of (held y words (Stored p 0)) ≡ slice_index (state_after job x) p)
     × (stamp_at y words p 1 ≤ x → x < stamp_at y words p 0 →
-      payload_of (held y words (Stored p 1)) ≡ slice_index (state_after job x) p)
+    payload_of (held y words (Stored p 1)) ≡ slice_index (state_after job x) p)
     × (stamp_at y words p 0 ≤ x → stamp_at y words p 1 ≤ x →
-      newer_payload (held y words (Stored p 0)) (held y words (Stored p 1))
-      ≡ slice_index (state_after job x) p)
+    newer_payload (held y words (Stored p 0)) (held y words (Stored p 1))
+    ≡ slice_index (state_after job x) p)
 
 -- a record that the words bear out
 abbrev pub BackedIsFaithful : Type 0

@@ -22,7 +22,7 @@ pub record PlaceAsHeard (job : JobData) (y : LayoutData) (x p a b : ℕ) (now : 
   pub value : newer_payload a b ≡ slice_index (state_after job x) p
   pub stands : held y now (Stored p (older a b)) ≡ older_word a b →
       (stamp_at y now p 0 ≤ x) × (stamp_at y now p 1 ≤ x)
-        × (first_is_older (held y now (Stored p 0)) (held y now (Stored p 1)) ≡ first_is_older a b)
+      × (first_is_older (held y now (Stored p 0)) (held y now (Stored p 1)) ≡ first_is_older a b)
   pub written : held y now (Stored p (older a b)) ≢ older_word a b → IsLate y x p now
 
 -- the floor of the phase: the words stand in it or behind it
@@ -41,7 +41,7 @@ pub record Does (job : JobData) (y : LayoutData) (q : ℕ) (op : Op) (words : Li
 pub record MayWrite (job : JobData) (y : LayoutData) (words : List ℕ) (q x : ℕ) : Type 0 where
   pub request : (i j : ℕ) → i < y.procs → j < 3 → kind_at q ≡ Compute →
       Does job y q
-        (Max (number_of y (Asked i j)) (stamped_word (suc x) (part_after job x i j))) words
+      (Max (number_of y (Asked i j)) (stamped_word (suc x) (part_after job x i j))) words
   pub inner : (n : ℕ) → 1 ≤ n → n < y.leaves → q ≤ held y words (Node (2 * n)) →
       q ≤ held y words (Node (2 * n + 1)) →
       Does job y q (Max (number_of y (Node n)) q) words
@@ -53,7 +53,7 @@ pub record MayWrite (job : JobData) (y : LayoutData) (words : List ℕ) (q x : �
   pub place : (p i v a b : ℕ) → q ≡ phase_written job.rule x → Asks job x p i v → Wins job x p i →
       PlaceAsHeard job y x p a b words →
       Does job y q (Swap (number_of y (Stored p (older a b))) (older_word a b)
-        (stamped_word (suc x) v)) words
+      (stamped_word (suc x) v)) words
   pub conflict : kind_at q ≡ Verify → (AgreesAfter job x → ⊥) →
       Does job y q (Swap (number_of y Conflict) 0 (suc x)) words
   pub claim : (c i v : ℕ) → IsWord y (Claim c) → kind_at q ≡ Apply → Asks job x c i v →

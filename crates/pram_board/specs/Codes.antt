@@ -124,23 +124,37 @@ coded_form = code_by ℕ coded_ℕ form_number form_from form_again
 abbrev pub coded_job : Coded JobData
 coded_job =
     code_by (Rule
-      × (ℕ × (ℕ × (ℕ × (List ℕ × List Instr)))))
-      (coded× coded_rule
-      (coded× coded_ℕ
-      (coded× coded_ℕ (coded× coded_ℕ (coded× (coded_list coded_ℕ) (coded_list coded_instr))))))
-      (λ j. (j.rule, (j.cells, (j.procs, (j.steps, (j.init, j.code)))))) (λ p.
-      record { rule = p.0; cells = p.1.0; procs = p.1.1.0; steps = p.1.1.1.0; init =
-      p.1.1.1.1.0; code = p.1.1.1.1.1 }) (λ _. refl)
+    × (ℕ × (ℕ × (ℕ × (List ℕ × List Instr)))))
+    (coded× coded_rule
+    (coded× coded_ℕ
+    (coded× coded_ℕ (coded× coded_ℕ (coded× (coded_list coded_ℕ) (coded_list coded_instr))))))
+    (λ j. (j.rule, (j.cells, (j.procs, (j.steps, (j.init, j.code)))))) (λ p.
+    record {
+      rule = p.0;
+      cells = p.1.0;
+      procs = p.1.1.0;
+      steps = p.1.1.1.0;
+      init =
+          p.1.1.1.1.0;
+      code = p.1.1.1.1.1;
+    }) (λ _. refl)
 
 abbrev pub coded_layout : Coded LayoutData
 coded_layout =
     code_by (Form
-      × (ℕ × (ℕ × (ℕ × (ℕ × Bool)))))
-      (coded× coded_form
-      (coded× coded_ℕ (coded× coded_ℕ (coded× coded_ℕ (coded× coded_ℕ coded_bool))))) (λ y.
-      (y.form, (y.leaves, (y.cells, (y.procs, (y.workers, y.claims)))))) (λ p.
-      record { form = p.0; leaves = p.1.0; cells = p.1.1.0; procs = p.1.1.1.0; workers =
-      p.1.1.1.1.0; claims = p.1.1.1.1.1 }) (λ _. refl)
+    × (ℕ × (ℕ × (ℕ × (ℕ × Bool)))))
+    (coded× coded_form
+    (coded× coded_ℕ (coded× coded_ℕ (coded× coded_ℕ (coded× coded_ℕ coded_bool))))) (λ y.
+    (y.form, (y.leaves, (y.cells, (y.procs, (y.workers, y.claims)))))) (λ p.
+    record {
+      form = p.0;
+      leaves = p.1.0;
+      cells = p.1.1.0;
+      procs = p.1.1.1.0;
+      workers =
+          p.1.1.1.1.0;
+      claims = p.1.1.1.1.1;
+    }) (λ _. refl)
 
 abbrev pub coded_task : Coded Task
 coded_task =

@@ -19,9 +19,26 @@ abbrev pub viewing : Task → Record → View
 viewing t r = record { live = true; task = t; heard = r }
 
 abbrev pub nothing : Task
-nothing = record { job = record { rule = Common; cells = 0; procs = 0; steps = 0; init = []; code =
-    [] }; layout = record { form = Compact; leaves = 0; cells = 0; procs = 0; workers = 0; claims =
-    false } }
+nothing = record {
+  job = record {
+    rule = Common;
+    cells = 0;
+    procs = 0;
+    steps = 0;
+    init = [];
+    code =
+        [];
+  };
+  layout = record {
+    form = Compact;
+    leaves = 0;
+    cells = 0;
+    procs = 0;
+    workers = 0;
+    claims =
+        false;
+  };
+}
 
 abbrev pub idle : View
 idle = record { live = false; task = nothing; heard = empty }

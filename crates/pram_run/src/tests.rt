@@ -98,8 +98,7 @@ fn two_workers_at_a_job_without_steps(rt: HostRuntime) -> Result<(), Fail> {
     let text = "pram 1\ncells 1\nprocs 1\nsteps 0\ninit 0 5\ncode\nhalt\n";
     let trace = ends_with(&rt, text, 2, "", &[5])?;
     let bytes = write_trace(rt.alloc(), &trace, Vec::new(rt.alloc()));
-    let wanted =
-        b"tick,worker,op,word,before,after\n\
+    let wanted = b"tick,worker,op,word,before,after\n\
           1,0,load,1,0,0\n2,1,load,1,0,0\n3,0,load,0,0,0\n4,1,load,0,0,0\n";
     match bytes {
         Ok(bytes) => assert_eq!(rt; bytes.as_slice(), wanted.as_slice()),

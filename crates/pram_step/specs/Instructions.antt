@@ -64,7 +64,7 @@ decided job i counter (Ld r _) a b v = if nat_lt a job.cells then gives job i co
     else goes_to (out_of_range job)
 decided job i counter (St _ _) a b v =
     if nat_lt a job.cells then record { put = Some (a, b); next = counter + 1 }
-      else goes_to (out_of_range job)
+    else goes_to (out_of_range job)
 decided job i counter (Jz r place) a b v = goes_to (if a == 0 then place else counter + 1)
 decided job i counter (Jmp place) a b v = goes_to place
 decided job i counter Halt a b v = goes_to (halted job)
@@ -108,13 +108,16 @@ cell_held job s instr a = elim (cell_read job instr a) [ None ↦ 0 | Some cell 
 abbrev pub decided_in : JobData → State → ℕ → Instr → Request
 decided_in job s i instr =
     decided job i (counter job s i) instr (operand_held job s i instr 0)
-      (operand_held job s i instr 1) (cell_held job s instr (operand_held job s i instr 0))
+    (operand_held job s i instr 1) (cell_held job s instr (operand_held job s i instr 0))
 
 -- A processor whose counter is no instruction's place asks for no data and stays.
 unfoldable pub request_in : JobData → State → ℕ → Request
 request_in job s i =
-    elim (slice_get job.code (counter job s i)) [ None ↦ goes_to
-    (counter job s i) | Some instr ↦ decided_in job s i instr ]
+    elim (slice_get job.code (counter job s i)) [
+      | None ↦ goes_to
+          (counter job s i)
+      | Some instr ↦ decided_in job s i instr
+    ]
 
 -- the requests of all processors, each from the state before the step
 unfoldable pub requests_in : JobData → State → List Request

@@ -33,14 +33,14 @@ pub record SameOwn (job : JobData) (s t : State) (i : ℕ) : Type 0 where
 abbrev pub RequestsHaveShape : Type 0
 RequestsHaveShape =
     (job : JobData) (s : State) (i : ℕ) → IsJob job → i < job.procs → All (λ v. v < 2 ^ 32) s →
-      counter job s i ≤ out_of_range job
+    counter job s i ≤ out_of_range job
     → HasShape job i (request_in job s i)
 
 abbrev pub DecisionsHaveShape : Type 0
 DecisionsHaveShape =
     (job : JobData) (i counter a b v : ℕ) (instr : Instr)
     → IsInstr (length job.code) instr → i < 2 ^ 32 → a < 2 ^ 32 → b < 2 ^ 32 → v < 2 ^ 32 →
-      counter < length job.code
+    counter < length job.code
     → HasShape job i (decided job i counter instr a b v)
 
 abbrev pub ReadsOneCell : Type 0
@@ -48,7 +48,7 @@ ReadsOneCell =
     (job : JobData) (s : State) (i : ℕ) → IsJob job
     → (cell : ℕ) × (cell < job.cells)
     × ((t : State) → SameOwn job s t i → slice_index s cell ≡ slice_index t cell →
-      request_in job s i ≡ request_in job t i)
+    request_in job s i ≡ request_in job t i)
 
 -- ---- the next state
 
@@ -65,12 +65,12 @@ OneNext =
 abbrev pub AgreesOrHasADispute : Type 0
 AgreesOrHasADispute =
     (job : JobData) (requests : List Request) → Agrees job requests
-      ⊎ ((d : Dispute) × IsDispute job requests d)
+    ⊎ ((d : Dispute) × IsDispute job requests d)
 
 abbrev pub OneDispute : Type 0
 OneDispute =
     (job : JobData) (requests : List Request) (d e : Dispute) → IsDispute job requests d →
-      IsDispute job requests e → d ≡ e
+    IsDispute job requests e → d ≡ e
 
 abbrev pub PriorityAlwaysAgrees : Type 0
 PriorityAlwaysAgrees =
@@ -80,7 +80,7 @@ abbrev pub OnlyCellsClash : Type 0
 OnlyCellsClash =
     (job : JobData) (s : State) (p i j v w : ℕ) → IsJob job → job.cells ≤ p
     → Writes job (requests_in job s) p i v → Writes job (requests_in job s) p j w → (i ≡ j)
-      × (v ≡ w)
+    × (v ≡ w)
 
 abbrev pub OrderIsFree : Type 0
 OrderIsFree =
@@ -91,7 +91,7 @@ OrderIsFree =
 abbrev pub LeastWriterIsFound : Type 0
 LeastWriterIsFound =
     (job : JobData) (s : State) (order : List ℕ) → HasAll job order →
-      after_least_found job (requests_in job s) order s ≡ next_state job s
+    after_least_found job (requests_in job s) order s ≡ next_state job s
 
 abbrev pub TurnsAreFree : Type 0
 TurnsAreFree =
@@ -108,7 +108,7 @@ StartIsAState =
 abbrev pub NextIsAState : Type 0
 NextIsAState =
     (job : JobData) (t : ℕ) (s : State) → IsStateAfter job t s → Agrees job (requests_in job s) →
-      IsStateAfter job (t + 1) (next_state job s)
+    IsStateAfter job (t + 1) (next_state job s)
 
 abbrev pub OneState : Type 0
 OneState =
@@ -127,7 +127,7 @@ StatesHaveAllPlaces =
 abbrev pub CountersStayWithin : Type 0
 CountersStayWithin =
     (job : JobData) (t i : ℕ) → IsJob job → i < job.procs →
-      counter job (state_after job t) i ≤ out_of_range job
+    counter job (state_after job t) i ≤ out_of_range job
 
 abbrev pub CountersFollowRequests : Type 0
 CountersFollowRequests =
@@ -157,7 +157,7 @@ ValueIsOfTheLastWrite =
 abbrev pub WrittenPlaceHoldsTheValue : Type 0
 WrittenPlaceHoldsTheValue =
     (job : JobData) (s p i v : ℕ) → IsJob job → p < place_count job → AgreesAfter job s →
-      Asks job s p i v → Wins job s p i
+    Asks job s p i v → Wins job s p i
     → slice_index (state_after job (suc s)) p ≡ v
 
 abbrev pub ProcessorsWriteTheirRequests : Type 0
@@ -165,29 +165,29 @@ ProcessorsWriteTheirRequests =
     (job : JobData) (s p i v : ℕ) → IsJob job → i < job.procs
     → Asks job s p i v
     ↔ (((p ≡ counter_place job i) × (v ≡ part_after job s i 2))
-      ⊎ ((part_after job s i 0 ≡ suc p) × (part_after job s i 1 ≡ v)))
+    ⊎ ((part_after job s i 0 ≡ suc p) × (part_after job s i 1 ≡ v)))
 
 abbrev pub WritesFit : Type 0
 WritesFit =
     (job : JobData) (s p i v : ℕ) → IsJob job → Asks job s p i v → (p < place_count job)
-      × (v < 2 ^ 32)
+    × (v < 2 ^ 32)
 
 -- ---- what stops
 
 abbrev pub StoppedMachineStays : Type 0
 StoppedMachineStays =
     (job : JobData) (s : State) → AllStopped job s → Agrees job (requests_in job s)
-      × (next_state job s ≡ s)
+    × (next_state job s ≡ s)
 
 abbrev pub StoppedMachineGoesOn : Type 0
 StoppedMachineGoesOn =
     (job : JobData) (t k : ℕ) (s : State) → IsStateAfter job t s → AllStopped job s →
-      IsStateAfter job (t + k) s
+    IsStateAfter job (t + k) s
 
 abbrev pub UnchangedStays : Type 0
 UnchangedStays =
     (job : JobData) (t k : ℕ) (s : State) → IsStateAfter job t s → Agrees job (requests_in job s) →
-      next_state job s ≡ s → IsStateAfter job (t + k) s
+    next_state job s ≡ s → IsStateAfter job (t + k) s
 
 abbrev pub StoppedProcessorStays : Type 0
 StoppedProcessorStays =
@@ -200,7 +200,7 @@ StoppedProcessorStays =
 abbrev pub ConflictExcludesFinal : Type 0
 ConflictExcludesFinal =
     (job : JobData) (t : ℕ) (s : State) (fault : Fault) → IsStateAfter job t s →
-      IsFirstConflict job fault → t < fault.step
+    IsFirstConflict job fault → t < fault.step
 
 abbrev pub HasAnswer : Type 0
 HasAnswer =
@@ -221,31 +221,31 @@ abbrev pub PriorityIsFreest : Type 0
 PriorityIsFreest =
     (job : JobData) (rule : Rule) (t : ℕ) (s : State)
     → IsStateAfter (record job { rule = rule }) t s →
-      IsStateAfter (record job { rule = Priority }) t s
+    IsStateAfter (record job { rule = Priority }) t s
 
 abbrev pub NextOfCrewIsNextOfEachRule : Type 0
 NextOfCrewIsNextOfEachRule =
     (job : JobData) (rule : Rule) (requests : List Request) (old new : State)
     → IsNext (record job { rule = Crew }) requests old new →
-      IsNext (record job { rule = rule }) requests old new
+    IsNext (record job { rule = rule }) requests old new
 
 abbrev pub NextOfEachRuleIsNextOfPriority : Type 0
 NextOfEachRuleIsNextOfPriority =
     (job : JobData) (rule : Rule) (requests : List Request) (old new : State)
     → IsNext (record job { rule = rule }) requests old new →
-      IsNext (record job { rule = Priority }) requests old new
+    IsNext (record job { rule = Priority }) requests old new
 
 abbrev pub CrewEndsAsEachRule : Type 0
 CrewEndsAsEachRule =
     (job : JobData) (rule : Rule) (cells : List ℕ)
     → IsAnswer (record job { rule = Crew }) (Final cells) →
-      IsAnswer (record job { rule = rule }) (Final cells)
+    IsAnswer (record job { rule = rule }) (Final cells)
 
 abbrev pub PriorityEndsAsEachRule : Type 0
 PriorityEndsAsEachRule =
     (job : JobData) (rule : Rule) (cells : List ℕ)
     → IsAnswer (record job { rule = rule }) (Final cells) →
-      IsAnswer (record job { rule = Priority }) (Final cells)
+    IsAnswer (record job { rule = Priority }) (Final cells)
 
 abbrev pub ConflictIsThatOfALongerJob : Type 0
 ConflictIsThatOfALongerJob =
@@ -255,4 +255,4 @@ ConflictIsThatOfALongerJob =
 abbrev pub LongerJobGoesOn : Type 0
 LongerJobGoesOn =
     (job : JobData) (n t : ℕ) (s : State) → IsStateAfter job t s →
-      IsStateAfter (record job { steps = n }) t s
+    IsStateAfter (record job { steps = n }) t s

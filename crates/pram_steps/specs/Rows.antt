@@ -37,9 +37,9 @@ unfoldable pub row_line : JobData → State → ℕ → ℕ → List ℕ
 row_line job s n i =
     decimal n ++ codes "," ++ decimal i ++ codes "," ++ decimal (counter job s i) ++ codes ","
     ++ instruction_at job (counter job s i) ++ codes ","
-      ++ target_text job i (request_in job s i).put ++ codes ","
+    ++ target_text job i (request_in job s i).put ++ codes ","
     ++ value_text (request_in job s i).put ++ codes "," ++ decimal (request_in job s i).next
-      ++ codes "\n"
+    ++ codes "\n"
 
 -- the rows of step n, one of each processor
 abbrev pub rows_in : JobData → State → ℕ → List ℕ

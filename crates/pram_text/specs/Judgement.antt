@@ -39,7 +39,7 @@ unfoldable pub number_in : ℕ → ℕ → Word → Result ℕ TextKind
 number_in low high word =
     if is_number word
     then (if nat_le low (number_of word) && nat_le (number_of word) high then Ok (number_of word)
-      else Err OutOfLimits)
+    else Err OutOfLimits)
     else Err BadNumber
 
 -- the greatest number of 32 bits
@@ -66,7 +66,7 @@ version_of (first ∷ number ∷ []) =
     if not (bytes_eq first (codes "pram")) then Err BadHeader
     else (if not (is_number number) then Err BadNumber
     else (if (number_of number == 1) || (number_of number == 2) then Ok (number_of number)
-      else Err BadHeader))
+    else Err BadHeader))
 version_of _ = Err BadHeader
 
 abbrev pub cells_of : Line → Result ℕ TextKind

@@ -30,18 +30,18 @@ SpelledJobIsLawful = (text : List ℕ) (job : JobData) → Spells text job → I
 abbrev pub SpelledBearsNothing : Type 0
 SpelledBearsNothing =
     (text : List ℕ) (job : JobData) (line : ℕ) (kind : TextKind) → Spells text job →
-      Bears text line kind → ⊥
+    Bears text line kind → ⊥
 
 abbrev pub OneFault : Type 0
 OneFault =
     (text : List ℕ) (line other_line : ℕ) (kind other_kind : TextKind)
     → Bears text line kind → Bears text other_line other_kind → (line ≡ other_line)
-      × (kind ≡ other_kind)
+    × (kind ≡ other_kind)
 
 abbrev pub JobOrFault : Type 0
 JobOrFault =
     (text : List ℕ) → ((job : JobData) × Spells text job)
-      ⊎ ((line : ℕ) × (kind : TextKind) × Bears text line kind)
+    ⊎ ((line : ℕ) × (kind : TextKind) × Bears text line kind)
 
 abbrev pub FaultIsWithin : Type 0
 FaultIsWithin =
@@ -53,7 +53,7 @@ abbrev pub UnknownLabelComesLast : Type 0
 UnknownLabelComesLast =
     (text : List ℕ) (line : ℕ) (kind : TextKind) → Bears text line kind
     → ((k : ℕ) → k < length (lines_of text) → fault_at (lines_of text) k ≡ None) →
-      kind ≡ UnknownLabel
+    kind ≡ UnknownLabel
 
 -- both texts spell the same jobs
 abbrev pub SpellsSame : List ℕ → List ℕ → Type 0

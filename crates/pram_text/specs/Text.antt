@@ -139,7 +139,7 @@ unfoldable pub instr_fault : List Line → Line → Option TextKind
 instr_fault body line =
     if nat_le MAX_CODE (length body) then Some TooLong
     else option_or (label_fault body line)
-      (result_err (instr_of (λ label. Some 0) (unlabelled line)))
+    (result_err (instr_of (λ label. Some 0) (unlabelled line)))
 
 -- whether the line `code` stands among lines without a fault, behind the first four
 abbrev pub has_code : List Line → Bool

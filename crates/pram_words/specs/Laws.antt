@@ -14,14 +14,14 @@ use Rattle.pram_words.specs.Start.{StartsAdmitted}
 abbrev pub StampsUndo : Type 0
 StampsUndo =
     ((stamp payload : ℕ) → payload < 2 ^ 32 → (stamp_of (stamped_word stamp payload) ≡ stamp)
-      × (payload_of (stamped_word stamp payload) ≡ payload))
+    × (payload_of (stamped_word stamp payload) ≡ payload))
     × ((word : ℕ) → stamped_word (stamp_of word) (payload_of word) ≡ word)
 
 -- a phase and its step and kind give each other back
 abbrev pub PhasesUndo : Type 0
 PhasesUndo =
     ((step : ℕ) (kind : Kind) → 1 ≤ step → (step_at (phase_of step kind) ≡ step)
-      × (kind_at (phase_of step kind) ≡ kind))
+    × (kind_at (phase_of step kind) ≡ kind))
     × ((phase : ℕ) → 1 ≤ phase → phase_of (step_at phase) (kind_at phase) ≡ phase)
 
 -- no two things share a word, and the words have the numbers from 0 up to the length
@@ -42,4 +42,4 @@ WordsStartAdmitted = (job : JobData) (form : Form) (workers : ℕ) → IsJob job
 abbrev pub WorkersBeginAtLeaves : Type 0
 WorkersBeginAtLeaves = (y : LayoutData) (worker : ℕ) → IsLayout y
     → (y.leaves ≤ first_leaf_in y worker) × (first_leaf_in y worker < 2 * y.leaves)
-      × (first_leaf_in y worker ≡ way_of y worker (depth_of y.leaves))
+    × (first_leaf_in y worker ≡ way_of y worker (depth_of y.leaves))

@@ -28,4 +28,4 @@ turns_right l worker n = bit_at (worker % l) (depth_of l - 1 - depth_of n) == 1
 abbrev pub IsTurn : ℕ → ℕ → ℕ → Bool → Type 0
 IsTurn l worker n right =
     (h d : ℕ) → l ≡ 2 ^ h → 2 ^ d ≤ n → n < 2 ^ (d + 1) →
-      (IsTrue right) ↔ (bit_at (worker % l) (h - 1 - d) ≡ 1)
+    (IsTrue right) ↔ (bit_at (worker % l) (h - 1 - d) ≡ 1)

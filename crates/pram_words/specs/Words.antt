@@ -40,8 +40,15 @@ has_claims Crew = true
 -- the layout of a job's board, in a form, for so many workers
 abbrev pub layout_of : JobData → Form → ℕ → LayoutData
 layout_of job form workers =
-    record { form = form; leaves = leaves_of job.procs; cells = job.cells; procs =
-    job.procs; workers = workers; claims = has_claims job.rule }
+    record {
+      form = form;
+      leaves = leaves_of job.procs;
+      cells = job.cells;
+      procs =
+          job.procs;
+      workers = workers;
+      claims = has_claims job.rule;
+    }
 
 -- places: the cells, then four registers for each processor, then its counter
 abbrev pub places_of : LayoutData → ℕ
@@ -90,7 +97,7 @@ compact_word y k =
     if k == 0 then Conflict
     else (if nat_lt k (requests_at y) then Node k
     else (if nat_lt k (positions_at y) then Asked ((k - requests_at y) / 3)
-      ((k - requests_at y) % 3)
+    ((k - requests_at y) % 3)
     else (if nat_lt k (places_at y) then Position (k - positions_at y)
     else (if nat_lt k (claims_at y) then Stored ((k - places_at y) / 2) ((k - places_at y) % 2)
     else Claim (k - claims_at y)))))
@@ -115,7 +122,7 @@ abbrev pub wide_place : LayoutData → ℕ → ℕ
 wide_place y p =
     if nat_lt p y.cells then cells_at y + 2 * p
     else (if nat_lt p (counters_of y) then block_at y ((p - y.cells) / 4) + 6
-      + 2 * ((p - y.cells) % 4)
+    + 2 * ((p - y.cells) % 4)
     else block_at y (p - counters_of y) + 4)
 
 abbrev pub wide_number : LayoutData → Word → ℕ
@@ -145,7 +152,7 @@ abbrev pub wide_word : LayoutData → ℕ → Word
 wide_word y k =
     if nat_lt k (block_at y 0) then (if k % 8 == 0 then line_word y (k / 8) else Spare k)
     else (if nat_lt k (cells_at y) then block_word y k ((k - block_at y 0) / 16)
-      ((k - block_at y 0) % 16)
+    ((k - block_at y 0) % 16)
     else (if nat_lt k (wide_claims_at y) then Stored ((k - cells_at y) / 2) (k % 2)
     else Claim (k - wide_claims_at y)))
 

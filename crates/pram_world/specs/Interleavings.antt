@@ -25,7 +25,7 @@ use Rattle.pram_world.specs.Worlds.{WorldData, Walks, IsLawful, StaleChangesNoth
 abbrev pub newest_by : ℕ → ℕ → ℕ → Option ℕ
 newest_by x a b =
     if nat_le (stamp_of a) x then (if nat_le (stamp_of b) x then Some (newer_payload a b)
-      else Some (payload_of a))
+    else Some (payload_of a))
     else (if nat_le (stamp_of b) x then Some (payload_of b) else None)
 
 abbrev pub newest_upto : LayoutData → List ℕ → ℕ → ℕ → Option ℕ

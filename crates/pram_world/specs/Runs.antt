@@ -37,7 +37,7 @@ noted_by s None made = made
 noted_by s (Some (stopped n)) made = made
 noted_by s (Some (walks w)) made =
     if is_none (end_of w.now) then after made (ask_of s.job s.layout w)
-      (answer s.words (ask_of s.job s.layout w)) else made
+    (answer s.words (ask_of s.job s.layout w)) else made
 
 abbrev pub noted : WorldData → Event → Record → Record
 noted s (Go b) made = noted_by s (slice_get s.bodies b) made
@@ -45,8 +45,12 @@ noted s (Stop b) made = made
 noted s (Back b) made = made
 
 abbrev pub acted : Run → Act → Run
-acted r (event e) = record { world = happens r.world e; made = noted r.world e r.made; loads =
-    r.loads }
+acted r (event e) = record {
+  world = happens r.world e;
+  made = noted r.world e r.made;
+  loads =
+      r.loads;
+}
 acted r (twin w) = record r { world = twinned r.world w }
 acted r (load k) = record r { loads = after r.loads (Load k) (slice_index r.world.words k) }
 

@@ -103,8 +103,12 @@ nothing = record { op = None; before = 0; after = 0 }
 
 -- an atomic step on word k
 abbrev pub step_on : ℕ → List ℕ → Op → Effect
-step_on k words op = record { op = Some op; before = slice_index words k; after =
-    slice_index (words_after words op) k }
+step_on k words op = record {
+  op = Some op;
+  before = slice_index words k;
+  after =
+      slice_index (words_after words op) k;
+}
 
 abbrev pub effect_of : List ℕ → Op → Effect
 effect_of words (Load k) = step_on k words (Load k)

@@ -21,7 +21,7 @@ OneFault = (workers : ℕ) (all : List Record) (row other : ℕ) (kind another :
 abbrev pub PlanOrFault : Type 0
 PlanOrFault = (workers : ℕ) (all : List Record)
     → ((plan : PlanData) × SpellsPlan workers all plan)
-      ⊎ ((row : ℕ) × (kind : PlanKind) × FirstFault workers all row kind)
+    ⊎ ((row : ℕ) × (kind : PlanKind) × FirstFault workers all row kind)
 
 -- and never both
 abbrev pub NeverBoth : Type 0

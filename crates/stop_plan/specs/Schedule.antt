@@ -35,7 +35,7 @@ unfoldable pub after_turns : {Event : Type 0} → Events Event → Running Event
 after_turns events runs worker zero sofar = sofar
 after_turns events runs worker (suc more) sofar =
     after_turns events runs (worker + 1) more (if runs sofar worker then sofar ++ events.go worker
-      ∷ [] else sofar)
+    ∷ [] else sofar)
 
 -- the events after so many rounds
 unfoldable pub after_rounds : {Event : Type 0} → Events Event → Running Event → ℕ → ℕ → List Event →

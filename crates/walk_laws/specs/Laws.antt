@@ -41,7 +41,7 @@ LateWorkersChangeNothing =
     Stands job y words →
     Fits job y w → Knows job y r w → Backed job y r words → phase_now w.now ≤ root y words →
     (a : Word) → IsWord y a → a ≢ Position w.number →
-      held y (words_after words (ask_of job y w)) a ≡ held y words a
+    held y (words_after words (ask_of job y w)) a ≡ held y words a
 
 -- the worker with the answer fits and is known, and what else was known is
 abbrev pub KnownWorkersStayKnown : Type 0
@@ -50,7 +50,7 @@ KnownWorkersStayKnown =
     Stands job y words → Fits job y w → Knows job y r w →
     let op = ask_of job y w in let found = answer words op in
     Fits job y (told job y w found) × Knows job y (after r op found) (told job y w found)
-      × ((other : Walking) → Knows job y r other → Knows job y (after r op found) other)
+    × ((other : Walking) → Knows job y r other → Knows job y (after r op found) other)
 
 -- it is still going with these answers, which the record has
 abbrev pub OwnStepsAreBounded : Type 0
@@ -58,7 +58,7 @@ OwnStepsAreBounded =
     (job : JobData) (y : LayoutData) (r : Record) (w : Walking) (answers : List ℕ) →
     IsLayoutOf job y → Fits job y w →
     Sound job y r → Has r (history_of job y w answers) → IsGoing (told_all job y w answers).now →
-      length answers < most_steps job y
+    length answers < most_steps job y
 
 -- with these steps the record has them, behind what the worker had heard
 abbrev pub HistoriesAreKept : Type 0
@@ -79,7 +79,7 @@ abbrev pub RecordsOutliveGrowth : Type 0
 RecordsOutliveGrowth = (job : JobData) (y : LayoutData) (r : Record) (words later : List ℕ) →
     Backed job y r words → Grows y words later →
     Backed job y r later × ((other : Record) → Backed job y other later →
-      Backed job y (both r other) later)
+    Backed job y (both r other) later)
 
 abbrev pub LoadsKeepRecords : Type 0
 LoadsKeepRecords = (job : JobData) (y : LayoutData) (r : Record) (k : ℕ) (words : List ℕ) →
@@ -99,7 +99,7 @@ abbrev pub KnownStepsLast : Type 0
 KnownStepsLast = (job : JobData) (y : LayoutData) (r : Record) (t : ℕ) (words later : List ℕ) →
     Stands job y later → Backed job y r words →
     Grows y words later → KnowsStep y r t → (t ≤ finished y later)
-      × ((op : Op) (found : ℕ) → KnowsStep y (after r op found) t)
+    × ((op : Op) (found : ℕ) → KnowsStep y (after r op found) t)
 
 -- ---- what loads give, behind a record
 
@@ -108,9 +108,9 @@ ReadsAreLawful =
     (job : JobData) (y : LayoutData) (before : Record) (c step value : ℕ) (answers : List ℕ) →
     c < y.cells →
     rest (reader_script y c) answers ≡ ends (At step value) →
-      WasBacked job y (afters before (heard_in (reader_script y c) answers)) →
+    WasBacked job y (afters before (heard_in (reader_script y c) answers)) →
     IsLawfulRead job y before (afters before (heard_in (reader_script y c) answers)) c step value
-      × (length (heard_in (reader_script y c) answers) ≤ 5)
+    × (length (heard_in (reader_script y c) answers) ≤ 5)
 
 -- the root as a, and then word 0 as u
 abbrev pub ProgressIsTrue : Type 0
@@ -123,12 +123,12 @@ abbrev pub FinalValuesAreHeld : Type 0
 FinalValuesAreHeld = (job : JobData) (y : LayoutData) (r : Record) (p a b : ℕ) →
     KnowsStep y r job.steps → p < places_of y →
     WasBacked job y (after (after r (Load (number_of y (Stored p 0))) a)
-      (Load (number_of y (Stored p 1))) b) →
-      newer_payload a b ≡ slice_index (state_after job job.steps) p
+    (Load (number_of y (Stored p 1))) b) →
+    newer_payload a b ≡ slice_index (state_after job job.steps) p
 
 -- a request word, word 0 having been heard as s + 1
 abbrev pub ConflictRequestsAreHeld : Type 0
 ConflictRequestsAreHeld = (job : JobData) (y : LayoutData) (r : Record) (s i j found : ℕ) →
     Heard y r Conflict (suc s) → i < y.procs → j < 3 →
     WasBacked job y (after r (Load (number_of y (Asked i j))) found) → (stamp_of found ≡ suc s)
-      × (payload_of found ≡ part_after job s i j)
+    × (payload_of found ≡ part_after job s i j)

@@ -41,5 +41,5 @@ abbrev pub OwnStepsAreBounded : Type 0
 OwnStepsAreBounded =
     ((job : JobData) (y : LayoutData) (w : Walking) → IsLayoutOf job y → Fits job y w →
     (answers : List ℕ) → IsGoing (told_all job y w answers).now →
-      IsHeard job y w.number (history_of job y w answers) → length answers < most_steps job y)
+    IsHeard job y w.number (history_of job y w answers) → length answers < most_steps job y)
     × NewWorkersFit

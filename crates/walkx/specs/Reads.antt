@@ -36,13 +36,13 @@ read_script y c s =
     if nat_le (stamp_of a) s then
     (if nat_le (stamp_of b) s then ends (At s (newer_payload a b))
     else asks (Load (number_of y (Stored c 0))) (λ again.
-      if again == a then ends (At s (payload_of a)) else told_at (lesser again b)))
+    if again == a then ends (At s (payload_of a)) else told_at (lesser again b)))
     else (if nat_le (stamp_of b) s then ends (At s (payload_of b)) else told_at (lesser a b))))
 
 unfoldable pub reader_script : LayoutData → ℕ → Script Reading
 reader_script y c = asks (Load (number_of y (Node 1))) (λ root.
     if root % 3 == 0 then asks (Load (number_of y Conflict)) (λ u.
-      read_script y c (step_seen root u)) else read_script y c (step_seen root 0))
+    read_script y c (step_seen root u)) else read_script y c (step_seen root 0))
 
 -- a reader: its cell, and the answers heard, the newest first
 pub record Looking : Type 0 where

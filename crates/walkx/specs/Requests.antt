@@ -6,9 +6,12 @@ use Rattle.pram_words.specs.Stamps.{stamped_word, payload_of}
 
 abbrev pub heard_request : ℕ → ℕ → ℕ → Request
 heard_request place value next =
-    record { put =
-    if payload_of place == 0 then None else Some (payload_of place - 1, payload_of value); next =
-    payload_of next }
+    record {
+      put =
+          if payload_of place == 0 then None else Some (payload_of place - 1, payload_of value);
+      next =
+          payload_of next;
+    }
 
 -- the words of a request of step t, whose parts fit
 pub record AreWordsOf (t : ℕ) (r : Request) (place value next : ℕ) : Type 0 where

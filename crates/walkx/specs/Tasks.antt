@@ -56,7 +56,7 @@ abbrev pub writes_place : {R : Type 0} → LayoutData → ℕ → ℕ → ℕ �
 writes_place y t p value after = loads_both y p (λ a b.
     if is_late t a b then after
     else asks (Swap (number_of y (Stored p (older a b))) (older_word a b) (stamped_word t value))
-      (λ found. after))
+    (λ found. after))
 
 -- ---- the compute task of step t, for processor i
 
@@ -87,12 +87,12 @@ executes job y t i counter (Some instr) after =
     reads_registers job y t i (operands_of instr) [] after (λ values.
     reads_cell y t (cell_read job instr (slice_index values 0)) after (λ v.
     raises_request y t i (decided job i counter instr (slice_index values 0)
-      (slice_index values 1) v) after))
+    (slice_index values 1) v) after))
 
 unfoldable pub compute_task : {R : Type 0} → JobData → LayoutData → ℕ → ℕ → Script R → Script R
 compute_task job y t i after =
     reads_place y t (counter_place job i) after (λ counter.
-      executes job y t i counter (slice_get job.code counter) after)
+    executes job y t i counter (slice_get job.code counter) after)
 
 -- ---- the request words of processor i, as long as they are of step t
 
@@ -124,15 +124,15 @@ carries job y t i place value next after =
 unfoldable pub apply_task : {R : Type 0} → JobData → LayoutData → ℕ → ℕ → Script R → Script R
 apply_task job y t i after =
     hears_part y t i 0 after (λ place.
-      hears_part y t i 1 after (λ value. hears_part y t i 2 after (λ next.
+    hears_part y t i 1 after (λ value. hears_part y t i 2 after (λ next.
     carries job y t i place value next after)))
 
 unfoldable pub crew_apply_task : {R : Type 0} → JobData → LayoutData → ℕ → ℕ → Script R → Script R
 crew_apply_task job y t i after =
     hears_part y t i 0 after (λ place.
-      hears_part y t i 1 after (λ value. hears_part y t i 2 after (λ next.
+    hears_part y t i 1 after (λ value. hears_part y t i 2 after (λ next.
     if_data place (carries job y t i place value next after) (λ p.
-      claims job y t i p (carries job y t i place value next after)))))
+    claims job y t i p (carries job y t i place value next after)))))
 
 -- ---- the third pass of the rule common: verify
 
@@ -147,7 +147,7 @@ unfoldable pub verify_task : {R : Type 0} → JobData → LayoutData → ℕ →
 verify_task job y t i after =
     hears_part y t i 0 after (λ place. if_data place after (λ p. hears_part y t i 1 after (λ value.
     loads_both y p (λ a b. if differs t value a || differs t value b then reports y t after
-      else after))))
+    else after))))
 
 -- ---- the third pass of the rule crew
 
@@ -155,7 +155,7 @@ unfoldable pub crew_verify_task : {R : Type 0} → JobData → LayoutData → �
 crew_verify_task job y t i after =
     hears_part y t i 0 after (λ place. if_data place after (λ p.
     if nat_lt p job.cells then asks (Load (number_of y (Claim p))) (λ found.
-      if differs t (claim_of job i) found then reports y t after else after)
+    if differs t (claim_of job i) found then reports y t after else after)
     else after))
 
 -- ---- the second and third pass of the rule priority
@@ -169,12 +169,12 @@ unfoldable pub priority_apply_task : {R : Type 0} → JobData → LayoutData →
     Script R
 priority_apply_task job y t i after =
     hears_part y t i 0 after (λ place.
-      hears_part y t i 1 after (λ value. hears_part y t i 2 after (λ next.
+    hears_part y t i 1 after (λ value. hears_part y t i 2 after (λ next.
     if_data place (carries job y t i place value next after) (λ p.
     if nat_lt p job.cells then asks (Load (number_of y (Claim p))) (λ found.
     if nat_lt t (stamp_of found) then after
     else carries job y t i (if payload_of found == claim_of job i then place
-      else 0) value next after)
+    else 0) value next after)
     else carries job y t i place value next after))))
 
 -- ---- the task of a phase

@@ -36,7 +36,7 @@ unfoldable pub begin_script : JobData → LayoutData → ℕ → Script Then
 begin_script job y n = asks (Load (number_of y (Node 1))) (λ root.
     if root % 3 == 0 then asks (Load (number_of y Conflict)) (λ u.
     if u == 0 then (if root == 3 * job.steps then ends (stops ended.Done)
-      else ends (turns n (root + 1))) else ends (stops (ended.Conflict u)))
+    else ends (turns n (root + 1))) else ends (stops (ended.Conflict u)))
     else ends (turns n (root + 1)))
 
 -- the child of an inner node with an unfinished child to which worker w goes, its children having
@@ -44,7 +44,7 @@ begin_script job y n = asks (Load (number_of y (Node 1))) (λ root.
 abbrev pub way_down : LayoutData → ℕ → ℕ → ℕ → ℕ → ℕ → ℕ
 way_down y w n q l r =
     if nat_le q l then 2 * n + 1
-      else (if nat_le q r then 2 * n else (if turns_right_in y w n then 2 * n + 1 else 2 * n))
+    else (if nat_le q r then 2 * n else (if turns_right_in y w n then 2 * n + 1 else 2 * n))
 
 abbrev pub stands_at : LayoutData → ℕ → ℕ → ℕ → Script Then
 stands_at y w n q = asks (Store (number_of y (Position w)) n) (λ stored. ends (turns n q))
@@ -65,7 +65,7 @@ turn_script job y w n q = asks (Load (number_of y (Node n))) (λ found.
     if nat_le q found then (if n == 1 then ends (begins 1) else stands_at y w (n / 2) q)
     else (if nat_le y.leaves n then leaf_script job y n q
     else asks (Load (number_of y (Node (2 * n)))) (λ l.
-      asks (Load (number_of y (Node (2 * n + 1)))) (λ r.
+    asks (Load (number_of y (Node (2 * n + 1)))) (λ r.
     if nat_le q l && nat_le q r then marks y n q else stands_at y w (way_down y w n q l r) q))))
 
 -- ---- a worker

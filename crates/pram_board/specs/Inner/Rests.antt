@@ -22,7 +22,7 @@ abbrev pub writes_then : LayoutData → ℕ → ℕ → ℕ → Script Then → 
 writes_then y t p value after a b =
     if is_late t a b then after
     else asks (Swap (number_of y (Stored p (older a b))) (older_word a b) (stamped_word t value))
-      (λ found. after)
+    (λ found. after)
 
 -- in the compute task: the counter was heard, the operands, and the cell
 abbrev pub behind_cell : JobData → LayoutData → ℕ → ℕ → ℕ → Instr → Script Then → ℕ → ℕ → ℕ →
@@ -44,7 +44,7 @@ abbrev pub behind_claim : JobData → LayoutData → ℕ → ℕ → Asked → S
 behind_claim job y t i asked after found =
     if nat_lt t (stamp_of found) then after
     else carries job y t i (if payload_of found == claim_of job i then asked.place
-      else 0) asked.value asked.next after
+    else 0) asked.value asked.next after
 
 -- a request is carried out by the rule
 abbrev pub carries_by : Rule → JobData → LayoutData → ℕ → ℕ → Asked → Script Then → Script Then
@@ -52,7 +52,7 @@ carries_by Common job y t i asked after = carries job y t i asked.place asked.va
 carries_by Priority job y t i asked after =
     if_data asked.place (carries job y t i asked.place asked.value asked.next after) (λ p.
     if nat_lt p job.cells then asks (Load (number_of y (Claim p)))
-      (behind_claim job y t i asked after)
+    (behind_claim job y t i asked after)
     else carries job y t i asked.place asked.value asked.next after)
 carries_by Crew job y t i asked after =
     if_data asked.place (carries job y t i asked.place asked.value asked.next after) (λ p.
@@ -62,7 +62,7 @@ carries_by Crew job y t i asked after =
 abbrev pub behind_value : Rule → JobData → LayoutData → ℕ → ℕ → Script Then → ℕ → ℕ → Script Then
 behind_value rule job y t i after place value =
     hears_part y t i 2 after (λ next.
-      carries_by rule job y t i (record { place = place; value = value; next = next }) after)
+    carries_by rule job y t i (record { place = place; value = value; next = next }) after)
 
 abbrev pub behind_place : Rule → JobData → LayoutData → ℕ → ℕ → Script Then → ℕ → Script Then
 behind_place rule job y t i after place =

@@ -38,7 +38,7 @@ pub record AreOwn (job : JobData) (requests : List Request) : Type 0 where
 abbrev pub ObeysNext : JobData → List Request → ℕ → State → State → Type 0
 ObeysNext job requests i old new =
     (start : State) → length start ≡ place_count job →
-      old ≡ after_requests job (take i requests) start
+    old ≡ after_requests job (take i requests) start
     → new ≡ after_requests job (take (i + 1) requests) start
 
 -- The run of the job ended in this state, or by this fault.

@@ -100,8 +100,8 @@ abbrev pub Defines : BTreeMap (Bor (List ℕ)) ℕ → Option Word → ℕ → R
     BTreeMap (Bor (List ℕ)) ℕ → Type 0
 Defines old label place (Ok _) new =
     (define_fault old label ≡ None)
-      × ((name : Word) →
-      place_at new name ≡ (if is_named label name then Some place else place_at old name))
+    × ((name : Word) →
+    place_at new name ≡ (if is_named label name then Some place else place_at old name))
 Defines old label place (Err kind) new = kind ≢ Memory → define_fault old label ≡ Some kind
 
 -- each label's place
@@ -136,7 +136,7 @@ IsCoded find written (Ok code) =
 IsCoded find written (Err fault) =
     fault.kind ≢ Memory → (k : ℕ) × (fault.line ≡ slice_index (map (λ w. w.line) written) k)
     × IsFirst (fault_of_place (map (λ w. resolved find w.statement) written))
-      (length written) k fault.kind
+    (length written) k fault.kind
 
 -- ---- the whole
 
@@ -145,12 +145,12 @@ abbrev pub HoldsAt : Next → List Line → Reader → Type 0
 HoldsAt Start before reader =
     (front : List Line) × (inits : List Line) × (before ≡ front ++ inits)
     × IsHeader front reader.head × HoldsStart reader.head.cells inits reader.start.items
-      × HoldsCode [] reader.program
+    × HoldsCode [] reader.program
 HoldsAt Code before reader =
     (front : List Line) × (inits : List Line) × (body : List Line)
-      × (before ≡ front ++ (inits ++ code_line ∷ body))
+    × (before ≡ front ++ (inits ++ code_line ∷ body))
     × IsHeader front reader.head × HoldsStart reader.head.cells inits reader.start.items
-      × HoldsCode body reader.program
+    × HoldsCode body reader.program
 HoldsAt next before reader = HoldsHead next before reader.head × (reader.start.items ≡ [])
     × HoldsCode [] reader.program
 
@@ -166,7 +166,7 @@ number_if false number = []
 abbrev pub TakesWords : List Line → Line → Reader → ℕ → Result (Unit {0}) TextKind → Reader → Type 0
 TakesWords before line old number (Ok _) reader =
     (words_fault before line ≡ None) × Holds (before ++ line ∷ []) reader
-      × (numbers_of reader.program ≡ numbers_of old.program ++ number_if (has_code before) number)
+    × (numbers_of reader.program ≡ numbers_of old.program ++ number_if (has_code before) number)
 TakesWords before line old number (Err kind) reader = kind ≢ Memory →
     words_fault before line ≡ Some kind
 
@@ -176,7 +176,7 @@ abbrev pub TakesLine : List Line → List ℕ → Reader → ℕ → Result (Uni
 TakesLine before line old number (Ok _) reader =
     (line_fault before line ≡ None) × Holds (before ++ worded (line ∷ [])) reader
     × (numbers_of reader.program ≡ numbers_of old.program
-      ++ number_if (has_code before && is_filled (words_of line)) number)
+    ++ number_if (has_code before && is_filled (words_of line)) number)
 TakesLine before line old number (Err kind) reader = kind ≢ Memory →
     line_fault before line ≡ Some kind
 
@@ -186,7 +186,7 @@ TakesLine before line old number (Err kind) reader = kind ≢ Memory →
 abbrev pub IsUnknown : List Line → List ℕ → TextFault → Type 0
 IsUnknown before numbers fault =
     (k : ℕ) × (fault.line ≡ slice_index numbers k)
-      × IsFirst (label_fault_at (body_of before)) (length (body_of before)) k fault.kind
+    × IsFirst (label_fault_at (body_of before)) (length (body_of before)) k fault.kind
 
 -- what lines that were all read make: where they lack something, a fault of their last one
 abbrev pub Finishes : List Line → List ℕ → ℕ → Result JobData TextFault → Type 0
@@ -194,4 +194,4 @@ Finishes before numbers last (Ok job) = SpellsLines job before
 Finishes before numbers last (Err fault) =
     fault.kind ≢ Memory
     → ((end_fault before ≡ Some fault.kind) × (fault.line ≡ last))
-      ⊎ ((end_fault before ≡ None) × IsUnknown before numbers fault)
+    ⊎ ((end_fault before ≡ None) × IsUnknown before numbers fault)

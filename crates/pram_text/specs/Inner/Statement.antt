@@ -39,13 +39,13 @@ abbrev pub ReadsJump : Line → Result (ℕ × Bor (List ℕ)) TextKind → Type
 ReadsJump operands result =
     (find : Word → Option ℕ) (make : ℕ → ℕ → Instr)
     → register_label find make operands ≡ (result >>= λ p. place_in find p.1.now >>= λ place.
-      Ok (make p.0 place))
+    Ok (make p.0 place))
 
 abbrev pub ReadsLabel : Line → Result (Bor (List ℕ)) TextKind → Type 0
 ReadsLabel operands result =
     (find : Word → Option ℕ) (make : ℕ → Instr)
     → one_label find make operands ≡ (result >>= λ label. place_in find label.now >>= λ place.
-      Ok (make place))
+    Ok (make place))
 
 -- ---- names of instructions
 
@@ -77,8 +77,11 @@ aimed instr place' = instr
 -- the statement's instruction, where `find` finds the place of its label
 abbrev pub resolved : (Word → Option ℕ) → Statement → Result Instr TextKind
 resolved find statement =
-    elim statement.target [ None ↦ Ok statement.instr | Some label ↦ place_in find label.now >>=
-    λ place. Ok (aimed statement.instr place) ]
+    elim statement.target [
+      | None ↦ Ok statement.instr
+      | Some label ↦ place_in find label.now >>=
+          λ place. Ok (aimed statement.instr place)
+    ]
 
 -- What was read of a line is what it says, wherever its label is.
 abbrev pub ReadsLine : Line → Result Statement TextKind → Type 0

@@ -47,13 +47,13 @@ abbrev pub ReadsOn : {R : Type 0} → (R → Option (List ℕ)) → Reader R →
     Type 0
 ReadsOn remaining old new found fields =
     (text : List ℕ) (given : List Record) → HasRead remaining text given old →
-      AfterRead remaining text given new found fields
+    AfterRead remaining text given new found fields
 
 -- and leaves fewer bytes
 abbrev pub LeavesFewer : {R : Type 0} → (R → Option (List ℕ)) → Reader R → Reader R → Type 0
 LeavesFewer remaining old new =
     (text : List ℕ) (given : List Record) → HasRead remaining text given old →
-      bytes_left remaining new < bytes_left remaining old
+    bytes_left remaining new < bytes_left remaining old
 
 -- the record of this number has no fault, and brings the rows to these
 abbrev pub TakesRecord : ℕ → ℕ → List Row → Record → List Row → Type 0
@@ -66,4 +66,4 @@ abbrev pub RefusesRecord : ℕ → ℕ → List Row → Record → PlanFault →
 RefusesRecord workers row rows fields fault =
     (fault.row ≡ row)
     × ((given : List Record) → length given + 1 ≡ row → rows ≡ rows_of workers given →
-      fault_of workers given fields ≡ Some fault.kind)
+    fault_of workers given fields ≡ Some fault.kind)

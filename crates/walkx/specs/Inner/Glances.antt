@@ -25,7 +25,7 @@ abbrev pub reads_both : LayoutData → ℕ → ℕ → ℕ → ℕ → Script Re
 reads_both y c s a b =
     if nat_le (stamp_of a) s then
     (if nat_le (stamp_of b) s then ends (At s (newer_payload a b))
-      else asks (Load (number_of y (Stored c 0))) (λ again. reads_again s a b again))
+    else asks (Load (number_of y (Stored c 0))) (λ again. reads_again s a b again))
     else (if nat_le (stamp_of b) s then ends (At s (payload_of b)) else told_at (lesser a b))
 
 abbrev pub script_of_glance : LayoutData → ℕ → Glance → Script Reading

@@ -71,7 +71,7 @@ then_counts at (Some next) =
 abbrev pub then_asks : PostData → Instr → ℕ → ℕ → ℕ → Script Then
 then_asks at instr counter a b =
     reads_cell at.layout (step_of at) (cell_read at.job instr a) (then_marks at)
-      (then_raises at instr counter a b)
+    (then_raises at instr counter a b)
 
 -- a place was read for this, and held the value before the step
 abbrev pub reads_for : PostData → Want → ℕ → Script Then
@@ -90,7 +90,7 @@ abbrev pub follows_words : PostData → ℕ → Want → ℕ → ℕ → Script 
 follows_words at p (want.Write value next) a b =
     if is_late (step_of at) a b then then_counts at next
     else asks (Swap (number_of at.layout (Stored p (older a b))) (older_word a b)
-      (stamped_word (step_of at) value)) (λ found. then_counts at next)
+    (stamped_word (step_of at) value)) (λ found. then_counts at next)
 follows_words at p (want.Compare value) a b =
     if differs (step_of at) value a
     || differs (step_of at) value b then reports at.layout (step_of at) (then_marks at)
@@ -111,15 +111,15 @@ abbrev pub follows_claim : PostData → Carry → ℕ → Script Then
 follows_claim at c found =
     if nat_lt (step_of at) (stamp_of found) then then_marks at
     else carries at.job at.layout (step_of at) (processor_of at)
-      (if payload_of found == claim_of at.job (processor_of at) then c.place else 0) c.value c.next
-      (then_marks at)
+    (if payload_of found == claim_of at.job (processor_of at) then c.place else 0) c.value c.next
+    (then_marks at)
 
 -- the whole request was heard, to be carried out
 abbrev pub applies : PostData → Rule → Carry → Script Then
 applies at Common c = carries_out at c
 applies at Priority c = if_data c.place (carries_out at c) (λ p.
     if nat_lt p at.job.cells then asks (Load (number_of at.layout (Claim p))) (λ found.
-      follows_claim at c found) else carries_out at c)
+    follows_claim at c found) else carries_out at c)
 applies at Crew c =
     if_data c.place (carries_out at c) (λ p.
     claims at.job at.layout (step_of at) (processor_of at) p (carries_out at c))
@@ -128,19 +128,19 @@ applies at Crew c =
 abbrev pub hears_value : PostData → ℕ → Script Then
 hears_value at p =
     hears_part at.layout (step_of at) (processor_of at) 1 (then_marks at) (λ value.
-      hears_part at.layout (step_of at) (processor_of at) 2 (then_marks at) (λ next.
+    hears_part at.layout (step_of at) (processor_of at) 2 (then_marks at) (λ next.
     applies at at.job.rule (record { place = p; value = value; next = next })))
 
 abbrev pub checks_value : PostData → ℕ → Script Then
 checks_value at p =
     hears_part at.layout (step_of at) (processor_of at) 1 (then_marks at) (λ value.
-      loads_both at.layout p (follows_words at p (want.Compare value)))
+    loads_both at.layout p (follows_words at p (want.Compare value)))
 
 abbrev pub checks_claim : PostData → ℕ → Script Then
 checks_claim at c =
     asks (Load (number_of at.layout (Claim c))) (λ found.
-      if differs (step_of at) (claim_of at.job (processor_of at)) found then reports at.layout
-      (step_of at) (then_marks at) else then_marks at)
+    if differs (step_of at) (claim_of at.job (processor_of at)) found then reports at.layout
+    (step_of at) (then_marks at) else then_marks at)
 
 abbrev pub follows_place : PostData → Rule → Kind → ℕ → Script Then
 follows_place at r Compute part = then_marks at
@@ -162,15 +162,15 @@ follows_part at part = follows_place at at.job.rule (kind_at at.phase) part
 abbrev pub follows_children : PostData → ℕ → ℕ → Script Then
 follows_children at l r =
     if nat_le at.phase l && nat_le at.phase r then then_marks at
-      else stands_at at.layout at.worker
-      (way_down at.layout at.worker at.node at.phase l r) at.phase
+    else stands_at at.layout at.worker
+    (way_down at.layout at.worker at.node at.phase l r) at.phase
 
 abbrev pub script_at : PostData → Stage → Script Then
 script_at at stage.Back = back_script at.layout at.worker
 script_at at stage.Begin = begin_script at.job at.layout at.node
 script_at at (stage.Look root) = asks (Load (number_of at.layout Conflict)) (λ u.
     if u == 0 then (if root == 3 * at.job.steps then ends (stops ended.Done)
-      else ends (turns at.node (root + 1))) else ends (stops (ended.Conflict u)))
+    else ends (turns at.node (root + 1))) else ends (stops (ended.Conflict u)))
 script_at at stage.Node = turn_script at.job at.layout at.worker at.node at.phase
 script_at at stage.Left =
     asks (Load (number_of at.layout (Node (2 * at.node)))) (λ l.
@@ -187,9 +187,9 @@ script_at at (stage.Ask request) =
     raises_request at.layout (step_of at) (processor_of at) request (then_marks at)
 script_at at (stage.AskValue request) =
     asks (Max (number_of at.layout (Asked (processor_of at) 1))
-      (stamped_word (step_of at) (value_part request))) (λ found.
+    (stamped_word (step_of at) (value_part request))) (λ found.
     asks (Max (number_of at.layout (Asked (processor_of at) 2))
-      (stamped_word (step_of at) request.next)) (λ found. then_marks at))
+    (stamped_word (step_of at) request.next)) (λ found. then_marks at))
 script_at at (stage.AskNext request) =
     asks (Max (number_of at.layout (Asked (processor_of at) 2))
     (stamped_word (step_of at) request.next)) (λ found. then_marks at)
@@ -197,7 +197,7 @@ script_at at stage.Hear = task_at at
 script_at at (stage.HearValue p) = hears_value at p
 script_at at (stage.HearNext p value) =
     hears_part at.layout (step_of at) (processor_of at) 2 (then_marks at) (λ next.
-      applies at at.job.rule (record { place = p; value = value; next = next }))
+    applies at at.job.rule (record { place = p; value = value; next = next }))
 script_at at (stage.CheckValue p) = checks_value at p
 script_at at (stage.Claim c carry) =
     asks (Max (number_of at.layout (Claim c))
@@ -355,8 +355,17 @@ pub record WorkerData : Type 0 where
 -- by the fields of the code
 abbrev pub worker_data : ℕ → Option ℕ → ℕ → Stage → List ℕ → WorkerData
 worker_data number node phase st heard =
-    record { walking = record { number = number; node = node; now = doing_of st phase; heard =
-    heard }; phase = phase; stage = st }
+    record {
+      walking = record {
+        number = number;
+        node = node;
+        now = doing_of st phase;
+        heard =
+            heard;
+      };
+      phase = phase;
+      stage = st;
+    }
 
 abbrev pub post_of : JobData → LayoutData → WorkerData → PostData
 post_of job y k = post_data job y k.walking.number (node_of y k.walking) k.phase
@@ -370,17 +379,42 @@ pub record Stands (job : JobData) (y : LayoutData) (k : WorkerData) : Type 0 whe
 -- the worker with one answer more
 abbrev pub stepped : WorkerData → ℕ → Step → WorkerData
 stepped k found (step.On st) =
-    record { walking = record k.walking { heard = found ∷ k.walking.heard }; phase =
-    k.phase; stage = st }
+    record {
+      walking = record k.walking { heard = found ∷ k.walking.heard };
+      phase =
+          k.phase;
+      stage = st;
+    }
 stepped k found (step.Begins n) =
-    record { walking = record { number = k.walking.number; node = Some n; now = doing.Begin; heard =
-    [] }; phase = k.phase; stage = stage.Begin }
+    record {
+      walking = record {
+        number = k.walking.number;
+        node = Some n;
+        now = doing.Begin;
+        heard =
+            [];
+      };
+      phase = k.phase;
+      stage = stage.Begin;
+    }
 stepped k found (step.Turns n q) =
-    record { walking = record { number = k.walking.number; node = Some n; now =
-    doing.Turn q; heard = [] }; phase = q; stage = stage.Node }
+    record {
+      walking = record {
+        number = k.walking.number;
+        node = Some n;
+        now =
+            doing.Turn q;
+        heard = [];
+      };
+      phase = q;
+      stage = stage.Node;
+    }
 stepped k found (step.Stops e) =
-    record { walking = record k.walking { now = doing.Over e; heard = found ∷ k.walking.heard };
-    phase = k.phase; stage = stage.Over e }
+    record {
+      walking = record k.walking { now = doing.Over e; heard = found ∷ k.walking.heard };
+      phase = k.phase;
+      stage = stage.Over e;
+    }
 stepped k found (step.Stays e) = k
 
 -- the first so many of a list, the last of them first
