@@ -112,8 +112,8 @@ pub record IsTree (job : JobData) (y : LayoutData) (words : List ℕ) : Type 0 w
 pub record IsAsked (job : JobData) (f i j word : ℕ) : Type 0 where
   pub low : f ≤ stamp_of word
   pub high : stamp_of word ≤ suc f
-  pub part : (s : ℕ) → stamp_of word ≡ suc s → IsReached job s
-      × (payload_of word ≡ part_after job s i j)
+  pub part : (s : ℕ) → stamp_of word ≡ suc s →
+      IsReached job s × (payload_of word ≡ part_after job s i j)
 
 -- a word that was written in the step behind f steps, while that may be
 pub record IsNew (job : JobData) (f root p word : ℕ) : Type 0 where

@@ -114,8 +114,7 @@ decided_in job s i instr =
 unfoldable pub request_in : JobData → State → ℕ → Request
 request_in job s i =
     elim (slice_get job.code (counter job s i)) [
-      | None ↦ goes_to
-          (counter job s i)
+      | None ↦ goes_to (counter job s i)
       | Some instr ↦ decided_in job s i instr
     ]
 

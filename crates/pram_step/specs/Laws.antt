@@ -64,8 +64,8 @@ OneNext =
 
 abbrev pub AgreesOrHasADispute : Type 0
 AgreesOrHasADispute =
-    (job : JobData) (requests : List Request) → Agrees job requests
-    ⊎ ((d : Dispute) × IsDispute job requests d)
+    (job : JobData) (requests : List Request) →
+    Agrees job requests ⊎ ((d : Dispute) × IsDispute job requests d)
 
 abbrev pub OneDispute : Type 0
 OneDispute =
@@ -79,8 +79,8 @@ PriorityAlwaysAgrees =
 abbrev pub OnlyCellsClash : Type 0
 OnlyCellsClash =
     (job : JobData) (s : State) (p i j v w : ℕ) → IsJob job → job.cells ≤ p
-    → Writes job (requests_in job s) p i v → Writes job (requests_in job s) p j w → (i ≡ j)
-    × (v ≡ w)
+    → Writes job (requests_in job s) p i v → Writes job (requests_in job s) p j w →
+    (i ≡ j) × (v ≡ w)
 
 abbrev pub OrderIsFree : Type 0
 OrderIsFree =
@@ -139,8 +139,7 @@ CountersFollowRequests =
 abbrev pub LastWriteIsTheLast : Type 0
 LastWriteIsTheLast =
     (job : JobData) (t p : ℕ)
-    → (last_write job t p ≤ t)
-    × ((s : ℕ) → last_write job t p ≡ suc s → IsWritten job s p)
+    → (last_write job t p ≤ t) × ((s : ℕ) → last_write job t p ≡ suc s → IsWritten job s p)
     × ((s : ℕ) → s < t → IsWritten job s p → s < last_write job t p)
 
 abbrev pub UnwrittenPlaceKeepsItsValue : Type 0
@@ -169,15 +168,15 @@ ProcessorsWriteTheirRequests =
 
 abbrev pub WritesFit : Type 0
 WritesFit =
-    (job : JobData) (s p i v : ℕ) → IsJob job → Asks job s p i v → (p < place_count job)
-    × (v < 2 ^ 32)
+    (job : JobData) (s p i v : ℕ) → IsJob job → Asks job s p i v →
+    (p < place_count job) × (v < 2 ^ 32)
 
 -- ---- what stops
 
 abbrev pub StoppedMachineStays : Type 0
 StoppedMachineStays =
-    (job : JobData) (s : State) → AllStopped job s → Agrees job (requests_in job s)
-    × (next_state job s ≡ s)
+    (job : JobData) (s : State) → AllStopped job s →
+    Agrees job (requests_in job s) × (next_state job s ≡ s)
 
 abbrev pub StoppedMachineGoesOn : Type 0
 StoppedMachineGoesOn =

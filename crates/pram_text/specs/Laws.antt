@@ -35,8 +35,8 @@ SpelledBearsNothing =
 abbrev pub OneFault : Type 0
 OneFault =
     (text : List ℕ) (line other_line : ℕ) (kind other_kind : TextKind)
-    → Bears text line kind → Bears text other_line other_kind → (line ≡ other_line)
-    × (kind ≡ other_kind)
+    → Bears text line kind → Bears text other_line other_kind →
+    (line ≡ other_line) × (kind ≡ other_kind)
 
 abbrev pub JobOrFault : Type 0
 JobOrFault =

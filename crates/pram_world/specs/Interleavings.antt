@@ -60,8 +60,8 @@ IsTrueEnd job y words (Conflict u) = (conflict y words ≡ u) × IsConflict job 
 pub record Interleaves (s : WorldData) (made : Record) : Type 0 where
   pub lawful : IsLawful s
   pub backed : Backed s.job s.layout made s.words
-  pub known : (b : ℕ) (w : Walking) → Walks s b w → Knows s.job s.layout made w
-      × Fits s.job s.layout w
+  pub known : (b : ℕ) (w : Walking) → Walks s b w →
+      Knows s.job s.layout made w × Fits s.job s.layout w
   pub shows : ShowsMachine s.job s.layout s.words (finished s.layout s.words)
   pub grows : (e : Event) → Grows s.layout s.words (happens s e).words
   pub stale : (e : Event) → StaleChangesNothing s e (happens s e)

@@ -98,8 +98,8 @@ KnownStepsAreReached = (job : JobData) (y : LayoutData) (r : Record) (t : ℕ) �
 abbrev pub KnownStepsLast : Type 0
 KnownStepsLast = (job : JobData) (y : LayoutData) (r : Record) (t : ℕ) (words later : List ℕ) →
     Stands job y later → Backed job y r words →
-    Grows y words later → KnowsStep y r t → (t ≤ finished y later)
-    × ((op : Op) (found : ℕ) → KnowsStep y (after r op found) t)
+    Grows y words later → KnowsStep y r t →
+    (t ≤ finished y later) × ((op : Op) (found : ℕ) → KnowsStep y (after r op found) t)
 
 -- ---- what loads give, behind a record
 
@@ -130,5 +130,5 @@ FinalValuesAreHeld = (job : JobData) (y : LayoutData) (r : Record) (p a b : ℕ)
 abbrev pub ConflictRequestsAreHeld : Type 0
 ConflictRequestsAreHeld = (job : JobData) (y : LayoutData) (r : Record) (s i j found : ℕ) →
     Heard y r Conflict (suc s) → i < y.procs → j < 3 →
-    WasBacked job y (after r (Load (number_of y (Asked i j))) found) → (stamp_of found ≡ suc s)
-    × (payload_of found ≡ part_after job s i j)
+    WasBacked job y (after r (Load (number_of y (Asked i j))) found) →
+    (stamp_of found ≡ suc s) × (payload_of found ≡ part_after job s i j)

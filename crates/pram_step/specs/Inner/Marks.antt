@@ -26,8 +26,8 @@ PutsNone requests place = (i v : ℕ) → Puts requests place i v → ⊥
 
 -- Of each cell that these requests write to, the mark names the least processor that does.
 pub record AreMarked (cells : ℕ) (requests : List Request) (marks : List ℕ) : Type 0 where
-  pub writes : (cell i v : ℕ) → cell < cells → Puts requests cell i v → (w : ℕ)
-      × Puts requests cell (slice_index marks cell) w
+  pub writes : (cell i v : ℕ) → cell < cells → Puts requests cell i v →
+      (w : ℕ) × Puts requests cell (slice_index marks cell) w
   pub least : (cell i v : ℕ) → cell < cells → Puts requests cell i v → slice_index marks cell ≤ i
 
 -- all data goes to cells and registers of the processor's own

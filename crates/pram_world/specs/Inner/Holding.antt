@@ -25,8 +25,8 @@ Fitting = Fits
 pub record Holds (s : WorldData) (made : Record) : Type 0 where
   pub stands : Stands s.job s.layout s.words
   pub backed : Backed s.job s.layout made s.words
-  pub known : (b : ℕ) (w : Walking) → Walks s b w → Knows s.job s.layout made w
-      × Fitting s.job s.layout w
+  pub known : (b : ℕ) (w : Walking) → Walks s b w →
+      Knows s.job s.layout made w × Fitting s.job s.layout w
   pub numbers : (b : ℕ) (body : Body) → slice_get s.bodies b ≡ Some body →
       number body < s.layout.workers
 
