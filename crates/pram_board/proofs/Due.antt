@@ -1,18 +1,18 @@
 -- A worker's next operation is one that its seat may make.
-use Rattle.std.proofs.Common.{◌≡◌, ℕ, List, [], ◌∷◌, ◌++◌, Some, refl, sym, ap, subst, ◌∙◌, inl}
+use Rattle.std.proofs.Common.{◌≡◌, ℕ, List, [], ◌∷◌, ◌++◌, Some, refl, ap, subst, inl}
 use Rattle.pram_text.specs.Job.{JobData}
 use Rattle.pram_words.specs.Words.{LayoutData}
 use Rattle.walkx.specs.declared.operation.Op.{Op}
 use Rattle.walkx.specs.Records.{Record, Has}
-use Rattle.walkx.specs.Scripts.{Script, asks, rest, first_op, heard_in}
-use Rattle.walkx.specs.Walk.{Then, Walking, Fits, AllAdmitted, AsksAdmitted, IsBoard, IsGoing, IsStepOn, ask_of, heard_of, phase_begun, rest_of, script_of}
+use Rattle.walkx.specs.Scripts.{Script, asks, first_op, heard_in}
+use Rattle.walkx.specs.Walk.{Then, Walking, Fits, AllAdmitted, AsksAdmitted, IsBoard, IsStepOn, ask_of, heard_of, phase_begun, rest_of, script_of}
 use Rattle.walkx.proofs.Asking.{all_ask, going_steps}
 use Rattle.walkx.proofs.Going.{matches_of, next_of}
 use Rattle.lawful_words.specs.Moments.{afters}
 use Rattle.pram_board.specs.declared.task.Task.{Task}
 use Rattle.pram_board.specs.Rules.{May}
 use Rattle.pram_board.specs.Seats.{Place}
-use Rattle.pram_board.specs.Inner.Plays.{IsDue, Plays, Reached}
+use Rattle.pram_board.specs.Inner.Plays.{IsDue, Reached}
 use Rattle.pram_board.proofs.Asked.{none_of}
 use Rattle.pram_board.proofs.Playing.{admitted_more}
 use Rattle.pram_board.proofs.Steps.{may_step}

@@ -8,7 +8,7 @@ use Rattle.walkx.specs.Scripts.{Script, asks, behind, first_op, op_with, rest, h
 use Rattle.walkx.specs.Walk.{Then, AllAdmitted, HearsAdmitted, script_of}
 use Rattle.lawful_words.specs.Moments.{afters}
 use Rattle.walkx.specs.Records.{Record, after}
-use Rattle.pram_board.specs.Seats.{Place, hears, hears_all}
+use Rattle.pram_board.specs.Seats.{Place, hears}
 use Rattle.pram_board.specs.Inner.Plays.{AllAsked, Plays, Reached}
 
 -- the rest behind further answers

@@ -5,7 +5,7 @@ use Rattle.pram_words.specs.Words.{LayoutData}
 use Rattle.walkx.specs.declared.operation.Op.{Op}
 use Rattle.walkx.specs.Bound.{told_all}
 use Rattle.walkx.specs.Records.{Record, Knows}
-use Rattle.walkx.specs.Scripts.{Script, asks, ends, behind, rest, first_op, op_with, heard_in}
+use Rattle.walkx.specs.Scripts.{Script, asks, ends, behind, rest, first_op, heard_in}
 use Rattle.walkx.specs.Turns.{beginning, turning}
 use Rattle.walkx.specs.Walk.{Then, begins, turns, Walking, Fits, AllAdmitted, IsBoard, IsGoing, ask_of, goes_on, script_of, told, turn_script}
 use Rattle.walkx.proofs.Fitting.{fits_told}

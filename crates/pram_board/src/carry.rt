@@ -48,6 +48,7 @@ impl<'a, G: Gate> Work<'a, G> {
     }
 
     /// A request is carried out: its data, if there is any, and the next counter.
+    #[inline(always)]
     pub(crate) fn carry(&self, seat: &mut Seat, made: &mut u64, t: u32, i: u32, asked: Asked)
         requires at { IsAt self.now.board.now self.now.job.now self.now.layout seat.old }
         requires processor { i < self.now.layout.procs }
@@ -65,6 +66,7 @@ impl<'a, G: Gate> Work<'a, G> {
     }
 
     /// Cell p is claimed for processor i, if there is such a cell.
+    #[inline(always)]
     pub(crate) fn claim(&self, seat: &mut Seat, made: &mut u64, t: u32, i: u32, p: u32)
         requires at { IsAt self.now.board.now self.now.job.now self.now.layout seat.old }
         requires processor { i < self.now.layout.procs }
@@ -86,6 +88,7 @@ impl<'a, G: Gate> Work<'a, G> {
     }
 
     /// The data place of a request is claimed, and the request carried out: the rule crew.
+    #[inline(always)]
     pub(crate) fn claim_and_carry(
         &self,
         seat: &mut Seat,
@@ -113,6 +116,7 @@ impl<'a, G: Gate> Work<'a, G> {
     }
 
     /// A request is carried out by the claim to its cell: the rule priority.
+    #[inline(always)]
     pub(crate) fn carry_claimed(
         &self,
         seat: &mut Seat,
@@ -142,6 +146,7 @@ impl<'a, G: Gate> Work<'a, G> {
     }
 
     /// A request to a cell is carried out by the claim to it: its owner writes.
+    #[inline(always)]
     pub(crate) fn carry_owned(
         &self,
         seat: &mut Seat,
@@ -174,6 +179,7 @@ impl<'a, G: Gate> Work<'a, G> {
     }
 
     /// The request of processor i is heard and carried out by the rule.
+    #[inline(always)]
     pub(crate) fn apply(&self, seat: &mut Seat, made: &mut u64, t: u32, i: u32)
         requires at { IsAt self.now.board.now self.now.job.now self.now.layout seat.old }
         requires processor { i < self.now.layout.procs }
@@ -197,6 +203,7 @@ impl<'a, G: Gate> Work<'a, G> {
     }
 
     /// A request is carried out by the rule.
+    #[inline(always)]
     pub(crate) fn carry_by_rule(
         &self,
         seat: &mut Seat,
@@ -225,6 +232,7 @@ impl<'a, G: Gate> Work<'a, G> {
     }
 
     /// The cell of the request of processor i is claimed: the second pass of the rule priority.
+    #[inline(always)]
     pub(crate) fn claim_cell(&self, seat: &mut Seat, made: &mut u64, t: u32, i: u32)
         requires at { IsAt self.now.board.now self.now.job.now self.now.layout seat.old }
         requires processor { i < self.now.layout.procs }
@@ -263,6 +271,7 @@ impl<'a, G: Gate> Work<'a, G> {
 
     /// The value of the request of processor i is compared with its place: the third pass of the
     /// rule common.
+    #[inline(always)]
     pub(crate) fn compare(&self, seat: &mut Seat, made: &mut u64, t: u32, i: u32)
         requires at { IsAt self.now.board.now self.now.job.now self.now.layout seat.old }
         requires processor { i < self.now.layout.procs }
@@ -291,6 +300,7 @@ impl<'a, G: Gate> Work<'a, G> {
     }
 
     /// The claim of processor i is compared with that of its cell: the third pass of the rule crew.
+    #[inline(always)]
     pub(crate) fn compare_claim(&self, seat: &mut Seat, made: &mut u64, t: u32, i: u32)
         requires at { IsAt self.now.board.now self.now.job.now self.now.layout seat.old }
         requires processor { i < self.now.layout.procs }
@@ -314,6 +324,7 @@ impl<'a, G: Gate> Work<'a, G> {
     }
 
     /// The claim of processor i is compared with that of cell p.
+    #[inline(always)]
     pub(crate) fn compare_own(&self, seat: &mut Seat, made: &mut u64, t: u32, i: u32, p: u32)
         requires at { IsAt self.now.board.now self.now.job.now self.now.layout seat.old }
         requires processor { i < self.now.layout.procs }

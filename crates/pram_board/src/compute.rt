@@ -63,12 +63,8 @@ impl<'a, G: Gate> Work<'a, G> {
             after (λ a. reads_place self.now.layout t (register_place self.now.job.now i s) after
             (next a))) (seat.old, made.old) (or_both_late result after next) (seat.new, made.new) }
     {
-        let Some(a) = self.read_register(seat, made, t, i, r) else {
-            return None;
-        };
-        let Some(b) = self.read_register(seat, made, t, i, s) else {
-            return None;
-        };
+        let a = self.read_register(seat, made, t, i, r)?;
+        let b = self.read_register(seat, made, t, i, s)?;
         Some((a, b))
     }
 
@@ -94,9 +90,7 @@ impl<'a, G: Gate> Work<'a, G> {
         match operands_of(instr) {
             Operands::None => Some((0, 0)),
             Operands::One(r) => {
-                let Some(a) = self.read_register(seat, made, t, i, r) else {
-                    return None;
-                };
+                let a = self.read_register(seat, made, t, i, r)?;
                 Some((a, 0))
             }
             Operands::Two(r, s) => self.read_two(seat, made, t, i, r, s),
@@ -185,6 +179,7 @@ impl<'a, G: Gate> Work<'a, G> {
     }
 
     /// The compute task of processor i.
+    #[inline(always)]
     pub(crate) fn compute(&self, seat: &mut Seat, made: &mut u64, t: u32, i: u32)
         requires at { IsAt self.now.board.now self.now.job.now self.now.layout seat.old }
         requires processor { i < self.now.layout.procs }

@@ -9,6 +9,9 @@ ghost use Rattle.walkx.specs.Scripts.{Script, asks};
 ghost use Rattle.walkx.specs.Tasks.{first_is_older, hears_part, is_late, loads_both};
 ghost use Rattle.walkx.specs.Tasks.{newer_payload, reads_place, writes_place};
 ghost use Rattle.walkx.specs.Walk.{Then};
+ghost use Rattle.lawful_words.specs.Moments.{Sound};
+ghost use Rattle.pram_board.specs.Rules.{May};
+ghost use Rattle.pram_board.specs.Seats.{hears};
 ghost use Rattle.pram_board.specs.Inner.Plays.{IsAt, IsDue, IsNext, Plays, or_late};
 
 use crate::hand::Work;
@@ -18,14 +21,20 @@ use stop_plan::Gate;
 use walkx::Op;
 
 impl<'a, G: Gate> Work<'a, G> {
-    // The gate is passed, and one atomic step will be made. The count stays far below the most that
-    // it can be, by the bound on a worker's own steps.
+    // One atomic step, behind the gate. The count stays far below the most that it can be, by the
+    // bound on a worker's own steps.
     #[inline(always)]
-    fn pass(&self, made: &mut u64)
-        ensures { made.new ≡ (made.old + 1) % 2 ^ 64 }
+    fn step(&self, seat: &mut Seat, made: &mut u64, op: Op) -> u64
+        requires desk { seat.old.desk ≡ self.now.board.now }
+        requires allowed { May self.now.board.now.task seat.old.record_of op }
+        ensures grows { seat.new ≡ hears seat.old op result }
+        ensures sound { Sound self.now.board.now.task.job self.now.board.now.task.layout
+            seat.new.record_of }
+        ensures count { made.new ≡ (made.old + 1) % 2 ^ 64 }
     {
         self.gate.pass(self.worker, *made);
         *made = made.wrapping_add(1);
+        self.board.step(seat, op)
     }
 
     /// A word is loaded.
@@ -39,8 +48,7 @@ impl<'a, G: Gate> Work<'a, G> {
             (Load word) next)
             (seat.old, made.old) (next result) (seat.new, made.new) }
     {
-        self.pass(made);
-        self.board.step(seat, Op::Load(word))
+        self.step(seat, made, Op::Load(word))
     }
 
     /// A worker makes its next operation.
@@ -53,8 +61,7 @@ impl<'a, G: Gate> Work<'a, G> {
             next)
             (seat.old, made.old) (next result) (seat.new, made.new) }
     {
-        self.pass(made);
-        self.board.step(seat, op)
+        self.step(seat, made, op)
     }
 
     /// Both words of a place are loaded.

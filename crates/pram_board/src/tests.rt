@@ -278,6 +278,32 @@ impl Gate for Counting {
     }
 }
 
+// How often a worker without a limit passes its gate, each time with the steps that it has made.
+fn passes_alone(rt: &(impl AllocGlobal + Abort)) -> Result<u64, Fail> {
+    let (board, mut seat) = opened(rt, DISPUTED, 5)?;
+    let gate = Counting {
+        passes: AtomicU64::new(0),
+    };
+    let stay = board.work(&mut seat, &mut Worker::start(0), &gate, None);
+    assert_eq!(rt; stay, Stay::Ended(Ended::Conflict(5)));
+    Ok(gate.passes.load(Ordering::SeqCst))
+}
+
+// It passes it before each atomic step: the last one ends the worker.
+#[test]
+fn a_gate_is_passed_before_each_step(rt: HostRuntime) -> Result<(), Fail> {
+    let passes = passes_alone(&rt)?;
+    let (board, mut seat) = opened(&rt, DISPUTED, 5)?;
+    let mut worker = Worker::start(0);
+    let stay = board.work(&mut seat, &mut worker, &Open, passes.checked_sub(1));
+    assert_eq!(rt; stay, Stay::Stopped);
+    assert_eq!(rt;
+        board.tick(&mut seat, &mut worker),
+        Some(Ended::Conflict(5))
+    );
+    Ok(())
+}
+
 // The worker comes back where its position says: one that lost its place would make more steps.
 #[test]
 fn a_position_that_was_stored_is_found(rt: HostRuntime) -> Result<(), Fail> {

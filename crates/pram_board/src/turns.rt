@@ -19,6 +19,7 @@ use walkx::Op;
 
 impl<'a, G: Gate> Work<'a, G> {
     /// The task of the phase at the leaf of processor i.
+    #[inline(always)]
     pub(crate) fn task_of_phase(&self, seat: &mut Seat, made: &mut u64, phase: u64, i: u32)
         requires at { IsAt self.now.board.now self.now.job.now self.now.layout seat.old }
         requires processor { i < self.now.layout.procs }
@@ -41,6 +42,7 @@ impl<'a, G: Gate> Work<'a, G> {
     }
 
     /// The task of the second pass by the rule.
+    #[inline(always)]
     pub(crate) fn second_pass(&self, seat: &mut Seat, made: &mut u64, t: u32, i: u32)
         requires at { IsAt self.now.board.now self.now.job.now self.now.layout seat.old }
         requires processor { i < self.now.layout.procs }
@@ -61,6 +63,7 @@ impl<'a, G: Gate> Work<'a, G> {
     }
 
     /// The task of the third pass by the rule.
+    #[inline(always)]
     pub(crate) fn third_pass(&self, seat: &mut Seat, made: &mut u64, t: u32, i: u32)
         requires at { IsAt self.now.board.now self.now.job.now self.now.layout seat.old }
         requires processor { i < self.now.layout.procs }
@@ -113,26 +116,26 @@ impl<'a, G: Gate> Work<'a, G> {
 
     /// The turn at an unfinished leaf.
     #[inline(always)]
-    pub(crate) fn leaf(&self, seat: &mut Seat, made: &mut u64, node: u32, phase: u64)
+    pub(crate) fn leaf(&self, seat: &mut Seat, made: &mut u64, leaf: u32, phase: u64)
         requires at { IsAt self.now.board.now self.now.job.now self.now.layout seat.old }
-        requires leaf { self.now.layout.leaves ≤ node }
-        requires most { node < 2 * self.now.layout.leaves }
+        requires leaf { self.now.layout.leaves ≤ leaf }
+        requires most { leaf < 2 * self.now.layout.leaves }
         requires phase { phase ≤ 3 * self.now.job.now.steps }
         requires due { Reached self.now.job.now self.now.layout (leaf_script self.now.job.now
-            self.now.layout node phase) (seat.old, made.old) }
+            self.now.layout leaf phase) (seat.old, made.old) }
         ensures at { IsAt self.now.board.now self.now.job.now self.now.layout seat.new }
         ensures plays { Plays self.now.job.now self.now.layout (leaf_script self.now.job.now
-            self.now.layout node phase) (seat.old, made.old) (ends (turns node phase)) (
+            self.now.layout leaf phase) (seat.old, made.old) (ends (turns leaf phase)) (
               seat.new,
               made.new,
             ) }
     {
         let leaves = self.layout.leaves();
-        if is_at_least(leaves + self.job.procs(), node) {
-            return self.mark(seat, made, node, phase);
+        if is_at_least(leaves + self.job.procs(), leaf) {
+            return self.mark(seat, made, leaf, phase);
         }
-        self.task_of_phase(seat, made, phase, node - leaves);
-        self.mark(seat, made, node, phase);
+        self.task_of_phase(seat, made, phase, leaf - leaves);
+        self.mark(seat, made, leaf, phase);
     }
 
     /// The turn at an unfinished inner node, and the node that it leads to.
@@ -170,6 +173,7 @@ impl<'a, G: Gate> Work<'a, G> {
 
     /// A turn at a node in a phase, and the node where the next one is; `None` where the root is
     /// finished.
+    #[inline(always)]
     pub(crate) fn turn(
         &self,
         seat: &mut Seat,
@@ -230,6 +234,7 @@ impl<'a, G: Gate> Work<'a, G> {
     }
 
     /// Turns of a phase, from the start of the one at this node until the root is finished.
+    #[inline(always)]
     pub(crate) fn turns(&self, seat: &mut Seat, made: &mut u64, start: u32, phase: u64)
         requires at { IsAt self.now.board.now self.now.job.now self.now.layout seat.old }
         requires fits { Fits self.now.job.now self.now.layout

@@ -98,6 +98,7 @@ impl Board {
 
     // One atomic step of a worker; or whole turns up to the end of the phase, where the worker is
     // at the start of one and there is no limit.
+    #[inline(always)]
     fn go_on<G: Gate>(
         &self,
         seat: &mut Seat,
@@ -130,6 +131,7 @@ impl Board {
     }
 
     // One atomic step of a worker.
+    #[inline(always)]
     fn go_one<G: Gate>(&self, seat: &mut Seat, worker: &mut Worker, made: &mut u64, gate: &G)
         requires desk { seat.old.desk ≡ self.now }
         requires serves { Serves self.now.task.job self.now.task.layout worker.old }
@@ -150,6 +152,7 @@ impl Board {
     }
 
     // Whole turns up to the end of the phase.
+    #[inline(always)]
     fn go_through<G: Gate>(
         &self,
         seat: &mut Seat,

@@ -119,12 +119,12 @@ impl Worker {
     }
 
     /// The worker has heard whole turns, up to one that has it begin at this node.
-    pub fn begin_at(&mut self, node: u32)
-        ensures value { self.new.walking ≡ beginning self.old.walking.number node }
+    pub fn begin_at(&mut self, start: u32)
+        ensures value { self.new.walking ≡ beginning self.old.walking.number start }
         ensures serves { (job : JobData) (y : LayoutData) → Fits job y self.new.walking →
             Serves job y self.new }
     {
-        self.node = Some(node);
+        self.node = Some(start);
         self.stage = Stage::Begin;
         self.count = 0;
     }

@@ -27,8 +27,8 @@ AllAsked script (found ∷ earlier) = ((op : Op) × (first_op (rest script earli
 -- From this script, a seat and a count of atomic steps one comes to that script, seat and count:
 -- there are answers that the board gave to the operations of the script, in its order, and no step
 -- beside them.
-pub record Plays (job : JobData) (y : LayoutData) (script : Script Then) (p : Place
-    × ℕ) (behind : Script Then) (q : Place × ℕ) : Type 0 where
+pub record Plays (job : JobData) (y : LayoutData) (script : Script Then) (p : Place × ℕ)
+    (behind : Script Then) (q : Place × ℕ) : Type 0 where
   pub answers : List ℕ
   pub asked : AllAsked script answers
   pub comes : rest script answers ≡ behind
@@ -47,8 +47,8 @@ or_both_late None after next = after
 or_both_late (Some v) after next = next v.0 v.1
 
 -- a worker that the seat knew began a script, of which this is left now
-pub record Reached (job : JobData) (y : LayoutData) (script : Script Then) (p : Place
-    × ℕ) : Type 0 where
+pub record Reached (job : JobData) (y : LayoutData) (script : Script Then)
+    (p : Place × ℕ) : Type 0 where
   pub by : Walking
   pub began : Place × ℕ
   pub fresh : by.heard ≡ []
@@ -65,8 +65,8 @@ abbrev pub IsNext : JobData → LayoutData → (Script Then → Script Then) →
 IsNext job y part p = (after : Script Then) × Reached job y (part after) p
 
 -- so many ticks of a worker, which are counted, and what it then is
-pub record Went (t : Task) (p : Place × ℕ) (w : Walking) (q : Place
-    × ℕ) (now : Walking) : Type 0 where
+pub record Went (t : Task) (p : Place × ℕ) (w : Walking) (q : Place × ℕ)
+    (now : Walking) : Type 0 where
   pub ticks : ℕ
   pub ran : Ran t p.0 w ticks q.0 now
   pub count : q.1 % 2 ^ 64 ≡ (p.1 + ticks) % 2 ^ 64

@@ -13,4 +13,4 @@ pub returns-clause-answer : goal.returns-clause-answer
 returns-clause-answer g c = heard_well _ _ _ _ _ (Load c.args.word) c.step.result c.requires.at c.step.ensures.grows c.step.ensures.sound c.requires.below
 
 pub returns-clause-plays : goal.returns-clause-plays
-returns-clause-plays g c = λ next. asked _ _ (Load c.args.word) next c.step.result _ _ (returns-clause-answer g c) c.step.ensures.grows c.pass.ensures
+returns-clause-plays g c = λ next. asked _ _ (Load c.args.word) next c.step.result _ _ (returns-clause-answer g c) c.step.ensures.grows c.step.ensures.count

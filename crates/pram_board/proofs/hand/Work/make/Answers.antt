@@ -12,4 +12,4 @@ returns-clause-at g c = still_at _ _ _ _ _ c.args.op c.step.result c.requires.at
 pub returns-clause-plays : goal.returns-clause-plays
 returns-clause-plays g c = λ next.
     asked _ _ c.args.op next c.step.result _ _ (heard_well _ _ _ _ _ c.args.op c.step.result c.requires.at c.step.ensures.grows c.step.ensures.sound (due_asks _ _ c.args.op _ c.requires.at.board c.requires.due))
-    c.step.ensures.grows c.pass.ensures
+    c.step.ensures.grows c.step.ensures.count

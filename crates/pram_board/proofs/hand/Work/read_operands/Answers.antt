@@ -6,11 +6,11 @@ use Rattle.pram_board.proofs.hand.Work.read_operands.Goals as goal
 pub returns-in-None-clause-plays : goal.returns-in-None-clause-plays
 returns-in-None-clause-plays g c = λ after next. rw (sym c.operands_of.ensures.listed ∙ ap listed c.in-None.is) (still _ _ _ _)
 
-pub returns-in_default-clause-plays : goal.returns-in_default-clause-plays
-returns-in_default-clause-plays g c = λ after next. rw (sym c.operands_of.ensures.listed ∙ ap listed c.in-One.is) (c.in_default.ensures.plays after (λ a. next a 0))
+pub returns-in_err-a-in-One-clause-plays : goal.returns-in_err-a-in-One-clause-plays
+returns-in_err-a-in-One-clause-plays g c = λ after next. rw (sym c.operands_of.ensures.listed ∙ ap listed c.in-One.is, c.from_residual.ensures) (c.in_err-a-in-One.ensures.plays after (λ a. next a 0))
 
-pub returns-in-Some-clause-plays : goal.returns-in-Some-clause-plays
-returns-in-Some-clause-plays g c = λ after next. rw (sym c.operands_of.ensures.listed ∙ ap listed c.in-One.is) (c.in-Some.ensures.plays after (λ a. next a 0))
+pub returns-in_ok-a-in-One-clause-plays : goal.returns-in_ok-a-in-One-clause-plays
+returns-in_ok-a-in-One-clause-plays g c = λ after next. rw (sym c.operands_of.ensures.listed ∙ ap listed c.in-One.is) (c.in_ok-a-in-One.ensures.plays after (λ a. next a 0))
 
 pub returns-in-Two-clause-plays : goal.returns-in-Two-clause-plays
 returns-in-Two-clause-plays g c = λ after next. rw (sym c.operands_of.ensures.listed ∙ ap listed c.in-Two.is) (c.read_two.ensures.plays after next)
