@@ -190,6 +190,22 @@ impl<'a, G: Gate> Work<'a, G> {
             self.now.job.now.rule self.now.job.now self.now.layout t i after) (seat.old, made.old)
             after (seat.new, made.new) }
     {
+        let mut count = *made;
+        self.hear_and_carry(seat, &mut count, t, i);
+        *made = count;
+    }
+
+    // The same; the count stays in a register outside of this call.
+    fn hear_and_carry(&self, seat: &mut Seat, made: &mut u64, t: u32, i: u32)
+        requires at { IsAt self.now.board.now self.now.job.now self.now.layout seat.old }
+        requires processor { i < self.now.layout.procs }
+        requires due { IsNext self.now.job.now self.now.layout (applies self.now.job.now.rule
+            self.now.job.now self.now.layout t i) (seat.old, made.old) }
+        ensures at { IsAt self.now.board.now self.now.job.now self.now.layout seat.new }
+        ensures plays { (after : Script Then) → Plays self.now.job.now self.now.layout (applies
+            self.now.job.now.rule self.now.job.now self.now.layout t i after) (seat.old, made.old)
+            after (seat.new, made.new) }
+    {
         let Some(place) = self.hear_part(seat, made, t, i, 0) else {
             return;
         };

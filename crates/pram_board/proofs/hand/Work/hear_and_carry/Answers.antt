@@ -1,6 +1,6 @@
 use Rattle.pram_board.specs.Inner.Rests.{behind_place, behind_value, carries_by}
 use Rattle.pram_board.proofs.Playing.{joined, on}
-use Rattle.pram_board.proofs.hand.Work.apply.Goals as goal
+use Rattle.pram_board.proofs.hand.Work.hear_and_carry.Goals as goal
 
 pub returns-in_default-clause-plays : goal.returns-in_default-clause-plays
 returns-in_default-clause-plays g c = λ after.
