@@ -72,7 +72,7 @@ struct Registers<'m> {
 }
 
 impl Held for Registers<'_> {
-    ghost operand = { λ h rs k. slice_index (map (register h.job.now h.places.now h.processor) rs) k };
+    ghost operand = { λ h rs. slice_index (map (register h.job.now h.places.now h.processor) rs) };
 
     ghost cell = { λ h cell. elim cell [ None ↦ 0 | Some c ↦ slice_index h.places.now c ] };
 

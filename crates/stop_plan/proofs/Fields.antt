@@ -1,10 +1,9 @@
 -- The fields of a record of three.
 use Rattle.std.proofs.Common.{◌≡◌, ◌≢◌, ℕ, ◌<◌, [], ◌∷◌, Some, None, length, refl, arith, zero, suc}
 use Rattle.csv.specs.Records.{field_at}
-use Rattle.stop_plan.specs.Records.{Field, Record, is_header, row_of}
+use Rattle.stop_plan.specs.Records.{Field, Record, row_of}
 use Rattle.stop_plan.specs.declared.plan.PlanKind.TheVariants.{BadRow}
-use Rattle.std.specs.Prelude.{Err, Bool, true, false, ◌&&◌, codes}
-use Rattle.std.specs.Str.{bytes_eq}
+use Rattle.std.specs.Prelude.{Err}
 
 pub within : (fields : Record) (i : ℕ) → i < length fields → field_at fields i ≡ None → ⊥
 unfolding field_at
@@ -20,18 +19,6 @@ three_are [] a b c three first second third = absurd (omega arith)
 three_are (x ∷ []) a b c three first second third = absurd (omega arith)
 three_are (x ∷ y ∷ []) a b c three first second third = absurd (omega arith)
 three_are (x ∷ y ∷ z ∷ w ∷ rest) a b c three first second third = absurd (omega arith)
-
-and_false : (b : Bool) → (b && false) ≡ false
-and_false true = refl
-and_false false = refl
-
-pub other_header : (fields : Record) → length fields ≢ 3 → is_header fields ≡ false
-unfolding is_header
-other_header [] other = refl
-other_header (x ∷ []) other = and_false _
-other_header (x ∷ y ∷ []) other = rw (and_false (bytes_eq y (codes "act"))) (and_false _)
-other_header (x ∷ y ∷ z ∷ []) other = absurd (other refl)
-other_header (x ∷ y ∷ z ∷ w ∷ rest) other = rw (and_false (bytes_eq z (codes "ticks")), and_false (bytes_eq y (codes "act"))) (and_false _)
 
 pub other_row : (workers : ℕ) (fields : Record) → length fields ≢ 3 → row_of workers fields ≡ Err BadRow
 unfolding row_of

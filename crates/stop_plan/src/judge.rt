@@ -26,7 +26,7 @@ fn is_word(field: &[u8], word: &str) -> bool
 }
 
 /// Whether a record is the header of a plan.
-#[tactic(auto, using(crate::proofs::Fields::other_header), unfolding(crate::specs::Records::is_header))]
+#[tactic(auto, unfolding(crate::specs::Records::is_header))]
 pub(crate) fn is_header(fields: &ByteRecord) -> bool
     ensures { result ≡ is_header (fields_of fields.now) }
 {

@@ -1,5 +1,7 @@
 -- A worker between two scripts.
-use Rattle.std.specs.Prelude.{ℕ, [], Some}
+use Rattle.std.specs.Prelude.{ℕ, ◌==◌, if◌then◌else◌, [], length}
+use Rattle.std.specs.Prelude.{Option, Some, None, option_map}
+use Rattle.walkx.specs.Doing.{Doing}
 use Rattle.walkx.specs.Doing as doing
 use Rattle.walkx.specs.Walk.{Walking}
 
@@ -10,3 +12,14 @@ turning number n q = record { number = number; node = Some n; now = doing.Turn q
 -- the worker of this number that begins at node n
 abbrev pub beginning : ℕ → ℕ → Walking
 beginning number n = record { number = number; node = Some n; now = doing.Begin; heard = [] }
+
+-- the node and the phase of a turn
+abbrev pub turn_in : Doing → Option ℕ → Option (ℕ × ℕ)
+turn_in doing.Back _ = None
+turn_in doing.Begin _ = None
+turn_in (doing.Turn q) at = option_map (λ n. (n, q)) at
+turn_in (doing.Over _) _ = None
+
+-- those of the turn that the worker makes and has heard nothing of, if it makes one
+abbrev pub turn_begun : Walking → Option (ℕ × ℕ)
+turn_begun w = if length w.heard == 0 then turn_in w.now w.node else None

@@ -11,7 +11,7 @@ use pram_words::{left, right, stamped};
 
 /// The operation that a stage asks for.
 #[inline(always)]
-#[tactic(auto, using(crate::proofs::Boards::length_small, crate::proofs::Hearing::hears_first), unfolding(crate::specs::Walk::begin_script, crate::specs::Walk::turn_script))]
+#[tactic(auto, unfolding(crate::specs::Walk::begin_script, crate::specs::Walk::turn_script))]
 pub(crate) fn operation(at: &Post, stage: Stage) -> Op
     requires { IsStage at.now stage }
     ensures { result ≡ next_op (doing_of stage at.now.phase) (script_at at.now stage) }

@@ -93,7 +93,7 @@ impl Reader {
 }
 
 // The operation that a stage asks for.
-#[tactic(auto, using(crate::proofs::Boards::length_small), unfolding(crate::specs::Reads::reader_script, crate::specs::Reads::read_script))]
+#[tactic(auto, unfolding(crate::specs::Reads::reader_script, crate::specs::Reads::read_script))]
 fn operation(layout: &Layout, cell: u32, stage: Glance) -> ReadOp
     requires cell { cell < layout.now.cells }
     ensures asks { result ≡ looks_for (script_of_glance layout.now cell stage) }
@@ -134,7 +134,7 @@ fn after(job: &Job, layout: &Layout, cell: u32, stage: Glance, answer: u64) -> G
 }
 
 // The root was heard.
-#[tactic(auto, using(crate::proofs::Boards::root_most), unfolding(crate::specs::Reads::reader_script))]
+#[tactic(auto, unfolding(crate::specs::Reads::reader_script))]
 fn after_root(job: &Job, layout: &Layout, cell: u32, root: u64) -> Glance
     requires board { IsBoard job.now layout.now }
     requires root { HearsGlance job.now layout.now cell Glance.Begin root }

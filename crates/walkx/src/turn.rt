@@ -60,7 +60,7 @@ pub(crate) fn after(at: &Post, stage: Stage, answer: u64) -> Step
 
 // What follows the root.
 #[inline(always)]
-#[tactic(auto, using(crate::proofs::Boards::root_most), unfolding(crate::specs::Walk::begin_script))]
+#[tactic(auto, unfolding(crate::specs::Walk::begin_script))]
 fn after_root(at: &Post, root: u64) -> Step
     requires root { HearsStage at.now Stage.Begin root }
     ensures rest { script_behind at.now result ≡ behind (script_at at.now Stage.Begin) root }

@@ -31,13 +31,13 @@ impl Model for Worker {
 }
 
 impl Worker {
-    ghost use Rattle.std.specs.Prelude.{◌≡◌, ◌<◌, IfSome, None, length};
+    ghost use Rattle.std.specs.Prelude.{◌≡◌, ◌<◌, None, length};
     ghost use Rattle.pram_text.specs.Job.{JobData};
     ghost use Rattle.pram_words.specs.Words.{LayoutData};
     ghost use Rattle.walkx.specs.Activities.{activity_of};
     ghost use Rattle.walkx.specs.Inner.Stages.{post_of};
     ghost use Rattle.walkx.specs.Serving.{Serves};
-    ghost use Rattle.walkx.specs.Turns.{beginning, turning};
+    ghost use Rattle.walkx.specs.Turns.{beginning, turn_begun};
     ghost use Rattle.walkx.specs.Walk.{Fits, AsksAdmitted, HearsAdmitted, IsBoard, IsLayoutOf};
     ghost use Rattle.walkx.specs.Walk.{IsStepOn, ask_of, come_back, end_of, started, told};
 
@@ -110,10 +110,13 @@ impl Worker {
 
     /// The node and the phase of the turn that the worker is at the start of, if it is at one.
     pub fn turn(&self) -> Option<(u32, u64)>
-        ensures { IfSome result (λ t. self.now.walking ≡ turning self.now.walking.number t.0 t.1) }
+        ensures { result ≡ turn_begun self.now.walking }
     {
-        match (self.stage, self.node) {
-            (Stage::Node, Some(node)) => Some((node, self.phase)),
+        if self.heard() != 0 {
+            return None;
+        }
+        match (self.activity(), self.node()) {
+            (Activity::Turn(phase), Some(node)) => Some((node, phase)),
             _ => None,
         }
     }
