@@ -32,6 +32,7 @@ impl<'a, G: Gate> Work<'a, G> {
             self.now.job.now.rule (kind_at phase) self.now.job.now self.now.layout (step_at phase) i
             after) (seat.old, made.old) after (seat.new, made.new) }
     {
+        // This tells the job's limits, so the phase's step fits.
         let _ = self.job.steps();
         let t = step_of(phase);
         match kind_of(phase) {

@@ -95,6 +95,7 @@ fn ask(alloc: Global, job: &Job, step: u32, mut state: State, rows: &mut [Reques
     ensures behind { IsKeptBehind job.now.procs rows.old rows.new }
 {
     laws::states_have_all_places();
+    // This tells the job's limits.
     let _ = job.steps();
     let count = u64::from(job.procs());
     write_rows(job, &state, rows);
@@ -136,6 +137,7 @@ fn row(job: &Job, state: &State, processor: u32) -> RequestRow
     requires reached { (t : ℕ) × IsStateAfter job.now t state.now }
     ensures { result ≡ row_in job.now state.now processor }
 {
+    // This tells the job's limits.
     let _ = job.procs();
     laws::requests_have_shape();
     laws::states_have_all_places();
@@ -201,6 +203,7 @@ fn register(job: &Job, state: &State, processor: u32, r: u8) -> u32
     requires register { r < 4 }
     ensures { result ≡ register_of job.now state.now processor r }
 {
+    // This tells the job's limits.
     let _ = job.procs();
     state.get(job.cells() + 4 * processor + u32::from(r))
 }
@@ -210,6 +213,7 @@ fn part_of_cell(job: &Job, cell: Option<u32>) -> u32
     requires { IfSome cell (λ c. c < job.now.cells) }
     ensures { result ≡ cell_part cell }
 {
+    // This tells the job's limits.
     let _ = job.cells();
     match cell {
         None => 0,
@@ -223,6 +227,7 @@ fn held(job: &Job, state: &State, cell: Option<u32>) -> u32
     requires places { length state.now ≡ place_count job.now }
     ensures { result ≡ held_part state.now cell }
 {
+    // This tells the job's limits.
     let _ = job.cells();
     match cell {
         None => 0,
@@ -236,6 +241,7 @@ fn aim(job: &Job, processor: u32, put: Option<(u32, u32)>) -> Target
     requires place { IfSome put (λ w. IsDataPlace job.now processor w.0) }
     ensures { result ≡ target_of job.now processor put }
 {
+    // This tells the job's limits.
     let _ = job.procs();
     let cells = job.cells();
     match put {

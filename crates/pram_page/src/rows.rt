@@ -109,6 +109,7 @@ fn was_older(world: &World, word: Word, before: u64) -> u32
     requires { IsWord world.now.layout word }
     ensures { result ≡ older_before world.now.layout world.now.words before word }
 {
+    // This tells the layout's limits.
     let _ = world.layout().length();
     match word {
         Word::Stored(p, 0) => {

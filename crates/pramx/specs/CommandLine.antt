@@ -1,16 +1,18 @@
 -- The program's command, and what a line holds of the matches of its words.
-use Rattle.std.specs.Prelude.{◌≡◌, ◌≤◌, ◌⊎◌, ◌-◌, ◌^◌, MatchOption, ℕ, Bool, true, false}
+use Rattle.std.specs.Prelude.{◌≡◌, ◌≢◌, ◌≤◌, ◌⊎◌, ◌-◌, ◌^◌, MatchOption, ℕ, Bool, true, false, []}
 use Rattle.std.specs.Prelude.{List, Option, Some, None, Result, IsErrAnd, IsSomeAnd, codes, pos}
 use Rattle.std.specs.Str.Parse.{digits_value, without_leading_plus}
-use Rattle.clap.specs.Words.{App, FailsBy, Row, Rule, Text}
+use Rattle.clap.specs.Words.{App, FailsBy, IsAmong, Row, Rule, Text}
 use Rattle.clap.specs.Words.{fault_of, first_of, kind_of, new_app, new_rule}
 use Rattle.clap.specs.Words.{one_of, subcommand_of, takes, with_rule, with_subcommand}
 use Rattle.clap.specs.declared.builder.action.ArgAction.TheVariants.{Set, SetTrue}
 use Rattle.clap.specs.declared.error.Error.{Error}
+use Rattle.clap.specs.declared.error.kind.ErrorKind.TheVariants.{DisplayHelp, DisplayVersion}
 use Rattle.clap.specs.declared.error.kind.ErrorKind.TheVariants.{OutOfMemory, ValueValidation}
 use Rattle.clap.specs.declared.builder.value_parser.ValueParser.TheVariants.{Signed}
 use Rattle.pram_commands.specs.CellLists.{SpellsCells}
 use Rattle.pram_commands.specs.Line.{text_of}
+use Rattle.pram_commands.specs.declared.refusal.TheConstants.{DONE, FAILED, MEMORY}
 use Rattle.pram_commands.specs.declared.line.Line.{Line}
 use Rattle.pram_commands.specs.declared.line.Line.TheVariants.{Check, Plain, Steps}
 use Rattle.pram_commands.specs.declared.line.Line.TheVariants.{Run, Watch, Replay}
@@ -209,3 +211,11 @@ abbrev pub FailsByWords : {T : Type 0} → List Text → Result T Error → Type
 FailsByWords words result = FailsBy (fault_of pramx words) result
     ⊎ (HasBadCells (subcommand_of pramx words)
     × IsErrAnd result (λ e. (kind_of e ≡ OutOfMemory) ⊎ (kind_of e ≡ ValueValidation)))
+
+-- Where the words are wrong, or ask for help or the version, the status is that of a failure, or
+-- help or the version was shown; or memory ran out.
+abbrev pub EndsByWords : List Text → ℕ → Type 0
+EndsByWords words status =
+    fault_of pramx words ≢ [] → (status ≡ MEMORY) ⊎ ((status ≡ FAILED)
+    ⊎ ((status ≡ DONE) × (IsAmong DisplayHelp (fault_of pramx words)
+    ⊎ IsAmong DisplayVersion (fault_of pramx words))))

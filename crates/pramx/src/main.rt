@@ -3,7 +3,9 @@
 //! `pramx watch FILE --workers W --cells C,C,.. --rounds R`.
 #![tactic(auto)]
 
-ghost use Rattle.std.specs.Prelude.{◌≡◌, ◌≤◌, false};
+ghost use Rattle.std.specs.Prelude.{◌≡◌, ◌≢◌, ◌⊎◌, ◌≤◌, false, map};
+ghost use Rattle.clap.specs.Words.{kind_of};
+ghost use Rattle.pramx.specs.CommandLine.{EndsByWords};
 
 mod input;
 mod line;
@@ -65,7 +67,8 @@ fn line_status<'a, R: Files + Print + Eprint + Threads + Wait + Clock + Sync, E:
     err: &mut E,
 ) -> u8
     requires { E.has_failed err.old ≡ false }
-    ensures { result ≤ MEMORY }
+    ensures status { result ≤ MEMORY }
+    ensures words { EndsByWords (map (λ w. w.now) words.entry.now) result }
 {
     let line = match read_line(alloc, words) {
         Ok(line) => line,
@@ -93,7 +96,12 @@ fn refusal_status<R: Print + Eprint, E: Sink>(
     err: &mut E,
 ) -> u8
     requires { E.has_failed err.old ≡ false }
-    ensures { result ≤ MEMORY }
+    ensures status { result ≤ MEMORY }
+    ensures memory { kind_of error.now ≡ ErrorKind.OutOfMemory → result ≡ MEMORY }
+    ensures wrong { kind_of error.now ≢ ErrorKind.OutOfMemory
+        → kind_of error.now ≢ ErrorKind.DisplayHelp
+        → kind_of error.now ≢ ErrorKind.DisplayVersion → result ≡ FAILED }
+    ensures shown { (result ≡ DONE) ⊎ (FAILED ≤ result) }
 {
     if error.kind() == ErrorKind::OutOfMemory {
         return tell(alloc, Refusal::Memory, err);
