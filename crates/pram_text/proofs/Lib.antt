@@ -21,3 +21,4 @@ pub mod LawOneFault
 pub mod LawOneJob
 pub mod LawSkipped
 pub mod Worded
+pub mod Splitting

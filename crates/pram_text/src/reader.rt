@@ -1,6 +1,8 @@
 //! Reads a text line by line.
-ghost use Rattle.std.specs.Prelude.{◌≡◌, ◌≢◌, ◌≤◌, ℕ, [], List, IfOk, IfErr, vec_len};
-ghost use Rattle.pram_text.specs.Lines.{Line, words_of};
+ghost use Rattle.std.specs.Prelude.{◌≡◌, ◌≢◌, ◌≤◌, ◌<◌, ℕ, [], ◌∷◌, List};
+ghost use Rattle.std.specs.Prelude.{IfOk, IfErr, IfSome, length, vec_len};
+ghost use Rattle.pram_text.specs.Lines.{Line, lines_of, words_of};
+ghost use Rattle.pram_text.specs.Inner.Behind.{lines_behind};
 ghost use Rattle.pram_text.specs.Inner.Reading.{Finishes, Holds, HoldsAt};
 ghost use Rattle.pram_text.specs.Inner.Reading.{TakesLine, TakesWords, numbers_of};
 ghost use Rattle.pram_text.specs.Text.{IsRefusal, Spells};
@@ -12,6 +14,7 @@ use crate::job::Job;
 use crate::program::Program;
 use crate::start::{start_values, take_start};
 use crate::words::{has_words, is_lawful};
+use memchr::memchr;
 use std::alloc::Global;
 
 /// The job that a text spells, or the first line that is wrong, and what is wrong with it.
@@ -24,13 +27,30 @@ pub fn read_job(alloc: Global, text: &[u8]) -> Result<Job, TextFault>
 {
     let mut reader = Reader::new(alloc);
     let mut number = 0;
-    for line in text.split(|byte| *byte == b'\n') {
+    let mut rest = Some(text);
+    while let Some(below) = rest {
+        let (line, behind) = first_line(below);
         number += 1;
         if let Err(kind) = reader.take(number, line) {
             return Err(refusal(number, kind));
         }
+        rest = behind;
     }
     reader.finish(number)
+}
+
+// The first line, and what is behind its line feed, if it has one.
+fn first_line(text: &[u8]) -> (&[u8], Option<&[u8]>)
+    ensures lines { lines_of text.now ≡ result.0.now ∷ lines_behind result.1 }
+    ensures shorter { IfSome result.1 (λ rest. length rest.now < length text.now) }
+{
+    match memchr(b'\n', text) {
+        None => (text, None),
+        Some(end) => {
+            let (line, rest) = text.split_at(end);
+            (line, Some(&rest[1..]))
+        }
+    }
 }
 
 // The fault of a line. Where memory ran out it is no line's.

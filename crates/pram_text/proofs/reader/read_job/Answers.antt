@@ -1,45 +1,66 @@
-use Rattle.std.proofs.Common.{◌≡◌, ◌<◌, ◌+◌, ◌==◌, ◌∙◌, [], length, get_or, sym, ap, subst, refl, rules, tests}
-use Rattle.std.proofs.lemmas.Iterator.Consumers.{YieldsList-turn, YieldsList-end}
-use Rattle.std.proofs.lemmas.Iterator.Splits.{YieldsList-from_slice_split}
-use Rattle.std.proofs.lemmas.List.{length_push, get_or_default}
+use Rattle.std.proofs.Common.{◌≡◌, ◌<◌, ◌+◌, ◌^◌, ◌∙◌, ◌∷◌, ℕ, suc, [], length, drop, get_or, refl, sym, ap, subst, arith, rules}
 use Rattle.pram_text.specs.Lines.{lines_of}
+use Rattle.pram_text.specs.Inner.Behind.{lines_behind}
 use Rattle.pram_text.specs.Text.{Bears}
 use Rattle.pram_text.proofs.Judged.{HasRead-none, HasRead-more, Bears-line, IsRefusal-from, spells_from_finish, bears_from_finish}
+use Rattle.pram_text.proofs.Splitting.{at_front, none_left, lines_few}
 use Rattle.pram_text.proofs.reader.read_job.Goals as goal
-use Rattle.pram_text.proofs.reader.read_job.Goals.{In-Some}
+use Rattle.pram_text.proofs.reader.read_job.Goals.{After-first_line, In_default}
 
-pub loop-line-init : goal.loop-line-init
-loop-line-init c = (refl, HasRead-none _ c.new-reader.result c.new-reader.ensures.held c.new-reader.ensures.numbers)
+pub loop-rest-init : goal.loop-rest-init
+loop-rest-init c = (omega arith, refl, HasRead-none _ c.new-reader.result c.new-reader.ensures.held c.new-reader.ensures.numbers)
 
--- the line that is read is the text's next
-next_line : (c : In-Some) → (c.loop-line.number < length (lines_of c.args.text.now)) × (c.in-Some.line.now ≡ get_or (lines_of c.args.text.now) c.loop-line.number [])
-next_line c =
-    let lines = YieldsList-from_slice_split _ (λ b. b == 10) c.args.text.now (cc) (cc) (cc) (λ x b q k. search (rules, tests)) in
-    let turn = YieldsList-turn lines c.loop-line.yielded _ c.loop-line.yielded_by _ _ c.in-Some.line c.in-Some.is c.next.ensures.steps in
-    let n = c.loop-line.invariant.0 in
-    (rw n turn.0, rw n (turn.1 ∙ get_or_default (lines_of c.args.text.now) _ _ [] turn.0))
+-- the line that is read is the text's next, and what is left is behind it
+next_line : (c : After-first_line) → (c.loop-rest.number < length (lines_of c.args.text.now)) × (c.first_line.result.0.now ≡ get_or (lines_of c.args.text.now) c.loop-rest.number [])
+    × (drop (suc c.loop-rest.number) (lines_of c.args.text.now) ≡ lines_behind c.first_line.result.1)
+next_line c = at_front _ _ _ _ (c.loop-rest.invariant.1 ∙ ap lines_behind c.in-Some.is ∙ c.first_line.ensures.lines)
 
-pub loop-line-preserved : goal.loop-line-preserved
-loop-line-preserved c =
-    let read = c.loop-line.invariant.1 in
-    let next = next_line (goal.at.loop-line-preserved c).In-Some in
-    (ap (λ n. n + 1) c.loop-line.invariant.0 ∙ sym (length_push c.loop-line.yielded c.in-Some.line), HasRead-more (lines_of c.args.text.now) _ _ _ c.loop-line.reader c.take.new.self read next.0 next.1 refl (c.in_default.ensures _ read.held))
+pub overflow_add-number : goal.overflow_add-number
+overflow_add-number c =
+    let next = next_line (goal.at.overflow_add-number c).After-first_line in
+    let bound : length c.args.text.now < 2 ^ 63 = search rules in
+    let below : c.loop-rest.number + 1 < 2 ^ 64 = omega (arith, next.0, lines_few c.args.text.now, bound) in
+    search rules
+
+pub take-requires : goal.take-requires
+take-requires c = (_, c.loop-rest.invariant.2.held)
 
 pub returns-in-Err-clause-bears : goal.returns-in-Err-clause-bears
 returns-in-Err-clause-bears c =
-    let read = c.loop-line.invariant.1 in
-    let next = next_line (goal.at.returns-in-Err-clause-bears c).In-Some in
+    let read = c.loop-rest.invariant.2 in
+    let next = next_line (goal.at.returns-in-Err-clause-bears c).After-first_line in
     rw c.refusal.ensures.kind (IsRefusal-from c.args.text.now _ c.in-Err.kind
     (λ other. subst (λ k. Bears c.args.text.now k c.in-Err.kind) (sym (c.refusal.ensures.line other))
-    (Bears-line c.args.text.now _ _ _ c.loop-line.reader _ read next.0 next.1 refl (c.in-Err.ensures _ read.held other)))
+    (Bears-line c.args.text.now _ _ _ c.loop-rest.reader _ read next.0 next.1 refl (c.in-Err.ensures _ read.held other)))
     c.refusal.ensures.memory)
 
-pub returns : goal.returns
-returns c =
-    let lines = YieldsList-from_slice_split _ (λ b. b == 10) c.args.text.now (cc) (cc) (cc) (λ x b q k. search (rules, tests)) in
-    let end = YieldsList-end lines c.loop-line.yielded _ c.loop-line.yielded_by _ _ c.in-None.is c.next.ensures.steps in
-    let all = c.loop-line.invariant.0 ∙ end.1 in
-    record {
-      spells = spells_from_finish c.args.text.now _ c.loop-line.reader _ c.loop-line.invariant.1 all c.finish.ensures.told;
-      bears = bears_from_finish c.args.text.now _ c.loop-line.reader _ c.loop-line.invariant.1 all c.finish.ensures.told c.finish.ensures.memory;
-    }
+pub loop-rest-smaller : goal.loop-rest-smaller
+loop-rest-smaller c =
+    let here : lines_behind c.loop-rest.rest ≡ c.first_line.result.0.now ∷ lines_behind c.first_line.result.1 = ap lines_behind c.in-Some.is ∙ c.first_line.ensures.lines in
+    let e = ap length here in
+    omega (arith, e)
+
+pub loop-rest-preserved : goal.loop-rest-preserved
+loop-rest-preserved c =
+    let read = c.loop-rest.invariant.2 in
+    let next = next_line (goal.at.loop-rest-preserved c).After-first_line in
+    let one : c.loop-rest.number + 1 ≡ suc c.loop-rest.number = omega arith in (
+      omega (arith, next.0),
+      ap (λ (n : ℕ). drop n (lines_of c.args.text.now)) one ∙ next.2,
+      HasRead-more (lines_of c.args.text.now) _ _ _ c.loop-rest.reader c.take.new.self read next.0 next.1 refl (c.in_default-take.ensures _ read.held),
+    )
+
+-- no line is left
+all_read : (c : In_default) → c.loop-rest.number ≡ length (lines_of c.args.text.now)
+all_read c = none_left _ _ c.loop-rest.invariant.0 (c.loop-rest.invariant.1 ∙ ap lines_behind c.in_default.is)
+
+pub finish-requires : goal.finish-requires
+finish-requires c = (_, c.loop-rest.invariant.2.held)
+
+pub returns-clause-spells : goal.returns-clause-spells
+returns-clause-spells c =
+    spells_from_finish c.args.text.now _ c.loop-rest.reader _ c.loop-rest.invariant.2 (all_read (goal.at.returns-clause-spells c).In_default) c.finish.ensures.told
+
+pub returns-clause-bears : goal.returns-clause-bears
+returns-clause-bears c =
+    bears_from_finish c.args.text.now _ c.loop-rest.reader _ c.loop-rest.invariant.2 (all_read (goal.at.returns-clause-bears c).In_default) c.finish.ensures.told c.finish.ensures.memory
