@@ -3,3 +3,4 @@ pub mod Fields
 pub mod Rest
 pub mod Faults
 pub mod LawFacts
+pub mod RowFaults

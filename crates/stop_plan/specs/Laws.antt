@@ -1,9 +1,11 @@
 -- Laws of plans and their schedules.
-use Rattle.std.specs.Prelude.{◌≡◌, ◌≢◌, ◌<◌, ◌⊎◌, ℕ, List, All}
+use Rattle.std.specs.Prelude.{◌≡◌, ◌≢◌, ◌<◌, ◌⊎◌, ℕ, true, List, ◌∷◌, All, map}
 use Rattle.stop_plan.specs.declared.plan.PlanKind.{PlanKind}
 use Rattle.stop_plan.specs.declared.plan.PlanKind.TheVariants.{Memory}
+use Rattle.stop_plan.specs.declared.plan.Row.{Row}
 use Rattle.stop_plan.specs.Plan.{PlanData}
-use Rattle.stop_plan.specs.Records.{FirstFault, Record, SpellsPlan}
+use Rattle.stop_plan.specs.Records.{FirstFault, Record, SpellsPlan, is_header, row_of}
+use Rattle.stop_plan.specs.Rows.{FirstBadRow, IsPlanOf, judged_row}
 use Rattle.stop_plan.specs.Schedule.{Events, IsSchedule, Running}
 
 -- records spell at most one plan
@@ -32,6 +34,15 @@ NeverBoth = (workers : ℕ) (all : List Record) (plan : PlanData) (row : ℕ) (k
 abbrev pub RowsNameWorkers : Type 0
 RowsNameWorkers = (workers : ℕ) (all : List Record) (plan : PlanData) → SpellsPlan workers all plan
     → (plan.workers ≡ workers) × All (λ row. row.worker < workers) plan.rows
+
+-- rows are judged as a text is whose records below the header say them
+abbrev pub RowsAsTexts : Type 0
+RowsAsTexts =
+    (workers : ℕ) (header : Record) (below : List Record) (rows : List Row) →
+    is_header header ≡ true → map (row_of workers) below ≡ map (judged_row workers) rows
+    → ((plan : PlanData) → SpellsPlan workers (header ∷ below) plan → IsPlanOf workers rows plan)
+    × ((row : ℕ) (kind : PlanKind) → FirstFault workers (header ∷ below) row kind →
+    FirstBadRow workers rows row kind)
 
 -- a plan has at most one schedule
 abbrev pub OneSchedule : Type 0 → Type 0

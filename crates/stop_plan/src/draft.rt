@@ -1,10 +1,11 @@
-//! The rows of a plan while it is read.
+//! The rows of a plan while they are judged.
 ghost use Rattle.std.specs.Prelude.{◌≡◌, ◌++◌, ◌∷◌, [], false, Ok, IfOk, Some, MatchResult};
 ghost use Rattle.csv.specs.Records.{fields_of};
 ghost use Rattle.stop_plan.specs.Plan.{stops};
 ghost use Rattle.stop_plan.specs.Records.{fault_below, row_of};
+ghost use Rattle.stop_plan.specs.Rows.{judged_row};
 
-use crate::judge::row_of;
+use crate::judge::{judged_row, row_of};
 use crate::plan::{Act, Plan, PlanKind, Row};
 use csv::ByteRecord;
 use std::alloc::{AllocError, Global};
@@ -50,7 +51,24 @@ impl Draft {
             × (stops self.now row.worker ≡ false))
             (λ kind. fault_below (row_of workers (fields_of fields.now)) self.now ≡ Some kind) }
     {
-        let row = row_of(workers, fields)?;
+        self.after_stop(row_of(workers, fields)?)
+    }
+
+    /// A row after those so far.
+    pub(crate) fn judge_row(&self, workers: u32, row: Row) -> Result<Row, PlanKind>
+        ensures { MatchResult result
+            (λ next. (judged_row workers row ≡ Ok next) × (stops self.now next.worker ≡ false))
+            (λ kind. fault_below (judged_row workers row) self.now ≡ Some kind) }
+    {
+        self.after_stop(judged_row(workers, row)?)
+    }
+
+    // The row, unless one of those so far stops its worker.
+    fn after_stop(&self, row: Row) -> Result<Row, PlanKind>
+        ensures { MatchResult result
+            (λ next. (next ≡ row) × (stops self.now row.worker ≡ false))
+            (λ kind. fault_below (Ok row) self.now ≡ Some kind) }
+    {
         if self.stopped.contains(&row.worker) {
             return Err(PlanKind::AfterStop);
         }
@@ -72,6 +90,6 @@ impl Draft {
     pub(crate) fn into_plan(self, workers: u32) -> Plan
         ensures { result ≡ record { workers = workers; rows = self } }
     {
-        Plan::new(workers, self.rows)
+        Plan::with_rows(workers, self.rows)
     }
 }

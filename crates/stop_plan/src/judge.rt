@@ -3,6 +3,7 @@ ghost use Rattle.std.specs.Prelude.{◌≡◌, ◌≢◌, ◌∷◌, [], length,
 ghost use Rattle.std.specs.Str.{bytes_eq};
 ghost use Rattle.csv.specs.Records.{fields_of};
 ghost use Rattle.stop_plan.specs.Records.{act_of, is_header, row_of, ticks_end};
+ghost use Rattle.stop_plan.specs.Rows.{judged_row};
 
 use crate::number::number_below;
 use crate::plan::{Act, PlanKind, Row};
@@ -81,4 +82,17 @@ pub(crate) fn row_of(workers: u32, fields: &ByteRecord) -> Result<Row, PlanKind>
         return Err(PlanKind::BadNumber);
     };
     Ok(Row { worker, act, ticks })
+}
+
+/// The row, if it is a good one by itself.
+pub(crate) fn judged_row(workers: u32, row: Row) -> Result<Row, PlanKind>
+    ensures { result ≡ judged_row workers row }
+{
+    if row.worker >= workers {
+        return Err(PlanKind::BadWorker);
+    }
+    if u64::from(row.ticks) >= ticks_end(row.act) {
+        return Err(PlanKind::BadNumber);
+    }
+    Ok(row)
 }

@@ -1,6 +1,6 @@
 //! Laws of the definitions, each the contract of a function that does nothing.
 ghost use Rattle.stop_plan.specs.Laws.{NeverBoth, OneFault, OnePlan, OneSchedule};
-ghost use Rattle.stop_plan.specs.Laws.{PlanOrFault, RowsNameWorkers};
+ghost use Rattle.stop_plan.specs.Laws.{PlanOrFault, RowsAsTexts, RowsNameWorkers};
 
 /// Records spell at most one plan.
 pub fn one_plan()
@@ -25,6 +25,12 @@ pub fn never_both()
 /// Each row of a plan names one of its workers.
 pub fn rows_name_workers()
     ensures { RowsNameWorkers }
+{}
+
+/// Rows are judged as a text is that says them: the same plan, or the same fault of the same
+/// record.
+pub fn rows_as_texts()
+    ensures { RowsAsTexts }
 {}
 
 /// A plan has at most one schedule, whatever world says which workers still run.

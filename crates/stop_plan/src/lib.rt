@@ -9,8 +9,9 @@ pub mod laws;
 mod number;
 mod plan;
 mod read;
+mod rows;
 
-pub use gate::{Gate, Open};
+pub use gate::{Gate, Open, Paced};
 pub use plan::{Act, Plan, PlanFault, PlanKind, Row};
 pub use read::read_plan;
 

@@ -43,12 +43,19 @@ pub enum PlanKind {
     Memory,
 }
 
-/// The first bad record of a text, counted from 1, and what is wrong with it.
+/// The first bad record of a text, counted from 1, and what is wrong with it. Of rows without a
+/// text it is the record that the row would be below a header, so rows are counted from 2.
 #[derive(Clone, Copy, Debug, PartialEq, Eq)]
 pub struct PlanFault {
     pub row: u64,
     pub kind: PlanKind,
 }
+
+/// What is answered where memory ran out.
+pub(crate) const NO_MEMORY: PlanFault = PlanFault {
+    row: 0,
+    kind: PlanKind::Memory,
+};
 
 /// What the workers of a run do before they go on without a limit.
 #[derive(Drop)]
@@ -68,10 +75,10 @@ impl Plan {
     pub fn empty(alloc: Global, workers: u32) -> Plan
         ensures { result ≡ record { workers = workers; rows = [] } }
     {
-        Plan::new(workers, Vec::new(alloc))
+        Plan::with_rows(workers, Vec::new(alloc))
     }
 
-    pub(crate) fn new(workers: u32, rows: Vec<Row>) -> Plan
+    pub(crate) fn with_rows(workers: u32, rows: Vec<Row>) -> Plan
         ensures { result ≡ record { workers = workers; rows = rows.items } }
     {
         Plan { workers, rows }
@@ -84,7 +91,7 @@ impl Plan {
         self.workers
     }
 
-    /// The rows, in the order of the text.
+    /// The rows, in their order.
     pub fn rows(&self) -> &[Row]
         ensures { result.now ≡ self.now.rows }
     {

@@ -8,15 +8,10 @@ ghost use Rattle.stop_plan.specs.Records.{FirstFault, SpellsPlan, no_memory, rec
 
 use crate::draft::Draft;
 use crate::judge::is_header;
-use crate::plan::{Plan, PlanFault, PlanKind};
+use crate::plan::{NO_MEMORY, Plan, PlanFault, PlanKind};
 use csv::{ByteRecord, Error, Reader, ReaderBuilder};
 use std::alloc::Global;
 use std::io::Read;
-
-const NO_MEMORY: PlanFault = PlanFault {
-    row: 0,
-    kind: PlanKind::Memory,
-};
 
 // Of the errors that stop a reader the text in memory gives none, so what is left is memory.
 fn refused(_error: Error) -> PlanFault

@@ -1,7 +1,10 @@
 //! The answers on known texts, and that calls with memory succeed.
-use crate::{Act, Gate, Open, Plan, PlanFault, PlanKind, Row, read_plan};
+use crate::{Act, Gate, Open, Paced, Plan, PlanFault, PlanKind, Row, read_plan};
 use std::alloc::Global;
+use std::io;
+use std::sync::atomic::{AtomicU64, Ordering};
 use std::test::Fail;
+use std::time::{Clock, Duration};
 
 // What is wrong with rows under a header, for four workers.
 fn fault_under_header(alloc: Global, rows: &str) -> Result<Option<PlanFault>, Fail> {
@@ -91,6 +94,41 @@ fn rows_of_a_plan(rt: HostRuntime) -> Result<(), Fail> {
 }
 
 #[test]
+fn plans_from_rows(rt: HostRuntime) -> Result<(), Fail> {
+    let alloc = rt.alloc();
+    let row = |worker, act, ticks| Row { worker, act, ticks };
+    let rows = [
+        row(2, Act::Go, u32::MAX),
+        row(0, Act::Sleep, 3),
+        row(2, Act::Back, 0),
+        row(0, Act::Stop, 0),
+        row(2, Act::Go, 0),
+    ];
+    let Ok(plan) = Plan::new(alloc, 3, &rows) else {
+        assert!(rt; false);
+        return Ok(());
+    };
+    assert_eq!(rt; plan.workers(), 3);
+    assert_eq!(rt; plan.rows(), rows.as_slice());
+    // The fourth row stops the worker of the second, and would be record 5 of a text.
+    let late = [rows[0], rows[1], rows[2], rows[3], rows[1]];
+    assert_eq!(rt;
+        Plan::new(alloc, 3, &late).err(),
+        bad(6, PlanKind::AfterStop)
+    );
+    assert_eq!(rt;
+        Plan::new(alloc, 2, &rows).err(),
+        bad(2, PlanKind::BadWorker)
+    );
+    let ticks = [row(0, Act::Stop, 1)];
+    assert_eq!(rt;
+        Plan::new(alloc, 2, &ticks).err(),
+        bad(2, PlanKind::BadNumber)
+    );
+    Ok(())
+}
+
+#[test]
 fn plans_without_rows(rt: HostRuntime) {
     let alloc = rt.alloc();
     assert_eq!(rt; read_plan(alloc, b"", 4).err(), None);
@@ -107,4 +145,39 @@ fn pass_once<G: Gate>(gate: &G) {
 #[test]
 fn the_open_gate_returns() {
     pass_once(&Open);
+}
+
+// A clock that stands still but for its sleeps.
+#[derive(Drop)]
+struct Slept {
+    micros: AtomicU64,
+}
+
+impl Clock for Slept {
+    fn monotonic(&self) -> io::Result<Duration> {
+        Ok(Duration::from_micros(self.micros.load(Ordering::SeqCst)))
+    }
+
+    fn since_1970(&self) -> io::Result<Duration> {
+        self.monotonic()
+    }
+
+    fn sleep(&self, duration: Duration) {
+        let micros = u64::try_from(duration.as_micros()).unwrap_or(u64::MAX);
+        self.micros.fetch_add(micros, Ordering::SeqCst);
+    }
+}
+
+#[test]
+fn each_pass_of_a_paced_gate_takes_its_pause(rt: HostRuntime) -> Result<(), Fail> {
+    let clock = Slept {
+        micros: AtomicU64::new(0),
+    };
+    let gate = Paced::new(&clock, Duration::from_micros(250));
+    assert_eq!(rt; gate.pause(), Duration::from_micros(250));
+    for _ in 0..3 {
+        pass_once(&gate);
+    }
+    assert_eq!(rt; clock.monotonic()?, Duration::from_micros(750));
+    Ok(())
 }
