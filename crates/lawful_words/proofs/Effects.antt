@@ -6,8 +6,10 @@ use Rattle.pram_words.specs.declared.phases.Kind.TheVariants.{Compute, Apply, Ve
 use Rattle.pram_words.specs.Phases.{kind_at, step_at}
 use Rattle.lawful_words.specs.Laws.{WritesKeepWordsLawful}
 use Rattle.lawful_words.specs.Board.{phase_in}
+use Rattle.pram_words.specs.declared.words.Word.TheVariants.{Position}
+use Rattle.lawful_words.proofs.Frames.{only_set}
 use Rattle.lawful_words.proofs.Raising.{kind_of, inner_does, padded_does, leaf_does}
-use Rattle.lawful_words.proofs.Setting.{conflict_does, claim_does, stored_does, asked_does}
+use Rattle.lawful_words.proofs.Setting.{conflict_does, claim_does, stored_does, asked_does, store_keeps}
 
 -- the phase of a kind in a step
 data Phase (x q : ℕ) : Type 0 where
@@ -37,4 +39,8 @@ writes_keep job y words q x stands some most step floor = record {
   place = λ p i v a b phase asks wins as_heard. stored_does job y words q x stands some most step floor p i v phase asks wins a b as_heard;
   conflict = λ kind not. conflict_does job y words q x stands some most step floor kind not (phase_at x q Verify some step kind);
   claim = λ c i v is kind asks. claim_does job y words q x stands some most step floor c i v is (phase_at x q Apply some step kind) asks;
+  position = λ w n worker low high. record {
+    keeps = store_keeps job y w n words stands worker low high;
+    others = (only_set y (Position w) n words stands.sizes stands.admitted.len worker).rest;
+  };
 }

@@ -1,17 +1,18 @@
 -- What the two words of a place hold: the values of the steps that their stamps tell.
-use Rattle.std.proofs.Common.{◌≡◌, ℕ, suc, ◌<◌, ◌≤◌, nat_le, false, List, slice_index, refl, sym, ap, ◌∙◌, inl, inr, lit<, arith}
+use Rattle.std.proofs.Common.{◌≡◌, ℕ, suc, ◌<◌, ◌≤◌, ◌⊎◌, nat_le, false, List, slice_index, refl, sym, ap, ◌∙◌, inl, inr, lit<, arith}
 use Rattle.std.proofs.lemmas.Bool.{lt-leb, or_from}
-use Rattle.pram_text.specs.Job.{JobData}
+use Rattle.pram_text.specs.Job.{IsJob, JobData}
 use Rattle.pram_step.specs.Runs.{IsReached, state_after}
 use Rattle.pram_step.specs.History.{last_write, write_before}
 use Rattle.pram_step.proofs.LawFixed.{reached_down}
-use Rattle.pram_step.proofs.Past.{value_between, written_value}
+use Rattle.pram_step.proofs.Past.{last_most, value_between, written_value}
 use Rattle.pram_words.specs.declared.words.Word.TheVariants.{Stored}
 use Rattle.pram_words.specs.Stamps.{stamp_of, payload_of}
 use Rattle.pram_words.specs.Words.{LayoutData, IsWord, places_of}
 use Rattle.walkx.specs.Tasks.{is_late}
-use Rattle.lawful_words.specs.Board.{held, root, stamp_at, finished, Stands, Grows}
-use Rattle.lawful_words.specs.Laws.{FinishedStepsAreHeld}
+use Rattle.lawful_words.specs.Board.{held, root, stamp_at, finished, Stands, Grows, IsPair, newer_first, newer_second, new_first, new_second}
+use Rattle.lawful_words.specs.Steps.{settled}
+use Rattle.lawful_words.specs.Laws.{FinishedStepsAreHeld, LastFinishedStepIsHeld}
 use Rattle.lawful_words.proofs.Values.{WordIs, is_settled, is_before, is_new, stamp_step, payload_step}
 use Rattle.lawful_words.proofs.Moments.{same}
 use Rattle.lawful_words.proofs.Facts.{facts, place_below, word_is}
@@ -84,3 +85,18 @@ finished_held job y words x p stands place h =
       λ first second. (place_as_heard job y x p _ _ words words words stands stands stands up up place (reached_down job x (finished y words) h stands.lawful.reached) (omega arith) refl refl
           (is_early x (held y words (Stored p 0)) (held y words (Stored p 1)) first second)).value,
     )
+
+settled_low : (job : JobData) (f p word : ℕ) → IsJob job → word ≡ settled job f p → stamp_of word ≤ f
+settled_low job f p word is e =
+    let stamp = ap stamp_of e ∙ stamp_step job (last_write job f p) p is in
+    omega (arith, stamp, last_most job f p)
+
+-- of a place's two words one is settled
+one_low : (job : JobData) (f r p a b : ℕ) → IsJob job → IsPair job f r p a b → (stamp_of a ≤ f) ⊎ (stamp_of b ≤ f)
+one_low job f r p a b is (newer_first first second) = inl (settled_low job f p a is first)
+one_low job f r p a b is (newer_second second first some) = inr (settled_low job f p b is second)
+one_low job f r p a b is (new_first new second) = inr (settled_low job f p b is second)
+one_low job f r p a b is (new_second new first some) = inl (settled_low job f p a is first)
+
+pub last_held : LastFinishedStepIsHeld
+last_held job y words p stands place = one_low job (finished y words) (root y words) p _ _ stands.limits (stands.lawful.stored p place)

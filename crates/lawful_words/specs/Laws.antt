@@ -1,5 +1,5 @@
 -- What the laws of lawful words say.
-use Rattle.std.specs.Prelude.{◌≡◌, ℕ, suc, ◌*◌, ◌<◌, ◌≤◌, List, slice_index}
+use Rattle.std.specs.Prelude.{◌≡◌, ◌⊎◌, ℕ, suc, ◌*◌, ◌<◌, ◌≤◌, List, slice_index}
 use Rattle.pram_text.specs.Job.{JobData, IsJob}
 use Rattle.pram_step.specs.Runs.{state_after}
 use Rattle.pram_words.specs.declared.layout.Form.{Form}
@@ -27,7 +27,7 @@ WritesKeepWordsLawful = (job : JobData) (y : LayoutData) (words : List ℕ) (q x
     Stands job y words → 1 ≤ q → q ≤ 3 * job.steps →
     step_at q ≡ suc x → Floor job y q x words → MayWrite job y words q x
 
--- Of a place after step x, the newest word that is no newer than x has the value.
+-- Of a place after step x, the newest word that is no newer than x has the value, if there is one.
 abbrev pub FinishedStepsAreHeld : Type 0
 FinishedStepsAreHeld = (job : JobData) (y : LayoutData) (words : List ℕ) (x p : ℕ) →
     Stands job y words → p < places_of y → x ≤ finished y words →
@@ -38,6 +38,12 @@ FinishedStepsAreHeld = (job : JobData) (y : LayoutData) (words : List ℕ) (x p 
     × (stamp_at y words p 0 ≤ x → stamp_at y words p 1 ≤ x →
     newer_payload (held y words (Stored p 0)) (held y words (Stored p 1))
     ≡ slice_index (state_after job x) p)
+
+-- and after the last finished step there is one
+abbrev pub LastFinishedStepIsHeld : Type 0
+LastFinishedStepIsHeld = (job : JobData) (y : LayoutData) (words : List ℕ) (p : ℕ) →
+    Stands job y words → p < places_of y
+    → (stamp_at y words p 0 ≤ finished y words) ⊎ (stamp_at y words p 1 ≤ finished y words)
 
 -- a record that the words bear out
 abbrev pub BackedIsFaithful : Type 0

@@ -3,12 +3,14 @@ use Rattle.std.specs.Prelude.{◌≡◌, ◌≢◌, ℕ, suc, ◌+◌, ◌*◌, 
 use Rattle.pram_text.specs.Job.{JobData}
 use Rattle.pram_step.specs.Runs.{IsReached, AgreesAfter, state_after}
 use Rattle.pram_words.specs.declared.phases.Kind.TheVariants.{Compute, Apply, Verify}
-use Rattle.pram_words.specs.declared.words.Word.TheVariants.{Conflict, Node, Asked, Stored, Claim}
+use Rattle.pram_words.specs.declared.words.Word.{Word}
+use Rattle.pram_words.specs.declared.words.Word.TheVariants.{Conflict, Node, Asked, Position}
+use Rattle.pram_words.specs.declared.words.Word.TheVariants.{Stored, Claim}
 use Rattle.pram_words.specs.Stamps.{stamped_word}
 use Rattle.pram_words.specs.Phases.{kind_at}
 use Rattle.pram_words.specs.Words.{LayoutData, IsWord, number_of}
 use Rattle.walkx.specs.declared.operation.Op.{Op}
-use Rattle.walkx.specs.declared.operation.Op.TheVariants.{Max, Swap}
+use Rattle.walkx.specs.declared.operation.Op.TheVariants.{Store, Max, Swap}
 use Rattle.walkx.specs.Operations.{words_after}
 use Rattle.walkx.specs.Tasks.{first_is_older, newer_payload, claim_of, older, older_word}
 use Rattle.pram_step.specs.History.{Asks, Wins, part_after}
@@ -35,9 +37,15 @@ pub record Does (job : JobData) (y : LayoutData) (q : ℕ) (op : Op) (words : Li
   pub keeps : Keeps job y op words
   pub still : q ≤ root y words → words_after words op ≡ words
 
+-- A position's store keeps the words, whatever the phase, and changes no other word.
+pub record Moves (job : JobData) (y : LayoutData) (w n : ℕ) (words : List ℕ) : Type 0 where
+  pub keeps : Keeps job y (Store (number_of y (Position w)) n) words
+  pub others : (a : Word) → IsWord y a → a ≢ Position w →
+      held y (words_after words (Store (number_of y (Position w)) n)) a ≡ held y words a
+
 -- A part of a request; a node whose children are finished; a leaf with no processor; a leaf whose
 -- work is done; a place, by a write that wins; the step, as a conflict; the claim of a cell that is
--- written.
+-- written; a worker's position, as a node.
 pub record MayWrite (job : JobData) (y : LayoutData) (words : List ℕ) (q x : ℕ) : Type 0 where
   pub request : (i j : ℕ) → i < y.procs → j < 3 → kind_at q ≡ Compute →
       Does job y q
@@ -58,3 +66,4 @@ pub record MayWrite (job : JobData) (y : LayoutData) (words : List ℕ) (q x : �
       Does job y q (Swap (number_of y Conflict) 0 (suc x)) words
   pub claim : (c i v : ℕ) → IsWord y (Claim c) → kind_at q ≡ Apply → Asks job x c i v →
       Does job y q (Max (number_of y (Claim c)) (stamped_word (suc x) (claim_of job i))) words
+  pub position : (w n : ℕ) → w < y.workers → 1 ≤ n → n < 2 * y.leaves → Moves job y w n words
