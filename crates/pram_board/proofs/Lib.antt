@@ -13,3 +13,4 @@ pub mod Telling
 pub mod Stepping
 pub mod Passes
 pub mod Working
+pub mod Remembering

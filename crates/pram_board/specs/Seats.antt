@@ -12,7 +12,7 @@ use Rattle.walkx.specs.declared.operation.Op.TheVariants.{Load}
 use Rattle.walkx.specs.declared.operation.Reading.{Reading}
 use Rattle.walkx.specs.declared.operation.Reading.TheVariants.{At}
 use Rattle.walkx.specs.Reads.{step_seen, reader_script}
-use Rattle.walkx.specs.Records.{Record, empty, after, both}
+use Rattle.walkx.specs.Records.{Record, empty, after, both, Has}
 use Rattle.walkx.specs.Codes.{coded_record}
 use Rattle.walkx.specs.Scripts.{ends, rest, heard_in}
 use Rattle.lawful_words.specs.Moments.{afters}
@@ -45,7 +45,7 @@ coded_place =
 -- a new board, with a seat of it that has seen nothing
 abbrev pub IsOpened : JobData → Form → ℕ → Desk × Place → Type 0
 IsOpened job form workers made =
-    (made.0.task ≡ record { job = job; layout = layout_of job form workers })
+    (made.0.task.job ≡ job) × (made.0.task.layout ≡ layout_of job form workers)
     × (made.1 ≡ record { desk = made.0; record_of = empty })
 
 -- the seat with one more step, and with more steps, the newest first
@@ -69,6 +69,10 @@ pub record HasLoaded (n : ℕ) (p q : Place) : Type 0 where
 -- the seat that has seen what two had seen
 abbrev pub unites : Place → Place → Place
 unites p q = record { desk = p.desk; record_of = both p.record_of q.record_of }
+
+-- the later record has what the earlier one had: each worker that it knew, for one
+abbrev pub Remembers : Record → Record → Type 0
+Remembers before later = (steps : List (Op × ℕ)) → Has before steps → Has later steps
 
 -- the record heard word 0 as another value than 0
 pub record KnowsConflict (y : LayoutData) (r : Record) : Type 0 where

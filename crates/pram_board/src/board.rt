@@ -43,7 +43,7 @@ impl Board {
     ghost use Rattle.walkx.specs.Walk.{IsBoard, IsLayoutOf};
     ghost use Rattle.lawful_words.specs.Moments.{Sound};
     ghost use Rattle.pram_board.specs.Rules.{May};
-    ghost use Rattle.pram_board.specs.Seats.{IsOpened, hears, unites};
+    ghost use Rattle.pram_board.specs.Seats.{IsOpened, Remembers, hears, unites};
 
     /// A new board for a job and so many workers, and a seat that has seen nothing. The board lies
     /// in the compact form and keeps its own copy of the job.
@@ -86,6 +86,9 @@ impl Board {
         requires { seat.desk ≡ self.now }
         ensures first { result.0 ≡ seat }
         ensures second { result.1 ≡ seat }
+        ensures desks { (result.0.desk ≡ self.now) × (result.1.desk ≡ self.now) }
+        ensures keeps_first { Remembers seat.record_of result.0.record_of }
+        ensures keeps_second { Remembers seat.record_of result.1.record_of }
     {
         let Seat { mut seat } = seat;
         let other = self.table.shared.split_seat::<Shares>(&mut seat);
@@ -98,7 +101,10 @@ impl Board {
     pub fn join(&self, first: Seat, second: Seat) -> Seat
         requires first { first.desk ≡ self.now }
         requires second { second.desk ≡ self.now }
-        ensures { result ≡ unites first second }
+        ensures unites { result ≡ unites first second }
+        ensures desk { result.desk ≡ self.now }
+        ensures keeps_first { Remembers first.record_of result.record_of }
+        ensures keeps_second { Remembers second.record_of result.record_of }
     {
         let Seat { mut seat } = first;
         let Seat { seat: other } = second;

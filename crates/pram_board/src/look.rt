@@ -15,15 +15,21 @@ pub struct Progress {
 }
 
 impl Board {
-    ghost use Rattle.std.specs.Prelude.{◌≡◌, ◌<◌};
+    ghost use Rattle.std.specs.Prelude.{◌≡◌, ◌<◌, IfSome};
     ghost use Rattle.lawful_words.specs.Moments.{Sound};
-    ghost use Rattle.pram_board.specs.Seats.{Progressed, WasRead};
+    ghost use Rattle.lawful_words.specs.Seen.{KnowsStep};
+    ghost use Rattle.pram_board.specs.Seats.{KnowsConflict, Progressed, Remembers, WasRead};
 
     /// The finished step, by one load of the root and then one of word 0. It is no step below those
     /// that the seat has seen.
     pub fn progress(&self, seat: &mut Seat) -> Progress
         requires { seat.old.desk ≡ self.now }
         ensures progressed { Progressed self.now.task seat.old seat.new result }
+        ensures knows { result.step ≡ self.now.task.job.steps →
+            KnowsStep self.now.task.layout seat.new.record_of self.now.task.job.steps }
+        ensures conflict { IfSome result.conflict
+            (λ step. KnowsConflict self.now.task.layout seat.new.record_of) }
+        ensures keeps { Remembers seat.old.record_of seat.new.record_of }
         ensures sound { Sound self.now.task.job self.now.task.layout seat.new.record_of }
         ensures desk { seat.new.desk ≡ self.now }
     {
@@ -43,6 +49,7 @@ impl Board {
         requires desk { seat.old.desk ≡ self.now }
         requires cell { cell < self.now.task.job.cells }
         ensures read { WasRead self.now.task seat.old seat.new cell result }
+        ensures keeps { Remembers seat.old.record_of seat.new.record_of }
         ensures sound { Sound self.now.task.job self.now.task.layout seat.new.record_of }
         ensures desk { seat.new.desk ≡ self.now }
     {

@@ -20,7 +20,7 @@ impl Board {
     ghost use Rattle.pram_words.specs.declared.words.Word.TheVariants.{Conflict, Stored};
     ghost use Rattle.lawful_words.specs.Moments.{Sound};
     ghost use Rattle.lawful_words.specs.Seen.{Heard, KnowsStep};
-    ghost use Rattle.pram_board.specs.Seats.{HasLoaded, KnowsConflict};
+    ghost use Rattle.pram_board.specs.Seats.{HasLoaded, KnowsConflict, Remembers};
 
     /// What each cell holds after the last step, cell 0 first. The seat is to have seen that step.
     /// It takes two loads a cell; where memory is refused, it takes none.
@@ -32,6 +32,7 @@ impl Board {
         ensures loads { IfOk result (λ cells. HasLoaded (2 * self.now.task.job.cells) seat.old
             seat.new) }
         ensures refused { IfErr result (λ refusal. seat.new ≡ seat.old) }
+        ensures keeps { Remembers seat.old.record_of seat.new.record_of }
         ensures sound { Sound self.now.task.job self.now.task.layout seat.new.record_of }
         ensures desk { seat.new.desk ≡ self.now }
     {
@@ -55,6 +56,7 @@ impl Board {
         ensures loads { IfOk result (λ fault. HasLoaded (1 + 3 * self.now.task.job.procs) seat.old
             seat.new) }
         ensures refused { IfErr result (λ refusal. (n : ℕ) × HasLoaded n seat.old seat.new) }
+        ensures keeps { Remembers seat.old.record_of seat.new.record_of }
         ensures sound { Sound self.now.task.job self.now.task.layout seat.new.record_of }
         ensures desk { seat.new.desk ≡ self.now }
     {

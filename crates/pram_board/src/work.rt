@@ -26,6 +26,7 @@ impl Board {
     ghost use Rattle.lawful_words.specs.Moments.{Sound};
     ghost use Rattle.pram_board.specs.Inner.Asked.{Asks};
     ghost use Rattle.pram_board.specs.Inner.Plays.{GoesOn};
+    ghost use Rattle.pram_board.specs.Seats.{Remembers};
     ghost use Rattle.pram_board.specs.Worked.{EndShows, Ticked, Worked, end_in};
 
     /// One atomic step of a worker, or none where it is over. The seat is to know the worker: it
@@ -42,6 +43,7 @@ impl Board {
         ensures step { end_of worker.old.walking.now ≡ None →
             Ticked self.now.task seat.old worker.old.walking seat.new worker.new.walking }
         ensures end { result ≡ end_of worker.new.walking.now }
+        ensures keeps { Remembers seat.old.record_of seat.new.record_of }
         ensures shows { EndShows self.now.task seat.new.record_of result }
         ensures sound { Sound self.now.task.job self.now.task.layout seat.new.record_of }
         ensures desk { seat.new.desk ≡ self.now }
@@ -75,6 +77,7 @@ impl Board {
             worker.old.walking }
         ensures worked { Worked self.now.task seat.old worker.old.walking limit seat.new
             worker.new.walking result }
+        ensures keeps { Remembers seat.old.record_of seat.new.record_of }
         ensures shows { EndShows self.now.task seat.new.record_of (end_in result) }
         ensures sound { Sound self.now.task.job self.now.task.layout seat.new.record_of }
         ensures desk { seat.new.desk ≡ self.now }

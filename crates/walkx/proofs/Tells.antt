@@ -1,5 +1,5 @@
 -- A worker that hears an answer.
-use Rattle.std.proofs.Common.{◌≡◌, ◌≢◌, add-one, get_or-set_other, get_or-set_same, ℕ, zero, suc, ◌+◌, ◌<◌, ◌≤◌, List, ◌∷◌, length, Option, Some, None, refl, sym, ap, subst, ◌∙◌, arith}
+use Rattle.std.proofs.Common.{◌≡◌, ◌≢◌, add-one, get_or-set_other, get_or-set_same, ℕ, zero, suc, ◌+◌, ◌*◌, ◌<◌, ◌≤◌, List, ◌∷◌, length, Option, Some, None, refl, sym, ap, subst, ◌∙◌, arith}
 use Rattle.std.specs.Prelude.{slice_set}
 use Rattle.pram_text.specs.Job.{JobData}
 use Rattle.pram_words.specs.Phases.{kind_at}
@@ -13,6 +13,7 @@ use Rattle.walkx.specs.declared.operation.Op.{Op}
 use Rattle.walkx.specs.Inner.Posts.{PostData, processor_of, step_of, then_marks}
 use Rattle.walkx.specs.Inner.Stages.{IsStage, IsStep, WorkerData, worker_data, post_of, doing_of, newest, script_at, script_behind, stepped}
 use Rattle.walkx.specs.Serving.{Serves}
+use Rattle.walkx.specs.Turns.{beginning}
 use Rattle.walkx.specs.Walk.{Then, Walking, Fits, IsBoard, IsGoing, HearsAdmitted, AsksAdmitted, IsStepOn, ask_of, next_op, end_of, told, goes_on, rest_of, begin_script, turn_script, started, come_back}
 use Rattle.walkx.proofs.Asking.{all_ask, going_steps}
 use Rattle.walkx.proofs.Fitting.{fits_told, new_workers_fit}
@@ -150,3 +151,12 @@ starts job y w worker = record { fits = (new_workers_fit job y w worker).0; stan
 
 pub comes_back : (job : JobData) (y : LayoutData) (w : ℕ) → w < y.workers → Serves job y (record { walking = come_back w; phase = 0; stage = stage.Back })
 comes_back job y w worker = record { fits = (new_workers_fit job y w worker).1; stands = record { now = refl; rest = refl; stage = tt } }
+
+-- a worker that begins anew at a node
+fits_anew : (job : JobData) (y : LayoutData) (number start : ℕ) → number < y.workers → 1 ≤ start → start < 2 * y.leaves → Fits job y (beginning number start)
+unfolding begin_script
+fits_anew job y number start worker low high = record { number = worker; node = (low, high); phase = tt; admitted = tt; matches = (_, refl) }
+
+pub begins_anew : (job : JobData) (y : LayoutData) (number start phase : ℕ) → number < y.workers → 1 ≤ start → start < 2 * y.leaves → Serves job y (record { walking = beginning number start; phase = phase; stage = stage.Begin })
+begins_anew job y number start phase worker low high =
+    record { fits = fits_anew job y number start worker low high; stands = record { now = refl; rest = refl; stage = tt } }

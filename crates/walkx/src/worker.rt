@@ -31,20 +31,23 @@ impl Model for Worker {
 }
 
 impl Worker {
-    ghost use Rattle.std.specs.Prelude.{◌≡◌, ◌<◌, None, length};
+    ghost use Rattle.std.specs.Prelude.{◌≡◌, ◌<◌, ◌≤◌, ◌*◌, None, length};
     ghost use Rattle.pram_text.specs.Job.{JobData};
     ghost use Rattle.pram_words.specs.Words.{LayoutData};
+    ghost use Rattle.walkx.specs.Records.{Record, Knows};
     ghost use Rattle.walkx.specs.Activities.{activity_of};
     ghost use Rattle.walkx.specs.Inner.Stages.{post_of};
     ghost use Rattle.walkx.specs.Serving.{Serves};
     ghost use Rattle.walkx.specs.Turns.{beginning, turn_begun};
-    ghost use Rattle.walkx.specs.Walk.{Fits, AsksAdmitted, HearsAdmitted, IsBoard, IsLayoutOf};
+    ghost use Rattle.walkx.specs.Walk.{AsksAdmitted, HearsAdmitted, IsBoard, IsLayoutOf};
     ghost use Rattle.walkx.specs.Walk.{IsStepOn, ask_of, come_back, end_of, started, told};
 
     /// Worker w, at its first leaf.
     pub fn start(w: u32) -> Worker
         ensures value { result.walking ≡ started w }
         ensures serves { (job : JobData) (y : LayoutData) → w < y.workers → Serves job y result }
+        ensures known { (job : JobData) (y : LayoutData) (r : Record) →
+            Knows job y r result.walking }
     {
         Worker {
             number: w,
@@ -60,6 +63,8 @@ impl Worker {
     pub fn back(w: u32) -> Worker
         ensures value { result.walking ≡ come_back w }
         ensures serves { (job : JobData) (y : LayoutData) → w < y.workers → Serves job y result }
+        ensures known { (job : JobData) (y : LayoutData) (r : Record) →
+            Knows job y r result.walking }
     {
         Worker {
             number: w,
@@ -121,11 +126,13 @@ impl Worker {
         }
     }
 
-    /// The worker has heard whole turns, up to one that has it begin at this node.
+    /// Begins anew at a node of the tree, having heard nothing since: what whole turns lead to.
     pub fn begin_at(&mut self, start: u32)
         ensures value { self.new.walking ≡ beginning self.old.walking.number start }
-        ensures serves { (job : JobData) (y : LayoutData) → Fits job y self.new.walking →
-            Serves job y self.new }
+        ensures serves { (job : JobData) (y : LayoutData) → Serves job y self.old → 1 ≤ start →
+            start < 2 * y.leaves → Serves job y self.new }
+        ensures known { (job : JobData) (y : LayoutData) (r : Record) →
+            Knows job y r self.new.walking }
     {
         self.node = Some(start);
         self.stage = Stage::Begin;

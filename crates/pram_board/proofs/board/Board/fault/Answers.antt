@@ -4,6 +4,7 @@ use Rattle.lawful_words.specs.Moments.{Sound}
 use Rattle.pram_board.specs.Seats.{Desk, HasLoaded}
 use Rattle.pram_board.proofs.Memory.{more_loads}
 use Rattle.pram_board.proofs.Faults.{still_heard, requests_more, conflicting}
+use Rattle.pram_board.proofs.Remembering.{remembers_loads}
 use Rattle.pram_board.proofs.board.Board.fault.Goals as goal
 
 pub loop-processor-preserved : goal.loop-processor-preserved
@@ -30,3 +31,6 @@ fault_of-requires c =
     let all : AreConflicting t.job c.named-named.result c.loop-processor.requests.items = conflicting t c.args.seat.now.record_of c.named-named.result c.loop-processor.processor c.loop-processor.requests.items sound c.requires.knows c.named-named.ensures.is (omega arith) i.requests in
     let here : AreConflicting c.self.inside.task.job c.named-named.result c.loop-processor.requests.items = subst (λ (d : Desk). AreConflicting d.task.job c.named-named.result c.loop-processor.requests.items) (sym c.self.view_is) all in
     subst (AreConflicting c.self.inside.task.job c.named-named.result) (sym c.as_slice.ensures.value) here
+
+pub returns-clause-keeps : goal.returns-clause-keeps
+returns-clause-keeps c = remembers_loads _ _ _ c.loop-processor.invariant.loads

@@ -1,4 +1,4 @@
-use Rattle.std.proofs.Common.{◌≡◌, sym, ap, ◌∙◌}
+use Rattle.std.proofs.Common.{◌≡◌, refl, sym, ap, ◌∙◌}
 use Rattle.walkx.specs.Turns.{beginning, turning}
 use Rattle.pram_board.specs.Seats.{Desk}
 use Rattle.pram_board.proofs.Working.{at_inside, fits_as, goes_as, knows_as}
@@ -32,8 +32,8 @@ returns-clause-desk g c = c.turns.ensures.at.desk
 pub returns-clause-serves : goal.returns-clause-serves
 returns-clause-serves g c =
     let same : c.self.inside.task ≡ c.args.self.now.task = ap (λ (d : Desk). d.task) c.self.view_is in
-    let is_too = c.begin_at.ensures.value ∙ ap (λ k. beginning k 1) (sym c.number.ensures) in
-    c.begin_at.ensures.serves _ _ (fits_as _ _ _ _ same (sym is_too) c.turns.ensures.fits)
+    let begun = fits_as _ _ _ _ same refl c.turns.ensures.fits in
+    c.begin_at.ensures.serves _ _ c.requires.serves begun.node.0 begun.node.1
 
 pub returns-clause-knows : goal.returns-clause-knows
 returns-clause-knows g c =

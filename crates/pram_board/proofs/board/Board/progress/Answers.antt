@@ -5,6 +5,7 @@ use Rattle.walkx.specs.declared.operation.Op.TheVariants.{Load}
 use Rattle.lawful_words.specs.Moments.{Sound}
 use Rattle.pram_board.specs.Seats.{Desk, Place, hears}
 use Rattle.pram_board.proofs.Steps.{may_load, root_small, conflict_small}
+use Rattle.pram_board.proofs.Remembering.{progress_conflict, progress_known, remembers_progress}
 use Rattle.pram_board.proofs.Told.{progressed}
 use Rattle.pram_board.proofs.board.Board.progress.Goals as goal
 
@@ -31,3 +32,12 @@ returns-clause-progressed c =
     progressed c.args.self.now.task c.args.seat.now c.step-named.new.seat c.step-root.result c.step-named.result c.node_word.result c.conflict_word.result _
     (subst (λ (d : Desk). c.node_word.result ≡ number_of d.task.layout (Node 1)) c.self.view_is c.node_word.ensures.value) (subst (λ (d : Desk). c.conflict_word.result ≡ number_of d.task.layout Conflict) c.self.view_is c.conflict_word.ensures.value)
     (c.step-named.ensures.grows ∙ ap (λ (p : Place). hears p (Load c.conflict_word.result) c.step-named.result) c.step-root.ensures.grows) c.seen_step.ensures c.named_step.ensures c.step-named.ensures.sound
+
+pub returns-clause-knows : goal.returns-clause-knows
+returns-clause-knows c = progress_known _ _ _ _ (returns-clause-progressed c)
+
+pub returns-clause-conflict : goal.returns-clause-conflict
+returns-clause-conflict c = progress_conflict _ _ _ _ (returns-clause-progressed c)
+
+pub returns-clause-keeps : goal.returns-clause-keeps
+returns-clause-keeps c = remembers_progress _ _ _ _ (returns-clause-progressed c)

@@ -9,8 +9,12 @@ use Rattle.walkx.specs.Records.{after}
 use Rattle.lawful_words.specs.Moments.{Sound}
 use Rattle.pram_board.specs.Seats.{Desk, Place}
 use Rattle.pram_board.proofs.Looking.{looks_on, looks_over}
+use Rattle.pram_board.proofs.Remembering.{remembers_looks}
 use Rattle.pram_board.proofs.Steps.{admits}
 use Rattle.pram_board.proofs.board.Board.read.Goals as goal
+
+pub returns-in-Over-clause-keeps : goal.returns-in-Over-clause-keeps
+returns-in-Over-clause-keeps c = remembers_looks _ _ _ _ _ c.loop-reading.invariant.looks
 
 pub returns-in-Over-clause-read : goal.returns-in-Over-clause-read
 returns-in-Over-clause-read c =

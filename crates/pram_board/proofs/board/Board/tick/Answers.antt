@@ -1,8 +1,10 @@
-use Rattle.std.proofs.Common.{Some, ap, sym, subst, ◌∙◌}
+use Rattle.std.proofs.Common.{Some, [], ◌∷◌, ap, sym, subst, ◌∙◌}
+use Rattle.walkx.specs.Walk.{ask_of}
 use Rattle.lawful_words.specs.Moments.{Sound}
 use Rattle.pram_board.specs.Seats.{Desk}
 use Rattle.pram_board.proofs.Asked.{asks_of}
 use Rattle.pram_board.proofs.Told.{shows_end}
+use Rattle.pram_board.proofs.Remembering.{remembers_more}
 use Rattle.pram_board.proofs.board.Board.tick.Goals as goal
 
 pub advance-requires-clause-asks : goal.advance-requires-clause-asks
@@ -17,3 +19,6 @@ returns-in-Some-clause-shows c =
 pub returns-clause-shows : goal.returns-clause-shows
 returns-clause-shows c =
     shows_end c.args.self.now.task c.advance.new.seat.record_of c.advance.new.worker.walking c.ended-2.result c.ended-2.ensures c.advance.ensures.sound (c.advance.ensures.serves).fits c.advance.ensures.knows
+
+pub returns-clause-keeps : goal.returns-clause-keeps
+returns-clause-keeps c = remembers_more _ _ ((ask_of c.args.self.now.task.job c.args.self.now.task.layout c.args.worker.now.walking, c.advance.ensures.ticked.found) ∷ []) c.advance.ensures.ticked.seat

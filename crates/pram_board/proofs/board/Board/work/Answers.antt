@@ -4,6 +4,7 @@ use Rattle.walkx.specs.Walk.{end_of}
 use Rattle.pram_board.proofs.Told.{shows_end}
 use Rattle.pram_board.proofs.Works.{fewer, bound_small}
 use Rattle.pram_board.proofs.Working.{counted, within_limit}
+use Rattle.pram_board.proofs.Remembering.{remembers_ran}
 use Rattle.pram_board.proofs.board.Board.work.Goals as goal
 
 pub go_on-requires-clause-going : goal.go_on-requires-clause-going
@@ -53,3 +54,9 @@ pub returns-in-Some-clause-shows : goal.returns-in-Some-clause-shows
 returns-in-Some-clause-shows g c =
     let i = c.loop-ended.invariant in
     shows_end c.args.self.now.task c.loop-ended.seat.record_of c.loop-ended.worker.walking (Some c.in-Some.ended) (sym c.in-Some.is ∙ c.ended.ensures) i.sound i.serves.fits i.knows
+
+pub returns-in-Some-clause-keeps : goal.returns-in-Some-clause-keeps
+returns-in-Some-clause-keeps g c = remembers_ran _ _ _ _ _ _ c.loop-ended.invariant.ran
+
+pub returns-then-eq-clause-keeps : goal.returns-then-eq-clause-keeps
+returns-then-eq-clause-keeps g c = remembers_ran _ _ _ _ _ _ c.loop-ended.invariant.ran
