@@ -1,6 +1,7 @@
 -- Seats that go on, and what they show of the end of a job.
-use Rattle.std.proofs.Common.{◌≡◌, ◌≢◌, ℕ, ◌<◌, ◌==◌, if◌then◌else◌, Option, ◌≤◌, List, [], ◌∷◌, Some, None, true, false, refl, sym, ap, subst, ◌∙◌, inl, inr, arith}
+use Rattle.std.proofs.Common.{◌≡◌, ◌≢◌, ◌⊎◌, ℕ, ◌<◌, ◌==◌, if◌then◌else◌, Option, ◌≤◌, List, [], ◌∷◌, ◌++◌, length, Some, None, true, false, refl, sym, ap, subst, ◌∙◌, inl, inr, arith}
 use Rattle.std.proofs.lemmas.Bool.{cases_Bool, eqb-true, eqb-false}
+use Rattle.std.specs.List.{AllByRecursion}
 use Rattle.std.specs.Prelude.{Result, Ok, Err, IfOk, is_some}
 use Rattle.pram_text.specs.Job.{JobData}
 use Rattle.pram_step.specs.declared.answer.Fault.{Fault}
@@ -15,22 +16,25 @@ use Rattle.walkx.specs.declared.operation.Ended.{Ended}
 use Rattle.walkx.specs.declared.operation.Ended.TheVariants as ended
 use Rattle.walkx.specs.declared.operation.Op.{Op}
 use Rattle.walkx.specs.declared.operation.Op.TheVariants.{Load}
-use Rattle.walkx.specs.Records.{Record, after, both}
+use Rattle.walkx.specs.Records.{Record, Has, after, both}
 use Rattle.walkx.specs.Walk.{Walking}
-use Rattle.lawful_words.specs.Moments.{Sound}
+use Rattle.lawful_words.specs.Moments.{Sound, afters}
 use Rattle.lawful_words.specs.Seen.{Heard, Shows, BeginsWith}
-use Rattle.lawful_words.proofs.Knowing.{conflict_now, heard_too}
+use Rattle.lawful_words.proofs.Knowing.{conflict_now}
 use Rattle.walk_laws.specs.Walks.{IsConflict, steps_of}
+use Rattle.stop_plan.specs.declared.plan.Act.{Act}
+use Rattle.stop_plan.specs.declared.plan.Act.TheVariants as act
 use Rattle.stop_plan.specs.declared.plan.Row.{Row}
 use Rattle.stop_plan.specs.Plan.{PlanData}
-use Rattle.pram_run.specs.Running.{IsRun}
+use Rattle.pram_run.specs.Obeyed.{Acts, HasLooked}
+use Rattle.pram_run.specs.Running.{IsRun, ShowsEnd, Tells, IsUnfinished}
 use Rattle.pram_board.specs.declared.look.Progress.{Progress}
 use Rattle.pram_board.specs.declared.task.Task.{Task}
 use Rattle.pram_board.specs.declared.work.Stay.{Stay}
 use Rattle.pram_board.specs.declared.work.Stay.TheVariants as stay
-use Rattle.pram_board.specs.Seats.{Desk, Place, Progressed, HasLoaded, KnowsConflict, hears_all, unites}
+use Rattle.pram_board.specs.Seats.{Desk, Place, Progressed, HasLoaded, IsLoad, KnowsConflict, hears_all, unites}
 use Rattle.pram_board.specs.Worked.{EndShows, Worked, end_in}
-use Rattle.pram_run.specs.Inner.Obeying.{ShowsEnd, IsEnding, GoesOn, EndsOrStops, AllEndOrStop}
+use Rattle.pram_run.specs.Inner.Obeying.{GoesOn, EndsOrStops, AllEndOrStop}
 use Rattle.pram_run.proofs.Records.{HasAll, begins_self, begins_trans, begins_afters, begins_all, left_all, right_all, heard_all, shows_all, shows_earlier}
 
 -- ---- a seat goes on
@@ -91,12 +95,16 @@ ends_back rows worker p q later desk is h = subst (λ (s : Place). EndsOrStops r
 
 -- ---- progress
 
--- word 0 is heard as it was heard before, if that was a step
-pub named_again : (job : JobData) (y : LayoutData) (before : Record) (a named u : ℕ) →
-    Sound job y (after (after before (Load (number_of y (Node 1))) a) (Load (number_of y Conflict)) named) → u ≢ 0 → Heard y before Conflict u → named ≡ u
-named_again job y before a named u sound some heard =
-    let m = sound.backed in
-    m.heard ∙ conflict_now job y (after before (Load (number_of y (Node 1))) a) u m.words m.earlier (heard_too y before (Load (number_of y (Node 1))) a Conflict u heard) some
+-- behind a load of word 0 as 0, no conflict was ever heard
+none_heard : (job : JobData) (y : LayoutData) (r : Record) (named u : ℕ) → Sound job y (after r (Load (number_of y Conflict)) named) → named ≡ 0 → u ≢ 0 →
+    Heard y (after r (Load (number_of y Conflict)) named) Conflict u → ⊥
+none_heard job y r named u sound zero some heard = by heard.has
+  where
+    by : (◌≡◌ {A = Op × ℕ} (heard.op, u) (Load (number_of y Conflict), named) × Unit {0}) ⊎ Has r ((heard.op, u) ∷ []) → ⊥
+    by (inl now) = some (ap (λ (e : Op × ℕ). e.1) now.0 ∙ zero)
+    by (inr earlier) =
+        let m = sound.backed in
+        some (sym (m.heard ∙ conflict_now job y r u m.words m.earlier (record { op = heard.op; hears = heard.hears; has = earlier }) some) ∙ zero)
 
 none_named : (n : ℕ) (o : Option ℕ) → o ≡ (if n == 0 then None else Some n) → is_some o ≡ false → n ≡ 0
 none_named n o e f = elim (cases_Bool (n == 0)) [
@@ -122,13 +130,14 @@ progress_heard t p q progress h some =
 pub progress_goes : (t : Task) (p q : Place) (progress : Progress) → Progressed t p q progress → GoesOn p q
 progress_goes t p q progress h = goes_all p q ((Load (number_of t.layout Conflict), h.named) ∷ (Load (number_of t.layout (Node 1)), h.root) ∷ []) h.is
 
--- where no conflict is heard and the last step is not seen, the end was not shown
-pub not_ended : (t : Task) (p q : Place) (progress : Progress) → Progressed t p q progress → Sound t.job t.layout q.record_of →
-    is_some progress.conflict ≡ false → progress.step < t.job.steps → ShowsEnd t p.record_of → ⊥
-not_ended t p q progress h sound none low (inl shows) = let most : t.job.steps ≤ progress.step = h.well.lasts t.job.steps (inl shows) in absurd (omega arith)
-not_ended t p q progress h sound none low (inr s) =
-    let again : h.named ≡ s.0 = named_again t.job t.layout p.record_of h.root h.named s.0 (subst (λ (x : Place). Sound t.job t.layout x.record_of) h.is sound) s.1 s.2 in
-    absurd (s.1 (sym again ∙ none_named h.named progress.conflict h.conflict none))
+-- where no conflict is heard and the last step is not seen, the end is not shown
+unended : (t : Task) (p q : Place) (progress : Progress) → Progressed t p q progress → Sound t.job t.layout q.record_of →
+    is_some progress.conflict ≡ false → progress.step < t.job.steps → ShowsEnd t q.record_of → ⊥
+unended t p q progress h sound none low (inl shows) = let most : t.job.steps ≤ progress.step = h.well.seen t.job.steps shows in absurd (omega arith)
+unended t p q progress h sound none low (inr s) =
+    none_heard t.job t.layout (after p.record_of (Load (number_of t.layout (Node 1))) h.root) h.named s.0
+    (subst (λ (x : Place). Sound t.job t.layout x.record_of) h.is sound) (none_named h.named progress.conflict h.conflict none) s.1
+    (subst (λ (x : Place). Heard t.layout x.record_of Conflict s.0) h.is s.2)
 
 -- ---- what a look at the board ends with
 
@@ -158,28 +167,82 @@ conflict_shown t p q later progress fault h some goes is =
     (heard_all t.layout q.record_of later.record_of Conflict h.named (begins_all q.record_of later.record_of goes.begins) (heard_named t p q progress h))
 
 pub unfinished_shown : (t : Task) (p q : Place) (progress : Progress) → Progressed t p q progress → Sound t.job t.layout q.record_of →
-    is_some progress.conflict ≡ false → progress.step < t.job.steps → IsEnding t p.record_of q.record_of (Unfinished progress.step)
-unfinished_shown t p q progress h sound none low =
-    ((λ shows. not_ended t p q progress h sound none low shows), record { shows = h.well.shows; most = h.well.seen }, h.well.reached)
+    is_some progress.conflict ≡ false → progress.step < t.job.steps → Tells t q.record_of (Unfinished progress.step)
+unfinished_shown t p q progress h sound none low = record {
+  seen = record { shows = h.well.shows; most = h.well.seen };
+  reached = h.well.reached;
+  below = low;
+  unended = λ shows. unended t p q progress h sound none low shows;
+}
+
+-- ---- loads of a look
+
+afters_both : (r : Record) (first next : List (Op × ℕ)) → afters (afters r first) next ≡ afters r (next ++ first)
+afters_both r first [] = refl
+afters_both r first (e ∷ es) = ap (λ (s : Record). after s e.0 e.1) (afters_both r first es)
+
+loads_both : (xs ys : List (Op × ℕ)) → AllByRecursion (λ (e : Op × ℕ). IsLoad e.0) xs → AllByRecursion (λ (e : Op × ℕ). IsLoad e.0) ys → AllByRecursion (λ (e : Op × ℕ). IsLoad e.0) (xs ++ ys)
+loads_both [] ys h k = k
+loads_both (x ∷ xs) ys h k = (h.0, loads_both xs ys h.1 k)
+
+pub looked_more : (p q r : Place) → HasLooked p q → HasLooked q r → HasLooked p r
+looked_more p q r h k = (
+  length (k.1.steps ++ h.1.steps),
+  record {
+    steps = k.1.steps ++ h.1.steps;
+    is = k.1.is ∙ ap (λ (x : Place). hears_all x k.1.steps) h.1.is
+        ∙ ap (λ (s : Record). (let x : Place = record { desk = p.desk; record_of = s } in x)) (afters_both p.record_of h.1.steps k.1.steps);
+    loads = loads_both k.1.steps h.1.steps k.1.loads h.1.loads;
+    count = refl;
+  },
+)
+
+pub looked_same : (p q : Place) → q ≡ p → HasLooked p q
+looked_same p q is = (0, record { steps = []; is = is; loads = tt; count = refl })
+
+pub looked_goes : (p q : Place) → HasLooked p q → GoesOn p q
+looked_goes p q h = loads_go h.0 p q h.1
+
+pub progress_looks : (t : Task) (p q : Place) (progress : Progress) → Progressed t p q progress → HasLooked p q
+progress_looks t p q progress h = (
+  2,
+  record {
+    steps = (Load (number_of t.layout Conflict), h.named) ∷ (Load (number_of t.layout (Node 1)), h.root) ∷ [];
+    is = h.is;
+    loads = (tt, (tt, tt));
+    count = refl;
+  },
+)
+
+-- ---- an act of a row
+
+pub acts_goes : (a : Act) (t : Task) (number ticks : ℕ) (p : Place) (w : Walking) (q : Place) (now : Walking) → Acts a t number ticks p w q now → GoesOn p q
+acts_goes act.Go t number ticks p w q now h = worked_goes t p w (Some ticks) q now h.0 h.1
+acts_goes act.Sleep t number ticks p w q now h = same_goes p q h.0
+acts_goes act.Back t number ticks p w q now h = same_goes p q h.0
+acts_goes act.Stop t number ticks p w q now h = same_goes p q h.0
 
 -- ---- the answer of a run
 
-pub run_at : (t : Task) (plan : PlanData) (p : Place) (later : Record) (a : RunAnswer) → p.desk.task ≡ t → AllEndOrStop plan p → IsEnding t p.record_of later a → IsRun t plan later a
-run_at t plan p later (Final cells) is all h = h
-run_at t plan p later (answer.Conflict fault) is all h = h
-run_at t plan p later (Unfinished step) is all h = (
-  (λ worker lt. elim (all worker lt) [
-    | inl shows ↦ absurd (h.0 (subst (λ (x : Task). ShowsEnd x p.record_of) is shows))
-    | inr stops ↦ stops
-  ]),
-  h.1,
-  h.2,
-)
+not_shown : (t : Task) (r : Record) (a : RunAnswer) → IsUnfinished a → Tells t r a → ShowsEnd t r → ⊥
+not_shown t r (Final cells) un h shows = un
+not_shown t r (answer.Conflict fault) un h shows = un
+not_shown t r (Unfinished step) un h shows = h.unended shows
 
-pub run_of : {E : Type 0} (t : Task) (plan : PlanData) (p : Place) (later : Record) (r : Result RunAnswer E) → p.desk.task ≡ t → AllEndOrStop plan p →
-    IfOk r (IsEnding t p.record_of later) → IfOk r (λ a. IsRun t plan later a)
-run_of t plan p later (Ok a) is all h = run_at t plan p later a is all h
-run_of t plan p later (Err e) is all h = h
+pub run_at : (t : Task) (plan : PlanData) (p later : Place) (a : RunAnswer) → p.desk.task ≡ t → AllEndOrStop plan p → HasLooked p later → Tells t later.record_of a → IsRun t plan later.record_of a
+run_at t plan p later a is all looked h = record {
+  tells = h;
+  stops = λ un worker lt. elim (all worker lt) [
+    | inl shows ↦ absurd (not_shown t later.record_of a un h (end_all t p.record_of later.record_of
+        (begins_all p.record_of later.record_of (looked_goes p later looked).begins) (subst (λ (x : Task). ShowsEnd x p.record_of) is shows)))
+    | inr stops ↦ stops
+  ];
+}
+
+pub run_of : {E : Type 0} (t : Task) (plan : PlanData) (p later : Place) (r : Result RunAnswer E) → p.desk.task ≡ t → AllEndOrStop plan p → HasLooked p later →
+    IfOk r (Tells t later.record_of) → IfOk r (IsRun t plan later.record_of)
+run_of t plan p later (Ok a) is all looked h = run_at t plan p later a is all looked h
+run_of t plan p later (Err e) is all looked h = h
 
 -- all that ended or stopped did so to a seat that is joined
 pub all_front : (plan : PlanData) (p q later : Place) → later ≡ unites p q → AllEndOrStop plan p → AllEndOrStop plan later

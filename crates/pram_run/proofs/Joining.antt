@@ -1,49 +1,49 @@
 -- Joining the threads one after another.
-use Rattle.std.proofs.Common.{◌≡◌, ℕ, ◌<◌, ◌+◌, List, [], ◌∷◌, ◌++◌, length, get_or, sym, ap, ◌∙◌, subst, arith, length-append, below_more}
+use Rattle.std.proofs.Common.{◌≡◌, ℕ, suc, ◌<◌, ◌+◌, List, [], ◌∷◌, ◌++◌, length, get_or, sym, ap, ◌∙◌, subst, arith, length-append, below_more}
 use Rattle.std.proofs.Math.ListN.{get_or-append}
 use Rattle.std.proofs.Math.Seq.{get_or-append_seam}
-use Rattle.std.proofs.lemmas.List.Elements.{All-push}
-use Rattle.std.specs.List.{All}
 use Rattle.std.specs.Prelude.{Result, Ok, Err, OnOk}
 use Rattle.std.specs.declared.thread.PromisedHandle.{PromisedHandle}
 use Rattle.stop_plan.specs.declared.plan.Row.{Row}
-use Rattle.stop_plan.specs.Plan.{PlanData}
+use Rattle.walkx.specs.Walk.{started}
 use Rattle.pram_board.specs.Seats.{Place, unites}
 use Rattle.pram_run.specs.declared.runner.Obeyed.{Obeyed}
-use Rattle.pram_run.specs.Inner.Obeying.{GoesOn, EndsOrStops, AllEndOrStop, WasAsked}
+use Rattle.pram_board.specs.declared.task.Task.{Task}
+use Rattle.pram_run.specs.Inner.Obeying.{EndsOrStops, HasObeyed, WasAsked}
+use Rattle.pram_run.specs.Obeyed.{AllObeyed, Obeys}
 use Rattle.pram_run.proofs.Endings.{ends_front, ends_back}
 
 abbrev pub Thread : Type 0
 Thread = PromisedHandle Place Obeyed
 
--- the seat shows what the thread has to keep
-abbrev pub Keeps : Place → Thread → Type 0
-Keeps p t = EndsOrStops t.promise.rows.now t.promise.worker p
+-- the next thread was asked at its number, as all were
+pub asked_next : (rows : List Row) (first : Place) (all done : List Thread) (t : Thread) (rest items : List Thread) → items ≡ (t ∷ rest) → done ++ items ≡ all →
+    ((k : ℕ) (d : Thread) → k < length all → WasAsked rows k first (get_or all k d).promise) → WasAsked rows (length done) first t.promise
+asked_next rows first all done t rest items is order asked =
+    let there : done ++ (t ∷ rest) ≡ all = ap (λ (l : List Thread). done ++ l) (sym is) ∙ order in
+    let here : get_or all (length done) t ≡ t = ap (λ (l : List Thread). get_or l (length done) t) (sym there) ∙ get_or-append_seam done t rest t in
+    let lt : length done < length all = omega (arith, ap length there, length-append done (t ∷ rest)) in
+    subst (λ (u : Thread). WasAsked rows (length done) first u.promise) here (asked (length done) t lt)
 
--- what holds of all holds of the next
-pub next_of : {A : Type 0} (P : A → Type 0) (all done : List A) (x : A) (rest : List A) → done ++ (x ∷ rest) ≡ all → All P all → P x
-next_of P all done x rest is h =
-    let here : get_or all (length done) x ≡ x = ap (λ (l : List _). get_or l (length done) x) (sym is) ∙ get_or-append_seam done x rest x in
-    let lt : length done < length all = omega (arith, ap length is, length-append done (x ∷ rest)) in
-    subst P here (h (length done) x lt)
+-- it kept what it was asked
+pub kept_as : (rows : List Row) (n : ℕ) (first given : Place) (promise : Obeyed) → WasAsked rows n first promise →
+    HasObeyed promise.rows.now promise.worker promise.before.value given → HasObeyed rows n first given
+kept_as rows n first given promise asked h =
+    subst (λ (x : List Row). HasObeyed x n first given) asked.rows
+    (subst (λ (x : ℕ). HasObeyed promise.rows.now x first given) asked.worker
+    (subst (λ (x : Place). HasObeyed promise.rows.now promise.worker x given) asked.seat h))
 
 -- one seat more is joined
-pub kept_more : (p q later : Place) (done : List Thread) (t : Thread) → q.desk ≡ p.desk → later ≡ unites p q → All (λ (u : Thread). Keeps p u) done → Keeps q t →
-    All (λ (u : Thread). Keeps later u) (done ++ t ∷ [])
-kept_more p q later done t desk is h mine =
-    All-push (λ (u : Thread). Keeps later u) done t
-    (λ k d lt. ends_front (get_or done k d).promise.rows.now (get_or done k d).promise.worker p q later is (h k d lt))
-    (ends_back t.promise.rows.now t.promise.worker p q later desk is mine)
+pub ends_more : (rows : List Row) (p q later : Place) (n m : ℕ) → m ≡ n + 1 → q.desk ≡ p.desk → later ≡ unites p q → ((k : ℕ) → k < n → EndsOrStops rows k p) → EndsOrStops rows n q →
+    (k : ℕ) → k < m → EndsOrStops rows k later
+ends_more rows p q later n m count desk is h mine k lt =
+    below_more (λ j. EndsOrStops rows j later) n (λ j low. ends_front rows j p q later is (h j low)) (ends_back rows n p q later desk is mine) k (omega arith)
 
--- all threads were started, and each kept its promise
-pub all_kept : (plan : PlanData) (first p : Place) (threads : List Thread) → length threads ≡ plan.workers →
-    ((k : ℕ) (d : Thread) → k < length threads → WasAsked plan.rows k first (get_or threads k d).promise) → All (λ (u : Thread). Keeps p u) threads → AllEndOrStop plan p
-all_kept plan first p [] count asked kept worker lt = absurd (omega arith)
-all_kept plan first p (t ∷ ts) count asked kept worker lt =
-    let there : worker < length (t ∷ ts) = omega arith in
-    let a = asked worker t there in
-    let promise : Obeyed = (get_or (t ∷ ts) worker t).promise in
-    subst (λ (n : ℕ). EndsOrStops plan.rows n p) a.worker (subst (λ (rows : List Row). EndsOrStops rows promise.worker p) a.rows (kept worker t there))
+pub obeyed_more : (t : Task) (rows : List Row) (first p q later : Place) (n m : ℕ) → m ≡ n + 1 → first.desk.task ≡ t → later ≡ unites p q → AllObeyed t rows first n p →
+    Obeys first.desk.task n rows first (started n) q → AllObeyed t rows first m later
+obeyed_more t rows first p q later n m count task is h mine =
+    let next : AllObeyed t rows first (suc n) later = (p, q, h, subst (λ (x : Task). Obeys x n rows first (started n) q) task mine, is) in
+    subst (λ (k : ℕ). AllObeyed t rows first k later) (let e : suc n ≡ m = omega arith in e) next
 
 -- what follows from what holds at an `Ok`
 pub on_ok : {X E A B : Type 0} (r : Result X E) → (A → B) → OnOk r A → OnOk r B
@@ -60,9 +60,7 @@ numbered_more P ts t n len h here k d lt =
     (let Q : Thread → Type 0 = λ u. P n u in subst Q (sym seam) here)
     k lt
 
--- the next thread's seat goes on from the first one
-pub thread_goes : (first : Place) (all done : List Thread) (t : Thread) (rest items : List Thread) (given : Place) → items ≡ (t ∷ rest) → done ++ items ≡ all →
-    All (λ (u : Thread). u.promise.before.value ≡ first) all → GoesOn t.promise.before.value given → GoesOn first given
-thread_goes first all done t rest items given is order began goes =
-    let there : done ++ (t ∷ rest) ≡ all = ap (λ (l : List Thread). done ++ l) (sym is) ∙ order in
-    subst (λ (p : Place). GoesOn p given) (next_of (λ (u : Thread). u.promise.before.value ≡ first) all done t rest there began) goes
+-- what holds anyway holds at an `Ok`
+pub any_ok : {X E A : Type 0} (r : Result X E) → A → OnOk r A
+any_ok (Ok x) a = a
+any_ok (Err e) a = tt

@@ -5,4 +5,5 @@ pub mod Stops
 pub mod Records
 pub mod Endings
 pub mod Joining
+pub mod Obeying
 pub mod Watches

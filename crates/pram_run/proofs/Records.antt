@@ -9,7 +9,6 @@ use Rattle.walkx.specs.Records.{Record, empty, after, both, Has}
 use Rattle.walkx.proofs.Knowing.{has_earlier}
 use Rattle.lawful_words.specs.Moments.{afters}
 use Rattle.lawful_words.specs.Seen.{Heard, HeardThen, Shows, KnowsStep, BeginsWith}
-use Rattle.pram_run.specs.Watching.{PartBeginsWith}
 
 -- ---- a record begins with itself, and so on
 
@@ -28,18 +27,6 @@ begins_trans a b (both r s) h (inr k) = inr (begins_trans a b r h k.0, begins_tr
 pub begins_afters : (r : Record) (es : List (Op × ℕ)) → BeginsWith r (afters r es)
 begins_afters r [] = begins_self r
 begins_afters r (e ∷ es) = inr (begins_afters r es)
-
-pub part_self : (r : Record) → PartBeginsWith r r
-part_self empty = refl
-part_self (after r op found) = inl refl
-part_self (both r s) = inl refl
-
-pub part_later : (a b c : Record) → PartBeginsWith a b → BeginsWith b c → PartBeginsWith a c
-part_later a b empty h k = subst (λ (r : Record). PartBeginsWith a r) (sym k) h
-part_later a b (after r op found) h (inl is) = subst (λ (r : Record). PartBeginsWith a r) (sym is) h
-part_later a b (after r op found) h (inr k) = inr (part_later a b r h k)
-part_later a b (both r s) h (inl is) = subst (λ (r : Record). PartBeginsWith a r) (sym is) h
-part_later a b (both r s) h (inr k) = inr (inl (part_later a b r h k.0))
 
 -- ---- what one record has, another one has
 

@@ -22,7 +22,8 @@ use Rattle.pram_world.proofs.Keeping.{Held, holds_start, run_holds}
 use Rattle.pram_world.proofs.Overs.{over_finished}
 use Rattle.pram_run.specs.declared.trace.TraceRow.{TraceRow}
 use Rattle.pram_run.specs.Inner.Progress.{IsBehind}
-use Rattle.pram_run.specs.Replays.{IsReplay, IsUnfinished, running, world_events}
+use Rattle.pram_run.specs.Replays.{IsReplay, running, world_events}
+use Rattle.pram_run.specs.Running.{IsUnfinished}
 
 -- no event stops the body
 abbrev NeverStops : ℕ → List Event → Type 0

@@ -15,10 +15,12 @@ use Rattle.pram_board.specs.declared.task.Task.{Task}
 use Rattle.pram_board.specs.Seats.{Place, WasRead, unites}
 use Rattle.pram_run.specs.declared.sight.Sight.{Sight}
 use Rattle.pram_run.specs.declared.watcher.Watched.{Watched}
-use Rattle.pram_run.specs.Watching.{HasRead, IsTrueSight, IsWatch, HasWatched, PartBeginsWith}
+use Rattle.stop_plan.specs.Plan.{PlanData}
+use Rattle.pram_run.specs.Obeyed.{AllObeyed, HasLooked}
+use Rattle.pram_run.specs.Watching.{HasRead, IsTrueSight, IsWatch, HasWatched}
 use Rattle.pram_run.specs.Inner.Obeying.{GoesOn}
-use Rattle.pram_run.proofs.Records.{begins_all, knows_all, part_self, part_later}
-use Rattle.pram_run.proofs.Endings.{goes_self, goes_trans, goes_all}
+use Rattle.pram_run.proofs.Records.{begins_all, knows_all}
+use Rattle.pram_run.proofs.Endings.{goes_self, goes_trans, goes_all, looked_more, looked_same}
 
 abbrev Read : Task → Place → Place → Sight → Type 0
 Read t p q s = WasRead t p q s.cell (At s.step s.value)
@@ -109,15 +111,17 @@ watch_of t cells rounds first promise sights p before named count task h =
     subst (λ (x : Task). GoesOn first p × IsWatch x cells rounds first sights p) task h3
 
 -- the seat of the reader is joined last
-pub watched_of : (t : Task) (cells : List ℕ) (rounds : ℕ) (first p q later : Place) (sights : List Sight) → IsWatch t cells rounds first sights q → later ≡ unites p q →
-    HasWatched t cells rounds first sights later.record_of
-watched_of t cells rounds first p q later sights watch is = record {
-  seat = q;
-  watch = watch;
-  part = subst (λ (x : Place). PartBeginsWith q.record_of x.record_of) (sym is) (inr (inr (part_self q.record_of)));
-}
+pub watched_of : (t : Task) (plan : PlanData) (cells : List ℕ) (rounds : ℕ) (first p q later : Place) (sights : List Sight) →
+    AllObeyed t plan.rows first plan.workers p → IsWatch t cells rounds first sights q → later ≡ unites p q → HasWatched t plan cells rounds first sights later
+watched_of t plan cells rounds first p q later sights obeyed watch is =
+    record { seat = p; obeyed = obeyed; reader = q; watch = watch; looked = looked_same (unites p q) later is }
 
-pub watched_later : (t : Task) (cells : List ℕ) (rounds : ℕ) (first p q : Place) (sights : List Sight) → HasWatched t cells rounds first sights p.record_of → GoesOn p q →
-    HasWatched t cells rounds first sights q.record_of
-watched_later t cells rounds first p q sights h goes =
-    record { seat = h.seat; watch = h.watch; part = part_later h.seat.record_of p.record_of q.record_of h.part goes.begins }
+pub watched_later : (t : Task) (plan : PlanData) (cells : List ℕ) (rounds : ℕ) (first p q : Place) (sights : List Sight) → HasWatched t plan cells rounds first sights p → HasLooked p q →
+    HasWatched t plan cells rounds first sights q
+watched_later t plan cells rounds first p q sights h looked = record {
+  seat = h.seat;
+  obeyed = h.obeyed;
+  reader = h.reader;
+  watch = h.watch;
+  looked = looked_more (unites h.seat h.reader) p q h.looked looked;
+}

@@ -1,4 +1,5 @@
 pub mod Inner
+pub mod Obeyed
 pub mod Printed
 pub mod Replays
 pub mod Running

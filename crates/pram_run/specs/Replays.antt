@@ -2,7 +2,6 @@
 use Rattle.std.specs.Prelude.{◌≡◌, ℕ, List}
 use Rattle.pram_text.specs.Job.{JobData}
 use Rattle.pram_step.specs.declared.answer.RunAnswer.{RunAnswer}
-use Rattle.pram_step.specs.declared.answer.RunAnswer.TheVariants.{Final, Conflict, Unfinished}
 use Rattle.stop_plan.specs.Plan.{PlanData, StopsAll}
 use Rattle.stop_plan.specs.Schedule.{Events, IsSchedule, Running}
 use Rattle.pram_world.specs.declared.event.Event.{Event}
@@ -10,6 +9,7 @@ use Rattle.pram_world.specs.declared.event.Event.TheVariants.{Go, Stop, Back}
 use Rattle.pram_world.specs.Outcomes.{IsOutcome}
 use Rattle.pram_world.specs.Worlds.{start, run, going}
 use Rattle.pram_run.specs.declared.trace.TraceRow.{TraceRow}
+use Rattle.pram_run.specs.Running.{IsUnfinished}
 use Rattle.pram_run.specs.Traces.{trace_of}
 
 -- a world's events
@@ -19,11 +19,6 @@ world_events = record { go = λ b. Go b; stop = λ b. Stop b; back = λ b. Back 
 -- whether a worker still runs behind these events
 abbrev pub running : JobData → ℕ → Running Event
 running job workers events b = going (run (start job workers) events) b
-
-abbrev pub IsUnfinished : RunAnswer → Type 0
-IsUnfinished (Final cells) = ⊥
-IsUnfinished (Conflict fault) = ⊥
-IsUnfinished (Unfinished step) = Unit {0}
 
 -- The outcome of the world after the plan's schedule, and the atomic steps of that run. It is
 -- unfinished only where the plan stops every worker.

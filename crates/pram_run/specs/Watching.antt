@@ -1,21 +1,15 @@
 -- What a watch lists.
-use Rattle.std.specs.Prelude.{◌≡◌, ◌≤◌, ◌⊎◌, ℕ, List, [], ◌∷◌, map, slice_index, All}
+use Rattle.std.specs.Prelude.{◌≡◌, ◌≤◌, ℕ, List, [], ◌∷◌, map, slice_index, All}
 use Rattle.std.specs.List.{repeat}
 use Rattle.std.specs.List.Sorted.{IsNonDecreasingBy}
 use Rattle.pram_step.specs.Runs.{IsReached, state_after}
 use Rattle.walkx.specs.declared.operation.Reading.TheVariants.{At}
-use Rattle.walkx.specs.Records.{Record, empty, after, both}
 use Rattle.lawful_words.specs.Seen.{KnowsStep}
 use Rattle.pram_board.specs.declared.task.Task.{Task}
-use Rattle.pram_board.specs.Seats.{Place, WasRead}
+use Rattle.stop_plan.specs.Plan.{PlanData}
+use Rattle.pram_board.specs.Seats.{Place, WasRead, unites}
+use Rattle.pram_run.specs.Obeyed.{AllObeyed, HasLooked}
 use Rattle.pram_run.specs.declared.sight.Sight.{Sight}
-
--- one part of the record begins with another record
-abbrev pub PartBeginsWith : Record → Record → Type 0
-PartBeginsWith first empty = empty ≡ first
-PartBeginsWith first (after r op found) = (after r op found ≡ first) ⊎ PartBeginsWith first r
-PartBeginsWith first (both r s) = (both r s ≡ first)
-    ⊎ (PartBeginsWith first r ⊎ PartBeginsWith first s)
 
 -- the reads of a list, one after the other, each lawful, from one seat's record to the one behind
 -- them
@@ -41,9 +35,12 @@ pub record IsWatch (t : Task) (cells : List ℕ) (rounds : ℕ) (p : Place) (sig
       known ≤ sight.step) sights
   pub rises : IsNonDecreasingBy (λ sight. sight.step) sights
 
--- It was so, and one part of the later record begins with the record behind the reads.
-pub record HasWatched (t : Task) (cells : List ℕ) (rounds : ℕ) (p : Place) (sights : List Sight)
-    (later : Record) : Type 0 where
+-- The plan's workers obeyed it from the given seat, and a reader beside them made this watch from
+-- it; the seat that joins theirs, the reader's last, looked at the board.
+pub record HasWatched (t : Task) (plan : PlanData) (cells : List ℕ) (rounds : ℕ) (given : Place)
+    (sights : List Sight) (later : Place) : Type 0 where
   pub seat : Place
-  pub watch : IsWatch t cells rounds p sights seat
-  pub part : PartBeginsWith seat.record_of later
+  pub obeyed : AllObeyed t plan.rows given plan.workers seat
+  pub reader : Place
+  pub watch : IsWatch t cells rounds given sights reader
+  pub looked : HasLooked (unites seat reader) later

@@ -1,6 +1,7 @@
 //! What a board tells at the end of a run.
 ghost use Rattle.std.specs.Prelude.{◌≡◌, IfOk};
-ghost use Rattle.pram_run.specs.Inner.Obeying.{GoesOn, IsEnding};
+ghost use Rattle.pram_run.specs.Obeyed.{HasLooked};
+ghost use Rattle.pram_run.specs.Running.{Tells};
 
 use pram_board::{Board, Seat};
 use pram_step::{Cells, RunAnswer};
@@ -16,8 +17,8 @@ pub(crate) fn answer(
 ) -> Result<RunAnswer, AllocError>
     requires job { board.now.task.job ≡ job.now }
     requires seat { seat.old.desk ≡ board.now }
-    ensures answer { IfOk result (IsEnding board.now.task seat.old.record_of seat.new.record_of) }
-    ensures goes_on { GoesOn seat.old seat.new }
+    ensures answer { IfOk result (Tells board.now.task seat.new.record_of) }
+    ensures looked { HasLooked seat.old seat.new }
 {
     let progress = board.progress(seat);
     if progress.conflict.is_some() {

@@ -1,10 +1,13 @@
 //! A plan obeyed on threads, one for each worker, over a board.
-ghost use Rattle.std.specs.Prelude.{◌≡◌, ℕ, ◌<◌, ◌≤◌, ◌⊎◌, All, IfOk, OnOk, true, vec_len};
+ghost use Rattle.std.specs.Prelude.{◌≡◌, ℕ, ◌<◌, ◌≤◌, IfOk, OnOk, vec_len};
 ghost use Rattle.std.specs.Prelude.{vec_capacity, slice_index_or};
 ghost use Rattle.walkx.specs.Records.{Knows};
 ghost use Rattle.walkx.specs.Serving.{Serves};
+ghost use Rattle.walkx.specs.Walk.{started};
 ghost use Rattle.lawful_words.specs.Seen.{BeginsWith};
-ghost use Rattle.pram_run.specs.Inner.Obeying.{AllEndOrStop, EndsOrStops, GoesOn, WasAsked};
+ghost use Rattle.pram_run.specs.Inner.Obeying.{AllEndOrStop, EndsOrStops, GoesOn, HasObeyed};
+ghost use Rattle.pram_run.specs.Inner.Obeying.{WasAsked};
+ghost use Rattle.pram_run.specs.Obeyed.{AllObeyed, DoesRow, HasRun, Obeys};
 ghost use Rattle.pram_run.specs.Running.{IsRun};
 
 use crate::ending::answer;
@@ -36,7 +39,8 @@ pub fn run<R: Threads + Wait, G: Gate + Sync>(
     requires job { board.now.task.job ≡ job.now }
     requires workers { board.now.task.layout.workers ≡ plan.now.workers }
     requires seat { seat.desk ≡ board.now }
-    ensures answer { IfOk result.1 (λ a. IsRun board.now.task plan.now result.0.record_of a) }
+    ensures answer { IfOk result.1 (IsRun board.now.task plan.now result.0.record_of) }
+    ensures ran { OnOk result.1 (HasRun board.now.task plan.now seat result.0) }
     ensures begins { BeginsWith seat.record_of result.0.record_of }
     ensures desk { result.0.desk ≡ board.now }
 {
@@ -60,6 +64,8 @@ fn run_workers<R: Threads + Wait, G: Gate + Sync>(
     requires workers { board.now.task.layout.workers ≡ plan.now.workers }
     requires seat { seat.desk ≡ board.now }
     ensures ends { OnOk result.1 (AllEndOrStop plan.now result.0) }
+    ensures obeyed { OnOk result.1 (AllObeyed board.now.task plan.now.rows seat plan.now.workers
+        result.0) }
     ensures goes_on { GoesOn seat result.0 }
 {
     thread::scope(
@@ -69,6 +75,8 @@ fn run_workers<R: Threads + Wait, G: Gate + Sync>(
             requires workers { board.now.task.layout.workers ≡ plan.now.workers }
             requires seat { seat.desk ≡ board.now }
             ensures ends { OnOk result.1 (AllEndOrStop plan.entry.now result.0) }
+            ensures obeyed { OnOk result.1 (AllObeyed board.entry.now.task plan.entry.now.rows seat
+                plan.entry.now.workers result.0) }
             ensures goes_on { GoesOn seat result.0 }
         { work_in(scope, rt, alloc, board, seat, plan, gate) },
     )
@@ -87,17 +95,19 @@ pub(crate) fn work_in<'s, E, R: Threads, G: Gate + Sync>(
     requires workers { board.now.task.layout.workers ≡ plan.now.workers }
     requires seat { seat.desk ≡ board.now }
     ensures ends { OnOk result.1 (AllEndOrStop plan.now result.0) }
+    ensures obeyed { OnOk result.1 (AllObeyed board.now.task plan.now.rows seat plan.now.workers
+        result.0) }
     ensures goes_on { GoesOn seat result.0 }
 {
     let Ok(mut threads) = Vec::with_capacity(alloc, plan.workers() as usize) else {
         return (seat, Err(AllocError));
     };
     let (seat, started) = start_all(scope, board, seat, plan, gate, &mut threads);
-    (join_all(rt, board, seat, threads), started)
+    (join_all(rt, board, seat, plan, threads), started)
 }
 
-/// What a worker's thread gives back: a seat that goes on from the one that the thread was given,
-/// and shows the end unless the rows stop the worker.
+/// What a worker's thread gives back: the seat that comes of obeying its rows from the one that the
+/// thread was given.
 #[derive(Drop)]
 struct Obeyed<'a> {
     before: Snapshot<Seat>,
@@ -106,7 +116,7 @@ struct Obeyed<'a> {
 }
 
 impl<'a> Promise<Seat> for Obeyed<'a> {
-    ghost kept_by = { λ p seat. GoesOn p.before.value seat × EndsOrStops p.rows.now p.worker seat };
+    ghost kept_by = { λ p seat. HasObeyed p.rows.now p.worker p.before.value seat };
 }
 
 // Starts a thread for each worker, until one is refused.
@@ -141,6 +151,8 @@ fn start_all<'s, E, G: Gate + Sync>(
             requires seat { theirs.desk ≡ board.now }
             ensures goes_on { GoesOn theirs result }
             ensures ends { EndsOrStops rows.entry.now worker result }
+            ensures obeys { Obeys theirs.desk.task worker rows.entry.now theirs (started worker)
+                result }
         { obey_rows(board, theirs, worker, rows, gate) };
         match scope.spawn_with(promise, work) {
             Ok(thread) => threads.push_reserved(thread),
@@ -155,12 +167,14 @@ fn join_all<'s, R: Threads>(
     rt: &R,
     board: &Board,
     mut seat: Seat,
+    plan: &'s Plan,
     threads: Vec<PromisedHandle<Seat, Obeyed<'s>>>,
 ) -> Seat
     requires seat { seat.desk ≡ board.now }
-    requires began { All (λ t. t.promise.before.value ≡ seat) threads.items }
-    ensures kept { All (λ t. EndsOrStops t.promise.rows.now t.promise.worker result)
-        threads.entry.items }
+    requires asked { (k : ℕ) (d : _) → k < vec_len threads →
+        WasAsked plan.now.rows k seat (slice_index_or threads.items k d).promise }
+    ensures ends { (k : ℕ) → k < vec_len threads.entry → EndsOrStops plan.now.rows k result }
+    ensures obeyed { AllObeyed board.now.task plan.now.rows seat (vec_len threads.entry) result }
     ensures goes_on { GoesOn seat result }
 {
     for thread in threads {
@@ -175,6 +189,7 @@ fn obey_rows<G: Gate>(board: &Board, mut seat: Seat, number: u32, rows: &[Row], 
     requires seat { seat.desk ≡ board.now }
     ensures goes_on { GoesOn seat result }
     ensures ends { EndsOrStops rows.now number result }
+    ensures obeys { Obeys seat.desk.task number rows.now seat (started number) result }
 {
     let mut worker = Worker::start(number);
     for row in rows {
@@ -196,7 +211,9 @@ fn obey_row<G: Gate>(board: &Board, seat: &mut Seat, worker: &mut Worker, row: &
     requires serves { Serves board.now.task.job board.now.task.layout worker.old }
     requires knows { Knows board.now.task.job board.now.task.layout seat.old.record_of
         worker.old.walking }
-    ensures goes_on { GoesOn seat.old seat.new }
+    ensures does { DoesRow board.now.task row.now seat.old worker.old.walking seat.new
+        worker.new.walking }
+    ensures desk { seat.new.desk ≡ board.now }
     ensures serves { Serves board.now.task.job board.now.task.layout worker.new }
     ensures knows { Knows board.now.task.job board.now.task.layout seat.new.record_of
         worker.new.walking }

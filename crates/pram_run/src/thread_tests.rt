@@ -261,6 +261,16 @@ fn sight(step: u32, value: u32) -> Sight {
     }
 }
 
+// The reader is held until the worker has passed, and the worker until the reader has.
+#[test]
+fn the_reader_reads_beside_the_workers(rt: HostRuntime) -> Result<(), Fail> {
+    let gate = Holds::new(rt.clone()?, [holding(0, 0, 1, 0), holding(1, 0, 0, 0)]);
+    let sights = watched(&rt, LATER, 1, &gate)?;
+    assert_eq!(rt; sights.len(), 1);
+    assert!(rt; gate.were_kept());
+    Ok(())
+}
+
 // The worker is held until the reader's last read.
 #[test]
 fn read_before(rt: HostRuntime) -> Result<(), Fail> {

@@ -42,8 +42,8 @@ pub fn watch<R: Threads + Wait, G: Gate + Sync>(
     requires seat { seat.desk ≡ board.now }
     requires cells { All (λ c. c < board.now.task.job.cells) cells.now }
     ensures answer { IfOk result.1 (λ r. IsRun board.now.task plan.now result.0.record_of r.0) }
-    ensures sights { IfOk result.1 (λ r. HasWatched board.now.task cells.now rounds seat r.1.items
-        result.0.record_of) }
+    ensures sights { IfOk result.1 (λ r. HasWatched board.now.task plan.now cells.now rounds seat
+        r.1.items result.0) }
     ensures begins { BeginsWith seat.record_of result.0.record_of }
     ensures desk { result.0.desk ≡ board.now }
 {
@@ -73,8 +73,8 @@ fn watch_workers<R: Threads + Wait, G: Gate + Sync>(
     requires seat { seat.desk ≡ board.now }
     requires cells { All (λ c. c < board.now.task.job.cells) cells.now }
     ensures ends { IfOk result.1 (λ sights. AllEndOrStop plan.now result.0) }
-    ensures sights { IfOk result.1 (λ sights. HasWatched board.now.task cells.now rounds seat
-        sights.items result.0.record_of) }
+    ensures sights { IfOk result.1 (λ sights. HasWatched board.now.task plan.now cells.now rounds
+        seat sights.items result.0) }
     ensures goes_on { GoesOn seat result.0 }
 {
     thread::scope(
@@ -86,7 +86,7 @@ fn watch_workers<R: Threads + Wait, G: Gate + Sync>(
             requires cells { All (λ c. c < board.now.task.job.cells) cells.now }
             ensures ends { IfOk result.1 (λ sights. AllEndOrStop plan.entry.now result.0) }
             ensures sights { IfOk result.1 (λ sights. HasWatched board.entry.now.task
-                cells.entry.now rounds seat sights.items result.0.record_of) }
+                plan.entry.now cells.entry.now rounds seat sights.items result.0) }
             ensures goes_on { GoesOn seat result.0 }
         { watch_in(scope, rt, alloc, board, seat, plan, cells, rounds, gate) },
     )
@@ -121,8 +121,8 @@ fn watch_in<'s, E, R: Threads, G: Gate + Sync>(
     requires seat { seat.desk ≡ board.now }
     requires cells { All (λ c. c < board.now.task.job.cells) cells.now }
     ensures ends { IfOk result.1 (λ sights. AllEndOrStop plan.now result.0) }
-    ensures sights { IfOk result.1 (λ sights. HasWatched board.now.task cells.now rounds seat
-        sights.items result.0.record_of) }
+    ensures sights { IfOk result.1 (λ sights. HasWatched board.now.task plan.now cells.now rounds
+        seat sights.items result.0) }
     ensures goes_on { GoesOn seat result.0 }
 {
     let Ok(sights) = room_for(alloc, cells, rounds) else {

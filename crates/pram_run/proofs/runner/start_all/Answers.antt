@@ -1,14 +1,14 @@
 use Rattle.std.proofs.Common.{◌≡◌, ℕ, ◌+◌, ◌<◌, List, length, sym, ap, subst, ◌∙◌, arith, get_or}
 use Rattle.pram_board.specs.Seats.{Place}
 use Rattle.pram_run.specs.declared.runner.Obeyed.{Obeyed}
-use Rattle.pram_run.specs.Inner.Obeying.{GoesOn, EndsOrStops, WasAsked}
+use Rattle.pram_run.specs.Inner.Obeying.{HasObeyed, WasAsked}
 use Rattle.pram_run.proofs.Joining.{Thread, numbered_more}
 use Rattle.pram_run.proofs.runner.start_all.Goals as goal
 
 pub spawn_with-requires-clause-keeps : goal.spawn_with-requires-clause-keeps
 spawn_with-requires-clause-keeps g c κs within r h =
-    let P : Place → Type 0 = λ s. GoesOn s r × EndsOrStops c.rows-rows.result.now c.loop-worker.worker r in
-    subst P (sym c.of.ensures) h
+    let P : Place → Type 0 = λ s. HasObeyed c.rows-rows.result.now c.loop-worker.worker s r in
+    subst P (sym c.of.ensures) (h.0, h.1.0, h.1.1)
 
 pub loop-worker-preserved : goal.loop-worker-preserved
 loop-worker-preserved g c =

@@ -1,7 +1,7 @@
 use Rattle.std.proofs.Common.{◌∙◌, ap}
 use Rattle.pram_board.specs.Seats.{Desk}
 use Rattle.pram_run.specs.Inner.Obeying.{AllEndOrStop}
-use Rattle.pram_run.proofs.Endings.{goes_trans, run_at}
+use Rattle.pram_run.proofs.Endings.{goes_trans, looked_goes, run_at}
 use Rattle.pram_run.proofs.Watches.{watched_later}
 use Rattle.pram_run.proofs.watcher.watch.Goals as goal
 
@@ -9,18 +9,24 @@ pub returns-in-Ok-answer-clause-answer : goal.returns-in-Ok-answer-clause-answer
 returns-in-Ok-answer-clause-answer g c =
     let watched = c.watch_workers-seat in
     let all : AllEndOrStop c.args.plan.now watched.result.0 = rw c.in-Ok.is at watched.ensures.ends in
-    run_at c.args.board.now.task c.args.plan.now watched.result.0 c.answer.new.seat.record_of c.in-Ok-answer.answer
-    (ap (λ (d : Desk). d.task) (watched.ensures.goes_on.desk ∙ c.requires.seat)) all (rw c.in-Ok-answer.is at c.answer.ensures.answer)
+    run_at c.args.board.now.task c.args.plan.now watched.result.0 c.answer.new.seat c.in-Ok-answer.answer
+    (ap (λ (d : Desk). d.task) (watched.ensures.goes_on.desk ∙ c.requires.seat)) all c.answer.ensures.looked (rw c.in-Ok-answer.is at c.answer.ensures.answer)
 
 pub returns-in-Ok-answer-clause-sights : goal.returns-in-Ok-answer-clause-sights
 returns-in-Ok-answer-clause-sights g c =
-    watched_later c.args.board.now.task c.args.cells.now c.args.rounds c.args.seat c.watch_workers-seat.result.0 c.answer.new.seat c.in-Ok.sights.items
-    (rw c.in-Ok.is at c.watch_workers-seat.ensures.sights) c.answer.ensures.goes_on
+    watched_later c.args.board.now.task c.args.plan.now c.args.cells.now c.args.rounds c.args.seat c.watch_workers-seat.result.0 c.answer.new.seat c.in-Ok.sights.items
+    (rw c.in-Ok.is at c.watch_workers-seat.ensures.sights) c.answer.ensures.looked
 
 pub returns-in-Ok-answer-clause-begins : goal.returns-in-Ok-answer-clause-begins
 returns-in-Ok-answer-clause-begins g c =
-    (goes_trans c.args.seat c.watch_workers-seat.result.0 c.answer.new.seat c.watch_workers-seat.ensures.goes_on c.answer.ensures.goes_on).begins
+    (goes_trans c.args.seat c.watch_workers-seat.result.0 c.answer.new.seat c.watch_workers-seat.ensures.goes_on (looked_goes _ _ c.answer.ensures.looked)).begins
 
 pub returns-in-Err-answer-clause-begins : goal.returns-in-Err-answer-clause-begins
 returns-in-Err-answer-clause-begins g c =
-    (goes_trans c.args.seat c.watch_workers-seat.result.0 c.answer.new.seat c.watch_workers-seat.ensures.goes_on c.answer.ensures.goes_on).begins
+    (goes_trans c.args.seat c.watch_workers-seat.result.0 c.answer.new.seat c.watch_workers-seat.ensures.goes_on (looked_goes _ _ c.answer.ensures.looked)).begins
+
+pub returns-in-Ok-answer-clause-desk : goal.returns-in-Ok-answer-clause-desk
+returns-in-Ok-answer-clause-desk g c = (looked_goes _ _ c.answer.ensures.looked).desk ∙ c.watch_workers-seat.ensures.goes_on.desk ∙ c.requires.seat
+
+pub returns-in-Err-answer-clause-desk : goal.returns-in-Err-answer-clause-desk
+returns-in-Err-answer-clause-desk g c = (looked_goes _ _ c.answer.ensures.looked).desk ∙ c.watch_workers-seat.ensures.goes_on.desk ∙ c.requires.seat
