@@ -1,30 +1,31 @@
--- What runs and watches on threads answer, as facts of their job and plan alone.
-use Rattle.std.proofs.Common.{◌≡◌, ℕ, List, All, Result, Ok, Err, IfOk, subst}
+-- What an opened board is, and what a watch of it tells of the job alone.
+use Rattle.std.proofs.Common.{◌≡◌, ℕ, List, All, ap, subst, ◌∙◌}
 use Rattle.std.proofs.lemmas.List.Elements.{All-weaker}
-use Rattle.std.proofs.lemmas.Result.{IfOk-weaker}
 use Rattle.std.specs.Prelude.{slice_index}
 use Rattle.pram_text.specs.Job.{JobData}
-use Rattle.pram_step.specs.Runs.{IsAnswer, IsReached, state_after}
-use Rattle.pram_step.specs.declared.answer.RunAnswer.{RunAnswer}
-use Rattle.pram_step.specs.declared.answer.RunAnswer.TheVariants.{Final, Conflict, Unfinished}
+use Rattle.pram_step.specs.Runs.{IsReached, state_after}
+use Rattle.pram_words.specs.declared.layout.Form.TheVariants.{Wide}
+use Rattle.pram_words.specs.Words.{LayoutData}
 use Rattle.stop_plan.specs.Plan.{PlanData}
-use Rattle.walkx.specs.Records.{Record}
-use Rattle.pram_board.specs.Seats.{Place}
+use Rattle.pram_board.specs.Seats.{Desk, Place, IsOpened}
 use Rattle.pram_board.specs.declared.task.Task.{Task}
-use Rattle.pram_run.specs.Running.{IsRun}
 use Rattle.pram_run.specs.Watching.{HasWatched, IsTrueSight}
 use Rattle.pram_run.specs.declared.sight.Sight.{Sight}
-use Rattle.pram_commands.specs.Threads.{HasSights, IsEnd, IsTrueOf}
+use Rattle.pram_commands.specs.Threads.{HasSights, IsTrueOf}
 
-pub is_end : (t : Task) (job : JobData) (plan : PlanData) (r : Record) (a : RunAnswer) → t.job ≡ job → IsRun t plan r a → IsEnd job plan a
-is_end t job plan r (Final cells) same ran = subst (λ j. IsAnswer j (Final cells)) same ran.0
-is_end t job plan r (Conflict fault) same ran = subst (λ j. IsAnswer j (Conflict fault)) same ran.0
-is_end t job plan r (Unfinished step) same ran = (ran.0, subst (λ j. IsReached j step) same ran.2)
+-- what an opened board is
+pub job_of : (job : JobData) (workers : ℕ) (made : Desk × Place) → IsOpened job Wide workers made → made.0.task.job ≡ job
+job_of job workers made opened = opened.0
 
-pub ended : {E : Type 0} (t : Task) (job : JobData) (plan : PlanData) (r : Record) (result : Result RunAnswer E) → t.job ≡ job
-    → IfOk result (λ a. IsRun t plan r a) → IfOk result (IsEnd job plan)
-ended t job plan r (Ok a) same ran = is_end t job plan r a same ran
-ended t job plan r (Err e) same ran = tt
+pub workers_of : (job : JobData) (workers : ℕ) (made : Desk × Place) → IsOpened job Wide workers made → made.0.task.layout.workers ≡ workers
+workers_of job workers made opened = ap (λ (y : LayoutData). y.workers) opened.1
+
+pub desk_of : (job : JobData) (workers : ℕ) (made : Desk × Place) → IsOpened job Wide workers made → made.1.desk ≡ made.0
+desk_of job workers made opened = ap (λ (p : Place). p.desk) opened.2
+
+-- the same board with a seat of the same value
+pub opened_as : (job : JobData) (workers : ℕ) (desk : Desk) (p q : Place) → q ≡ p → IsOpened job Wide workers (desk, p) → IsOpened job Wide workers (desk, q)
+opened_as job workers desk p q is opened = (opened.0, opened.1, is ∙ opened.2)
 
 is_true : (t : Task) (job : JobData) (sight : Sight) → t.job ≡ job → IsTrueSight t sight → IsTrueOf job sight
 is_true t job sight same told = record {
@@ -32,9 +33,9 @@ is_true t job sight same told = record {
   value = subst (λ (j : JobData). sight.value ≡ slice_index (state_after j sight.step) sight.cell) same told.value;
 }
 
-pub has_sights : (t : Task) (job : JobData) (cells : List ℕ) (rounds : ℕ) (p : Place) (sights : List Sight) (later : Record) → t.job ≡ job
-    → HasWatched t cells rounds p sights later → HasSights job cells rounds sights
-has_sights t job cells rounds p sights later same watched = record {
+pub has_sights : (t : Task) (job : JobData) (plan : PlanData) (cells : List ℕ) (rounds : ℕ) (p : Place) (sights : List Sight) (later : Place) → t.job ≡ job
+    → HasWatched t plan cells rounds p sights later → HasSights job cells rounds sights
+has_sights t job plan cells rounds p sights later same watched = record {
   listed = watched.watch.listed;
   tells = All-weaker (λ (sight : Sight). IsTrueSight t sight) (λ (sight : Sight). IsTrueOf job sight) (λ sight told. is_true t job sight same told) sights watched.watch.tells;
   rises = watched.watch.rises;

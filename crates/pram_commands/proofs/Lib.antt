@@ -1,3 +1,4 @@
 pub mod Cells
 pub mod Ends
 pub mod Refusals
+pub mod Statuses

@@ -53,8 +53,8 @@ module _ (job job' : Option (List ℕ)) where
     line-refused (line.Check file) fault refused known = job-refused fault refused known
     line-refused (line.Plain file) fault refused known = job-refused fault refused known
     line-refused (line.Steps file from to) fault refused known = job-refused fault refused known
-    line-refused (line.Run file workers name progress) fault refused known = both-refused workers.count fault refused known
-    line-refused (line.Watch file workers cells rounds name progress) fault refused known = watch-refused workers.count (cells_of cells.text.now) fault refused known
+    line-refused (line.Run file workers name progress pace) fault refused known = both-refused workers.count fault refused known
+    line-refused (line.Watch file workers cells rounds name progress pace) fault refused known = watch-refused workers.count (cells_of cells.text.now) fault refused known
     line-refused (line.Replay file workers name) fault refused known = both-refused workers.count fault refused known
 
     -- what is true of the devices where the fault is of one
@@ -97,6 +97,6 @@ module _ (job job' : Option (List ℕ)) where
     line-cause (line.Check file) = job-cause
     line-cause (line.Plain file) = job-cause
     line-cause (line.Steps file from to) = job-cause
-    line-cause (line.Run file workers name progress) = both-cause workers.count
-    line-cause (line.Watch file workers cells rounds name progress) = watch-cause workers.count (cells_of cells.text.now)
+    line-cause (line.Run file workers name progress pace) = both-cause workers.count
+    line-cause (line.Watch file workers cells rounds name progress pace) = watch-cause workers.count (cells_of cells.text.now)
     line-cause (line.Replay file workers name) = both-cause workers.count

@@ -1,8 +1,11 @@
 pub mod CellLists
 pub mod Faults
+pub mod Files
 pub mod Inner
 pub mod Inputs
 pub mod Line
+pub mod Progress
 pub mod Replayed
 pub mod Serve
+pub mod Served
 pub mod Threads

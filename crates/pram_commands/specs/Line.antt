@@ -12,14 +12,14 @@ abbrev pub file_of : Line → List ℕ
 file_of (Check file) = file.now
 file_of (Plain file) = file.now
 file_of (Steps file from to) = file.now
-file_of (Run file workers plan progress) = file.now
-file_of (Watch file workers cells rounds plan progress) = file.now
+file_of (Run file workers plan progress pace) = file.now
+file_of (Watch file workers cells rounds plan progress pace) = file.now
 file_of (Replay file workers plan) = file.now
 
 abbrev pub plan_of : Line → Option (List ℕ)
 plan_of (Check file) = None
 plan_of (Plain file) = None
 plan_of (Steps file from to) = None
-plan_of (Run file workers plan progress) = text_of plan
-plan_of (Watch file workers cells rounds plan progress) = text_of plan
+plan_of (Run file workers plan progress pace) = text_of plan
+plan_of (Watch file workers cells rounds plan progress pace) = text_of plan
 plan_of (Replay file workers plan) = text_of plan

@@ -101,9 +101,10 @@ IsDone (Plain file) job job' plan plan' sink sink' status =
     PrintsWithStatus job job' sink sink' status
 IsDone (Steps file from to) job job' plan plan' sink sink' status =
     StepsWithStatus job job' (record { from = from; to = to }) sink sink' status
-IsDone (Run file workers plan_file progress) job job' plan plan' sink sink' status =
+IsDone (Run file workers plan_file progress pace) job job' plan plan' sink sink' status =
     RunsWithStatus job job' plan plan' workers.count sink sink' status
-IsDone (Watch file workers cells rounds plan_file progress) job job' plan plan' sink sink' status =
+IsDone (Watch file workers cells rounds plan_file progress pace) job job' plan plan' sink sink'
+    status =
     WatchesWithStatus job job' plan plan' workers.count (cells_of cells.text.now) rounds sink sink'
     status
 IsDone (Replay file workers plan_file) job job' plan plan' sink sink' status =
@@ -116,9 +117,10 @@ BeginsToPrint (Check file) job job' plan plan' sink sink' =
 BeginsToPrint (Plain file) job job' plan plan' sink sink' = PrintsBeginning job job' sink sink'
 BeginsToPrint (Steps file from to) job job' plan plan' sink sink' =
     PrintsStepsBeginning job job' (record { from = from; to = to }) sink sink'
-BeginsToPrint (Run file workers plan_file progress) job job' plan plan' sink sink' =
+BeginsToPrint (Run file workers plan_file progress pace) job job' plan plan' sink sink' =
     PrintsRunBeginning job job' plan plan' workers.count sink sink'
-BeginsToPrint (Watch file workers cells rounds plan_file progress) job job' plan plan' sink sink' =
+BeginsToPrint (Watch file workers cells rounds plan_file progress pace) job job' plan plan' sink
+    sink' =
     PrintsWatchBeginning job job' plan plan' workers.count (cells_of cells.text.now) rounds
     sink sink'
 BeginsToPrint (Replay file workers plan_file) job job' plan plan' sink sink' =
@@ -129,8 +131,8 @@ abbrev pub MayStop : Line → Type 0
 MayStop (Check file) = ⊥
 MayStop (Plain file) = ⊥
 MayStop (Steps file from to) = ⊥
-MayStop (Run file workers plan_file progress) = ⊤
-MayStop (Watch file workers cells rounds plan_file progress) = ⊤
+MayStop (Run file workers plan_file progress pace) = ⊤
+MayStop (Watch file workers cells rounds plan_file progress pace) = ⊤
 MayStop (Replay file workers plan_file) = ⊤
 
 -- What a fault says of the sources.
@@ -138,9 +140,9 @@ abbrev pub ExplainsLine : Line → (job job' plan plan' : Option (List ℕ)) →
 ExplainsLine (Check file) job job' plan plan' fault = ExplainsJob job job' fault
 ExplainsLine (Plain file) job job' plan plan' fault = ExplainsJob job job' fault
 ExplainsLine (Steps file from to) job job' plan plan' fault = ExplainsJob job job' fault
-ExplainsLine (Run file workers plan_file progress) job job' plan plan' fault =
+ExplainsLine (Run file workers plan_file progress pace) job job' plan plan' fault =
     Explains job job' plan plan' workers.count fault
-ExplainsLine (Watch file workers cells rounds plan_file progress) job job' plan plan' fault =
+ExplainsLine (Watch file workers cells rounds plan_file progress pace) job job' plan plan' fault =
     ExplainsWatch job job' plan plan' workers.count (cells_of cells.text.now) fault
 ExplainsLine (Replay file workers plan_file) job job' plan plan' fault =
     Explains job job' plan plan' workers.count fault
@@ -164,9 +166,9 @@ abbrev pub IsRefused : Line → (job job' plan plan' : Option (List ℕ)) → Ty
 IsRefused (Check file) job job' plan plan' = GivesNoJob job job'
 IsRefused (Plain file) job job' plan plan' = GivesNoJob job job'
 IsRefused (Steps file from to) job job' plan plan' = GivesNoJob job job'
-IsRefused (Run file workers plan_file progress) job job' plan plan' =
+IsRefused (Run file workers plan_file progress pace) job job' plan plan' =
     GivesNoBoth job job' plan plan' workers.count
-IsRefused (Watch file workers cells rounds plan_file progress) job job' plan plan' =
+IsRefused (Watch file workers cells rounds plan_file progress pace) job job' plan plan' =
     GivesNoBoth job job' plan plan' workers.count
     ⊎ ((cell : ℕ) × GivesOutside job job' plan plan' workers.count (cells_of cells.text.now) cell)
 IsRefused (Replay file workers plan_file) job job' plan plan' =
@@ -188,11 +190,11 @@ HasCause (Plain file) job_failed plan_failed sink_failed job job' plan plan' =
     IsTrue job_failed ⊎ (IsTrue sink_failed ⊎ GivesMoreThan MOST job job')
 HasCause (Steps file from to) job_failed plan_failed sink_failed job job' plan plan' =
     IsTrue job_failed ⊎ (IsTrue sink_failed ⊎ GivesMoreThan MOST job job')
-HasCause (Run file workers plan_file progress) job_failed plan_failed sink_failed job job' plan
+HasCause (Run file workers plan_file progress pace) job_failed plan_failed sink_failed job job' plan
     plan' =
     BothHaveCause job_failed plan_failed sink_failed job job' plan plan'
-HasCause (Watch file workers cells rounds plan_file progress) job_failed plan_failed sink_failed job
-    job' plan plan' =
+HasCause (Watch file workers cells rounds plan_file progress pace) job_failed plan_failed
+    sink_failed job job' plan plan' =
     BothHaveCause job_failed plan_failed sink_failed job job' plan plan'
 HasCause (Replay file workers plan_file) job_failed plan_failed sink_failed job job' plan plan' =
     BothHaveCause job_failed plan_failed sink_failed job job' plan plan'

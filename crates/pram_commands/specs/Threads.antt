@@ -5,22 +5,32 @@ use Rattle.std.specs.List.{repeat}
 use Rattle.std.specs.List.Sorted.{IsNonDecreasingBy}
 use Rattle.std.specs.Io.KnownBytes.{Appends}
 use Rattle.pram_text.specs.Job.{JobData}
-use Rattle.pram_step.specs.Runs.{IsAnswer, IsReached, state_after}
+use Rattle.pram_step.specs.Runs.{IsReached, state_after}
 use Rattle.pram_step.specs.declared.answer.RunAnswer.{RunAnswer}
-use Rattle.pram_step.specs.declared.answer.RunAnswer.TheVariants.{Final, Conflict, Unfinished}
+use Rattle.pram_words.specs.declared.layout.Form.TheVariants.{Wide}
 use Rattle.pram_io.specs.Printed.{printed}
 use Rattle.pram_io.specs.Transfer.{AppendsBeginning}
-use Rattle.stop_plan.specs.Plan.{PlanData, StopsAll}
+use Rattle.stop_plan.specs.Plan.{PlanData}
+use Rattle.pram_board.specs.Seats.{Desk, Place, IsOpened}
+use Rattle.pram_run.specs.Obeyed.{HasRun}
 use Rattle.pram_run.specs.Printed.{sights_text}
+use Rattle.pram_run.specs.Running.{IsRun}
+use Rattle.pram_run.specs.Watching.{HasWatched}
 use Rattle.pram_run.specs.declared.sight.Sight.{Sight}
 use Rattle.pram_commands.specs.Inputs.{GivesBoth}
 
--- The answer of the job; or it is unfinished after a step that is reached, and the plan stops every
--- worker.
+-- The seat is the one that a run of the plan's workers came to, from the first seat of a new board
+-- of the job; and its record tells the answer.
+pub record EndsAt (job : JobData) (plan : PlanData) (later : Place) (answer : RunAnswer)
+    : Type 0 where
+  pub made : Desk × Place
+  pub opened : IsOpened job Wide plan.workers made
+  pub ran : HasRun made.0.task plan made.1 later
+  pub told : IsRun made.0.task plan later.record_of answer
+
+-- some run came to the answer
 abbrev pub IsEnd : JobData → PlanData → RunAnswer → Type 0
-IsEnd job plan (Final cells) = IsAnswer job (Final cells)
-IsEnd job plan (Conflict fault) = IsAnswer job (Conflict fault)
-IsEnd job plan (Unfinished step) = StopsAll plan × IsReached job step
+IsEnd job plan answer = (later : Place) × EndsAt job plan later answer
 
 -- The sink took the printed answer of a run of the job under the plan.
 pub record TakesRun (job : JobData) (plan : PlanData) (sink sink' : Option (List ℕ))
@@ -64,12 +74,27 @@ pub record HasSights (job : JobData) (cells : List ℕ) (rounds : ℕ) (sights :
   pub tells : All (λ sight. IsTrueOf job sight) sights
   pub rises : IsNonDecreasingBy (λ sight. sight.step) sights
 
+-- The seat is the one that such a run came to, with a reader of these cells beside its workers, who
+-- saw the sights; and its record tells the answer.
+pub record WatchEndsAt (job : JobData) (plan : PlanData) (cells : List ℕ) (rounds : ℕ)
+    (later : Place) (sights : List Sight) (answer : RunAnswer) : Type 0 where
+  pub made : Desk × Place
+  pub opened : IsOpened job Wide plan.workers made
+  pub ran : HasWatched made.0.task plan cells rounds made.1 sights later
+  pub told : IsRun made.0.task plan later.record_of answer
+
+-- some run came to the sights and the answer
+pub record IsWatchEnd (job : JobData) (plan : PlanData) (cells : List ℕ) (rounds : ℕ)
+    (sights : List Sight) (answer : RunAnswer) : Type 0 where
+  pub later : Place
+  pub at_it : WatchEndsAt job plan cells rounds later sights answer
+
 -- The sink took the sights of a watch of the job under the plan, and then its printed answer.
 pub record TakesWatch (job : JobData) (plan : PlanData) (cells : List ℕ) (rounds : ℕ)
     (sink sink' : Option (List ℕ)) (answer : RunAnswer) : Type 0 where
   pub sights : List Sight
   pub saw : HasSights job cells rounds sights
-  pub ends : IsEnd job plan answer
+  pub ends : IsWatchEnd job plan cells rounds sights answer
   pub prints : Appends sink sink' (sights_text sights ++ printed answer job.steps)
 
 -- The sink took a beginning of these.
@@ -78,7 +103,7 @@ pub record BeginsWatch (job : JobData) (plan : PlanData) (cells : List ℕ) (rou
   pub answer : RunAnswer
   pub sights : List Sight
   pub saw : HasSights job cells rounds sights
-  pub ends : IsEnd job plan answer
+  pub ends : IsWatchEnd job plan cells rounds sights answer
   pub prints : AppendsBeginning sink sink' (sights_text sights ++ printed answer job.steps)
 
 -- The sources gave a job and a plan, and the sink took their watch.

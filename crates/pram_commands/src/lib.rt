@@ -4,6 +4,7 @@
 
 mod cell_list;
 mod fault;
+mod files;
 mod inputs;
 mod line;
 mod progress;
@@ -19,11 +20,12 @@ mod workers;
 
 pub use cell_list::CellList;
 pub use fault::CommandFault;
+pub use files::{Folder, serve_files};
 pub use inputs::{take_inputs, take_plan};
 pub use line::Line;
 pub use refusal::{CONFLICT, DONE, FAILED, MEMORY, REFUSED, Refusal, UNFINISHED, tell};
 pub use replays::replay;
 pub use runs::run;
-pub use server::serve;
+pub use server::{serve, serve_alone};
 pub use watches::watch;
 pub use workers::Workers;

@@ -24,11 +24,14 @@ pub enum Line<'a> {
         to: u32,
     },
     /// Run the job on threads. Where `progress` is asked for, standard error tells how far it is.
+    /// The pace is the pause before each tick of a worker, in microseconds; where there is none,
+    /// the workers do not wait.
     Run {
         file: &'a str,
         workers: Workers,
         plan: Option<&'a str>,
         progress: bool,
+        pace: Option<u32>,
     },
     /// The same, with a reader beside the workers, which goes so many rounds through the cells.
     Watch {
@@ -38,6 +41,7 @@ pub enum Line<'a> {
         rounds: u32,
         plan: Option<&'a str>,
         progress: bool,
+        pace: Option<u32>,
     },
     /// Run the job on one thread, by the plan, and print each step.
     Replay {
@@ -48,6 +52,21 @@ pub enum Line<'a> {
 }
 
 impl<'a> Line<'a> {
+    ghost use Rattle.std.specs.Prelude.{◌≡◌, ◌↔◌, IsTrue};
+    ghost use Rattle.pram_commands.specs.Served.{StartsNoThread};
+
+    /// Whether the line is done by the thread that calls.
+    pub fn starts_no_thread(&self) -> bool
+        ensures { IsTrue result ↔ StartsNoThread self.now }
+    {
+        match self {
+            Line::Check { .. } | Line::Plain { .. } | Line::Steps { .. } | Line::Replay { .. } => {
+                true
+            }
+            Line::Run { .. } | Line::Watch { .. } => false,
+        }
+    }
+
     /// The job's file.
     pub fn file(&self) -> &'a str
         ensures { result.now ≡ file_of self.now }

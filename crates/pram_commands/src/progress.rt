@@ -1,19 +1,35 @@
 //! How far a board is, told beside its workers.
-ghost use Rattle.std.specs.Prelude.{◌≡◌, IfOk};
+ghost use Rattle.std.specs.Prelude.{◌≡◌, IfOk, Some};
+ghost use Rattle.pram_commands.specs.Progress.{TellsProgress, progress_text};
 
 use pram_board::{Board, Seat};
 use std::alloc::AllocError;
 use std::rt::Clock;
 use std::sync::atomic::{AtomicBool, Ordering};
-use std::thread;
 use std::thread::Scope;
 use std::time::Duration;
+use std::{fmt, thread};
 
 /// The sleep between two looks at whether the work is done, in milliseconds.
 const NAP: u64 = 10;
 
 /// How many sleeps lie between two looks at the board.
 const NAPS: u64 = 25;
+
+/// How far a board is, as standard error tells it.
+#[derive(Clone, Copy, Debug, PartialEq, Eq)]
+pub(crate) struct ProgressLine {
+    step: u32,
+    steps: u32,
+}
+
+impl fmt::Display for ProgressLine {
+    ghost output = { λ line. Some (progress_text line) };
+
+    fn fmt<W: fmt::Write>(&self, f: &mut fmt::Formatter<W>) -> fmt::Result {
+        write!(f, "step {} of {}", self.step, self.steps)
+    }
+}
 
 /// Starts a thread of the scope that tells on standard error how far the board is, until the work
 /// is done. It asks about four times a second, and tells each step once.
@@ -25,12 +41,14 @@ pub(crate) fn start_teller<'s, E, R: Clock + Eprint + Sync>(
     steps: u32,
     done: &'s AtomicBool,
 ) -> Result<Seat, AllocError>
-    requires { seat.desk ≡ board.now }
+    requires seat { seat.desk ≡ board.now }
+    requires steps { steps ≡ board.now.task.job.steps }
     ensures { IfOk result (λ mine. mine ≡ seat) }
 {
     let (seat, theirs) = board.split(seat);
     let tell = move || -> ()
-        requires { theirs.desk ≡ board.now }
+        requires seat { theirs.desk ≡ board.now }
+        requires steps { steps ≡ board.now.task.job.steps }
     { tell_steps(rt, board, theirs, steps, done) };
     match scope.spawn(tell) {
         Ok(_) => Ok(seat),
@@ -38,15 +56,16 @@ pub(crate) fn start_teller<'s, E, R: Clock + Eprint + Sync>(
     }
 }
 
-// Tells the finished step whenever it has changed. Where standard error fails, that is all.
-fn tell_steps<R: Clock + Eprint>(
+// Tells the line whenever it has changed. Where standard error fails, that is all.
+pub(crate) fn tell_steps<R: Clock + Eprint>(
     rt: &R,
     board: &Board,
     mut seat: Seat,
     steps: u32,
     done: &AtomicBool,
 )
-    requires { seat.desk ≡ board.now }
+    requires seat { seat.desk ≡ board.now }
+    requires steps { steps ≡ board.now.task.job.steps }
 {
     let mut told = None;
     for nap in 0..u64::MAX {
@@ -54,12 +73,25 @@ fn tell_steps<R: Clock + Eprint>(
             return;
         }
         if nap % NAPS == 0 {
-            let step = board.progress(&mut seat).step;
-            if told != Some(step) {
-                let _ = rt.eprintln(format_args!("step {step} of {steps}"));
-                told = Some(step);
+            let line = progress_line(board, &mut seat, steps);
+            if told != Some(line) {
+                let _ = rt.eprintln(line);
+                told = Some(line);
             }
         }
         thread::sleep(rt, Duration::from_millis(NAP));
+    }
+}
+
+/// Looks at the board, and gives the line to tell.
+fn progress_line(board: &Board, seat: &mut Seat, steps: u32) -> ProgressLine
+    requires seat { seat.old.desk ≡ board.now }
+    requires steps { steps ≡ board.now.task.job.steps }
+    ensures tells { TellsProgress board.now.task seat.old seat.new result }
+    ensures desk { seat.new.desk ≡ board.now }
+{
+    ProgressLine {
+        step: board.progress(seat).step,
+        steps,
     }
 }

@@ -18,7 +18,8 @@ use std::thread::Threads;
 use stop_plan::Plan;
 
 /// Reads a job, then its plan, runs the plan's workers on threads, and prints the job's answer.
-/// Where `progress` is asked for, one more thread tells on standard error how far they are. Where a
+/// Where `progress` is asked for, one more thread tells on standard error how far they are. Where
+/// there is a pace, each worker takes a pause of so many microseconds before each tick. Where a
 /// thread is refused, that is want of memory. Where memory runs out, a beginning of the answer may
 /// stand printed.
 pub fn run<R: Threads + Wait + Clock + Eprint + Sync, J: Source, P: Source, O: Sink>(
@@ -26,6 +27,7 @@ pub fn run<R: Threads + Wait + Clock + Eprint + Sync, J: Source, P: Source, O: S
     alloc: Global,
     workers: Workers,
     progress: bool,
+    pace: Option<u32>,
     job: &mut J,
     plan: &mut P,
     out: &mut O,
@@ -63,7 +65,7 @@ pub fn run<R: Threads + Wait + Clock + Eprint + Sync, J: Source, P: Source, O: S
     ensures plan_reads { GivesSome (P.remaining plan.old) (P.remaining plan.new) }
 {
     let (job, plan) = take_inputs(alloc, job, plan, workers)?;
-    Ok(print_run(rt, alloc, &job, workers, &plan, progress, out)?)
+    Ok(print_run(rt, alloc, &job, workers, &plan, progress, pace, out)?)
 }
 
 // Prints the answer of a run.
@@ -74,6 +76,7 @@ fn print_run<R: Threads + Wait + Clock + Eprint + Sync, O: Sink>(
     workers: Workers,
     plan: &Plan,
     progress: bool,
+    pace: Option<u32>,
     out: &mut O,
 ) -> Result<RunAnswer, PrintFault>
     requires out { O.has_failed out.old ≡ false }
@@ -85,7 +88,7 @@ fn print_run<R: Threads + Wait + Clock + Eprint + Sync, O: Sink>(
         ⊎ BeginsRun job.now plan.now (O.taken out.old) (O.taken out.new)) }
     ensures failed { IsTrue (O.has_failed out.new) ↔ IsErrOf result PrintFault.Device }
 {
-    let answer = run_job(rt, alloc, job, workers, plan, progress)?;
+    let (answer, _seat) = run_job(rt, alloc, job, workers, plan, progress, pace)?;
     print_answer(alloc, out, &answer, job.steps())?;
     Ok(answer)
 }

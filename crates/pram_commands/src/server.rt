@@ -1,14 +1,11 @@
 //! The work of a line.
-ghost use Rattle.std.specs.Prelude.{◌≡◌, ◌≢◌, ◌<◌, ◌≤◌, ◌⊎◌, ◌↔◌};
-ghost use Rattle.std.specs.Prelude.{false, IfOk, IfErr, OnErr, IsErrOf, IsTrue};
-ghost use Rattle.pram_io.specs.Transfer.{GivesSome};
+ghost use Rattle.std.specs.Prelude.{◌≡◌, ◌⊎◌, false, IfOk, IfErr};
 ghost use Rattle.pram_commands.specs.Faults.{fault_status};
 ghost use Rattle.pram_commands.specs.Inner.Refusals.{cell_at_fault, file_at_fault, refusal_status};
 ghost use Rattle.pram_commands.specs.Inner.Refusals.{told_cell, told_file};
-ghost use Rattle.pram_commands.specs.Serve.{BeginsToPrint, ExplainsLine, HasCause};
-ghost use Rattle.pram_commands.specs.Serve.{IsDone, IsRefused, MayStop};
 ghost use Rattle.pram_commands.specs.Serve.{bytes_after, bytes_before, left_failed};
 ghost use Rattle.pram_commands.specs.Serve.{some_failed, status_of};
+ghost use Rattle.pram_commands.specs.Served.{Did, Served, StartsNoThread};
 
 use crate::fault::CommandFault;
 use crate::line::Line;
@@ -27,7 +24,7 @@ use std::thread::Threads;
 /// Does what the line asks, and answers the exit status. The job comes from `job` in place of the
 /// line's file, and the plan from `plan`; where that is none, the plan has no rows. Refusals are
 /// told on `err`, and how far a run is on the runtime's standard error; where either fails, the
-/// status stays.
+/// status stays. It waits for threads at `run` and `watch` alone: `serve_alone` does the others.
 pub fn serve<R: Threads + Wait + Clock + Eprint + Sync, J: Source, P: Source, O: Sink, E: Sink>(
     rt: &R,
     alloc: Global,
@@ -41,40 +38,18 @@ pub fn serve<R: Threads + Wait + Clock + Eprint + Sync, J: Source, P: Source, O:
     requires plan { some_failed P.has_failed plan ≡ false }
     requires out { O.has_failed out.old ≡ false }
     requires err { E.has_failed err.old ≡ false }
-    ensures done { (result < REFUSED) ⊎ (result ≡ UNFINISHED) → IsDone line.now
-        (J.remaining job.old) (J.remaining job.new)
-        (bytes_before P.remaining plan.entry) (bytes_after P.remaining plan.exit)
-        (O.taken out.old) (O.taken out.new) result }
-    ensures status { result ≤ MEMORY }
-    ensures stops { result ≡ UNFINISHED → MayStop line.now }
-
-    // At status 2 a text bears a fault, or the job lacks a cell that is to be watched, and nothing
-    // was written to the output.
-    ensures refused { result ≡ REFUSED → IsRefused line.now
-        (J.remaining job.old) (J.remaining job.new)
-        (bytes_before P.remaining plan.entry) (bytes_after P.remaining plan.exit)
-        × (out.new ≡ out.old) }
-
-    // At status 4 a device failed or a source is too large.
-    ensures failed { result ≡ FAILED → HasCause line.now
-        (J.has_failed job.new) (left_failed P.has_failed plan.exit) (O.has_failed out.new)
-        (J.remaining job.old) (J.remaining job.new)
-        (bytes_before P.remaining plan.entry) (bytes_after P.remaining plan.exit) }
-
-    // Where a device failed, the status says so, or that memory ran out too. Nothing was written
-    // then, or a beginning of what the line prints.
-    ensures job { IsTrue (J.has_failed job.new) → FAILED ≤ result }
-    ensures plan { IsTrue (left_failed P.has_failed plan.exit) → FAILED ≤ result }
-    ensures out { IsTrue (O.has_failed out.new) → FAILED ≤ result }
-    ensures begins { FAILED ≤ result → (out.new ≡ out.old) ⊎ BeginsToPrint line.now
-        (J.remaining job.old) (J.remaining job.new)
-        (bytes_before P.remaining plan.entry) (bytes_after P.remaining plan.exit)
-        (O.taken out.old) (O.taken out.new) }
-
-    // The sources stand after the bytes read so far.
-    ensures job_reads { GivesSome (J.remaining job.old) (J.remaining job.new) }
-    ensures plan_reads { GivesSome (bytes_before P.remaining plan.entry)
-        (bytes_after P.remaining plan.exit) }
+    ensures { Served line.now (record {
+      job = J.remaining job.old;
+      job' = J.remaining job.new;
+      plan = bytes_before P.remaining plan.entry;
+      plan' = bytes_after P.remaining plan.exit;
+      out = O.taken out.old;
+      out' = O.taken out.new;
+      job_failed = J.has_failed job.new;
+      plan_failed = left_failed P.has_failed plan.exit;
+      out_failed = O.has_failed out.new;
+      Unwritten = out.new ≡ out.old;
+    }) result }
 {
     match plan {
         Some(plan) => serve_sources(rt, alloc, line, job, plan, out, err),
@@ -82,9 +57,9 @@ pub fn serve<R: Threads + Wait + Clock + Eprint + Sync, J: Source, P: Source, O:
     }
 }
 
-// The same for a plan from a source.
-fn serve_sources<R: Threads + Wait + Clock + Eprint + Sync, J: Source, P: Source, O: Sink, E: Sink>(
-    rt: &R,
+/// Does what `serve` does for a line that starts no thread, and always returns. The plan is a
+/// source in any case: `Empty` where the line names none.
+pub fn serve_alone<J: Source, P: Source, O: Sink, E: Sink>(
     alloc: Global,
     line: &Line<'_>,
     job: &mut J,
@@ -92,39 +67,79 @@ fn serve_sources<R: Threads + Wait + Clock + Eprint + Sync, J: Source, P: Source
     out: &mut O,
     err: &mut E,
 ) -> u8
+    requires alone { StartsNoThread line.now }
     requires job { J.has_failed job.old ≡ false }
     requires plan { P.has_failed plan.old ≡ false }
     requires out { O.has_failed out.old ≡ false }
     requires err { E.has_failed err.old ≡ false }
-    ensures done { (result < REFUSED) ⊎ (result ≡ UNFINISHED) → IsDone line.now
-        (J.remaining job.old) (J.remaining job.new) (P.remaining plan.old) (P.remaining plan.new)
-        (O.taken out.old) (O.taken out.new) result }
-    ensures status { result ≤ MEMORY }
-    ensures stops { result ≡ UNFINISHED → MayStop line.now }
-    ensures refused { result ≡ REFUSED → IsRefused line.now
-        (J.remaining job.old) (J.remaining job.new) (P.remaining plan.old) (P.remaining plan.new)
-        × (out.new ≡ out.old) }
-    ensures failed { result ≡ FAILED → HasCause line.now
-        (J.has_failed job.new) (P.has_failed plan.new) (O.has_failed out.new)
-        (J.remaining job.old) (J.remaining job.new) (P.remaining plan.old)
-        (P.remaining plan.new) }
-    ensures job { IsTrue (J.has_failed job.new) → FAILED ≤ result }
-    ensures plan { IsTrue (P.has_failed plan.new) → FAILED ≤ result }
-    ensures out { IsTrue (O.has_failed out.new) → FAILED ≤ result }
-    ensures begins { FAILED ≤ result → (out.new ≡ out.old) ⊎ BeginsToPrint line.now
-        (J.remaining job.old) (J.remaining job.new) (P.remaining plan.old) (P.remaining plan.new)
-        (O.taken out.old) (O.taken out.new) }
-    ensures job_reads { GivesSome (J.remaining job.old) (J.remaining job.new) }
-    ensures plan_reads { GivesSome (P.remaining plan.old) (P.remaining plan.new) }
+    ensures { Served line.now (record {
+      job = J.remaining job.old;
+      job' = J.remaining job.new;
+      plan = P.remaining plan.old;
+      plan' = P.remaining plan.new;
+      out = O.taken out.old;
+      out' = O.taken out.new;
+      job_failed = J.has_failed job.new;
+      plan_failed = P.has_failed plan.new;
+      out_failed = O.has_failed out.new;
+      Unwritten = out.new ≡ out.old;
+    }) result }
 {
-    match do_line(rt, alloc, line, job, plan, out) {
+    let done = do_alone(alloc, line, job, plan, out);
+    status_after(alloc, line, done, err)
+}
+
+// The same for a plan from a source.
+pub(crate) fn serve_sources<
+    R: Threads + Wait + Clock + Eprint + Sync,
+    J: Source,
+    P: Source,
+    O: Sink,
+    E: Sink,
+>(rt: &R, alloc: Global, line: &Line<'_>, job: &mut J, plan: &mut P, out: &mut O, err: &mut E) -> u8
+    requires job { J.has_failed job.old ≡ false }
+    requires plan { P.has_failed plan.old ≡ false }
+    requires out { O.has_failed out.old ≡ false }
+    requires err { E.has_failed err.old ≡ false }
+    ensures { Served line.now (record {
+      job = J.remaining job.old;
+      job' = J.remaining job.new;
+      plan = P.remaining plan.old;
+      plan' = P.remaining plan.new;
+      out = O.taken out.old;
+      out' = O.taken out.new;
+      job_failed = J.has_failed job.new;
+      plan_failed = P.has_failed plan.new;
+      out_failed = O.has_failed out.new;
+      Unwritten = out.new ≡ out.old;
+    }) result }
+{
+    if line.starts_no_thread() {
+        return serve_alone(alloc, line, job, plan, out, err);
+    }
+    let done = do_on_threads(rt, alloc, line, job, plan, out);
+    status_after(alloc, line, done, err)
+}
+
+// The status of what was done, or of its refusal, which is told.
+fn status_after<E: Sink>(
+    alloc: Global,
+    line: &Line<'_>,
+    done: Result<u8, CommandFault>,
+    err: &mut E,
+) -> u8
+    requires { E.has_failed err.old ≡ false }
+    ensures done { IfOk done (λ status. result ≡ status) }
+    ensures told { IfErr done (λ fault. (result ≡ MEMORY) ⊎ (result ≡ fault_status fault)) }
+{
+    match done {
         Ok(status) => status,
         Err(fault) => tell(alloc, refusal_of(line, fault), err),
     }
 }
 
-// Does what the line asks, and answers the status of its answer.
-fn do_line<R: Threads + Wait + Clock + Eprint + Sync, J: Source, P: Source, O: Sink>(
+// Does what a line that starts threads asks, and answers the status of its answer.
+fn do_on_threads<R: Threads + Wait + Clock + Eprint + Sync, J: Source, P: Source, O: Sink>(
     rt: &R,
     alloc: Global,
     line: &Line<'_>,
@@ -132,30 +147,76 @@ fn do_line<R: Threads + Wait + Clock + Eprint + Sync, J: Source, P: Source, O: S
     plan: &mut P,
     out: &mut O,
 ) -> Result<u8, CommandFault>
+    requires threads { ¬ StartsNoThread line.now }
     requires job { J.has_failed job.old ≡ false }
     requires plan { P.has_failed plan.old ≡ false }
     requires out { O.has_failed out.old ≡ false }
-    ensures done { IfOk result (IsDone line.now
-        (J.remaining job.old) (J.remaining job.new) (P.remaining plan.old) (P.remaining plan.new)
-        (O.taken out.old) (O.taken out.new)) }
-    ensures status { IfOk result (λ s. (s < REFUSED) ⊎ (s ≡ UNFINISHED)) }
-    ensures stops { IfOk result (λ s. s ≡ UNFINISHED → MayStop line.now) }
-    ensures explains { IfErr result (ExplainsLine line.now
-        (J.remaining job.old) (J.remaining job.new) (P.remaining plan.old)
-        (P.remaining plan.new)) }
-    ensures begins { OnErr result ((out.new ≡ out.old) ⊎ BeginsToPrint line.now
-        (J.remaining job.old) (J.remaining job.new) (P.remaining plan.old) (P.remaining plan.new)
-        (O.taken out.old) (O.taken out.new)) }
-    ensures unwritten { IfErr result (λ fault. fault ≢ CommandFault.OutDevice
-        → fault ≢ CommandFault.Memory → out.new ≡ out.old) }
-    ensures job_failed { IsTrue (J.has_failed job.new)
-        ↔ IsErrOf result CommandFault.JobDevice }
-    ensures plan_failed { IsTrue (P.has_failed plan.new)
-        ↔ IsErrOf result CommandFault.PlanDevice }
-    ensures out_failed { IsTrue (O.has_failed out.new)
-        ↔ IsErrOf result CommandFault.OutDevice }
-    ensures job_reads { GivesSome (J.remaining job.old) (J.remaining job.new) }
-    ensures plan_reads { GivesSome (P.remaining plan.old) (P.remaining plan.new) }
+    ensures { Did line.now (record {
+      job = J.remaining job.old;
+      job' = J.remaining job.new;
+      plan = P.remaining plan.old;
+      plan' = P.remaining plan.new;
+      out = O.taken out.old;
+      out' = O.taken out.new;
+      job_failed = J.has_failed job.new;
+      plan_failed = P.has_failed plan.new;
+      out_failed = O.has_failed out.new;
+      Unwritten = out.new ≡ out.old;
+    }) result }
+{
+    match *line {
+        Line::Run {
+            workers,
+            progress,
+            pace,
+            ..
+        } => {
+            let answer = run(rt, alloc, workers, progress, pace, job, plan, out)?;
+            Ok(answer_status(&answer))
+        }
+        Line::Watch {
+            workers,
+            cells,
+            rounds,
+            progress,
+            pace,
+            ..
+        } => {
+            let answer = watch(
+                rt, alloc, workers, cells, rounds, progress, pace, job, plan, out,
+            )?;
+            Ok(answer_status(&answer))
+        }
+        Line::Check { .. } | Line::Plain { .. } | Line::Steps { .. } | Line::Replay { .. } => {
+            unreachable!()
+        }
+    }
+}
+
+// The same for a line that starts no thread.
+fn do_alone<J: Source, P: Source, O: Sink>(
+    alloc: Global,
+    line: &Line<'_>,
+    job: &mut J,
+    plan: &mut P,
+    out: &mut O,
+) -> Result<u8, CommandFault>
+    requires alone { StartsNoThread line.now }
+    requires job { J.has_failed job.old ≡ false }
+    requires plan { P.has_failed plan.old ≡ false }
+    requires out { O.has_failed out.old ≡ false }
+    ensures { Did line.now (record {
+      job = J.remaining job.old;
+      job' = J.remaining job.new;
+      plan = P.remaining plan.old;
+      plan' = P.remaining plan.new;
+      out = O.taken out.old;
+      out' = O.taken out.new;
+      job_failed = J.has_failed job.new;
+      plan_failed = P.has_failed plan.new;
+      out_failed = O.has_failed out.new;
+      Unwritten = out.new ≡ out.old;
+    }) result }
 {
     match *line {
         Line::Check { .. } => {
@@ -167,27 +228,10 @@ fn do_line<R: Threads + Wait + Clock + Eprint + Sync, J: Source, P: Source, O: S
             let answer = steps(alloc, Window { from, to }, job, out)?;
             Ok(answer_status(&answer))
         }
-        Line::Run {
-            workers,
-            progress,
-            ..
-        } => {
-            let answer = run(rt, alloc, workers, progress, job, plan, out)?;
-            Ok(answer_status(&answer))
-        }
-        Line::Watch {
-            workers,
-            cells,
-            rounds,
-            progress,
-            ..
-        } => {
-            let answer = watch(rt, alloc, workers, cells, rounds, progress, job, plan, out)?;
-            Ok(answer_status(&answer))
-        }
         Line::Replay { workers, .. } => {
             Ok(answer_status(&replay(alloc, workers, job, plan, out)?))
         }
+        Line::Run { .. } | Line::Watch { .. } => unreachable!(),
     }
 }
 

@@ -1,5 +1,6 @@
 //! Tests of what no clause says.
 mod inputs;
+mod progress;
 mod refusals;
 mod replays;
 mod served;

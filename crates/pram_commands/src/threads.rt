@@ -1,6 +1,9 @@
 //! Runs and watches over a new board.
-ghost use Rattle.std.specs.Prelude.{◌≡◌, ◌<◌, All, IfOk};
-ghost use Rattle.pram_commands.specs.Threads.{HasSights, IsEnd};
+ghost use Rattle.std.specs.Prelude.{◌≡◌, ◌<◌, ◌*◌, All, IfOk};
+ghost use Rattle.std.specs.Duration.{as_nanos};
+ghost use Rattle.pram_words.specs.declared.layout.Form.TheVariants.{Wide};
+ghost use Rattle.pram_board.specs.Seats.{IsOpened};
+ghost use Rattle.pram_commands.specs.Threads.{EndsAt, HasSights, WatchEndsAt};
 
 use crate::progress::start_teller;
 use crate::workers::Workers;
@@ -14,9 +17,18 @@ use std::sync::Wait;
 use std::sync::atomic::{AtomicBool, Ordering};
 use std::thread;
 use std::thread::{Scope, Threads};
-use stop_plan::{Open, Plan};
+use std::time::Duration;
+use stop_plan::{Gate, Open, Paced, Plan};
 
-/// Runs the plan's workers, and answers how the job ended.
+// The gate whose passes each take so many microseconds.
+fn paced<R: Clock>(rt: &R, micros: u32) -> Paced<'_, R>
+    ensures { as_nanos result.pause ≡ micros * 1_000 }
+{
+    Paced::new(rt, Duration::from_micros(u64::from(micros)))
+}
+
+/// Runs the plan's workers, and answers how the job ended, with the seat that saw it. Where there
+/// is a pace, each worker takes a pause of so many microseconds before each tick.
 pub(crate) fn run_job<R: Threads + Wait + Clock + Eprint + Sync>(
     rt: &R,
     alloc: Global,
@@ -24,63 +36,79 @@ pub(crate) fn run_job<R: Threads + Wait + Clock + Eprint + Sync>(
     workers: Workers,
     plan: &Plan,
     progress: bool,
-) -> Result<RunAnswer, AllocError>
+    pace: Option<u32>,
+) -> Result<(RunAnswer, Seat), AllocError>
     requires { plan.now.workers ≡ workers.count }
-    ensures { IfOk result (IsEnd job.now plan.now) }
+    ensures { IfOk result (λ r. EndsAt job.now plan.now r.1 r.0) }
+{
+    match pace {
+        None => run_behind(rt, alloc, job, workers, plan, progress, &Open),
+        Some(micros) => run_behind(rt, alloc, job, workers, plan, progress, &paced(rt, micros)),
+    }
+}
+
+// The same behind a gate.
+fn run_behind<R: Threads + Wait + Clock + Eprint + Sync, G: Gate + Sync>(
+    rt: &R,
+    alloc: Global,
+    job: &Job,
+    workers: Workers,
+    plan: &Plan,
+    progress: bool,
+    gate: &G,
+) -> Result<(RunAnswer, Seat), AllocError>
+    requires { plan.now.workers ≡ workers.count }
+    ensures { IfOk result (λ r. EndsAt job.now plan.now r.1 r.0) }
 {
     let (board, seat) = Board::open_wide(alloc, job, workers.count)?;
     if progress {
-        return run_told(rt, alloc, job, &board, seat, plan);
+        return run_told(rt, alloc, job, &board, seat, plan, gate);
     }
-    run_alone(rt, alloc, job, &board, seat, plan)
+    run_alone(rt, alloc, job, &board, seat, plan, gate)
 }
 
-fn run_alone<R: Threads + Wait>(
+fn run_alone<R: Threads + Wait, G: Gate + Sync>(
     rt: &R,
     alloc: Global,
     job: &Job,
     board: &Board,
     seat: Seat,
     plan: &Plan,
-) -> Result<RunAnswer, AllocError>
-    requires job { board.now.task.job ≡ job.now }
-    requires workers { board.now.task.layout.workers ≡ plan.now.workers }
-    requires seat { seat.desk ≡ board.now }
-    ensures { IfOk result (IsEnd job.now plan.now) }
+    gate: &G,
+) -> Result<(RunAnswer, Seat), AllocError>
+    requires { IsOpened job.now Wide plan.now.workers (board.now, seat) }
+    ensures { IfOk result (λ r. EndsAt job.now plan.now r.1 r.0) }
 {
-    let (_seat, answer) = pram_run::run(rt, alloc, job, board, seat, plan, &Open);
-    answer
+    let (seat, answer) = pram_run::run(rt, alloc, job, board, seat, plan, gate);
+    Ok((answer?, seat))
 }
 
-fn run_told<R: Threads + Wait + Clock + Eprint + Sync>(
+fn run_told<R: Threads + Wait + Clock + Eprint + Sync, G: Gate + Sync>(
     rt: &R,
     alloc: Global,
     job: &Job,
     board: &Board,
     seat: Seat,
     plan: &Plan,
-) -> Result<RunAnswer, AllocError>
-    requires job { board.now.task.job ≡ job.now }
-    requires workers { board.now.task.layout.workers ≡ plan.now.workers }
-    requires seat { seat.desk ≡ board.now }
-    ensures { IfOk result (IsEnd job.now plan.now) }
+    gate: &G,
+) -> Result<(RunAnswer, Seat), AllocError>
+    requires { IsOpened job.now Wide plan.now.workers (board.now, seat) }
+    ensures { IfOk result (λ r. EndsAt job.now plan.now r.1 r.0) }
 {
     let done = AtomicBool::new(false);
     let done = &done;
     thread::scope(
         thread::scope_env(),
         rt,
-        |scope| -> Result<RunAnswer, AllocError>
-            requires job { board.now.task.job ≡ job.now }
-            requires workers { board.now.task.layout.workers ≡ plan.now.workers }
-            requires seat { seat.desk ≡ board.now }
-            ensures { IfOk result (IsEnd job.entry.now plan.entry.now) }
-        { run_in(scope, rt, alloc, job, board, seat, plan, done) },
+        |scope| -> Result<(RunAnswer, Seat), AllocError>
+            requires { IsOpened job.now Wide plan.now.workers (board.now, seat) }
+            ensures { IfOk result (λ r. EndsAt job.entry.now plan.entry.now r.1 r.0) }
+        { run_in(scope, rt, alloc, job, board, seat, plan, done, gate) },
     )
 }
 
 // Starts a thread of the scope that tells how far the board is, and runs beside it.
-fn run_in<'s, E, R: Threads + Wait + Clock + Eprint + Sync>(
+fn run_in<'s, E, R: Threads + Wait + Clock + Eprint + Sync, G: Gate + Sync>(
     scope: &Scope<'s, E>,
     rt: &'s R,
     alloc: Global,
@@ -89,19 +117,19 @@ fn run_in<'s, E, R: Threads + Wait + Clock + Eprint + Sync>(
     seat: Seat,
     plan: &Plan,
     done: &'s AtomicBool,
-) -> Result<RunAnswer, AllocError>
-    requires job { board.now.task.job ≡ job.now }
-    requires workers { board.now.task.layout.workers ≡ plan.now.workers }
-    requires seat { seat.desk ≡ board.now }
-    ensures { IfOk result (IsEnd job.now plan.now) }
+    gate: &G,
+) -> Result<(RunAnswer, Seat), AllocError>
+    requires { IsOpened job.now Wide plan.now.workers (board.now, seat) }
+    ensures { IfOk result (λ r. EndsAt job.now plan.now r.1 r.0) }
 {
     let seat = start_teller(scope, rt, board, seat, job.steps(), done)?;
-    let answer = run_alone(rt, alloc, job, board, seat, plan);
+    let answer = run_alone(rt, alloc, job, board, seat, plan, gate);
     done.store(true, Ordering::SeqCst);
     answer
 }
 
-/// The same as `run_job`, with a reader beside the workers, and what it read.
+/// The same as `run_job`, with a reader beside the workers, and what it read. The reader takes a
+/// pause before each read too.
 pub(crate) fn watch_job<R: Threads + Wait + Clock + Eprint + Sync>(
     rt: &R,
     alloc: Global,
@@ -111,20 +139,53 @@ pub(crate) fn watch_job<R: Threads + Wait + Clock + Eprint + Sync>(
     cells: &[u32],
     rounds: u32,
     progress: bool,
-) -> Result<(RunAnswer, Vec<Sight>), AllocError>
+    pace: Option<u32>,
+) -> Result<(RunAnswer, Vec<Sight>, Seat), AllocError>
     requires workers { plan.now.workers ≡ workers.count }
     requires cells { All (λ c. c < job.now.cells) cells.now }
-    ensures answer { IfOk result (λ r. IsEnd job.now plan.now r.0) }
+    ensures ends { IfOk result (λ r. WatchEndsAt job.now plan.now cells.now rounds r.2 r.1.items
+        r.0) }
+    ensures sights { IfOk result (λ r. HasSights job.now cells.now rounds r.1.items) }
+{
+    match pace {
+        None => watch_behind(
+            rt, alloc, job, workers, plan, cells, rounds, progress, &Open,
+        ),
+        Some(micros) => {
+            let gate = paced(rt, micros);
+            watch_behind(
+                rt, alloc, job, workers, plan, cells, rounds, progress, &gate,
+            )
+        }
+    }
+}
+
+// The same behind a gate.
+fn watch_behind<R: Threads + Wait + Clock + Eprint + Sync, G: Gate + Sync>(
+    rt: &R,
+    alloc: Global,
+    job: &Job,
+    workers: Workers,
+    plan: &Plan,
+    cells: &[u32],
+    rounds: u32,
+    progress: bool,
+    gate: &G,
+) -> Result<(RunAnswer, Vec<Sight>, Seat), AllocError>
+    requires workers { plan.now.workers ≡ workers.count }
+    requires cells { All (λ c. c < job.now.cells) cells.now }
+    ensures ends { IfOk result (λ r. WatchEndsAt job.now plan.now cells.now rounds r.2 r.1.items
+        r.0) }
     ensures sights { IfOk result (λ r. HasSights job.now cells.now rounds r.1.items) }
 {
     let (board, seat) = Board::open_wide(alloc, job, workers.count)?;
     if progress {
-        return watch_told(rt, alloc, job, &board, seat, plan, cells, rounds);
+        return watch_told(rt, alloc, job, &board, seat, plan, cells, rounds, gate);
     }
-    watch_alone(rt, alloc, job, &board, seat, plan, cells, rounds)
+    watch_alone(rt, alloc, job, &board, seat, plan, cells, rounds, gate)
 }
 
-fn watch_alone<R: Threads + Wait>(
+fn watch_alone<R: Threads + Wait, G: Gate + Sync>(
     rt: &R,
     alloc: Global,
     job: &Job,
@@ -133,19 +194,20 @@ fn watch_alone<R: Threads + Wait>(
     plan: &Plan,
     cells: &[u32],
     rounds: u32,
-) -> Result<(RunAnswer, Vec<Sight>), AllocError>
-    requires job { board.now.task.job ≡ job.now }
-    requires workers { board.now.task.layout.workers ≡ plan.now.workers }
-    requires seat { seat.desk ≡ board.now }
+    gate: &G,
+) -> Result<(RunAnswer, Vec<Sight>, Seat), AllocError>
+    requires opened { IsOpened job.now Wide plan.now.workers (board.now, seat) }
     requires cells { All (λ c. c < job.now.cells) cells.now }
-    ensures answer { IfOk result (λ r. IsEnd job.now plan.now r.0) }
+    ensures ends { IfOk result (λ r. WatchEndsAt job.now plan.now cells.now rounds r.2 r.1.items
+        r.0) }
     ensures sights { IfOk result (λ r. HasSights job.now cells.now rounds r.1.items) }
 {
-    let (_seat, watched) = pram_run::watch(rt, alloc, job, board, seat, plan, cells, rounds, &Open);
-    watched
+    let (seat, watched) = pram_run::watch(rt, alloc, job, board, seat, plan, cells, rounds, gate);
+    let (answer, sights) = watched?;
+    Ok((answer, sights, seat))
 }
 
-fn watch_told<R: Threads + Wait + Clock + Eprint + Sync>(
+fn watch_told<R: Threads + Wait + Clock + Eprint + Sync, G: Gate + Sync>(
     rt: &R,
     alloc: Global,
     job: &Job,
@@ -154,12 +216,12 @@ fn watch_told<R: Threads + Wait + Clock + Eprint + Sync>(
     plan: &Plan,
     cells: &[u32],
     rounds: u32,
-) -> Result<(RunAnswer, Vec<Sight>), AllocError>
-    requires job { board.now.task.job ≡ job.now }
-    requires workers { board.now.task.layout.workers ≡ plan.now.workers }
-    requires seat { seat.desk ≡ board.now }
+    gate: &G,
+) -> Result<(RunAnswer, Vec<Sight>, Seat), AllocError>
+    requires opened { IsOpened job.now Wide plan.now.workers (board.now, seat) }
     requires cells { All (λ c. c < job.now.cells) cells.now }
-    ensures answer { IfOk result (λ r. IsEnd job.now plan.now r.0) }
+    ensures ends { IfOk result (λ r. WatchEndsAt job.now plan.now cells.now rounds r.2 r.1.items
+        r.0) }
     ensures sights { IfOk result (λ r. HasSights job.now cells.now rounds r.1.items) }
 {
     let done = AtomicBool::new(false);
@@ -167,24 +229,23 @@ fn watch_told<R: Threads + Wait + Clock + Eprint + Sync>(
     thread::scope(
         thread::scope_env(),
         rt,
-        |scope| -> Result<(RunAnswer, Vec<Sight>), AllocError>
-            requires job { board.now.task.job ≡ job.now }
-            requires workers { board.now.task.layout.workers ≡ plan.now.workers }
-            requires seat { seat.desk ≡ board.now }
+        |scope| -> Result<(RunAnswer, Vec<Sight>, Seat), AllocError>
+            requires opened { IsOpened job.now Wide plan.now.workers (board.now, seat) }
             requires cells { All (λ c. c < job.now.cells) cells.now }
-            ensures answer { IfOk result (λ r. IsEnd job.entry.now plan.entry.now r.0) }
+            ensures ends { IfOk result (λ r. WatchEndsAt job.entry.now plan.entry.now
+                cells.entry.now rounds r.2 r.1.items r.0) }
             ensures sights { IfOk result (λ r. HasSights job.entry.now cells.entry.now rounds
                 r.1.items) }
         {
             watch_in(
-                scope, rt, alloc, job, board, seat, plan, cells, rounds, done,
+                scope, rt, alloc, job, board, seat, plan, cells, rounds, done, gate,
             )
         },
     )
 }
 
 // Starts a thread of the scope that tells how far the board is, and watches beside it.
-fn watch_in<'s, E, R: Threads + Wait + Clock + Eprint + Sync>(
+fn watch_in<'s, E, R: Threads + Wait + Clock + Eprint + Sync, G: Gate + Sync>(
     scope: &Scope<'s, E>,
     rt: &'s R,
     alloc: Global,
@@ -195,16 +256,16 @@ fn watch_in<'s, E, R: Threads + Wait + Clock + Eprint + Sync>(
     cells: &[u32],
     rounds: u32,
     done: &'s AtomicBool,
-) -> Result<(RunAnswer, Vec<Sight>), AllocError>
-    requires job { board.now.task.job ≡ job.now }
-    requires workers { board.now.task.layout.workers ≡ plan.now.workers }
-    requires seat { seat.desk ≡ board.now }
+    gate: &G,
+) -> Result<(RunAnswer, Vec<Sight>, Seat), AllocError>
+    requires opened { IsOpened job.now Wide plan.now.workers (board.now, seat) }
     requires cells { All (λ c. c < job.now.cells) cells.now }
-    ensures answer { IfOk result (λ r. IsEnd job.now plan.now r.0) }
+    ensures ends { IfOk result (λ r. WatchEndsAt job.now plan.now cells.now rounds r.2 r.1.items
+        r.0) }
     ensures sights { IfOk result (λ r. HasSights job.now cells.now rounds r.1.items) }
 {
     let seat = start_teller(scope, rt, board, seat, job.steps(), done)?;
-    let watched = watch_alone(rt, alloc, job, board, seat, plan, cells, rounds);
+    let watched = watch_alone(rt, alloc, job, board, seat, plan, cells, rounds, gate);
     done.store(true, Ordering::SeqCst);
     watched
 }

@@ -24,7 +24,8 @@ use stop_plan::Plan;
 
 /// Does what `run` does, with a reader beside the workers: it goes so many rounds through the
 /// cells, and what each read told is printed before the answer, in order. The cells are judged
-/// after the job and its plan. The reads stand in memory until the workers are done.
+/// after the job and its plan. The reads stand in memory until the workers are
+/// done, and the reader keeps the workers' pace.
 pub fn watch<R: Threads + Wait + Clock + Eprint + Sync, J: Source, P: Source, O: Sink>(
     rt: &R,
     alloc: Global,
@@ -32,6 +33,7 @@ pub fn watch<R: Threads + Wait + Clock + Eprint + Sync, J: Source, P: Source, O:
     cells: CellList<'_>,
     rounds: u32,
     progress: bool,
+    pace: Option<u32>,
     job: &mut J,
     plan: &mut P,
     out: &mut O,
@@ -75,9 +77,13 @@ pub fn watch<R: Threads + Wait + Clock + Eprint + Sync, J: Source, P: Source, O:
     if let Some(cell) = first_outside(&job, cells) {
         return Err(CommandFault::OutsideCell { cell });
     }
-    Ok(print_watch(
-        rt, alloc, &job, workers, &plan, cells, rounds, progress, out,
-    )?)
+    match print_watch(
+        rt, alloc, &job, workers, &plan, cells, rounds, progress, pace, out,
+    ) {
+        Ok(answer) => Ok(answer),
+        Err(PrintFault::Device) => Err(CommandFault::OutDevice),
+        Err(PrintFault::Memory) => Err(CommandFault::Memory),
+    }
 }
 
 // Prints the reads of a watch, then its answer.
@@ -90,6 +96,7 @@ fn print_watch<R: Threads + Wait + Clock + Eprint + Sync, O: Sink>(
     cells: &[u32],
     rounds: u32,
     progress: bool,
+    pace: Option<u32>,
     out: &mut O,
 ) -> Result<RunAnswer, PrintFault>
     requires out { O.has_failed out.old ≡ false }
@@ -103,7 +110,9 @@ fn print_watch<R: Threads + Wait + Clock + Eprint + Sync, O: Sink>(
         ⊎ BeginsWatch job.now plan.now cells.now rounds (O.taken out.old) (O.taken out.new)) }
     ensures failed { IsTrue (O.has_failed out.new) ↔ IsErrOf result PrintFault.Device }
 {
-    let (answer, sights) = watch_job(rt, alloc, job, workers, plan, cells, rounds, progress)?;
+    let (answer, sights, _seat) = watch_job(
+        rt, alloc, job, workers, plan, cells, rounds, progress, pace,
+    )?;
     print_sights(alloc, out, sights.as_slice())?;
     print_answer(alloc, out, &answer, job.steps())?;
     Ok(answer)

@@ -63,7 +63,7 @@ fn runs_between_devices(rt: HostRuntime) -> Result<(), Fail> {
     let mut out = IntoWrite::new(Vec::new(alloc));
     let job = &mut FromRead::new(JOB);
     let plan = &mut FromRead::new(PLAN);
-    let answer = run(&rt, alloc, TWO, false, job, plan, &mut out);
+    let answer = run(&rt, alloc, TWO, false, None, job, plan, &mut out);
     assert!(rt; matches!(answer, Ok(RunAnswer::Final(_))));
     assert_eq!(rt;
         out.into_inner().as_slice(),
@@ -81,7 +81,7 @@ fn watches_between_devices(rt: HostRuntime) -> Result<(), Fail> {
     let Some(cells) = CellList::read("0,0") else {
         panic!(rt; "no list");
     };
-    let answer = watch(&rt, alloc, TWO, cells, 2, false, job, plan, &mut out);
+    let answer = watch(&rt, alloc, TWO, cells, 2, false, None, job, plan, &mut out);
     assert!(rt; matches!(answer, Ok(RunAnswer::Final(_))));
     let text = "step,cell,value\n0,0,5\n0,0,5\n0,0,5\n0,0,5\ndone steps=0\n0: 5\n";
     assert_eq!(rt; out.into_inner().as_slice(), text.as_bytes());

@@ -17,6 +17,7 @@ const RUN: Line<'static> = Line::Run {
     workers: Workers { count: 2 },
     plan: Some("plan.csv"),
     progress: false,
+    pace: None,
 };
 
 const JOB: &[u8] = b"pram 1\ncells 1\nprocs 1\nsteps 0\ncode\nhalt\n";

@@ -11,6 +11,7 @@ use std::rt::Clock;
 use std::sync::Wait;
 use std::test::Fail;
 use std::thread::Threads;
+use std::time::Duration;
 
 const SET: &str = "pram 1/cells 1/procs 1/steps 1/code/set r0 7/";
 
@@ -45,6 +46,7 @@ fn run_line(count: u32, progress: bool) -> Line<'static>
         workers: Workers { count },
         plan: Some("plan.csv"),
         progress,
+        pace: None,
     }
 }
 
@@ -59,6 +61,7 @@ fn watch_line(count: u32, cells: CellList<'_>, rounds: u32) -> Line<'_>
         rounds,
         plan: Some("plan.csv"),
         progress: false,
+        pace: None,
     }
 }
 
@@ -130,6 +133,50 @@ fn watches_print_their_reads(rt: HostRuntime) -> Result<(), Fail> {
         assert!(rt; served.err.is_empty());
         assert_eq!(rt; served.status, status, "{text}");
     }
+    Ok(())
+}
+
+// How long a line takes, over a job under the rows of a plan, and what it prints.
+fn timed<R: Threads + Wait + Clock + Eprint + Sync>(
+    rt: &R,
+    alloc: Global,
+    line: &Line<'_>,
+    rows: &str,
+) -> Result<(Duration, Served), Fail> {
+    let start = rt.monotonic()?;
+    let served = served(rt, alloc, line, SET, rows)?;
+    Ok((rt.monotonic()?.saturating_sub(start), served))
+}
+
+// Each atomic step, each tick of a sleep and each read takes its pause of 4 milliseconds.
+#[test]
+fn a_pace_is_kept(rt: HostRuntime) -> Result<(), Fail> {
+    let alloc = rt.alloc();
+    let run = Line::Run {
+        file: FILE,
+        workers: Workers { count: 2 },
+        plan: Some("plan.csv"),
+        progress: false,
+        pace: Some(4_000),
+    };
+    let (took, served) = timed(&rt, alloc, &run, "0,go,3/0,sleep,2/0,stop,0/1,stop,0/")?;
+    assert!(rt; took >= Duration::from_millis(20));
+    assert_eq!(rt; served.out.as_slice(), "unfinished step=0\n".as_bytes());
+    let Some(cells) = CellList::read("0") else {
+        panic!(rt; "no list");
+    };
+    let watch = Line::Watch {
+        file: FILE,
+        workers: Workers { count: 2 },
+        cells,
+        rounds: 5,
+        plan: Some("plan.csv"),
+        progress: false,
+        pace: Some(4_000),
+    };
+    let (took, served) = timed(&rt, alloc, &watch, "0,stop,0/1,stop,0/")?;
+    assert!(rt; took >= Duration::from_millis(20));
+    assert_eq!(rt; served.status, 3);
     Ok(())
 }
 

@@ -12,14 +12,14 @@ on_err (Err error) holds = holds
 pub returns-in_err-print_answer-clause-device : goal.returns-in_err-print_answer-clause-device
 returns-in_err-print_answer-clause-device g c = λ _.
     let answer = subst (λ steps. AppendsBeginning (g.O.Sink.taken c.args.out.now) (g.O.Sink.taken c.print_answer.new.sink) (printed c.in_ok-answer.answer steps)) c.steps.ensures.value c.in_err-print_answer.ensures.beginning in
-    record { answer = c.in_ok-answer.answer; ends = c.in_ok-answer.ensures; prints = answer }
+    record { answer = c.in_ok-answer.answer; ends = (_, c.in_ok-answer.ensures); prints = answer }
 
 pub returns-in_err-print_answer-clause-memory : goal.returns-in_err-print_answer-clause-memory
 returns-in_err-print_answer-clause-memory g c =
     let answer = subst (λ steps. AppendsBeginning (g.O.Sink.taken c.args.out.now) (g.O.Sink.taken c.print_answer.new.sink) (printed c.in_ok-answer.answer steps)) c.steps.ensures.value c.in_err-print_answer.ensures.beginning in
-    on_err _ (inr (record { answer = c.in_ok-answer.answer; ends = c.in_ok-answer.ensures; prints = answer }))
+    on_err _ (inr (record { answer = c.in_ok-answer.answer; ends = (_, c.in_ok-answer.ensures); prints = answer }))
 
 pub returns-clause-ok : goal.returns-clause-ok
 returns-clause-ok g c =
     let answer = subst (λ steps. Appends (g.O.Sink.taken c.args.out.now) (g.O.Sink.taken c.print_answer.new.sink) (printed c.in_ok-answer.answer steps)) c.steps.ensures.value c.in_ok-print_answer.ensures.ok in
-    record { ends = c.in_ok-answer.ensures; prints = answer }
+    record { ends = (_, c.in_ok-answer.ensures); prints = answer }

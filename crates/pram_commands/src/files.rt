@@ -1,0 +1,49 @@
+//! A line served from the files that it names.
+ghost use Rattle.std.specs.Prelude.{◌≡◌, ℕ, false, List, Option};
+ghost use Rattle.pram_commands.specs.Files.{ServesFiles};
+
+use crate::line::Line;
+use crate::server::serve_sources;
+use pram_io::{Empty, Sink, Source};
+use std::alloc::Global;
+use std::rt::Clock;
+use std::sync::Wait;
+use std::thread::Threads;
+
+/// Files by their names.
+pub trait Folder {
+    /// The bytes of a file. Where it could not be opened, the first pull fails.
+    type File: Source + Drop;
+
+    // What a source of the file of this name may have to give, before its first pull.
+    ghost holds: { Self → List ℕ → Option (List ℕ) → Type 0 };
+
+    /// The bytes of the file of this name.
+    fn open(&self, name: &str) -> Self::File
+        ensures unfailed { Self.File.has_failed result ≡ false }
+        ensures bytes { holds self.now name.now (Self.File.remaining result) };
+}
+
+/// Does what `serve` does, over the files that the line names.
+pub fn serve_files<R: Threads + Wait + Clock + Eprint + Sync, F: Folder, O: Sink, E: Sink>(
+    rt: &R,
+    alloc: Global,
+    folder: &F,
+    line: &Line<'_>,
+    out: &mut O,
+    err: &mut E,
+) -> u8
+    requires out { O.has_failed out.old ≡ false }
+    requires err { E.has_failed err.old ≡ false }
+    ensures { ServesFiles (F.holds folder.now) line.now (O.taken out.old) (O.taken out.new)
+        (O.has_failed out.new) (out.new ≡ out.old) result }
+{
+    let mut job = folder.open(line.file());
+    match line.plan() {
+        Some(name) => {
+            let mut plan = folder.open(name);
+            serve_sources(rt, alloc, line, &mut job, &mut plan, out, err)
+        }
+        None => serve_sources(rt, alloc, line, &mut job, &mut Empty, out, err),
+    }
+}

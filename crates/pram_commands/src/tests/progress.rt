@@ -1,0 +1,82 @@
+//! Lines of progress.
+ghost use Rattle.std.specs.Prelude.{◌≡◌};
+
+use crate::progress::tell_steps;
+use pram_board::{Board, Seat};
+use pram_run::run;
+use pram_text::read_job;
+use std::alloc::Global;
+use std::cell::RefCell;
+use std::fmt::{Display, Write};
+use std::io;
+use std::rt::Clock;
+use std::sync::atomic::{AtomicBool, Ordering};
+use std::test::Fail;
+use std::time::Duration;
+use stop_plan::{Open, Plan};
+
+const JOB: &[u8] = b"pram 1\ncells 1\nprocs 1\nsteps 2\ncode\nhalt\n";
+
+// A standard error that keeps its text, and a clock at whose sleep the work is done.
+#[derive(Drop)]
+struct Ends {
+    done: AtomicBool,
+    told: RefCell<String>,
+}
+
+impl Clock for Ends {
+    fn monotonic(&self) -> io::Result<Duration> {
+        Ok(Duration::ZERO)
+    }
+
+    fn since_1970(&self) -> io::Result<Duration> {
+        self.monotonic()
+    }
+
+    fn sleep(&self, _duration: Duration) {
+        self.done.store(true, Ordering::SeqCst);
+    }
+}
+
+impl Eprint for Ends {
+    fn eprint<D: Display + Drop>(&self, value: D) -> io::Result<()> {
+        if let Ok(mut told) = self.told.try_borrow_mut() {
+            let _ = write!(told, "{value}");
+        }
+        Ok(())
+    }
+
+    fn eprintln<D: Display + Drop>(&self, value: D) -> io::Result<()> {
+        self.eprint(format_args!("{value}\n"))
+    }
+}
+
+// What is told of a board at one look.
+fn told(alloc: Global, board: &Board, seat: Seat, steps: u32) -> String
+    requires seat { seat.desk ≡ board.now }
+    requires steps { steps ≡ board.now.task.job.steps }
+{
+    let rt = Ends {
+        done: AtomicBool::new(false),
+        told: RefCell::new(String::new(alloc)),
+    };
+    tell_steps(&rt, board, seat, steps, &rt.done);
+    rt.told.into_inner()
+}
+
+#[test]
+fn the_finished_step_is_told(rt: HostRuntime) -> Result<(), Fail> {
+    let alloc = rt.alloc();
+    let job = read_job(alloc, JOB)?;
+    let (board, seat) = Board::open_wide(alloc, &job, 1)?;
+    let (seat, early) = board.split(seat);
+    let (seat, late) = board.split(seat);
+    let before = told(alloc, &board, early, job.steps());
+    assert_eq!(rt; before.as_str(), "step 0 of 2\n");
+    let plan = Plan::empty(alloc, 1);
+    let (_seat, answer) = run(&rt, alloc, &job, &board, seat, &plan, &Open);
+    assert!(rt; answer.is_ok());
+    let after = told(alloc, &board, late, job.steps());
+    assert_eq!(rt; after.as_str(), "step 2 of 2\n");
+    Ok(())
+}
