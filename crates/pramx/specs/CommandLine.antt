@@ -83,6 +83,15 @@ progress_rule = record (new_rule (codes "progress")) {
   action = Some SetTrue;
 }
 
+-- --pace MICROSECONDS
+abbrev pub pace_rule : Rule
+pace_rule = record (new_rule (codes "pace")) {
+  long = Some (codes "pace");
+  value_names = 1;
+  action = Some Set;
+  parser = Some (Signed (pos 0) (pos 1000000));
+}
+
 -- NAME FILE
 abbrev pub on_file : Text → App
 on_file name = with_rule (new_app name) file_rule
@@ -95,14 +104,18 @@ on_steps = with_rule (with_rule (on_file (codes "steps")) from_rule) to_rule
 abbrev pub with_workers : Text → App
 with_workers name = with_rule (with_rule (on_file name) workers_rule) plan_rule
 
--- run FILE --workers W [--plan P] [--progress]
-abbrev pub on_run : App
-on_run = with_rule (with_workers (codes "run")) progress_rule
+-- what a run and a watch take last
+abbrev pub with_progress : App → App
+with_progress app = with_rule (with_rule app progress_rule) pace_rule
 
--- watch FILE --workers W --cells C,C,.. --rounds R [--plan P] [--progress]
+-- run FILE --workers W [--plan P] [--progress] [--pace MICROSECONDS]
+abbrev pub on_run : App
+on_run = with_progress (with_workers (codes "run"))
+
+-- watch FILE --workers W --cells C,C,.. --rounds R [--plan P] [--progress] [--pace MICROSECONDS]
 abbrev pub on_watch : App
-on_watch = with_rule (with_rule (with_rule (with_workers (codes "watch")) cells_rule) rounds_rule)
-    progress_rule
+on_watch = with_progress (with_rule (with_rule (with_workers (codes "watch")) cells_rule)
+    rounds_rule)
 
 -- the program without its subcommands, of which one must stand
 abbrev pub bare : App
@@ -154,6 +167,11 @@ abbrev pub IsNumberOr : Text → List Row → ℕ → ℕ → Type 0
 IsNumberOr option rows other number =
     MatchOption (first_of option rows) (number ≡ other) (λ _. IsNumberOf option rows number)
 
+-- The number is that of the option's value; there is none where the option is left out.
+abbrev pub IsNumberIfSet : Text → List Row → Option ℕ → Type 0
+IsNumberIfSet option rows number = MatchOption (first_of option rows) (number ≡ None)
+    (λ _. IsSomeAnd number (IsNumberOf option rows))
+
 -- The subcommand of this name was met, with this file and these steps.
 pub record HasSteps (matches : Option (Text × List Row)) (name file : Text) (from to : ℕ) :
     Type 0 where
@@ -167,16 +185,19 @@ pub record IsFlag (found : Option Text) (flag : Bool) : Type 0 where
   pub unset : found ≡ Some (codes "false") → flag ≡ false
   pub none : found ≡ None → flag ≡ false
 
--- The subcommand of this name was met as above, with this flag for its progress.
+-- The subcommand of this name was met as above, with this flag for its progress, and this pace if
+-- it has one.
 pub record HasRun (matches : Option (Text × List Row)) (name file : Text) (workers : ℕ)
-    (plan : Option Text) (progress : Bool) : Type 0 where
+    (plan : Option Text) (progress : Bool) (pace : Option ℕ) : Type 0 where
   pub has_workers : HasWorkers matches name file workers plan
   pub has_progress : IsFlag (one_of (codes "progress") has_workers.rows) progress
+  pub has_pace : IsNumberIfSet (codes "pace") has_workers.rows pace
 
 -- The same, with this text for its cells and these rounds.
 pub record HasWatch (matches : Option (Text × List Row)) (name file : Text) (workers : ℕ)
-    (cells : Text) (rounds : ℕ) (plan : Option Text) (progress : Bool) : Type 0 where
-  pub has_run : HasRun matches name file workers plan progress
+    (cells : Text) (rounds : ℕ) (plan : Option Text) (progress : Bool) (pace : Option ℕ)
+    : Type 0 where
+  pub has_run : HasRun matches name file workers plan progress pace
   pub has_cells : first_of (codes "cells") has_run.has_workers.rows ≡ Some cells
   pub has_rounds : IsNumberOf (codes "rounds") has_run.has_workers.rows rounds
 
@@ -185,11 +206,11 @@ abbrev pub IsMet : Option (Text × List Row) → Line → Type 0
 IsMet matches (Check file) = HasFile matches (codes "check") file.now
 IsMet matches (Plain file) = HasFile matches (codes "plain") file.now
 IsMet matches (Steps file from to) = HasSteps matches (codes "steps") file.now from to
-IsMet matches (Run file workers plan progress) =
-    HasRun matches (codes "run") file.now workers.count (text_of plan) progress
-IsMet matches (Watch file workers cells rounds plan progress) =
+IsMet matches (Run file workers plan progress pace) =
+    HasRun matches (codes "run") file.now workers.count (text_of plan) progress pace
+IsMet matches (Watch file workers cells rounds plan progress pace) =
     HasWatch matches (codes "watch") file.now workers.count cells.text.now rounds (text_of plan)
-    progress
+    progress pace
 IsMet matches (Replay file workers plan) =
     HasWorkers matches (codes "replay") file.now workers.count (text_of plan)
 

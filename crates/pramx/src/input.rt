@@ -1,8 +1,9 @@
 //! Files as sources.
-ghost use Rattle.std.specs.Prelude.{◌≡◌, false};
+ghost use Rattle.std.specs.Prelude.{⊤};
 ghost use Rattle.pramx.specs.Input.{remaining_of};
 
-use pram_io::{FromRead, Source};
+use pram_commands::Folder;
+use pram_io::FromRead;
 use std::fs;
 use std::io::{ErrorKind, Read, Result};
 use std::rt::Files;
@@ -25,13 +26,28 @@ impl<F: Read> Read for Input<F> {
     }
 }
 
-/// The source of the bytes of a file.
-pub fn open_input<R: Files>(rt: &R, name: &str) -> FromRead<Input<R::File>>
-    ensures { ⟦<FromRead<Input<R::File>> as Source>⟧.has_failed result ≡ false }
-{
-    let input = match fs::open(rt, name) {
-        Ok(file) => Input::File(file),
-        Err(_) => Input::Closed,
-    };
-    FromRead::new(input)
+/// The files of the operating system, which tell no bytes.
+#[derive(Drop)]
+pub struct RealFiles<'a, R: Files> {
+    rt: &'a R,
+}
+
+impl<'a, R: Files> RealFiles<'a, R> {
+    pub fn new(rt: &'a R) -> Self {
+        RealFiles { rt }
+    }
+}
+
+impl<R: Files> Folder for RealFiles<'_, R> {
+    type File = FromRead<Input<R::File>>;
+
+    ghost holds = { λ _ _ _. ⊤ };
+
+    fn open(&self, name: &str) -> FromRead<Input<R::File>> {
+        let input = match fs::open(self.rt, name) {
+            Ok(file) => Input::File(file),
+            Err(_) => Input::Closed,
+        };
+        FromRead::new(input)
+    }
 }

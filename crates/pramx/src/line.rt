@@ -4,8 +4,8 @@ ghost use Rattle.std.specs.Prelude.{false, map, IfOk, IfErr, IfSome};
 ghost use Rattle.clap.specs.Words.{app_of, first_of, found_of, kind_of};
 ghost use Rattle.clap.specs.Words.{rows_of, rule_of, subcommand_of, subcommand_rows_of};
 ghost use Rattle.pramx.specs.CommandLine.{AreRefused, FailsByWords, HasBadCells, IsMet};
-ghost use Rattle.pramx.specs.CommandLine.{IsNumberOf, IsNumberOr, pramx};
-ghost use Rattle.pramx.specs.CommandLine.{cells_rule, file_rule, plan_rule};
+ghost use Rattle.pramx.specs.CommandLine.{IsNumberIfSet, IsNumberOf, IsNumberOr, pramx};
+ghost use Rattle.pramx.specs.CommandLine.{cells_rule, file_rule, pace_rule, plan_rule};
 ghost use Rattle.pramx.specs.CommandLine.{progress_rule, rounds_rule};
 ghost use Rattle.pramx.specs.CommandLine.{from_rule, on_file, on_machine, on_run, on_steps};
 ghost use Rattle.pramx.specs.CommandLine.{on_watch, to_rule};
@@ -22,6 +22,7 @@ Examples:
   pramx plain examples/prefix.pram
   pramx steps examples/prefix.pram --from 1 --to 5
   pramx run examples/prefix.pram --workers 4
+  pramx run examples/prefix.pram --workers 4 --progress --pace 1000
   pramx watch examples/prefix.pram --workers 4 --cells 0,11 --rounds 3
   pramx replay examples/prefix.pram --workers 4";
 
@@ -30,6 +31,9 @@ const MOST_STEPS: i64 = 4_294_967_295;
 
 /// The most rounds of a watch.
 const MOST_ROUNDS: i64 = 1_000_000;
+
+/// The longest pause of a pace, in microseconds.
+const MOST_PACE: i64 = 1_000_000;
 
 /// The line that the words make, of which the first is the program's name. A call for help or for
 /// the version is an error too, as `clap` has it.
@@ -128,7 +132,9 @@ fn steps_command<'a>(alloc: Global) -> Result<Command<'a>, AllocError>
 fn run_command<'a>(alloc: Global) -> Result<Command<'a>, AllocError>
     ensures { IfOk result (λ c. app_of c ≡ on_run) }
 {
-    workers_command(alloc, "run", "Run a job on threads")?.arg(progress_arg(alloc))
+    workers_command(alloc, "run", "Run a job on threads")?
+        .arg(progress_arg(alloc))?
+        .arg(pace_arg(alloc))
 }
 
 fn watch_command<'a>(alloc: Global) -> Result<Command<'a>, AllocError>
@@ -141,7 +147,8 @@ fn watch_command<'a>(alloc: Global) -> Result<Command<'a>, AllocError>
     )?
     .arg(cells_arg(alloc))?
     .arg(rounds_arg(alloc))?
-    .arg(progress_arg(alloc))
+    .arg(progress_arg(alloc))?
+    .arg(pace_arg(alloc))
 }
 
 fn workers_command<'a>(
@@ -256,6 +263,18 @@ fn progress_arg<'a>(alloc: Global) -> Arg<'a>
         .action(ArgAction::SetTrue)
 }
 
+fn pace_arg<'a>(alloc: Global) -> Arg<'a>
+    ensures rule { rule_of result ≡ pace_rule }
+    ensures local { result.global ≡ false }
+{
+    Arg::new(alloc, "pace")
+        .long("pace")
+        .value_name("MICROSECONDS")
+        .help("The pause before each atomic step, from 0 to 1000000; none if it is left out")
+        .action(ArgAction::Set)
+        .value_parser(value_parser!(u32).range(0..=MOST_PACE))
+}
+
 fn line_of<'a>(matches: &ArgMatches<'a>) -> Option<Line<'a>>
     ensures { IfSome result (IsMet (subcommand_rows_of matches.now)) }
 {
@@ -277,12 +296,14 @@ fn line_of<'a>(matches: &ArgMatches<'a>) -> Option<Line<'a>>
     let workers = Workers { count };
     let plan = inner.get_str("plan");
     let progress = inner.get_flag("progress");
+    let pace = number_if_set(inner, "pace")?;
     match name {
         "run" => Some(Line::Run {
             file,
             workers,
             plan,
             progress,
+            pace,
         }),
         "watch" => {
             let (cells, rounds) = reads_of(inner)?;
@@ -293,6 +314,7 @@ fn line_of<'a>(matches: &ArgMatches<'a>) -> Option<Line<'a>>
                 rounds,
                 plan,
                 progress,
+                pace,
             })
         }
         "replay" => Some(Line::Replay {
@@ -326,6 +348,19 @@ fn number_or(inner: &ArgMatches<'_>, option: &str, other: u32) -> Option<u32>
             Some(number)
         }
         None => Some(other),
+    }
+}
+
+// The number of an option, if it stands.
+fn number_if_set(inner: &ArgMatches<'_>, option: &str) -> Option<Option<u32>>
+    ensures { IfSome result (IsNumberIfSet option.now (rows_of (found_of inner.now))) }
+{
+    match inner.get_str(option) {
+        Some(_) => {
+            let number = inner.get_one::<u32>(option)?;
+            Some(Some(number))
+        }
+        None => Some(None),
     }
 }
 

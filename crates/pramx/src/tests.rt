@@ -1,3 +1,4 @@
 //! Tests of what no clause says.
+mod answers;
 mod files;
 mod lines;

@@ -26,6 +26,8 @@ const RUN: &[&str] = &[
     "--progress",
 ];
 
+const PACED: &[&str] = &["pramx", "run", "f", "--workers", "1", "--pace", "1000000"];
+
 const REPLAY: &[&str] = &["pramx", "replay", "job.txt", "--workers", "1"];
 
 const ALL: &[&str] = &["pramx", "run", "--workers=64", "job.txt"];
@@ -40,6 +42,7 @@ const WATCH: &[&str] = &[
     "7,0,7",
     "--rounds",
     "1000000",
+    "--pace=0",
 ];
 
 #[test]
@@ -54,6 +57,7 @@ fn words_make_a_watch(rt: HostRuntime) -> Result<(), Fail> {
         rounds: 1_000_000,
         plan: None,
         progress: false,
+        pace: Some(0),
     };
     assert!(rt; read_line(rt.alloc(), WATCH)? == line);
     Ok(())
@@ -83,6 +87,17 @@ fn words_make_a_line(rt: HostRuntime) -> Result<(), Fail> {
                 workers: Workers { count: 2 },
                 plan: Some("p.csv"),
                 progress: true,
+                pace: None,
+            },
+        ),
+        (
+            PACED,
+            Line::Run {
+                file: "f",
+                workers: Workers { count: 1 },
+                plan: None,
+                progress: false,
+                pace: Some(1_000_000),
             },
         ),
         (
@@ -100,6 +115,7 @@ fn words_make_a_line(rt: HostRuntime) -> Result<(), Fail> {
                 workers: Workers { count: 64 },
                 plan: None,
                 progress: false,
+                pace: None,
             },
         ),
     ] {
@@ -176,6 +192,10 @@ const MANY_ROUNDS: &[&str] = &[
     "1",
 ];
 
+const LONG_PACE: &[&str] = &["pramx", "run", "f", "--workers", "1", "--pace", "1000001"];
+
+const PACED_REPLAY: &[&str] = &["pramx", "replay", "f", "--workers", "1", "--pace", "1"];
+
 const VERSION: &[&str] = &["pramx", "--version"];
 
 const HELP: &[&str] = &["pramx", "--help"];
@@ -200,6 +220,8 @@ fn other_words_are_refused(rt: HostRuntime) {
         (EMPTY_CELL, ErrorKind::ValueValidation),
         (NO_ROUND, ErrorKind::ValueValidation),
         (MANY_ROUNDS, ErrorKind::ValueValidation),
+        (LONG_PACE, ErrorKind::ValueValidation),
+        (PACED_REPLAY, ErrorKind::UnknownArgument),
         (VERSION, ErrorKind::DisplayVersion),
         (HELP, ErrorKind::DisplayHelp),
         (HELP_OF_RUN, ErrorKind::DisplayHelp),
@@ -235,6 +257,7 @@ Examples:
   pramx plain examples/prefix.pram
   pramx steps examples/prefix.pram --from 1 --to 5
   pramx run examples/prefix.pram --workers 4
+  pramx run examples/prefix.pram --workers 4 --progress --pace 1000
   pramx watch examples/prefix.pram --workers 4 --cells 0,11 --rounds 3
   pramx replay examples/prefix.pram --workers 4
 ";

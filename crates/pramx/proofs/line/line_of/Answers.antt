@@ -59,6 +59,7 @@ returns-in-run c = rw (← c.in-run.is) (record {
   has_workers = met_workers _ _ _ _ c.in_ok-name.ensures.name c.in_ok-name.ensures.rows c.in_ok-file.ensures
       _ _ c.in_ok-count.ensures.none (λ text is. (c.in_ok-count.ensures.value text is).0.1) (omega arith) (omega arith) c.get_str-plan.ensures;
   has_progress = is_flag (found_of c.in_ok-name.inner.now) _ c.get_flag-progress.ensures.none c.get_flag-progress.ensures.value c.get_flag-progress.ensures.other;
+  has_pace = c.in_ok-pace.ensures;
 })
 
 pub returns-in_ok-cells-in-watch : goal.returns-in_ok-cells-in-watch
@@ -67,6 +68,7 @@ returns-in_ok-cells-in-watch c = rw (← c.in-watch.is) (record {
     has_workers = met_workers _ _ _ _ c.in_ok-name.ensures.name c.in_ok-name.ensures.rows c.in_ok-file.ensures
         _ _ c.in_ok-count.ensures.none (λ text is. (c.in_ok-count.ensures.value text is).0.1) (omega arith) (omega arith) c.get_str-plan.ensures;
     has_progress = is_flag (found_of c.in_ok-name.inner.now) _ c.get_flag-progress.ensures.none c.get_flag-progress.ensures.value c.get_flag-progress.ensures.other;
+    has_pace = c.in_ok-pace.ensures;
   };
   has_cells = c.in_ok-cells-in-watch.ensures.cells;
   has_rounds = c.in_ok-cells-in-watch.ensures.rounds;
