@@ -8,7 +8,7 @@ use Rattle.pram_text.specs.declared.instr.Instr.TheVariants.{Set, Pid, Ld, St, J
 use Rattle.pram_text.specs.Job.{JobData, IsJob, IsInstr}
 use Rattle.pram_step.specs.declared.requests.Request.{Request}
 use Rattle.pram_step.specs.Machine.{State, register, counter}
-use Rattle.pram_step.specs.Instructions.{operands_of, cell_read, goes_to, decided, operand_held, cell_held, decided_in, request_in}
+use Rattle.pram_step.specs.Instructions.{sources_of, cell_read, goes_to, decided, operand_held, cell_held, decided_in, request_in}
 use Rattle.pram_step.specs.Laws.{SameOwn}
 use Rattle.pram_step.proofs.Shapes.{instr_is}
 
@@ -31,7 +31,7 @@ cell_within job Halt a cell e = absurd (none-some cell e)
 cell_within job _ a cell e = absurd (none-some cell e)
 
 module _ (job : JobData) (s : State) (i : ℕ) (cell_zero : 0 < job.cells) where
-  operands_same : (t : State) (instr : Instr) → IsInstr (length job.code) instr → SameOwn job s t i → SameRegisters job s t i (operands_of instr)
+  operands_same : (t : State) (instr : Instr) → IsInstr (length job.code) instr → SameOwn job s t i → SameRegisters job s t i (sources_of instr)
   operands_same t (Set r k) is own = refl
   operands_same t (Pid r) is own = refl
   operands_same t (Ld r a) is own = λ k. own.registers a is.1 k ∷ []

@@ -162,6 +162,6 @@ writes_are job s p i v is proc = (
 
 -- ---- steps that do not agree
 
--- such a step is behind all that are reached
+-- such a step is after all that are reached
 pub conflict_above : (job : JobData) (s f : ℕ) → (AgreesAfter job s → ⊥) → IsReached job f → f ≤ s
 conflict_above job s f not reached = elim (cases_lt s f) [ inl c ↦ absurd (not (reached s c)) | inr c ↦ c ]

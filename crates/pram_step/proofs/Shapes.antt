@@ -12,7 +12,7 @@ use Rattle.pram_text.specs.declared.instr.Instr.TheVariants.{Set, Pid, And, Or, 
 use Rattle.pram_text.specs.Job.{JobData, IsJob, IsInstr}
 use Rattle.pram_step.specs.declared.requests.Request.{Request}
 use Rattle.pram_step.specs.Machine.{State, IsDataPlace, register_place, counter_place, register, counter, out_of_range}
-use Rattle.pram_step.specs.Instructions.{operands_of, cell_read, gives, goes_to, decided, HasShape, operand_held, decided_in, request_in, requests_in}
+use Rattle.pram_step.specs.Instructions.{sources_of, cell_read, gives, goes_to, decided, HasShape, operand_held, decided_in, request_in, requests_in}
 use Rattle.pram_step.specs.Inner.Marks.{AreOwn}
 
 -- ---- the request of each processor
@@ -141,7 +141,7 @@ request_value job s i place value is_job fits low =
     decided_value job i _ _ _ _ instr (instr_is job _ instr is_job e) (omega (arith, is_job.procs.1)) (operand_fits instr 0) (operand_fits instr 1) (cell_fits (cell_read job instr (operand_held job s i instr 0))) place value)
   where
     operand_fits : (instr : Instr) (k : ℕ) → operand_held job s i instr k < 2 ^ 32
-    operand_fits instr k = registers_fit (operands_of instr) k
+    operand_fits instr k = registers_fit (sources_of instr) k
       where
         registers_fit : (rs : List ℕ) (k : ℕ) → slice_index (map (register job s i) rs) k < 2 ^ 32
         registers_fit [] k = omega arith

@@ -1,4 +1,4 @@
--- What the steps of a job write, and when. Step s + 1 is the step behind s steps.
+-- What the steps of a job write, and when. Step s + 1 is the step after s steps.
 use Rattle.std.specs.Prelude.{ℕ, zero, suc, Option, Some, None}
 use Rattle.pram_text.specs.Job.{JobData}
 use Rattle.pram_step.specs.Instructions.{part_of, request_in}

@@ -6,32 +6,33 @@ use Rattle.std.specs.List.{range_with_len}
 use Rattle.pram_text.specs.declared.instr.Instr.{Instr}
 use Rattle.pram_text.specs.declared.instr.Instr.TheVariants.{Set, Pid, Add, Sub, Mul, And, Or, Xor}
 use Rattle.pram_text.specs.declared.instr.Instr.TheVariants.{Lt, Eq, Ld, St, Jz, Jmp, Halt}
+use Rattle.pram_text.specs.declared.instr.Operands.{Operands}
+use Rattle.pram_text.specs.declared.instr.Operands.TheVariants.{Bare, Target, TargetNumber}
+use Rattle.pram_text.specs.declared.instr.Operands.TheVariants.{TargetOne, TargetTwo, Two}
+use Rattle.pram_text.specs.declared.instr.Operands.TheVariants.{OnePlace, Place}
+use Rattle.pram_text.specs.Instructions.{row_of}
 use Rattle.pram_text.specs.Job.{JobData}
-use Rattle.pram_step.specs.declared.instructions.Operands.{Operands}
-use Rattle.pram_step.specs.declared.instructions.Operands.TheVariants as operands
+use Rattle.pram_step.specs.declared.instructions.Sources.{Sources}
+use Rattle.pram_step.specs.declared.instructions.Sources.TheVariants as sources
 use Rattle.pram_step.specs.declared.requests.Request.{Request}
 use Rattle.pram_step.specs.Machine.{State, register_place, IsDataPlace, register}
 use Rattle.pram_step.specs.Machine.{counter, halted, out_of_range}
 
 -- ---- the table
 
--- the registers that an instruction reads, in the order in which it is written
-abbrev pub operands_of : Instr → List ℕ
-operands_of (Set r k) = []
-operands_of (Pid r) = []
-operands_of (Add r a b) = a ∷ b ∷ []
-operands_of (Sub r a b) = a ∷ b ∷ []
-operands_of (Mul r a b) = a ∷ b ∷ []
-operands_of (And r a b) = a ∷ b ∷ []
-operands_of (Or r a b) = a ∷ b ∷ []
-operands_of (Xor r a b) = a ∷ b ∷ []
-operands_of (Lt r a b) = a ∷ b ∷ []
-operands_of (Eq r a b) = a ∷ b ∷ []
-operands_of (Ld r a) = a ∷ []
-operands_of (St a b) = a ∷ b ∷ []
-operands_of (Jz r place) = r ∷ []
-operands_of (Jmp place) = []
-operands_of Halt = []
+-- the registers that are read, in the order in which they are written
+abbrev pub read_by : Operands → List ℕ
+read_by Bare = []
+read_by (Target r) = []
+read_by (TargetNumber r k) = []
+read_by (TargetOne r a) = a ∷ []
+read_by (TargetTwo r a b) = a ∷ b ∷ []
+read_by (Two a b) = a ∷ b ∷ []
+read_by (OnePlace r place) = r ∷ []
+read_by (Place place) = []
+
+abbrev pub sources_of : Instr → List ℕ
+sources_of instr = read_by (row_of instr).1
 
 -- the cell that an instruction reads, a being what its first operand holds
 abbrev pub cell_read : JobData → Instr → ℕ → Option ℕ
@@ -72,10 +73,10 @@ decided job i counter Halt a b v = goes_to (halted job)
 -- ---- in code, and in words
 
 -- the registers in order
-abbrev pub listed : Operands → List ℕ
-listed operands.None = []
-listed (operands.One a) = a ∷ []
-listed (operands.Two a b) = a ∷ b ∷ []
+abbrev pub listed : Sources → List ℕ
+listed sources.None = []
+listed (sources.One a) = a ∷ []
+listed (sources.Two a b) = a ∷ b ∷ []
 
 -- The parts of a request: the data place plus 1 or 0 for none, the data value, the next counter.
 abbrev pub place_part : Request → ℕ
@@ -100,7 +101,7 @@ pub record HasShape (job : JobData) (i : ℕ) (request : Request) : Type 0 where
 
 -- what operand k of an instruction holds, and the cell that it reads
 abbrev pub operand_held : JobData → State → ℕ → Instr → ℕ → ℕ
-operand_held job s i instr k = slice_index (map (register job s i) (operands_of instr)) k
+operand_held job s i instr k = slice_index (map (register job s i) (sources_of instr)) k
 
 abbrev pub cell_held : JobData → State → Instr → ℕ → ℕ
 cell_held job s instr a = elim (cell_read job instr a) [ None ↦ 0 | Some cell ↦ slice_index s cell ]

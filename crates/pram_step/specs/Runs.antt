@@ -17,7 +17,7 @@ unfoldable pub state_after : JobData → ℕ → State
 state_after job zero = start job
 state_after job (suc t) = next_state job (state_after job t)
 
--- the requests of the step behind t steps
+-- the requests of the step after t steps
 abbrev pub requests_after : JobData → ℕ → List Request
 requests_after job t = requests_in job (state_after job t)
 

@@ -2,15 +2,15 @@
 ghost use Rattle.std.specs.Prelude.{◌≡◌, ℕ, ◌+◌, ◌^◌, ◌<◌, List, [], ◌∷◌, length, slice_index};
 ghost use Rattle.std.specs.Prelude.{All, Option, Some};
 ghost use Rattle.pram_text.specs.Job.{IsInstr};
-ghost use Rattle.pram_step.specs.Instructions.{operands_of, listed, cell_read};
+ghost use Rattle.pram_step.specs.Instructions.{sources_of, listed, cell_read};
 ghost use Rattle.pram_step.specs.Instructions.{gives, goes_to, decided, HasShape};
 
 use crate::requests::Request;
-use pram_text::{Instr, Job};
+use pram_text::{Instr, Job, Operands};
 
 /// The registers that an instruction reads, in the order in which it is written.
 #[derive(Clone, Copy, Debug, PartialEq, Eq)]
-pub enum Operands {
+pub enum Sources {
     None,
     One(u8),
     Two(u8, u8),
@@ -18,23 +18,17 @@ pub enum Operands {
 
 /// The registers that an instruction reads.
 #[inline(always)]
-pub fn operands_of(instr: Instr) -> Operands
-    ensures listed { listed result ≡ operands_of instr }
+pub fn sources_of(instr: Instr) -> Sources
+    ensures listed { listed result ≡ sources_of instr }
     ensures registers { (len : ℕ) → IsInstr len instr → All (λ r. r < 4) (listed result) }
 {
-    match instr {
-        Instr::Set(_, _) | Instr::Pid(_) | Instr::Jmp(_) | Instr::Halt => Operands::None,
-        Instr::Ld(_, a) => Operands::One(a),
-        Instr::Jz(r, _) => Operands::One(r),
-        Instr::Add(_, a, b) => Operands::Two(a, b),
-        Instr::Sub(_, a, b) => Operands::Two(a, b),
-        Instr::Mul(_, a, b) => Operands::Two(a, b),
-        Instr::And(_, a, b) => Operands::Two(a, b),
-        Instr::Or(_, a, b) => Operands::Two(a, b),
-        Instr::Xor(_, a, b) => Operands::Two(a, b),
-        Instr::Lt(_, a, b) => Operands::Two(a, b),
-        Instr::Eq(_, a, b) => Operands::Two(a, b),
-        Instr::St(a, b) => Operands::Two(a, b),
+    match instr.row().1 {
+        Operands::Bare | Operands::Target(_) | Operands::TargetNumber(_, _) => Sources::None,
+        Operands::Place(_) => Sources::None,
+        Operands::TargetOne(_, a) => Sources::One(a),
+        Operands::OnePlace(r, _) => Sources::One(r),
+        Operands::TargetTwo(_, a, b) => Sources::Two(a, b),
+        Operands::Two(a, b) => Sources::Two(a, b),
     }
 }
 
@@ -92,8 +86,8 @@ pub(crate) fn decide<H: Held>(
     requires instr { IsInstr (length job.now.code) instr }
     requires cells { H.cells held.now ≡ job.now.cells }
     ensures { result ≡ decided job.now processor counter instr
-        (H.operand held.now (operands_of instr) 0) (H.operand held.now (operands_of instr) 1)
-        (H.cell held.now (cell_read job.now instr (H.operand held.now (operands_of instr) 0))) }
+        (H.operand held.now (sources_of instr) 0) (H.operand held.now (sources_of instr) 1)
+        (H.cell held.now (cell_read job.now instr (H.operand held.now (sources_of instr) 0))) }
 {
     let past_code = job.code().len() as u32;
     let out_of_range = goes_to(past_code + 1);
@@ -135,64 +129,59 @@ pub(crate) fn decide<H: Held>(
     }
 }
 
-/// What a processor asks for by the instruction at its counter. Its operands hold `a` and `b`, and
-/// the cell that it reads holds `value`; for those that it has not any number will do.
+/// What the operands of an instruction and the cell that it reads hold. For those that it has not
+/// any number will do.
+#[derive(Clone, Copy, Debug, PartialEq, Eq)]
+pub struct Found {
+    /// The first operand.
+    pub a: u32,
+    /// The second operand.
+    pub b: u32,
+    /// The cell.
+    pub value: u32,
+}
+
+/// What a processor asks for by the instruction at its counter, these having been found.
 #[inline(always)]
 #[tactic(auto, using(crate::proofs::Shapes::decided_shape))]
-pub fn decided(
-    job: &Job,
-    processor: u32,
-    counter: u32,
-    instr: Instr,
-    a: u32,
-    b: u32,
-    value: u32,
-) -> Request
+pub fn decided(job: &Job, processor: u32, counter: u32, instr: Instr, found: Found) -> Request
     requires processor { processor < job.now.procs }
     requires counter { counter < length job.now.code }
     requires instr { IsInstr (length job.now.code) instr }
-    ensures request { result ≡ decided job.now processor counter instr a b value }
+    ensures request { result ≡ decided job.now processor counter instr found.a found.b found.value }
     ensures shape { HasShape job.now processor result }
 {
     let cells = job.cells();
-    decide(
-        job,
-        processor,
-        counter,
-        instr,
-        &Heard { a, b, value, cells },
-    )
+    decide(job, processor, counter, instr, &Heard { found, cells })
 }
 
-/// Operands and a cell that were read before.
+/// What was found before, in a job with so many cells.
 #[derive(Clone, Copy)]
 struct Heard {
-    a: u32,
-    b: u32,
-    value: u32,
+    found: Found,
     cells: u32,
 }
 
 impl Held for Heard {
-    ghost operand = { λ h _ k. slice_index (h.a ∷ h.b ∷ []) k };
+    ghost operand = { λ h _ k. slice_index (h.found.a ∷ h.found.b ∷ []) k };
 
-    ghost cell = { λ h _. h.value };
+    ghost cell = { λ h _. h.found.value };
 
     ghost cells = { λ h. h.cells };
 
     #[inline(always)]
     fn first(&self, _register: u8) -> u32 {
-        self.a
+        self.found.a
     }
 
     #[inline(always)]
     fn second(&self, _register: u8) -> u32 {
-        self.b
+        self.found.b
     }
 
     #[inline(always)]
     fn cell(&self, _address: u32) -> u32 {
-        self.value
+        self.found.value
     }
 }
 
@@ -204,11 +193,7 @@ fn gives(job: &Job, processor: u32, counter: u32, register: u8, value: u32) -> R
     requires register { register < 4 }
     ensures { result ≡ gives job.now processor counter register value }
 {
-    puts(
-        job.cells() + 4 * processor + u32::from(register),
-        value,
-        counter,
-    )
+    puts(job.register_place(processor, register), value, counter)
 }
 
 // A place takes a value, and the counter goes on.

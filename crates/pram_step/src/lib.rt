@@ -14,7 +14,7 @@ mod tests;
 
 pub use answer::{Cells, Dispute, Fault, RunAnswer};
 pub use conflict::{dispute, fault_of};
-pub use instructions::{Operands, cell_read, decided, goes_to, operands_of};
+pub use instructions::{Found, Sources, cell_read, decided, goes_to, sources_of};
 pub use requests::{Request, place_part, value_part};
 pub use run::{Outcome, plain_answer, run_plain};
 pub use state::{State, StepFault, request, step};

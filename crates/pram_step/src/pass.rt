@@ -5,7 +5,8 @@ ghost use Rattle.std.specs.Bool.{OnFalse};
 ghost use Rattle.pram_step.specs.Machine.{place_count, start};
 ghost use Rattle.pram_step.specs.Instructions.{requests_in};
 ghost use Rattle.pram_step.specs.Steps.{Agrees, IsDispute, IsNext, next_state};
-ghost use Rattle.pram_step.specs.Inner.Marks.{AreMarked, AreOwn, IsRun, ObeysNext, BringsNext};
+ghost use Rattle.pram_step.specs.Inner.Marks.{AreMarked, AreOwn, IsMade, IsRun, ObeysNext};
+ghost use Rattle.pram_step.specs.Inner.Marks.{BringsNext};
 ghost use Rattle.pram_step.specs.Steps.{IsVerdict};
 
 use crate::answer::{Dispute, Fault};
@@ -48,10 +49,7 @@ pub(crate) fn advance(
     requires places { length places.old ≡ place_count job.now }
     requires requests { length requests.old ≡ job.now.procs }
     requires marks { length marks.old ≡ job.now.cells }
-    ensures agrees { OnOk result (Agrees job.now (requests_in job.now places.old)) }
-    ensures next { OnOk result (places.new ≡ next_state job.now places.old) }
-    ensures written { OnOk result
-        (IsNext job.now (requests_in job.now places.old) places.old places.new) }
+    ensures made { OnOk result (IsMade job.now places.old places.new) }
     ensures idle { IfOk result (λ changed. OnFalse changed (places.new ≡ places.old)) }
     ensures dispute { IfErr result (IsDispute job.now (requests_in job.now places.old)) }
     ensures unchanged { OnErr result (places.new ≡ places.old) }
@@ -114,7 +112,7 @@ fn obey(job: &Job, places: &mut [u32], requests: &[Request], marks: &[u32], proc
     ensures idle { OnFalse result (places.new ≡ places.old) }
 {
     let request = &requests[processor as usize];
-    let counter = job.cells() + 4 * job.procs() + processor;
+    let counter = job.counter_place(processor);
     let moved = write(places, counter, request.next);
     let Some((place, value)) = request.put else {
         return moved;

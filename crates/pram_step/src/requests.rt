@@ -44,7 +44,7 @@ pub(crate) fn request_in(job: &Job, places: &[u32], processor: u32) -> Request
     requires places { length places.now ≡ place_count job.now }
     ensures { result ≡ request_in job.now places.now processor }
 {
-    let counter = places[(job.cells() + 4 * job.procs() + processor) as usize];
+    let counter = places[job.counter_place(processor) as usize];
     let Some(instr) = job.code().get(counter as usize) else {
         return goes_to(counter);
     };
@@ -102,5 +102,5 @@ fn register(job: &Job, places: &[u32], processor: u32, r: u8) -> u32
     requires register { r < 4 }
     ensures { result ≡ slice_index places.now (register_place job.now processor r) }
 {
-    places[(job.cells() + 4 * processor + u32::from(r)) as usize]
+    places[job.register_place(processor, r) as usize]
 }

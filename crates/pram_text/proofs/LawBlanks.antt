@@ -29,9 +29,9 @@ pub comment_has_no_words : (line comment : List ℕ) → words_of line ≡ words
 unfolding words_of
 comment_has_no_words line comment = ap (filter is_filled) (sym (parts_of-comment line comment))
 
--- ---- blanks behind the words
+-- ---- blanks after the words
 
--- the parts of a list with blanks behind it are its own, and empty ones
+-- the parts of a list with blanks after it are its own, and empty ones
 record MoreEmpty (parts more : List (List ℕ)) : Type 0 where
   empty : List (List ℕ)
   is : more ≡ parts ++ empty

@@ -9,12 +9,12 @@ use Rattle.std.proofs.lemmas.Slice.Eq.{bytes_eq-Decides}
 use Rattle.pram_text.specs.declared.fault.TextKind.{TextKind}
 use Rattle.pram_text.specs.declared.fault.TextKind.TheVariants.{BadHeader, UnknownInstruction, DuplicateLabel, UnknownLabel}
 use Rattle.pram_text.specs.declared.instr.Instr.{Instr}
-use Rattle.pram_text.specs.declared.instr.Instr.TheVariants.{Set, Pid, Add, Sub, Mul, And, Or, Xor, Lt, Eq, Ld, St, Jz, Jmp, Halt}
+use Rattle.pram_text.specs.Instructions.{Form, bare, target, target_number, target_one, target_two, pair, one_place, at_place, table}
 use Rattle.pram_text.specs.declared.instr.Rule.{Rule}
 use Rattle.pram_text.specs.declared.limits.TheConstants.{MAX_CODE}
 use Rattle.pram_text.specs.Job.{JobData}
 use Rattle.pram_text.specs.Lines.{Word, Line}
-use Rattle.pram_text.specs.Judgement.{◌>>=◌, version_of, cells_of, procs_of, steps_of, rule_of, init_of, is_code, label_of, unlabelled, is_name, register_of, no_operand, one_register, two_registers, three_registers, register_number, one_label, register_label, place_in, instr_of}
+use Rattle.pram_text.specs.Judgement.{◌>>=◌, version_of, cells_of, procs_of, steps_of, rule_of, init_of, is_code, label_of, unlabelled, is_name, register_of, no_operand, one_register, two_registers, three_registers, register_number, one_label, register_label, place_in, instr_of, instr_by, made_of}
 use Rattle.pram_text.specs.Text.{is_named, new_label_fault, defines, place_of, code_line, NamesCells, SpellsInit, SpellsCode, SpellsRule, SpellsHeader, SpellsLines, names_rule, init_fault, label_fault, instr_fault, rest_fault, words_fault}
 use Rattle.pram_text.proofs.Lists.{split_of_append, NonePasses, none_left, none_at, any_none, all_at, pairs_at, pairs_before}
 use Rattle.pram_text.proofs.Said.{said_around}
@@ -66,25 +66,19 @@ jump_follows find make (r ∷ label ∷ []) = go (register_of r)
     go (Err kind) = follows_same (Err kind)
 jump_follows find make _ = follows_same _
 
+form_follows : (find : Word → Option ℕ) (form : Form) (operands : Line) → Follows (made_of find form operands) (made_of (λ label. Some 0) form operands)
+form_follows find (one_place make) operands = jump_follows find make operands
+form_follows find (at_place make) operands = label_follows find make operands
+form_follows find _ operands = follows_same _
+
+rows_follow : (find : Word → Option ℕ) (rows : List (Word × Form)) (name : Word) (operands : Line) → Follows (instr_by rows find name operands) (instr_by rows (λ label. Some 0) name operands)
+rows_follow find [] name operands = follows_same _
+rows_follow find (row ∷ rows) name operands = either (bytes_eq name row.0) _ _ _ _ (form_follows find row.1 operands) (rows_follow find rows name operands)
+
 pub instr_follows : (find : Word → Option ℕ) (line : Line) → Follows (instr_of find line) (instr_of (λ label. Some 0) line)
 unfolding instr_of
 instr_follows find [] = follows_same _
-instr_follows find (name ∷ operands) =
-    either (bytes_eq name (codes "set")) (register_number (λ r k. Set r k) operands) _ (register_number (λ r k. Set r k) operands) _ (follows_same _)
-    (either (bytes_eq name (codes "pid")) (one_register (λ r. Pid r) operands) _ (one_register (λ r. Pid r) operands) _ (follows_same _)
-    (either (bytes_eq name (codes "add")) (three_registers (λ r a b. Add r a b) operands) _ (three_registers (λ r a b. Add r a b) operands) _ (follows_same _)
-    (either (bytes_eq name (codes "sub")) (three_registers (λ r a b. Sub r a b) operands) _ (three_registers (λ r a b. Sub r a b) operands) _ (follows_same _)
-    (either (bytes_eq name (codes "mul")) (three_registers (λ r a b. Mul r a b) operands) _ (three_registers (λ r a b. Mul r a b) operands) _ (follows_same _)
-    (either (bytes_eq name (codes "and")) (three_registers (λ r a b. And r a b) operands) _ (three_registers (λ r a b. And r a b) operands) _ (follows_same _)
-    (either (bytes_eq name (codes "or")) (three_registers (λ r a b. Or r a b) operands) _ (three_registers (λ r a b. Or r a b) operands) _ (follows_same _)
-    (either (bytes_eq name (codes "xor")) (three_registers (λ r a b. Xor r a b) operands) _ (three_registers (λ r a b. Xor r a b) operands) _ (follows_same _)
-    (either (bytes_eq name (codes "lt")) (three_registers (λ r a b. Lt r a b) operands) _ (three_registers (λ r a b. Lt r a b) operands) _ (follows_same _)
-    (either (bytes_eq name (codes "eq")) (three_registers (λ r a b. Eq r a b) operands) _ (three_registers (λ r a b. Eq r a b) operands) _ (follows_same _)
-    (either (bytes_eq name (codes "ld")) (two_registers (λ r a. Ld r a) operands) _ (two_registers (λ r a. Ld r a) operands) _ (follows_same _)
-    (either (bytes_eq name (codes "st")) (two_registers (λ a b. St a b) operands) _ (two_registers (λ a b. St a b) operands) _ (follows_same _)
-    (either (bytes_eq name (codes "jz")) _ _ _ _ (jump_follows find (λ r place. Jz r place) operands)
-    (either (bytes_eq name (codes "jmp")) _ _ _ _ (label_follows find (λ place. Jmp place) operands)
-    (follows_same (if bytes_eq name (codes "halt") then no_operand Halt operands else Err UnknownInstruction)))))))))))))))
+instr_follows find (name ∷ operands) = rows_follow find table name operands
 
 -- what is an instruction with these places has no fault with any
 known_passes : (find : Word → Option ℕ) (line : Line) (instr : Instr) → instr_of find line ≡ Ok instr → result_err (instr_of (λ label. Some 0) line) ≡ None

@@ -11,10 +11,12 @@ use Rattle.std.proofs.lemmas.List.Quantifiers.{position-Some}
 use Rattle.pram_text.specs.declared.fault.TextKind.{TextKind}
 use Rattle.pram_text.specs.declared.fault.TextKind.TheVariants.{BadHeader, BadNumber, OutOfLimits, UnknownInstruction, WrongOperands, BadRegister, UnknownLabel}
 use Rattle.pram_text.specs.declared.instr.Instr.{Instr}
-use Rattle.pram_text.specs.declared.instr.Instr.TheVariants.{Set, Pid, Add, Sub, Mul, And, Or, Xor, Lt, Eq, Ld, St, Jz, Jmp, Halt}
+use Rattle.pram_text.specs.declared.instr.Instr.TheVariants.{Halt}
+use Rattle.pram_text.specs.Instructions.{Form, bare, target, target_number, target_one, target_two, pair, one_place, at_place, table}
 use Rattle.pram_text.specs.Job.{JobData, IsJob, IsInstr}
 use Rattle.pram_text.specs.Lines.{Word, Line, lines_of, worded}
-use Rattle.pram_text.specs.Judgement.{◌>>=◌, is_number, number_of, number_in, most, named_number, init_of, register_of, no_operand, one_register, two_registers, three_registers, register_number, place_in, one_label, register_label, instr_of, unlabelled}
+use Rattle.pram_text.specs.Judgement.{◌>>=◌, is_number, number_of, number_in, most, named_number, init_of, register_of, no_operand, one_register, two_registers, three_registers, register_number, place_in, one_label, register_label, instr_of, instr_by, made_of, unlabelled}
+use Rattle.pram_text.proofs.Table.{IsRow, is_instr, table_is}
 use Rattle.pram_text.specs.Text.{place_of, defines, SpellsInit, SpellsCode, SpellsLines, Spells}
 
 -- the value, if there is one, is such
@@ -111,25 +113,24 @@ module _ (len : ℕ) where
     keeps_jump make h (r ∷ label ∷ []) = then_ok _ _ (register_of-keeps r) (λ r' p. then_ok _ _ (place_within label) (λ place q. ok _ (make r' place) (h r' place p q)))
     keeps_jump make h _ = err _ WrongOperands
 
+    form_keeps : (name : Word) (form : Form) → IsRow name form → (operands : Line) → Keeps (IsInstr len) (made_of find form operands)
+    form_keeps name (bare instr) is operands = keeps_none instr (is_instr len name _ _ is tt) operands
+    form_keeps name (target make) is operands = keeps_one make (λ r p. is_instr len name _ _ (is r) p) operands
+    form_keeps name (target_number make) is operands = keeps_number make (λ r k p q. is_instr len name _ _ (is r k) (p, q)) operands
+    form_keeps name (target_one make) is operands = keeps_two make (λ r a p q. is_instr len name _ _ (is r a) (p, q)) operands
+    form_keeps name (target_two make) is operands = keeps_three make (λ r a b o p q. is_instr len name _ _ (is r a b) (o, p, q)) operands
+    form_keeps name (pair make) is operands = keeps_two make (λ a b p q. is_instr len name _ _ (is a b) (p, q)) operands
+    form_keeps name (one_place make) is operands = keeps_jump make (λ r place p q. is_instr len name _ _ (is r place) (p, q)) operands
+    form_keeps name (at_place make) is operands = keeps_label make (λ place p. is_instr len name _ _ (is place) p) operands
+
+    rows_keep : (rows : List (Word × Form)) → AllByRecursion (λ (row : Word × Form). IsRow row.0 row.1) rows → (name : Word) (operands : Line) → Keeps (IsInstr len) (instr_by rows find name operands)
+    rows_keep [] are name operands = err _ UnknownInstruction
+    rows_keep (row ∷ rows) are name operands = either _ _ _ (form_keeps row.0 row.1 are.0 operands) (rows_keep rows are.1 name operands)
+
     instr_keeps : (line : Line) → Keeps (IsInstr len) (instr_of find line)
     unfolding instr_of
     instr_keeps [] = err _ UnknownInstruction
-    instr_keeps (name ∷ operands) =
-        either _ _ _ (keeps_number (λ r k. Set r k) (λ r k p q. (p, q)) operands)
-        (either _ _ _ (keeps_one (λ r. Pid r) (λ r p. p) operands)
-        (either _ _ _ (keeps_three (λ r a b. Add r a b) (λ r a b o p q. (o, p, q)) operands)
-        (either _ _ _ (keeps_three (λ r a b. Sub r a b) (λ r a b o p q. (o, p, q)) operands)
-        (either _ _ _ (keeps_three (λ r a b. Mul r a b) (λ r a b o p q. (o, p, q)) operands)
-        (either _ _ _ (keeps_three (λ r a b. And r a b) (λ r a b o p q. (o, p, q)) operands)
-        (either _ _ _ (keeps_three (λ r a b. Or r a b) (λ r a b o p q. (o, p, q)) operands)
-        (either _ _ _ (keeps_three (λ r a b. Xor r a b) (λ r a b o p q. (o, p, q)) operands)
-        (either _ _ _ (keeps_three (λ r a b. Lt r a b) (λ r a b o p q. (o, p, q)) operands)
-        (either _ _ _ (keeps_three (λ r a b. Eq r a b) (λ r a b o p q. (o, p, q)) operands)
-        (either _ _ _ (keeps_two (λ r a. Ld r a) (λ r a p q. (p, q)) operands)
-        (either _ _ _ (keeps_two (λ a b. St a b) (λ a b p q. (p, q)) operands)
-        (either _ _ _ (keeps_jump (λ r place. Jz r place) (λ r place p q. (p, q)) operands)
-        (either _ _ _ (keeps_label (λ place. Jmp place) (λ place p. p) operands)
-        (either _ _ _ (keeps_none Halt tt operands) (err _ UnknownInstruction)))))))))))))))
+    instr_keeps (name ∷ operands) = rows_keep table table_is name operands
 
 -- ---- jobs
 

@@ -1,9 +1,9 @@
 pub mod WordsOf
 pub mod WordsNumbers
-pub mod WordsNames
 pub mod Lists
 pub mod Said
 pub mod Stages
+pub mod Table
 pub mod Lawful
 pub mod Front
 pub mod Inits

@@ -27,7 +27,7 @@ lines_some (x ∷ xs) (suc k) low is before =
     ∙ ap (onto_first x) (lines_some xs k (omega arith) is (λ j less. before (suc j) (omega arith)))
 lines_some [] k low is before = absurd (omega arith)
 
--- what is behind the line feed at place k
+-- what is after the line feed at place k
 pub behind_feed : (text : List ℕ) (k : ℕ) → k < length text → take (length (drop k text) - 1) (drop 1 (drop k text)) ≡ drop (suc k) text
 behind_feed text k low =
     take_all _ _ (let e = length-drop 1 (drop k text) in omega arith) ∙ drop-drop 1 k text ∙ ap (λ (n : ℕ). drop n text) (let e : k + 1 ≡ suc k = omega arith in e)

@@ -73,7 +73,7 @@ none_said cells (line ∷ inits) (p ∷ pairs) s = (is_code-init cells line p (c
 pub none_named : (cells : ℕ) (inits : List Line) (pairs : List (ℕ × ℕ)) → NamesCells cells inits pairs → NonePasses is_code inits
 none_named cells inits pairs h = none_said cells inits pairs h.said
 
--- ---- behind the header
+-- ---- after the header
 
 pub rest_fault-inits : (cells : ℕ) (inits : List Line) (w : Line) → NonePasses is_code inits → rest_fault cells inits w ≡ (if is_code w then None else init_fault cells inits w)
 rest_fault-inits cells inits w none = cond-false (list_any is_code inits) _ _ (any_none is_code inits none)
@@ -124,7 +124,7 @@ module _ (version cells procs steps : ℕ) (rule : Rule) (header : List Line) (h
     pub body_of-behind : body_of (header ++ rest) ≡ after_first is_code rest
     body_of-behind = ap (λ ls. body_of (ls ++ rest)) h.parts ∙ behind (after_first is_code) (λ first ls no. after_first_skip is_code first ls no)
 
-  -- a text up to and behind its line `code`
+  -- a text up to and after its line `code`
   module _ (inits body : List Line) (none : NonePasses is_code inits) where
     pub has_code-header : has_code (header ++ inits) ≡ false
     has_code-header = has_code-behind inits ∙ any_none is_code inits none

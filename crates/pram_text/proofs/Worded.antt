@@ -13,7 +13,7 @@ cond_append : (b : Bool) (w : Line) (all front rest : List Line) → all ≡ fro
 cond_append true w all front rest e = ap (λ l. w ∷ l) e
 cond_append false w all front rest e = e
 
--- a line with words, and the lines with words before it and behind it
+-- a line with words, and the lines with words before it and after it
 pub worded_around : (lines : List (List ℕ)) (k : ℕ) → k < length lines → is_filled (words_of (get_or lines k [])) ≡ true → worded lines ≡ worded (take k lines) ++ words_of (get_or lines k []) ∷ worded (drop (suc k) lines)
 worded_around [] k lt e = absurd (omega arith)
 worded_around (line ∷ lines) zero lt e = cond-true (is_filled (words_of line)) _ _ e

@@ -164,7 +164,7 @@ words_of-no_first line s n h none =
     let ends : position_or_len ends_word s ≡ 0 = sym (StartsWord-len line s n h) ∙ none in
     sym (words_of-blanks line) ∙ (rw (← here) (words_of-none s first ends))
 
--- The first word stands behind the blanks in front, and ends at the next blank or semicolon.
+-- The first word stands after the blanks in front, and ends at the next blank or semicolon.
 pub words_of-first : (line s : List ℕ) (n : ℕ) → StartsWord line s n → n ≢ 0 → words_of line ≡ take n s ∷ words_of (drop n s)
 words_of-first line s n h some =
     let here : s ≡ drop (blanks_in_front_of line) line = StartsWord-behind line s n h in

@@ -1,6 +1,6 @@
 -- What a line says by itself, or its fault by the order of judgement.
 use Rattle.std.specs.Prelude.{ℕ, ◌-◌, Bool, false, not, ◌&&◌, ◌||◌, ◌==◌}
-use Rattle.std.specs.Prelude.{nat_le, if◌then◌else◌, [], ◌∷◌, take, length, slice_index, codes}
+use Rattle.std.specs.Prelude.{nat_le, if◌then◌else◌, List, [], ◌∷◌, take, length, slice_index, codes}
 use Rattle.std.specs.Prelude.{Option, Some, None, Result, Ok, Err}
 use Rattle.std.specs.Char.{is_ascii_digit, is_ascii_alphabetic, is_ascii_alphanumeric}
 use Rattle.std.specs.List.{list_all}
@@ -13,11 +13,11 @@ use Rattle.pram_text.specs.declared.fault.TextKind.TheVariants.{OutOfLimits, Unk
 use Rattle.pram_text.specs.declared.fault.TextKind.TheVariants.{WrongOperands, BadRegister}
 use Rattle.pram_text.specs.declared.fault.TextKind.TheVariants.{UnknownLabel}
 use Rattle.pram_text.specs.declared.instr.Instr.{Instr}
-use Rattle.pram_text.specs.declared.instr.Instr.TheVariants.{Set, Pid, Add, Sub, Mul, And, Or, Xor}
-use Rattle.pram_text.specs.declared.instr.Instr.TheVariants.{Lt, Eq, Ld, St, Jz, Jmp, Halt}
 use Rattle.pram_text.specs.declared.instr.Rule.{Rule}
 use Rattle.pram_text.specs.declared.instr.Rule.TheVariants.{Common, Priority, Crew}
 use Rattle.pram_text.specs.declared.limits.TheConstants.{MAX_CELLS, MAX_PROCS}
+use Rattle.pram_text.specs.Instructions.{Form, table, bare, target, target_number, target_one}
+use Rattle.pram_text.specs.Instructions.{target_two, pair, one_place, at_place}
 use Rattle.pram_text.specs.Lines.{Word, Line, is_filled}
 
 -- what the next part says of the value of the part before it, unless that part has a fault
@@ -109,7 +109,7 @@ unfoldable pub label_of : Line → Option Word
 label_of [] = None
 label_of (word ∷ words) = if is_label word then Some (take (length word - 1) word) else None
 
--- the line behind its label
+-- the line after its label
 unfoldable pub unlabelled : Line → Line
 unlabelled [] = []
 unlabelled (word ∷ words) = if is_label word then words else word ∷ words
@@ -156,23 +156,24 @@ register_label find make (r ∷ label ∷ []) =
     register_of r >>= λ r'. place_in find label >>= λ place. Ok (make r' place)
 register_label find make _ = Err WrongOperands
 
--- the instruction of a line behind its label
+-- the operands after a name, and the instruction that they make
+abbrev pub made_of : (Word → Option ℕ) → Form → Line → Result Instr TextKind
+made_of find (bare instr) operands = no_operand instr operands
+made_of find (target make) operands = one_register make operands
+made_of find (target_number make) operands = register_number make operands
+made_of find (target_one make) operands = two_registers make operands
+made_of find (target_two make) operands = three_registers make operands
+made_of find (pair make) operands = two_registers make operands
+made_of find (one_place make) operands = register_label find make operands
+made_of find (at_place make) operands = one_label find make operands
+
+-- the first row of this name says what the operands are
+abbrev pub instr_by : List (Word × Form) → (Word → Option ℕ) → Word → Line → Result Instr TextKind
+instr_by [] find name operands = Err UnknownInstruction
+instr_by (row ∷ rows) find name operands =
+    if bytes_eq name row.0 then made_of find row.1 operands else instr_by rows find name operands
+
+-- the instruction of a line after its label
 unfoldable pub instr_of : (Word → Option ℕ) → Line → Result Instr TextKind
 instr_of find [] = Err UnknownInstruction
-instr_of find (name ∷ operands) =
-    if bytes_eq name (codes "set") then register_number (λ r k. Set r k) operands
-    else (if bytes_eq name (codes "pid") then one_register (λ r. Pid r) operands
-    else (if bytes_eq name (codes "add") then three_registers (λ r a b. Add r a b) operands
-    else (if bytes_eq name (codes "sub") then three_registers (λ r a b. Sub r a b) operands
-    else (if bytes_eq name (codes "mul") then three_registers (λ r a b. Mul r a b) operands
-    else (if bytes_eq name (codes "and") then three_registers (λ r a b. And r a b) operands
-    else (if bytes_eq name (codes "or") then three_registers (λ r a b. Or r a b) operands
-    else (if bytes_eq name (codes "xor") then three_registers (λ r a b. Xor r a b) operands
-    else (if bytes_eq name (codes "lt") then three_registers (λ r a b. Lt r a b) operands
-    else (if bytes_eq name (codes "eq") then three_registers (λ r a b. Eq r a b) operands
-    else (if bytes_eq name (codes "ld") then two_registers (λ r a. Ld r a) operands
-    else (if bytes_eq name (codes "st") then two_registers (λ a b. St a b) operands
-    else (if bytes_eq name (codes "jz") then register_label find (λ r place. Jz r place) operands
-    else (if bytes_eq name (codes "jmp") then one_label find (λ place. Jmp place) operands
-    else (if bytes_eq name (codes "halt") then no_operand Halt operands
-    else Err UnknownInstruction))))))))))))))
+instr_of find (name ∷ operands) = instr_by table find name operands

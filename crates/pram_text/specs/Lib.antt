@@ -1,3 +1,4 @@
+pub mod Instructions
 pub mod Job
 pub mod Places
 pub mod Lines

@@ -116,7 +116,7 @@ abbrev pub named_cells : ℕ → List Line → List ℕ
 named_cells cells lines =
     filter_map (λ line. option_map (λ p. p.0) (result_ok (init_of cells line))) lines
 
--- Behind the header stand start values, of each cell at most once.
+-- After the header stand start values, of each cell at most once.
 abbrev pub new_cell_fault : List ℕ → Result (ℕ × ℕ) TextKind → Option TextKind
 new_cell_fault named (Ok p) = if list_any (λ c. c == p.0) named then Some BadHeader else None
 new_cell_fault named (Err kind) = Some kind
@@ -141,15 +141,15 @@ instr_fault body line =
     else option_or (label_fault body line)
     (result_err (instr_of (λ label. Some 0) (unlabelled line)))
 
--- whether the line `code` stands among lines without a fault, behind the first four
+-- whether the line `code` stands among lines without a fault, after the first four
 abbrev pub has_code : List Line → Bool
 has_code lines = list_any is_code (drop 4 lines)
 
--- the lines behind it
+-- the lines after it
 abbrev pub body_of : List Line → List Line
 body_of lines = after_first is_code (drop 4 lines)
 
--- a line behind the header, where these lines stand between
+-- a line after the header, where these lines stand between
 abbrev pub rest_fault : ℕ → List Line → Line → Option TextKind
 rest_fault cells before line =
     if list_any is_code before then instr_fault (after_first is_code before) line
@@ -178,7 +178,7 @@ end_fault lines =
 
 -- ---- a line of a text bears a fault
 
--- The line's own fault; behind it, on the last line, what the text lacks.
+-- The line's own fault; after it, on the last line, what the text lacks.
 unfoldable pub fault_at : List (List ℕ) → ℕ → Option TextKind
 fault_at lines k =
     option_or (line_fault (worded (take k lines)) (slice_index_or lines k []))
@@ -209,7 +209,7 @@ Bears text line kind =
     × (k : ℕ) × (line ≡ slice_index (map (λ l. l.0) body) k)
     × IsFirst (label_fault_at (map (λ l. l.1) body)) (length body) k kind)
 
--- A refusal names a fault of the text. Where memory ran out it says nothing of it, and names line
+-- A refusal names a fault of the text. Out of memory it says nothing of it, and names line
 -- 0.
 abbrev pub IsRefusal : List ℕ → ℕ → TextKind → Type 0
 IsRefusal text line Memory = line ≡ 0

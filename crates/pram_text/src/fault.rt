@@ -29,7 +29,7 @@ pub enum TextKind {
     NoCode,
     /// 4,096 instructions stand before the line.
     TooLong,
-    /// Memory ran out; the line is 0.
+    /// Out of memory; the line is 0.
     Memory,
 }
 

@@ -1,4 +1,6 @@
-//! Instructions, and the rules of writing.
+//! The table of the fifteen instructions, and the rules of writing.
+ghost use Rattle.std.specs.Prelude.{◌≡◌};
+ghost use Rattle.pram_text.specs.Instructions.{row_of};
 
 /// What a processor does in a step. Registers have the numbers 0 to 3, places are those of
 /// instructions, counted from 0. On the right, a register stands for what it holds. Arithmetic is
@@ -35,6 +37,55 @@ pub enum Instr {
     Jmp(u32),
     /// `halt`: the processor stays where it is from now on.
     Halt,
+}
+
+/// What a text has after the name of an instruction, in the order in which it is written. A target
+/// is a register that takes a value, the other registers are read, and a place is where a label
+/// stands.
+#[derive(Clone, Copy, Debug, PartialEq, Eq)]
+pub enum Operands {
+    /// Nothing.
+    Bare,
+    /// `r`
+    Target(u8),
+    /// `r k`
+    TargetNumber(u8, u32),
+    /// `r a`
+    TargetOne(u8, u8),
+    /// `r a b`
+    TargetTwo(u8, u8, u8),
+    /// `a b`
+    Two(u8, u8),
+    /// `r label`
+    OnePlace(u8, u32),
+    /// `label`
+    Place(u32),
+}
+
+impl Instr {
+    /// The instruction's row of the table: its name in a text, and its operands.
+    #[inline(always)]
+    pub fn row(self) -> (&'static str, Operands)
+        ensures { (result.0.now, result.1) ≡ row_of self }
+    {
+        match self {
+            Instr::Set(r, k) => ("set", Operands::TargetNumber(r, k)),
+            Instr::Pid(r) => ("pid", Operands::Target(r)),
+            Instr::Add(r, a, b) => ("add", Operands::TargetTwo(r, a, b)),
+            Instr::Sub(r, a, b) => ("sub", Operands::TargetTwo(r, a, b)),
+            Instr::Mul(r, a, b) => ("mul", Operands::TargetTwo(r, a, b)),
+            Instr::And(r, a, b) => ("and", Operands::TargetTwo(r, a, b)),
+            Instr::Or(r, a, b) => ("or", Operands::TargetTwo(r, a, b)),
+            Instr::Xor(r, a, b) => ("xor", Operands::TargetTwo(r, a, b)),
+            Instr::Lt(r, a, b) => ("lt", Operands::TargetTwo(r, a, b)),
+            Instr::Eq(r, a, b) => ("eq", Operands::TargetTwo(r, a, b)),
+            Instr::Ld(r, a) => ("ld", Operands::TargetOne(r, a)),
+            Instr::St(a, b) => ("st", Operands::Two(a, b)),
+            Instr::Jz(r, place) => ("jz", Operands::OnePlace(r, place)),
+            Instr::Jmp(place) => ("jmp", Operands::Place(place)),
+            Instr::Halt => ("halt", Operands::Bare),
+        }
+    }
 }
 
 /// What several processors may write to one cell in one step, and what the cell then holds.

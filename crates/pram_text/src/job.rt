@@ -1,8 +1,12 @@
 //! Jobs.
-ghost use Rattle.std.specs.Prelude.{◌≡◌, ℕ, IfOk};
+ghost use Rattle.std.specs.Prelude.{◌≡◌, ℕ, ◌+◌, ◌<◌, IfOk};
 ghost use Rattle.pram_text.specs.Job.{JobData, IsJob};
+ghost use Rattle.pram_text.specs.Places.{register_at, counters_at};
+ghost use Rattle.pram_text.specs.Inner.Reading.{job_of};
 
+use crate::head::Head;
 use crate::instr::{Instr, Rule};
+use crate::places::{counters_at, register_at};
 use std::alloc::AllocError;
 use std::marker::Model;
 
@@ -40,37 +44,16 @@ impl Model for Job {
 }
 
 impl Job {
-    /// A job of these parts.
-    pub(crate) fn new(
-        rule: Rule,
-        cells: u32,
-        procs: u32,
-        steps: u32,
-        init: Vec<u32>,
-        code: Vec<Instr>,
-    ) -> Self
-        requires { IsJob (record {
-          rule = rule;
-          cells = cells;
-          procs = procs;
-          steps = steps;
-          init = init.items;
-          code = code.items;
-        }) }
-        ensures { result ≡ record {
-          rule = rule;
-          cells = cells;
-          procs = procs;
-          steps = steps;
-          init = init.items;
-          code = code.items;
-        } }
+    /// The job of a header, of start values and of instructions.
+    pub(crate) fn new(head: &Head, init: Vec<u32>, code: Vec<Instr>) -> Self
+        requires { IsJob (job_of head.now init.items code.items) }
+        ensures { result ≡ job_of head.now init.items code.items }
     {
         Job {
-            rule,
-            cells,
-            procs,
-            steps,
+            rule: head.rule,
+            cells: head.cells,
+            procs: head.procs,
+            steps: head.steps,
             init,
             code,
         }
@@ -132,5 +115,26 @@ impl Job {
         ensures job { IsJob self.now }
     {
         self.code.as_slice()
+    }
+
+    /// The place of a processor's register.
+    #[inline(always)]
+    pub fn register_place(&self, processor: u32, register: u8) -> u32
+        requires processor { processor < self.now.procs }
+        requires register { register < 4 }
+        ensures value { result ≡ register_at self.now.cells processor register }
+        ensures job { IsJob self.now }
+    {
+        register_at(self.cells, processor, u32::from(register))
+    }
+
+    /// The place of a processor's counter.
+    #[inline(always)]
+    pub fn counter_place(&self, processor: u32) -> u32
+        requires { processor < self.now.procs }
+        ensures value { result ≡ counters_at self.now.cells self.now.procs + processor }
+        ensures job { IsJob self.now }
+    {
+        counters_at(self.cells, self.procs) + processor
     }
 }

@@ -9,6 +9,7 @@ mod job;
 pub mod laws;
 pub mod limits;
 mod numbers;
+pub mod places;
 mod program;
 mod reader;
 mod start;
@@ -16,7 +17,7 @@ mod statement;
 mod words;
 
 pub use fault::{TextFault, TextKind};
-pub use instr::{Instr, Rule};
+pub use instr::{Instr, Operands, Rule};
 pub use job::Job;
 pub use reader::read_job;
 

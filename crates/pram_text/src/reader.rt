@@ -39,7 +39,7 @@ pub fn read_job(alloc: Global, text: &[u8]) -> Result<Job, TextFault>
     reader.finish(number)
 }
 
-// The first line, and what is behind its line feed, if it has one.
+// The first line, and what is after its line feed, if it has one.
 fn first_line(text: &[u8]) -> (&[u8], Option<&[u8]>)
     ensures lines { lines_of text.now ≡ result.0.now ∷ lines_behind result.1 }
     ensures shorter { IfSome result.1 (λ rest. length rest.now < length text.now) }
@@ -53,7 +53,7 @@ fn first_line(text: &[u8]) -> (&[u8], Option<&[u8]>)
     }
 }
 
-// The fault of a line. Where memory ran out it is no line's.
+// The fault of a line. Out of memory it is no line's.
 fn refusal(line: u64, kind: TextKind) -> TextFault
     ensures kind { result.kind ≡ kind }
     ensures line { kind ≢ TextKind.Memory → result.line ≡ line }
@@ -155,13 +155,6 @@ impl<'t> Reader<'t> {
         let code = self.program.code()?;
         let alloc = *self.start.allocator();
         let init = start_values(alloc, &self.start, self.head.cells)?;
-        Ok(Job::new(
-            self.head.rule,
-            self.head.cells,
-            self.head.procs,
-            self.head.steps,
-            init,
-            code,
-        ))
+        Ok(Job::new(&self.head, init, code))
     }
 }

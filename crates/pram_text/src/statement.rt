@@ -1,5 +1,5 @@
 //! Instruction lines.
-ghost use Rattle.std.specs.Prelude.{◌≡◌, ◌||◌, ◌==◌, ◌∷◌, find, None};
+ghost use Rattle.std.specs.Prelude.{◌≡◌, ◌||◌, ◌==◌, ◌∷◌, None, Some};
 ghost use Rattle.std.specs.Char.{is_ascii_alphabetic, is_ascii_alphanumeric};
 ghost use Rattle.std.specs.List.{list_all};
 ghost use Rattle.std.specs.Option.{option_copied};
@@ -7,33 +7,13 @@ ghost use Rattle.std.specs.Str.{bytes_eq};
 ghost use Rattle.pram_text.specs.Lines.{words_of};
 ghost use Rattle.pram_text.specs.Inner.Statement.{ReadsNone, ReadsOne, ReadsTwo, ReadsThree};
 ghost use Rattle.pram_text.specs.Inner.Statement.{ReadsNumber, ReadsJump, ReadsLabel};
-ghost use Rattle.pram_text.specs.Inner.Statement.{ReadsLine, name_of};
+ghost use Rattle.pram_text.specs.Inner.Statement.{ReadsLine};
 ghost use Rattle.pram_text.specs.Judgement.{label_of, unlabelled, is_name, register_of};
 
 use crate::fault::TextKind;
 use crate::instr::Instr;
 use crate::numbers::number_within;
 use crate::words::{has_words, is_word, next_word, one_word, three_words, two_words};
-
-/// What the first word of an instruction says.
-#[derive(Clone, Copy)]
-enum Mnemonic {
-    Set,
-    Pid,
-    Add,
-    Sub,
-    Mul,
-    And,
-    Or,
-    Xor,
-    Lt,
-    Eq,
-    Ld,
-    St,
-    Jz,
-    Jmp,
-    Halt,
-}
 
 /// An instruction, with the label that a jump goes to, whose place is 0 until it is known.
 #[derive(Clone, Copy)]
@@ -42,58 +22,7 @@ pub(crate) struct Statement<'a> {
     pub(crate) target: Option<&'a [u8]>,
 }
 
-impl Mnemonic {
-    const ALL: [Mnemonic; 15] = [
-        Mnemonic::Set,
-        Mnemonic::Pid,
-        Mnemonic::Add,
-        Mnemonic::Sub,
-        Mnemonic::Mul,
-        Mnemonic::And,
-        Mnemonic::Or,
-        Mnemonic::Xor,
-        Mnemonic::Lt,
-        Mnemonic::Eq,
-        Mnemonic::Ld,
-        Mnemonic::St,
-        Mnemonic::Jz,
-        Mnemonic::Jmp,
-        Mnemonic::Halt,
-    ];
-
-    fn name(self) -> &'static str
-        ensures { result.now ≡ name_of self }
-    {
-        match self {
-            Mnemonic::Set => "set",
-            Mnemonic::Pid => "pid",
-            Mnemonic::Add => "add",
-            Mnemonic::Sub => "sub",
-            Mnemonic::Mul => "mul",
-            Mnemonic::And => "and",
-            Mnemonic::Or => "or",
-            Mnemonic::Xor => "xor",
-            Mnemonic::Lt => "lt",
-            Mnemonic::Eq => "eq",
-            Mnemonic::Ld => "ld",
-            Mnemonic::St => "st",
-            Mnemonic::Jz => "jz",
-            Mnemonic::Jmp => "jmp",
-            Mnemonic::Halt => "halt",
-        }
-    }
-
-    fn of(name: &[u8]) -> Option<Mnemonic>
-        ensures { result ≡ find (λ m. bytes_eq name.now (name_of m)) Mnemonic.ALL }
-    {
-        Self::ALL
-            .iter()
-            .copied()
-            .find(|mnemonic| is_word(name, mnemonic.name()))
-    }
-}
-
-/// The label of a line without its colon, and the line behind it.
+/// The label of a line without its colon, and the line after it.
 #[tactic(auto, unfolding(crate::specs::Judgement::label_of, crate::specs::Judgement::unlabelled))]
 pub(crate) fn split_label(line: &[u8]) -> (Option<&[u8]>, &[u8])
     ensures label { option_copied result.0 ≡ label_of (words_of line.now) }
@@ -220,37 +149,57 @@ fn plain<'a>(instr: Instr) -> Statement<'a>
     }
 }
 
-// The statement of an instruction of this name.
-#[tactic(auto, unfolding(crate::specs::Judgement::instr_of))]
-fn operation(mnemonic: Mnemonic, operands: &[u8]) -> Result<Statement<'_>, TextKind>
-    ensures { ReadsLine (name_of mnemonic ∷ words_of operands.now) result }
+// The statement that jumps to this label.
+fn jump<'a>(instr: Instr, label: &'a [u8]) -> Statement<'a>
+    ensures { (result.instr ≡ instr) × (option_copied result.target ≡ Some label.now) }
 {
-    match mnemonic {
-        Mnemonic::Set => register_number_in(operands).map(|(r, k)| plain(Instr::Set(r, k))),
-        Mnemonic::Pid => one_register_in(operands).map(|r| plain(Instr::Pid(r))),
-        Mnemonic::Add => three_registers_in(operands).map(|(r, a, b)| plain(Instr::Add(r, a, b))),
-        Mnemonic::Sub => three_registers_in(operands).map(|(r, a, b)| plain(Instr::Sub(r, a, b))),
-        Mnemonic::Mul => three_registers_in(operands).map(|(r, a, b)| plain(Instr::Mul(r, a, b))),
-        Mnemonic::And => three_registers_in(operands).map(|(r, a, b)| plain(Instr::And(r, a, b))),
-        Mnemonic::Or => three_registers_in(operands).map(|(r, a, b)| plain(Instr::Or(r, a, b))),
-        Mnemonic::Xor => three_registers_in(operands).map(|(r, a, b)| plain(Instr::Xor(r, a, b))),
-        Mnemonic::Lt => three_registers_in(operands).map(|(r, a, b)| plain(Instr::Lt(r, a, b))),
-        Mnemonic::Eq => three_registers_in(operands).map(|(r, a, b)| plain(Instr::Eq(r, a, b))),
-        Mnemonic::Ld => two_registers_in(operands).map(|(r, a)| plain(Instr::Ld(r, a))),
-        Mnemonic::St => two_registers_in(operands).map(|(a, b)| plain(Instr::St(a, b))),
-        Mnemonic::Jz => register_label_in(operands).map(|(r, label)| Statement {
-            instr: Instr::Jz(r, 0),
-            target: Some(label),
-        }),
-        Mnemonic::Jmp => label_in(operands).map(|label| Statement {
-            instr: Instr::Jmp(0),
-            target: Some(label),
-        }),
-        Mnemonic::Halt => no_operand_in(operands).map(|()| plain(Instr::Halt)),
+    Statement {
+        instr,
+        target: Some(label),
     }
 }
 
-/// The statement of a line behind its label.
+// The statement of an instruction of this name: the table, read from its names.
+#[tactic(auto, unfolding(crate::specs::Judgement::instr_of))]
+fn statement_of<'a>(name: &[u8], operands: &'a [u8]) -> Result<Statement<'a>, TextKind>
+    ensures { ReadsLine (name.now ∷ words_of operands.now) result }
+{
+    if is_word(name, "set") {
+        register_number_in(operands).map(|(r, k)| plain(Instr::Set(r, k)))
+    } else if is_word(name, "pid") {
+        one_register_in(operands).map(|r| plain(Instr::Pid(r)))
+    } else if is_word(name, "add") {
+        three_registers_in(operands).map(|(r, a, b)| plain(Instr::Add(r, a, b)))
+    } else if is_word(name, "sub") {
+        three_registers_in(operands).map(|(r, a, b)| plain(Instr::Sub(r, a, b)))
+    } else if is_word(name, "mul") {
+        three_registers_in(operands).map(|(r, a, b)| plain(Instr::Mul(r, a, b)))
+    } else if is_word(name, "and") {
+        three_registers_in(operands).map(|(r, a, b)| plain(Instr::And(r, a, b)))
+    } else if is_word(name, "or") {
+        three_registers_in(operands).map(|(r, a, b)| plain(Instr::Or(r, a, b)))
+    } else if is_word(name, "xor") {
+        three_registers_in(operands).map(|(r, a, b)| plain(Instr::Xor(r, a, b)))
+    } else if is_word(name, "lt") {
+        three_registers_in(operands).map(|(r, a, b)| plain(Instr::Lt(r, a, b)))
+    } else if is_word(name, "eq") {
+        three_registers_in(operands).map(|(r, a, b)| plain(Instr::Eq(r, a, b)))
+    } else if is_word(name, "ld") {
+        two_registers_in(operands).map(|(r, a)| plain(Instr::Ld(r, a)))
+    } else if is_word(name, "st") {
+        two_registers_in(operands).map(|(a, b)| plain(Instr::St(a, b)))
+    } else if is_word(name, "jz") {
+        register_label_in(operands).map(|(r, label)| jump(Instr::Jz(r, 0), label))
+    } else if is_word(name, "jmp") {
+        label_in(operands).map(|label| jump(Instr::Jmp(0), label))
+    } else if is_word(name, "halt") {
+        no_operand_in(operands).map(|()| plain(Instr::Halt))
+    } else {
+        Err(TextKind::UnknownInstruction)
+    }
+}
+
+/// The statement of a line after its label.
 #[tactic(auto, unfolding(crate::specs::Judgement::instr_of))]
 pub(crate) fn statement_in(line: &[u8]) -> Result<Statement<'_>, TextKind>
     ensures { ReadsLine (words_of line.now) result }
@@ -258,8 +207,5 @@ pub(crate) fn statement_in(line: &[u8]) -> Result<Statement<'_>, TextKind>
     let Some((name, operands)) = next_word(line) else {
         return Err(TextKind::UnknownInstruction);
     };
-    let Some(mnemonic) = Mnemonic::of(name) else {
-        return Err(TextKind::UnknownInstruction);
-    };
-    operation(mnemonic, operands)
+    statement_of(name, operands)
 }

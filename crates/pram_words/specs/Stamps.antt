@@ -1,5 +1,5 @@
 -- Stamped words: a stamp in the upper 32 bits, a payload in the lower 32.
-use Rattle.std.specs.Prelude.{ℕ, ◌+◌, ◌*◌, ◌/◌, ◌%◌, ◌^◌}
+use Rattle.std.specs.Prelude.{ℕ, ◌+◌, ◌*◌, ◌/◌, ◌%◌, ◌^◌, Bool, nat_le, if◌then◌else◌}
 
 abbrev pub stamped_word : ℕ → ℕ → ℕ
 stamped_word stamp payload = stamp * 2 ^ 32 + payload
@@ -9,3 +9,20 @@ stamp_of word = word / 2 ^ 32
 
 abbrev pub payload_of : ℕ → ℕ
 payload_of word = word % 2 ^ 32
+
+-- ---- the two words of a place
+
+-- The older one has the lesser stamp; of equal stamps it is the first one.
+abbrev pub first_is_older : ℕ → ℕ → Bool
+first_is_older a b = nat_le (stamp_of a) (stamp_of b)
+
+-- the older one's number and itself
+abbrev pub older : ℕ → ℕ → ℕ
+older a b = if first_is_older a b then 0 else 1
+
+abbrev pub older_word : ℕ → ℕ → ℕ
+older_word a b = if first_is_older a b then a else b
+
+-- the payload of the newer one
+abbrev pub newer_payload : ℕ → ℕ → ℕ
+newer_payload a b = payload_of (if first_is_older a b then b else a)

@@ -68,7 +68,7 @@ IsNeeded y (Stored p k) = (p < places_of y) × (k < 2)
 IsNeeded y (Claim c) = IsTrue y.claims × (c < y.cells)
 IsNeeded y (Spare k) = ⊥
 
--- ---- the compact form: one kind behind the other
+-- ---- the compact form: one kind after the other
 
 -- the numbers of the first request word, position word, word of a place and claim word
 abbrev pub requests_at : LayoutData → ℕ

@@ -1,10 +1,10 @@
 //! Where the words of a board lie.
 ghost use Rattle.pram_text.specs.declared.limits.TheConstants.{MAX_CELLS, MAX_PROCS};
-ghost use Rattle.std.specs.Prelude.{◌≡◌, ℕ, ◌+◌, ◌*◌, ◌<◌, ◌≤◌, ◌↔◌, IsTrue, if◌then◌else◌};
+ghost use Rattle.std.specs.Prelude.{◌≡◌, ℕ, ◌+◌, ◌*◌, ◌<◌, ◌≤◌, ◌↔◌, IsTrue, IfOk, if◌then◌else◌};
 ghost use Rattle.pram_words.specs.declared.layout.Form.TheVariants.{Compact, Wide};
 ghost use Rattle.pram_words.specs.declared.words.Word.TheVariants.{Asked, Claim, Conflict};
 ghost use Rattle.pram_words.specs.declared.words.Word.TheVariants.{Node, Position, Stored};
-ghost use Rattle.pram_words.specs.Start.{start_of};
+ghost use Rattle.pram_words.specs.Start.{start_of, start_words};
 ghost use Rattle.pram_words.specs.Tree.{depth_of, leaves_of};
 ghost use Rattle.pram_words.specs.Ways.{IsTurnOf, first_leaf_in, turns_right_in, way_of};
 ghost use Rattle.pram_words.specs.Words.{Admits, IsInRange, IsLayout, IsStamped, LayoutData};
@@ -17,13 +17,15 @@ ghost use Rattle.pram_words.specs.Words.{wide_claims_at, wide_place, wide_word};
 use crate::stamps::{payload, stamp};
 use crate::tree::{first_leaf, goes_right, goes_right_wide, leaves};
 use crate::words::Word;
+use pram_text::places::{counters_at, register_at};
 use pram_text::{Job, Rule};
+use std::alloc::{AllocError, Global};
 use std::marker::Model;
 
 /// How the words of a board lie, and which way its workers turn. Every result holds for both forms.
 #[derive(Clone, Copy, Debug, PartialEq, Eq)]
 pub enum Form {
-    /// One kind behind the other: the conflict (word 0), the nodes (1 to 2L - 1), three request
+    /// One kind after the other: the conflict (word 0), the nodes (1 to 2L - 1), three request
     /// words a processor, a position word a worker, two words a place, and, under the rules
     /// priority and crew, a claim word a cell. A worker turns by the high bits of its number.
     Compact,
@@ -310,12 +312,25 @@ impl Layout {
         }
     }
 
+    /// The words that a board of the job starts with. It takes memory for them, and time in their
+    /// number. The layout is to be the job's.
+    #[tactic(auto, unfolding(crate::specs::Start::start_words))]
+    pub fn start_words(&self, alloc: Global, job: &Job) -> Result<Vec<u64>, AllocError>
+        ensures { IfOk result (λ words. words.items ≡ start_words self.now job.now) }
+    {
+        let mut words = Vec::with_capacity(alloc, self.length() as usize)?;
+        for k in 0..self.length() {
+            words.push(self.start_word(job, k))?;
+        }
+        Ok(words)
+    }
+
     // Whether a word may have a value.
     fn is_in_range(&self, job: &Job, word: Word, value: u64) -> bool
         ensures { IsTrue result ↔ IsInRange self.now job.now word value }
     {
         let steps = job.steps();
-        let counters = self.cells + 4 * self.procs;
+        let counters = counters_at(self.cells, self.procs);
         let past_code = job.code().len() as u32 + 1;
         match word {
             Word::Conflict => value <= u64::from(steps),
@@ -400,9 +415,9 @@ impl Layout {
         } else if i < self.procs && s < 4 {
             Word::Asked(i, s - 1)
         } else if i < self.procs && s < 6 {
-            Word::Stored(self.cells + 4 * self.procs + i, s - 4)
+            Word::Stored(counters_at(self.cells, self.procs) + i, s - 4)
         } else if i < self.procs && s < 14 {
-            Word::Stored(self.cells + 4 * i + (s - 6) / 2, s % 2)
+            Word::Stored(register_at(self.cells, i, (s - 6) / 2), s % 2)
         } else {
             Word::Spare(number)
         }
@@ -415,7 +430,7 @@ impl Layout {
         ensures below { result + 1 < wide_claims_at self.now }
         ensures limits { IsLayout self.now }
     {
-        let counters = self.cells + 4 * self.procs;
+        let counters = counters_at(self.cells, self.procs);
         if p < self.cells {
             self.block(self.leaves) + 2 * p
         } else if p < counters {

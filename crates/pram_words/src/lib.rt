@@ -1,7 +1,7 @@
 //! The words of a shared board: stamps, phases, the tree of progress, and where each word lies.
 //!
-//! All calls are pure and take no memory; they take constant time, but for a worker's first leaf in
-//! the wide form, which takes time in the height of the tree.
+//! All calls are pure, and all but `start_words` take no memory and constant time, but for a worker's
+//! first leaf in the wide form, which takes time in the height of the tree.
 #![tactic(auto)]
 
 pub mod laws;
@@ -17,7 +17,7 @@ pub use laws::{
 };
 pub use layout::{Form, Layout};
 pub use phases::{Kind, LAST_PHASE, kind_of, phase, step_of};
-pub use stamps::{payload, stamp, stamped};
+pub use stamps::{newer_payload, older, payload, stamp, stamped};
 pub use tree::{first_leaf, goes_right, height, leaves, left, parent, right};
 pub use words::Word;
 

@@ -1,6 +1,7 @@
 //! Stamped words: the number of a step above a payload, in one word.
 ghost use Rattle.std.specs.Prelude.{◌≡◌};
 ghost use Rattle.pram_words.specs.Stamps.{stamped_word, stamp_of, payload_of};
+ghost use Rattle.pram_words.specs.Stamps.{newer_payload, older};
 
 /// The word with this stamp in its upper 32 bits and this payload in its lower 32. Words compare by
 /// their stamps first.
@@ -22,4 +23,24 @@ pub fn payload(word: u64) -> u32
     ensures { result ≡ payload_of word }
 {
     (word % 0x1_0000_0000) as u32
+}
+
+/// The number of the older of the two words of a place, 0 or 1. Of equal stamps the first is older.
+#[inline(always)]
+pub fn older(first: u64, second: u64) -> u32
+    ensures { result ≡ older first second }
+{
+    u32::from(stamp(first) > stamp(second))
+}
+
+/// The payload of the newer of the two words of a place.
+#[inline(always)]
+pub fn newer_payload(first: u64, second: u64) -> u32
+    ensures { result ≡ newer_payload first second }
+{
+    if stamp(first) <= stamp(second) {
+        payload(second)
+    } else {
+        payload(first)
+    }
 }

@@ -13,7 +13,7 @@ abbrev pub OnePlan : Type 0
 OnePlan = (workers : ℕ) (all : List Record) (plan other : PlanData) → SpellsPlan workers all plan →
     SpellsPlan workers all other → plan ≡ other
 
--- records have at most one first fault, which is never that memory ran out
+-- records have at most one first fault, which is never `Memory`
 abbrev pub OneFault : Type 0
 OneFault = (workers : ℕ) (all : List Record) (row other : ℕ) (kind another : PlanKind) →
     FirstFault workers all row kind → FirstFault workers all other another

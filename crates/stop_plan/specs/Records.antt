@@ -110,6 +110,6 @@ pub record FirstFault (workers : ℕ) (all : List Record) (row : ℕ) (kind : Pl
   pub fault : fault_at workers all place ≡ Some kind
   pub first : (earlier : ℕ) → earlier < place → fault_at workers all earlier ≡ None
 
--- what is answered where memory ran out
+-- what is answered out of memory
 abbrev pub no_memory : PlanFault
 no_memory = record { row = 0; kind = Memory }

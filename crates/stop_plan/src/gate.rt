@@ -19,8 +19,8 @@ impl Gate for Open {
     fn pass(&self, _worker: u32, _tick: u64) {}
 }
 
-/// The gate that takes a pause for each pass. A worker behind it makes at most one atomic step in a
-/// pause, and a sleep of so many ticks lasts at least so many pauses.
+/// The gate that takes a pause for each pass. A worker that passes it makes at most one atomic step
+/// in a pause, and a sleep of so many ticks lasts at least so many pauses.
 #[derive(Clone, Copy)]
 pub struct Paced<'a, R: Clock> {
     clock: &'a R,

@@ -7,7 +7,7 @@ pub fn one_plan()
     ensures { OnePlan }
 {}
 
-/// Records have at most one first fault, which is never that memory ran out.
+/// Records have at most one first fault, which is never `Memory`.
 pub fn one_fault()
     ensures { OneFault }
 {}

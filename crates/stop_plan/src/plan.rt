@@ -39,7 +39,7 @@ pub enum PlanKind {
     BadNumber,
     /// An earlier record stopped the worker.
     AfterStop,
-    /// Memory ran out; the row is 0.
+    /// Out of memory; the row is 0.
     Memory,
 }
 
@@ -51,7 +51,7 @@ pub struct PlanFault {
     pub kind: PlanKind,
 }
 
-/// What is answered where memory ran out.
+/// What is answered out of memory.
 pub(crate) const NO_MEMORY: PlanFault = PlanFault {
     row: 0,
     kind: PlanKind::Memory,

@@ -5,7 +5,7 @@ use Rattle.pram_text.specs.Job.{JobData}
 use Rattle.pram_step.specs.declared.answer.Fault.{Fault}
 use Rattle.pram_step.specs.declared.requests.Request.{Request}
 use Rattle.pram_step.specs.Machine.{State, place_count, IsDataPlace}
-use Rattle.pram_step.specs.Steps.{Agrees, IsNext, after_requests}
+use Rattle.pram_step.specs.Steps.{Agrees, IsNext, after_requests, next_state}
 use Rattle.pram_step.specs.Instructions.{requests_in}
 use Rattle.pram_step.specs.Runs.{IsStateAfter, IsFault}
 
@@ -33,6 +33,12 @@ pub record AreMarked (cells : ℕ) (requests : List Request) (marks : List ℕ) 
 -- all data goes to cells and registers of the processor's own
 pub record AreOwn (job : JobData) (requests : List Request) : Type 0 where
   pub own : (i place v : ℕ) → Puts requests place i v → IsDataPlace job i place
+
+-- the step agrees, and its next state is made
+pub record IsMade (job : JobData) (old new : State) : Type 0 where
+  pub agrees : Agrees job (requests_in job old)
+  pub next : new ≡ next_state job old
+  pub written : IsNext job (requests_in job old) old new
 
 -- Where the requests before processor i's were obeyed, from some start, it is obeyed then too.
 abbrev pub ObeysNext : JobData → List Request → ℕ → State → State → Type 0

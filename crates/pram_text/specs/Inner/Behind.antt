@@ -3,7 +3,7 @@ use Rattle.std.specs.Prelude.{ℕ, List, [], Option, Some, None}
 use Rattle.std.specs.Borrow.{Bor}
 use Rattle.pram_text.specs.Lines.{lines_of}
 
--- the lines behind a line feed, and none where there is no line feed
+-- the lines after a line feed, and none where there is no line feed
 abbrev pub lines_behind : Option (Bor (List ℕ)) → List (List ℕ)
 lines_behind None = []
 lines_behind (Some rest) = lines_of rest.now

@@ -195,3 +195,15 @@ Finishes before numbers last (Err fault) =
     fault.kind ≢ Memory
     → ((end_fault before ≡ Some fault.kind) × (fault.line ≡ last))
     ⊎ ((end_fault before ≡ None) × IsUnknown before numbers fault)
+
+-- the job of a header, of start values and of instructions
+abbrev pub job_of : Head → List ℕ → List Instr → JobData
+job_of head init code =
+    record {
+      rule = head.rule;
+      cells = head.cells;
+      procs = head.procs;
+      steps = head.steps;
+      init = init;
+      code = code;
+    }

@@ -1,11 +1,9 @@
 -- An instruction line whose jump still names its label.
-use Rattle.std.specs.Prelude.{◌≡◌, ℕ, List, codes, Option, Some, None, Result, Ok}
+use Rattle.std.specs.Prelude.{◌≡◌, ℕ, List, Option, Some, None, Result, Ok}
 use Rattle.std.specs.Borrow.{Bor}
 use Rattle.pram_text.specs.declared.fault.TextKind.{TextKind}
 use Rattle.pram_text.specs.declared.instr.Instr.{Instr}
 use Rattle.pram_text.specs.declared.instr.Instr.TheVariants.{Jz, Jmp}
-use Rattle.pram_text.specs.declared.statement.Mnemonic.{Mnemonic}
-use Rattle.pram_text.specs.declared.statement.Mnemonic.TheVariants as m
 use Rattle.pram_text.specs.declared.statement.Statement.{Statement}
 use Rattle.pram_text.specs.Lines.{Word, Line}
 use Rattle.pram_text.specs.Judgement.{no_operand, one_register, two_registers, three_registers}
@@ -46,25 +44,6 @@ ReadsLabel operands result =
     (find : Word → Option ℕ) (make : ℕ → Instr)
     → one_label find make operands ≡ (result >>= λ label. place_in find label.now >>= λ place.
     Ok (make place))
-
--- ---- names of instructions
-
-abbrev pub name_of : Mnemonic → Word
-name_of m.Set = codes "set"
-name_of m.Pid = codes "pid"
-name_of m.Add = codes "add"
-name_of m.Sub = codes "sub"
-name_of m.Mul = codes "mul"
-name_of m.And = codes "and"
-name_of m.Or = codes "or"
-name_of m.Xor = codes "xor"
-name_of m.Lt = codes "lt"
-name_of m.Eq = codes "eq"
-name_of m.Ld = codes "ld"
-name_of m.St = codes "st"
-name_of m.Jz = codes "jz"
-name_of m.Jmp = codes "jmp"
-name_of m.Halt = codes "halt"
 
 -- ---- statements
 

@@ -8,7 +8,7 @@ loop-done-init c = subst (IsStateAfter c.args.job.now 0) (sym c.requires.places)
 
 pub loop-done-preserved : goal.loop-done-preserved
 loop-done-preserved c =
-    subst (IsStateAfter c.args.job.now (c.loop-done.done + 1)) (sym c.in-Ok-true.ensures.next) (next_after c.args.job.now c.loop-done.done c.loop-done.places c.loop-done.invariant c.in-Ok-true.ensures.agrees)
+    subst (IsStateAfter c.args.job.now (c.loop-done.done + 1)) (sym c.in-Ok-true.ensures.made.next) (next_after c.args.job.now c.loop-done.done c.loop-done.places c.loop-done.invariant c.in-Ok-true.ensures.made.agrees)
 
 pub returns : goal.returns
 returns c = let over : c.loop-done.done ≡ c.args.job.now.steps = omega arith in subst (λ n. IsStateAfter c.args.job.now n c.loop-done.places) over c.loop-done.invariant
@@ -19,5 +19,5 @@ returns-in-Ok-false c =
     let idle = c.in-Ok-false.ensures.idle in
     let same : c.advance.new.places ≡ c.loop-done.places = rw c.in-Ok-false.field-0-test at idle in
     let left : c.loop-done.done + (job.steps - c.loop-done.done) ≡ job.steps = omega arith in
-    let last = unchanged_later job c.loop-done.done (job.steps - c.loop-done.done) c.loop-done.places c.loop-done.invariant c.in-Ok-false.ensures.agrees (sym c.in-Ok-false.ensures.next ∙ same) in
+    let last = unchanged_later job c.loop-done.done (job.steps - c.loop-done.done) c.loop-done.places c.loop-done.invariant c.in-Ok-false.ensures.made.agrees (sym c.in-Ok-false.ensures.made.next ∙ same) in
     subst (IsStateAfter job job.steps) (sym same) (subst (λ n. IsStateAfter job n c.loop-done.places) left last)

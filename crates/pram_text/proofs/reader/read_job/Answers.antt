@@ -10,7 +10,7 @@ use Rattle.pram_text.proofs.reader.read_job.Goals.{After-first_line, In_default}
 pub loop-rest-init : goal.loop-rest-init
 loop-rest-init c = (omega arith, refl, HasRead-none _ c.new-reader.result c.new-reader.ensures.held c.new-reader.ensures.numbers)
 
--- the line that is read is the text's next, and what is left is behind it
+-- the line that is read is the text's next, and what is left is after it
 next_line : (c : After-first_line) → (c.loop-rest.number < length (lines_of c.args.text.now)) × (c.first_line.result.0.now ≡ get_or (lines_of c.args.text.now) c.loop-rest.number [])
     × (drop (suc c.loop-rest.number) (lines_of c.args.text.now) ≡ lines_behind c.first_line.result.1)
 next_line c = at_front _ _ _ _ (c.loop-rest.invariant.1 ∙ ap lines_behind c.in-Some.is ∙ c.first_line.ensures.lines)
