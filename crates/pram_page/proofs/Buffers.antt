@@ -52,7 +52,7 @@ length_front job t n s law limits after few =
     let all : length s ≡ place_count job = length_after job t s law limits after in
     sym (length-take-le n s (omega arith))
 
--- ---- what lies behind the elements that are written
+-- ---- what lies after the elements that are written
 
 pub kept_set : {X : Type 0} (n : ℕ) (old now : List X) (i : ℕ) (x : X) → i < n → IsKeptBehind n old now → IsKeptBehind n old (slice_set now i x)
 kept_set n old now i x below kept = drop-set-lt n now i x below ∙ kept

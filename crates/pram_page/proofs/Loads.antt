@@ -13,11 +13,11 @@ use Rattle.walkx.specs.Reads.{Looking, look_of, looked, looks_for, reader_script
 use Rattle.walkx.specs.Records.{Record, after}
 use Rattle.walkx.specs.Scripts.{Script, asks, ends, behind, rest, op_with, heard_in}
 use Rattle.walkx.specs.Walk.{IsLayoutOf}
-use Rattle.lawful_words.specs.Board.{Stands}
-use Rattle.lawful_words.specs.Moments.{Backed, afters}
-use Rattle.walk_laws.specs.Walks.{IsLawfulRead}
-use Rattle.walk_laws.proofs.Sounding.{was_read}
-use Rattle.walk_laws.proofs.Staying.{loads_keep}
+use Rattle.lawful_walk.specs.Board.{Stands}
+use Rattle.lawful_walk.specs.Moments.{Backed, afters}
+use Rattle.lawful_walk.specs.Walks.{IsLawfulRead}
+use Rattle.lawful_walk.proofs.Sounding.{was_read}
+use Rattle.lawful_walk.proofs.Staying.{loads_keep}
 use Rattle.pram_world.specs.Worlds.{WorldData}
 use Rattle.pram_page.specs.declared.reads.ReadRow.{ReadRow}
 use Rattle.pram_page.specs.Answers.{AreLawful, AreRead, loaded, read_in, read_on, row_of}
@@ -62,7 +62,7 @@ looked_load x found k (ends r) e = absurd (cc)
 
 -- ---- one load
 
--- what comes of the script stays behind a load
+-- what comes of the script stays after a load
 read_behind : (words : List ℕ) (s : Script Reading) (k found : ℕ) → Loads s → looks_for s ≡ read.Load k → found ≡ slice_index words k → read_on words (behind s found) ≡ read_on words s
 read_behind words (asks (Load j) next) k found l e is =
     let same : k ≡ j = cc in
@@ -85,7 +85,7 @@ reads_on y words x now k found e is told =
 
 -- ---- all loads, one after the other
 
--- the loads of a script behind a record: their answers, the newest first, and what comes of them
+-- the loads of a script after a record: their answers, the newest first, and what comes of them
 record Loaded (job : JobData) (y : LayoutData) (words : List ℕ) (before : Record) (script : Script Reading) (reading : Reading) (behind : Record) : Type 0 where
   answers : List ℕ
   over : rest script answers ≡ ends reading
@@ -113,7 +113,7 @@ lawful_over job y words before c (At step value) behind stands cell l =
     subst (λ z. IsLawfulRead job y before z c step value) (sym l.is)
     (was_read job y before c step value l.answers cell l.over (record { words = words; stands = stands; backed = subst (λ z. Backed job y z words) l.is l.backed })).0
 
--- *Lawful read*: what a reader gets from lawful words that bear out a record, behind that record
+-- *Lawful read*: what a reader gets from lawful words that bear out a record, after that record
 lawful_in : (s : WorldData) (made : Record) (c : ℕ) → Stands s.job s.layout s.words → Backed s.job s.layout made s.words → c < s.layout.cells
     → IsLawfulRead s.job s.layout made (loaded s.words made (reader_script s.layout c)) c (read_in s c).step (read_in s c).value
 lawful_in s made c stands backed cell =

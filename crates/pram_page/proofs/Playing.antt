@@ -9,8 +9,8 @@ use Rattle.pram_text.specs.Job.{JobData}
 use Rattle.pram_text.specs.Text.{Spells}
 use Rattle.pram_text.proofs.Lawful.{spells_lawful}
 use Rattle.pram_words.specs.Words.{LayoutData}
-use Rattle.lawful_words.specs.Board.{Stands}
-use Rattle.lawful_words.specs.Moments.{Backed}
+use Rattle.lawful_walk.specs.Board.{Stands}
+use Rattle.lawful_walk.specs.Moments.{Backed}
 use Rattle.pram_world.specs.Laws.{IsLawfulRun}
 use Rattle.pram_world.specs.Runs.{Act, event, twin, load, Run, begun, acted, TwinFits, TwinsFit}
 use Rattle.pram_world.proofs.Counting.{same_board}

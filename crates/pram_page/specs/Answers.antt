@@ -8,7 +8,7 @@ use Rattle.walkx.specs.Reads.{reader_script}
 use Rattle.walkx.specs.Records.{Record, after}
 use Rattle.walkx.specs.Scripts.{Script, asks, ends}
 use Rattle.pram_text.specs.Job.{JobData}
-use Rattle.walk_laws.specs.Walks.{IsLawfulRead}
+use Rattle.lawful_walk.specs.Walks.{IsLawfulRead}
 use Rattle.pram_world.specs.Outcomes.{IsOutcome}
 use Rattle.pram_world.specs.Worlds.{WorldData}
 use Rattle.pram_page.specs.declared.board.Event.{Event}
@@ -78,13 +78,13 @@ read_in s cell = row_of (read_on s.words (reader_script s.layout cell))
 abbrev pub AreRead : WorldData → List ReadRow → Type 0
 AreRead s rows = (cell : ℕ) → cell < s.job.cells → slice_get rows cell ≡ Some (read_in s cell)
 
--- the record behind the loads of a script that are all answered by these words
+-- the record after the loads of a script that are all answered by these words
 abbrev pub loaded : List ℕ → Record → Script Reading → Record
 loaded words r (asks op next) =
     let found = operations.answer words op in loaded words (after r op found) (next found)
 loaded words r (ends reading) = r
 
--- *Lawful read*: each row is one of its cell, behind the record of all atomic steps so far: what
+-- *Lawful read*: each row is one of its cell, after the record of all atomic steps so far: what
 -- the cell held after a step that is reached, none that any body knew before being later.
 abbrev pub AreLawful : JobData → WorldData → Record → List ReadRow → Type 0
 AreLawful job s made rows =

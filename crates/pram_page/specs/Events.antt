@@ -47,7 +47,7 @@ pub record IsMade (s : WorldData) (e : Event) (now : WorldData) (effect : Effect
   pub world : now ≡ moved s (act_of e)
   pub effect_is : effect ≡ effect_by s (act_of e)
 
--- it is not known, or memory ran out
+-- it is not known, or the call is out of memory
 abbrev pub IsNotMade : WorldData → ℕ → Event → Hindrance → Type 0
 IsNotMade s number e (Refused refusal) = refusal ≡ Memory
 IsNotMade s number e BadWorkers = ⊥

@@ -57,6 +57,6 @@ count_written _ = 0
 abbrev pub told_written : Told → ℕ
 told_written told = if told.code == DONE || told.code == CONFLICT then told.count else 0
 
--- what lies behind the first so many elements is as it was
+-- what lies after the first so many elements is as it was
 abbrev pub IsKeptBehind : {X : Type 0} → ℕ → List X → List X → Type 0
 IsKeptBehind count old new = drop count new ≡ drop count old

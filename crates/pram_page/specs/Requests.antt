@@ -68,7 +68,7 @@ row_in job s i =
 abbrev pub AreRows : JobData → State → List RequestRow → Type 0
 AreRows job s rows = (i : ℕ) → i < job.procs → slice_get rows i ≡ Some (row_in job s i)
 
--- ---- the step behind t steps: it agrees, or is the first conflict, and the rows are told; or an
+-- ---- the step after t steps: it agrees, or is the first conflict, and the rows are told; or an
 -- earlier one is, and none are
 
 -- of a job that reaches the state after t steps, and has one step more
@@ -105,7 +105,7 @@ abbrev pub AreAsked : List ℕ → ℕ → ℕ → List RequestRow → List Requ
 AreAsked text t most old rows told =
     (finding : Finding) × IsAskedFor text t most old rows finding × (told ≡ told_of finding)
 
--- behind the rows that are told nothing is written; where memory ran out the rows may be written
+-- after the rows that are told nothing is written; out of memory the rows may be written
 abbrev pub IsKeptAsked : List RequestRow → List RequestRow → Finding → Type 0
 IsKeptAsked old rows (Refused Memory) = Unit {0}
 IsKeptAsked old rows finding = IsKeptBehind (count_written finding) old rows

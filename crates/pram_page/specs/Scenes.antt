@@ -17,8 +17,8 @@ use Rattle.walkx.specs.declared.operation.Op.{Op}
 use Rattle.walkx.specs.declared.operation.Op.TheVariants.{Load, Store, Max, Swap, Over}
 use Rattle.walkx.specs.declared.operation.Activity.{Activity}
 use Rattle.walkx.specs.declared.operation.Activity.TheVariants as activity
-use Rattle.walkx.specs.Tasks as tasks
-use Rattle.lawful_words.specs.Board.{held, root, conflict, finished}
+use Rattle.pram_words.specs.Stamps as stamps
+use Rattle.lawful_walk.specs.Board.{held, root, conflict, finished}
 use Rattle.pram_world.specs.declared.event.Effect.{Effect}
 use Rattle.pram_words.specs.declared.layout.Form.TheVariants.{Compact}
 use Rattle.pram_world.specs.Runs.{Run, begun}
@@ -72,7 +72,7 @@ part_of (Spare k) = 0
 
 -- the number of the older of the two words of a place
 abbrev pub older_at : LayoutData → List ℕ → ℕ → ℕ
-older_at y words p = tasks.older (held y words (Stored p 0)) (held y words (Stored p 1))
+older_at y words p = stamps.older (held y words (Stored p 0)) (held y words (Stored p 1))
 
 -- 1 where a word is the newer of the two words of its place
 abbrev pub newer_of : LayoutData → List ℕ → Word → ℕ
@@ -83,9 +83,9 @@ newer_of y words _ = 0
 -- other word
 abbrev pub older_before : LayoutData → List ℕ → ℕ → Word → ℕ
 older_before y words before (Stored p zero) =
-    if tasks.older before (held y words (Stored p 1)) == 0 then 1 else 0
+    if stamps.older before (held y words (Stored p 1)) == 0 then 1 else 0
 older_before y words before (Stored p (suc k)) =
-    if tasks.older (held y words (Stored p 0)) before == 1 then 1 else 0
+    if stamps.older (held y words (Stored p 0)) before == 1 then 1 else 0
 older_before y words before _ = 0
 
 abbrev pub word_in : LayoutData → List ℕ → ℕ → WordRow

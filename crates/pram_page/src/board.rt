@@ -20,7 +20,7 @@ pub struct Event {
 /// Why there is no board after the events.
 #[derive(Clone, Copy, Debug, PartialEq, Eq)]
 pub enum Hindrance {
-    /// The text gives no job, or memory ran out.
+    /// The text gives no job, or the call is out of memory.
     Refused(Refusal),
     /// There is no board for so many workers.
     BadWorkers,

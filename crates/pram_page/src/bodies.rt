@@ -12,8 +12,8 @@ use walkx::{Activity, Ended};
 /// What a body is doing: 0 it is lost, 1 it comes back, 2 it begins, 3 it makes a turn, 4 it is
 /// over and all is done, 5 it is over by a conflict. In a turn `phase` is its phase, `step` the
 /// step of the machine and `pass` 1 (compute), 2 (apply) or 3 (verify); over by a conflict `step`
-/// is its step. `node` is 0 where it is lost or comes back. So many atomic steps of its script are
-/// behind it.
+/// is its step. `node` is 0 where it is lost or comes back. It has made so many atomic steps of
+/// its script.
 #[repr(C)]
 #[derive(Clone, Copy, Debug, PartialEq, Eq)]
 pub struct BodyRow {

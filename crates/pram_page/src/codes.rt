@@ -6,7 +6,7 @@ pub const DONE: u32 = 0;
 /// The text bears a fault.
 pub const NO_JOB: u32 = 1;
 
-/// Memory ran out.
+/// Out of memory.
 pub const MEMORY: u32 = 2;
 
 /// The text has more than `TEXT_MOST` bytes.

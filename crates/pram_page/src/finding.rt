@@ -40,7 +40,7 @@ pub enum Finding {
     BadWorkers,
     /// The event of this number is unknown.
     BadEvent { number: u64 },
-    /// The text gives no job, or memory ran out.
+    /// The text gives no job, or the call is out of memory.
     Refused(Refusal),
 }
 

@@ -24,7 +24,7 @@ pub enum Moment {
     TooFar,
 }
 
-/// Tells the answer of a text: the cells behind the last step, or the first conflict. At most
+/// Tells the answer of a text: the cells after the last step, or the first conflict. At most
 /// `most` steps are made; a machine whose processors have all stopped makes none.
 #[unsafe(no_mangle)]
 pub extern "C" fn pram_page_answer(
@@ -178,9 +178,8 @@ fn have_stopped(job: &Job, state: &State) -> bool
     requires { length state.now ≡ place_count job.now }
     ensures { IsTrue result → AllStopped job.now state.now }
 {
-    let first = job.cells() + 4 * job.procs();
     for processor in 0..job.procs() {
-        if (state.get(first + processor) as usize) < job.code().len() {
+        if (state.get(job.counter_place(processor)) as usize) < job.code().len() {
             return false;
         }
     }

@@ -13,7 +13,7 @@ use crate::finding::{Finding, Told, tell};
 use crate::machine::{Moment, go_to};
 use crate::text::{Refusal, take_job};
 use pram_step::{
-    Fault, Operands, State, StepFault, cell_read, laws, operands_of, request, step as make_step,
+    Fault, Sources, State, StepFault, cell_read, laws, request, sources_of, step as make_step,
 };
 use pram_text::Job;
 use std::alloc::Global;
@@ -44,7 +44,7 @@ pub struct Target {
     pub value: u32,
 }
 
-/// Tells what each processor asks for in the step behind these, and whether that step is against
+/// Tells what each processor asks for in the step after these, and whether that step is against
 /// the rule, and where. At most `most` steps are made, and none where the rows have no room.
 #[unsafe(no_mangle)]
 pub extern "C" fn pram_page_requests(
@@ -164,7 +164,7 @@ fn counter(job: &Job, state: &State, processor: u32) -> u32
     requires places { length state.now ≡ place_count job.now }
     ensures { result ≡ counter_of job.now state.now processor }
 {
-    state.get(job.cells() + 4 * job.procs() + processor)
+    state.get(job.counter_place(processor))
 }
 
 // Whether a counter is the number of an instruction, or why the processor has stopped.
@@ -189,9 +189,9 @@ fn cell(job: &Job, state: &State, processor: u32, counter: u32) -> Option<u32>
     ensures { result ≡ cell_in job.now state.now processor }
 {
     let instr = *job.code().get(counter as usize)?;
-    match operands_of(instr) {
-        Operands::None => cell_read(job, instr, 0),
-        Operands::One(a) | Operands::Two(a, _) => {
+    match sources_of(instr) {
+        Sources::None => cell_read(job, instr, 0),
+        Sources::One(a) | Sources::Two(a, _) => {
             cell_read(job, instr, register(job, state, processor, a))
         }
     }
@@ -203,9 +203,7 @@ fn register(job: &Job, state: &State, processor: u32, r: u8) -> u32
     requires register { r < 4 }
     ensures { result ≡ register_of job.now state.now processor r }
 {
-    // This tells the job's limits.
-    let _ = job.procs();
-    state.get(job.cells() + 4 * processor + u32::from(r))
+    state.get(job.register_place(processor, r))
 }
 
 // The cell plus 1, or 0 for none.
@@ -257,7 +255,7 @@ fn aim(job: &Job, processor: u32, put: Option<(u32, u32)>) -> Target
         },
         Some((place, value)) => Target {
             kind: 2,
-            number: place - cells - 4 * processor,
+            number: place - job.register_place(processor, 0),
             value,
         },
     }

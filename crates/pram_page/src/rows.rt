@@ -6,8 +6,8 @@ ghost use Rattle.pram_page.specs.Scenes.{word_of_step};
 
 use crate::board::Event;
 use crate::bodies::{BodyRow, body_row};
-use crate::words::{Meaning, meaning_of, older};
-use pram_words::{Word, words_keep_apart};
+use crate::words::{Meaning, meaning_of};
+use pram_words::{Word, older, words_keep_apart};
 use pram_world::{Effect, World};
 use walkx::Op;
 

@@ -407,7 +407,7 @@ fn bad_sizes_have_codes_of_their_own(rt: HostRuntime) -> Result<(), Fail> {
             }
         );
     }
-    // Rows from behind the last event are none, and how many words and bodies there are is told.
+    // Rows from after the last event are none, and how many words and bodies there are is told.
     let mut rows = [NO_EVENT; 1];
     let mut words = [NO_WORD; 17];
     let mut bodies = [NO_BODY; 1];

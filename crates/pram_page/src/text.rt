@@ -31,7 +31,7 @@ pub enum Refusal {
     NoJob(TextFault),
     /// It has more than `TEXT_MOST` bytes.
     TextTooLong,
-    /// Memory ran out.
+    /// Out of memory.
     Memory,
 }
 

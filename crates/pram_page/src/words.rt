@@ -1,12 +1,11 @@
 //! What the words of a board are, and hold.
 ghost use Rattle.std.specs.Prelude.{◌≡◌, ◌<◌, ◌≤◌, length};
 ghost use Rattle.pram_words.specs.Words.{IsWord, length_of};
-ghost use Rattle.walkx.specs.Tasks.{older as older_of_two};
 ghost use Rattle.pram_page.specs.Findings.{IsKeptBehind};
 ghost use Rattle.pram_page.specs.Scenes.{AreWords, form_of, newer_of, part_of, which_of};
 ghost use Rattle.pram_page.specs.Scenes.{word_in};
 
-use pram_words::{Word, payload, stamp, words_keep_apart};
+use pram_words::{Word, older, payload, stamp, words_keep_apart};
 use pram_world::World;
 
 /// A word of a board: what it holds, and what it is. The form is 0 for the conflict, 1 for a node,
@@ -99,11 +98,4 @@ fn newer(world: &World, word: Word) -> u32
         }
         _ => 0,
     }
-}
-
-/// The number of the older of the two words of a place, 0 or 1.
-pub(crate) fn older(first: u64, second: u64) -> u32
-    ensures { result ≡ older_of_two first second }
-{
-    u32::from(stamp(first) > stamp(second))
 }

@@ -14,9 +14,9 @@ use Rattle.pram_words.specs.declared.words.Word.TheVariants.{Conflict, Asked, St
 use Rattle.pram_words.specs.Stamps.{stamp_of, payload_of}
 use Rattle.pram_words.specs.Words.{LayoutData, places_of}
 use Rattle.walkx.specs.Requests.{heard_request}
-use Rattle.walkx.specs.Tasks.{newer_payload}
-use Rattle.lawful_words.specs.Board.{Stands, held, root, conflict, finished}
-use Rattle.lawful_words.proofs.Facts.{facts}
+use Rattle.pram_words.specs.Stamps.{newer_payload}
+use Rattle.lawful_walk.specs.Board.{Stands, held, root, conflict, finished}
+use Rattle.lawful_walk.proofs.Facts.{facts}
 use Rattle.pram_world.specs.declared.outcome.Standing.{Standing}
 use Rattle.pram_world.specs.declared.outcome.Standing.TheVariants.{Disputed, Finished, Going}
 use Rattle.pram_world.specs.Inner.Telling.{Says}

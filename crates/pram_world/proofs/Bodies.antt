@@ -12,7 +12,7 @@ use Rattle.pram_words.specs.Start.{start_words}
 use Rattle.walkx.specs.declared.operation.Op.{Op}
 use Rattle.walkx.specs.Operations.{words_after, answer}
 use Rattle.walkx.specs.Records.{empty, after}
-use Rattle.walkx.specs.Inner.Stages.{WorkerData}
+use Rattle.walkx.specs.Inner.Workers.{WorkerData}
 use Rattle.walkx.specs.Serving.{Serves}
 use Rattle.walkx.specs.Walk.{HearsAdmitted, ask_of, told, started, come_back}
 use Rattle.pram_world.specs.declared.event.Effect.{Effect}

@@ -16,13 +16,13 @@ use Rattle.walkx.specs.Bound.{told_all, history_of, most_steps}
 use Rattle.walkx.specs.Operations.{answer}
 use Rattle.walkx.specs.Records.{Record, after, Has, Knows}
 use Rattle.walkx.specs.Walk.{Walking, IsBoard, IsGoing, HearsAdmitted, ask_of, told, rest_of, end_of, heard_of, started, come_back}
-use Rattle.lawful_words.specs.Board.{Stands, root, conflict}
-use Rattle.lawful_words.specs.Moments.{Backed}
-use Rattle.walk_laws.specs.Walks.{Moves}
-use Rattle.walk_laws.proofs.Sounding.{sound_of, sound_steps, sound_ends}
-use Rattle.walk_laws.proofs.Staying.{answer_admitted}
-use Rattle.lawful_words.proofs.Knowing.{root_now, conflict_now}
-use Rattle.walk_laws.proofs.Turns.{workers_keep}
+use Rattle.lawful_walk.specs.Board.{Stands, root, conflict}
+use Rattle.lawful_walk.specs.Moments.{Backed}
+use Rattle.lawful_walk.specs.Walks.{Moves}
+use Rattle.lawful_walk.proofs.Sounding.{sound_of, sound_steps, sound_ends}
+use Rattle.lawful_walk.proofs.Staying.{answer_admitted}
+use Rattle.lawful_walk.proofs.Knowing.{root_now, conflict_now}
+use Rattle.lawful_walk.proofs.Turns.{workers_keep}
 use Rattle.pram_world.specs.Inner.Holding.{Fitting}
 
 pub board_of : (job : JobData) (y : LayoutData) (words : List ℕ) → Stands job y words → IsBoard job y

@@ -8,7 +8,7 @@ use Rattle.walkx.specs.Bound.{told_all, history_of, most_steps}
 use Rattle.walkx.specs.Operations.{answer}
 use Rattle.walkx.specs.Records.{Record, after, Has}
 use Rattle.walkx.specs.Walk.{Walking, ask_of, told, end_of, come_back}
-use Rattle.lawful_words.specs.Board.{Stands}
+use Rattle.lawful_walk.specs.Board.{Stands}
 use Rattle.pram_world.specs.declared.event.Event.{Event}
 use Rattle.pram_world.specs.declared.event.Event.TheVariants.{Go, Stop, Back}
 use Rattle.pram_world.specs.Ends.{steps_of}

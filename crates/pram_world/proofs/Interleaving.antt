@@ -11,12 +11,12 @@ use Rattle.walkx.specs.Doing as doing
 use Rattle.walkx.specs.Operations.{answer}
 use Rattle.walkx.specs.Records.{Record, after}
 use Rattle.walkx.specs.Walk.{Walking, ask_of, end_of, come_back}
-use Rattle.lawful_words.specs.Board.{Grows}
-use Rattle.lawful_words.specs.Moments.{Backed}
-use Rattle.lawful_words.proofs.Knowing.{conflict_now}
-use Rattle.lawful_words.proofs.Moments.{same}
-use Rattle.walk_laws.proofs.Sounding.{sound_of, sound_ends}
-use Rattle.walk_laws.proofs.Staying.{loads_keep, records_outlive}
+use Rattle.lawful_walk.specs.Board.{Grows}
+use Rattle.lawful_walk.specs.Moments.{Backed}
+use Rattle.lawful_walk.proofs.Knowing.{conflict_now}
+use Rattle.lawful_walk.proofs.Moments.{same}
+use Rattle.lawful_walk.proofs.Sounding.{sound_of, sound_ends}
+use Rattle.lawful_walk.proofs.Staying.{loads_keep, records_outlive}
 use Rattle.pram_world.specs.declared.event.Event.{Event}
 use Rattle.pram_world.specs.declared.event.Event.TheVariants.{Go, Stop, Back}
 use Rattle.pram_world.specs.Inner.Holding.{Holds}

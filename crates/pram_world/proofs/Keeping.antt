@@ -10,9 +10,9 @@ use Rattle.pram_words.specs.Words.{IsWord, layout_of}
 use Rattle.walkx.specs.Operations.{answer}
 use Rattle.walkx.specs.Records.{Record, empty, after, Knows}
 use Rattle.walkx.specs.Walk.{Walking, ask_of, told, started, come_back}
-use Rattle.lawful_words.specs.Board.{held, root}
-use Rattle.walk_laws.specs.Walks.{phase_now}
-use Rattle.lawful_words.proofs.Starting.{starts_stand}
+use Rattle.lawful_walk.specs.Board.{held, root}
+use Rattle.lawful_walk.specs.Walks.{phase_now}
+use Rattle.lawful_walk.proofs.Starting.{starts_stand}
 use Rattle.pram_world.specs.declared.event.Event.{Event}
 use Rattle.pram_world.specs.declared.event.Event.TheVariants.{Go, Stop, Back}
 use Rattle.pram_world.specs.Inner.Holding.{Fitting, Holds}

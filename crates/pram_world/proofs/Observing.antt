@@ -3,9 +3,9 @@ use Rattle.std.proofs.Common.{sym, subst}
 use Rattle.pram_text.specs.Job.{JobData}
 use Rattle.pram_words.specs.Words.{LayoutData, layout_of}
 use Rattle.walkx.specs.Records.{Record}
-use Rattle.lawful_words.specs.Moments.{WasBacked}
-use Rattle.walk_laws.specs.Walks.{IsLawfulRead}
-use Rattle.walk_laws.proofs.Sounding.{was_read}
+use Rattle.lawful_walk.specs.Moments.{WasBacked}
+use Rattle.lawful_walk.specs.Walks.{IsLawfulRead}
+use Rattle.lawful_walk.proofs.Sounding.{was_read}
 use Rattle.pram_world.specs.Laws.{EveryReadIsLawful}
 use Rattle.pram_world.specs.Runs.{Run, begun, all_acted}
 use Rattle.pram_world.proofs.Interleaving.{RunHolds, all_hold, begun_holds}

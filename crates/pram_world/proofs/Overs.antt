@@ -13,7 +13,7 @@ use Rattle.walkx.specs.Doing as doing
 use Rattle.walkx.specs.Operations.{words_after, answer}
 use Rattle.walkx.specs.Records.{Record, Knows}
 use Rattle.walkx.specs.Walk.{Walking, ask_of, told, next_op, rest_of, end_of}
-use Rattle.lawful_words.specs.Board.{root, conflict}
+use Rattle.lawful_walk.specs.Board.{root, conflict}
 use Rattle.pram_world.specs.declared.event.Event.TheVariants.{Go}
 use Rattle.pram_world.specs.Inner.Holding.{Fitting, Holds}
 use Rattle.pram_world.specs.Outcomes.{IsOutcome}

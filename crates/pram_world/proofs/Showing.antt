@@ -8,11 +8,11 @@ use Rattle.pram_step.proofs.Past.{last_most}
 use Rattle.pram_words.specs.declared.words.Word.TheVariants.{Stored}
 use Rattle.pram_words.specs.Stamps.{stamp_of, payload_of}
 use Rattle.pram_words.specs.Words.{LayoutData, IsWord, places_of}
-use Rattle.walkx.specs.Tasks.{newer_payload}
-use Rattle.lawful_words.specs.Board.{Stands, root, stamp_at, finished}
-use Rattle.lawful_words.proofs.Facts.{WordsShow, facts, stamp_settled}
-use Rattle.lawful_words.proofs.Places.{finished_held}
-use Rattle.lawful_words.proofs.Values.{has_settled, phase_low}
+use Rattle.pram_words.specs.Stamps.{newer_payload}
+use Rattle.lawful_walk.specs.Board.{Stands, root, stamp_at, finished}
+use Rattle.lawful_walk.proofs.Facts.{WordsShow, facts, stamp_settled}
+use Rattle.lawful_walk.proofs.Places.{finished_held}
+use Rattle.lawful_walk.proofs.Values.{has_settled, phase_low}
 use Rattle.pram_world.specs.Interleavings.{ShowsMachine, newest_by, newest_upto}
 
 -- ---- the newest of two words up to a step, by the cases of their stamps

@@ -11,11 +11,11 @@ use Rattle.walkx.specs.declared.operation.Ended.{Ended}
 use Rattle.walkx.specs.declared.operation.Ended.TheVariants.{Done, Conflict}
 use Rattle.walkx.specs.Doing as doing
 use Rattle.walkx.specs.Records.{Record, Knows}
-use Rattle.walkx.specs.Tasks.{newer_payload}
+use Rattle.pram_words.specs.Stamps.{newer_payload}
 use Rattle.walkx.specs.Walk.{Walking, Fits}
-use Rattle.lawful_words.specs.Board.{Grows, held, root, conflict, stamp_at, finished}
-use Rattle.lawful_words.specs.Moments.{Backed}
-use Rattle.walk_laws.specs.Walks.{IsConflict}
+use Rattle.lawful_walk.specs.Board.{Grows, held, root, conflict, stamp_at, finished}
+use Rattle.lawful_walk.specs.Moments.{Backed}
+use Rattle.lawful_walk.specs.Walks.{IsConflict}
 use Rattle.pram_world.specs.declared.event.Event.{Event}
 use Rattle.pram_world.specs.Worlds.{WorldData, Walks, IsLawful, StaleChangesNothing, happens}
 

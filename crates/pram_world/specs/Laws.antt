@@ -8,8 +8,8 @@ use Rattle.walkx.specs.Bound.{most_steps}
 use Rattle.walkx.specs.Reads.{reader_script}
 use Rattle.walkx.specs.Scripts.{ends, rest, heard_in}
 use Rattle.walkx.specs.Walk.{Walking}
-use Rattle.lawful_words.specs.Moments.{Backed, afters}
-use Rattle.walk_laws.specs.Walks.{IsLawfulRead}
+use Rattle.lawful_walk.specs.Moments.{Backed, afters}
+use Rattle.lawful_walk.specs.Walks.{IsLawfulRead}
 use Rattle.pram_world.specs.Interleavings.{Interleaves}
 use Rattle.pram_world.specs.Runs.{Act, Run, begun, all_acted, TwinsFit, steps_in, AllLeave}
 use Rattle.pram_world.specs.Worlds.{Walks}
@@ -28,7 +28,7 @@ EveryInterleaving = (job : JobData) (form : Form) (workers : ℕ) (acts : List A
     1 ≤ workers → workers ≤ 64 → TwinsFit workers acts →
     IsLawfulRun job form workers (all_acted (begun job form workers) acts)
 
--- Behind such acts, an observer that reads a cell, whatever happens between its loads, has a lawful
+-- After such acts, an observer that reads a cell, whatever happens between its loads, has a lawful
 -- read within five of them.
 abbrev pub EveryReadIsLawful : Type 0
 EveryReadIsLawful =
@@ -43,7 +43,7 @@ EveryReadIsLawful =
     IsLawfulRead job y before.loads behind.loads c step value
     × (length (heard_in (reader_script y c) answers) ≤ 5)
 
--- Behind such acts, a body makes no more atomic steps than the own-step bound, whatever happens,
+-- After such acts, a body makes no more atomic steps than the own-step bound, whatever happens,
 -- until it is stopped or brought back.
 abbrev pub EveryBodyIsBounded : Type 0
 EveryBodyIsBounded =

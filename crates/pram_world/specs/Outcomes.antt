@@ -5,7 +5,7 @@ use Rattle.pram_step.specs.declared.answer.RunAnswer.{RunAnswer}
 use Rattle.pram_step.specs.declared.answer.RunAnswer.TheVariants.{Final, Conflict, Unfinished}
 use Rattle.pram_step.specs.Runs.{IsAnswer, IsReached}
 use Rattle.pram_words.specs.Words.{LayoutData}
-use Rattle.lawful_words.specs.Board.{root, conflict}
+use Rattle.lawful_walk.specs.Board.{root, conflict}
 use Rattle.pram_world.specs.Worlds.{WorldData}
 
 -- Where word 0 is not 0 the job's answer, a conflict; else, where the root shows the last step, the

@@ -15,8 +15,8 @@ use Rattle.walkx.specs.declared.operation.Op.{Op}
 use Rattle.walkx.specs.declared.operation.Op.TheVariants.{Load, Store, Max, Swap, Over}
 use Rattle.walkx.specs.Operations.{words_after, answer}
 use Rattle.walkx.specs.Walk.{Walking, ask_of, told, end_of, started, come_back}
-use Rattle.lawful_words.specs.Board.{Stands, held, root}
-use Rattle.walk_laws.specs.Walks.{phase_now}
+use Rattle.lawful_walk.specs.Board.{Stands, held, root}
+use Rattle.lawful_walk.specs.Walks.{phase_now}
 use Rattle.pram_world.specs.declared.event.Effect.{Effect}
 use Rattle.pram_world.specs.declared.event.Event.{Event}
 use Rattle.pram_world.specs.declared.event.Event.TheVariants.{Go, Stop, Back}

@@ -24,8 +24,8 @@ pub struct Effect {
 /// What a body is doing.
 #[derive(Clone, Copy, Debug, PartialEq, Eq)]
 pub enum Standing {
-    /// It walks as this worker. With no node it stands at the worker's first leaf. So many atomic
-    /// steps of the script in progress are behind it.
+    /// It walks as this worker. With no node it stands at the worker's first leaf. It has made so
+    /// many atomic steps of the script in progress.
     Walks {
         worker: u32,
         node: Option<u32>,

@@ -4,13 +4,13 @@ ghost use Rattle.pram_step.specs.Runs.{IsAnswer};
 ghost use Rattle.pram_step.specs.declared.answer.RunAnswer.TheVariants.{Conflict as Disputed};
 ghost use Rattle.pram_words.specs.Words.{length_of, places_of};
 ghost use Rattle.pram_words.specs.declared.words.Word.TheVariants.{Asked};
-ghost use Rattle.lawful_words.specs.Board.{Stands, conflict as conflict_in, held, root};
+ghost use Rattle.lawful_walk.specs.Board.{Stands, conflict as conflict_in, held, root};
 ghost use Rattle.pram_world.specs.Inner.Telling.{AreNamed, Says, last_cells, newest_of};
 ghost use Rattle.pram_world.specs.Outcomes.{IsTold};
 
 use pram_step::{Cells, Fault, Request, RunAnswer, fault_of};
 use pram_text::Job;
-use pram_words::{Layout, payload, stamp};
+use pram_words::{Layout, newer_payload, stamp};
 use std::alloc::{AllocError, Global};
 use walkx::request_of;
 
@@ -76,11 +76,7 @@ fn newest(layout: &Layout, words: &[u64], place: u32) -> u32
     let word = layout.place_word(place);
     let first = words[word as usize];
     let second = words[word as usize + 1];
-    if stamp(first) <= stamp(second) {
-        payload(second)
-    } else {
-        payload(first)
-    }
+    newer_payload(first, second)
 }
 
 // The conflict that word 0 names.

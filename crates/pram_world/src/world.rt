@@ -1,14 +1,13 @@
 //! The world.
 ghost use Rattle.std.specs.Prelude.{◌≡◌, ℕ, ◌<◌, ◌≤◌, IfOk, IfErr, length, slice_index};
 ghost use Rattle.std.specs.Prelude.{option_map, slice_get};
-ghost use Rattle.pram_words.specs.Start.{start_words as first_words};
 ghost use Rattle.pram_words.specs.Words.{length_of};
 ghost use Rattle.pram_text.specs.Job.{JobData};
 ghost use Rattle.pram_words.specs.Words.{LayoutData};
 ghost use Rattle.walkx.specs.Operations.{words_after};
 ghost use Rattle.walkx.specs.Serving.{Serves};
 ghost use Rattle.walkx.specs.Walk.{come_back};
-ghost use Rattle.lawful_words.specs.Board.{Grows};
+ghost use Rattle.lawful_walk.specs.Board.{Grows};
 ghost use Rattle.pram_world.specs.declared.event.Event.TheVariants.{Go, Stop, Back};
 ghost use Rattle.pram_world.specs.Ends.{Finishes, end_in};
 ghost use Rattle.pram_world.specs.Inner.Holding.{AreStarted, IsHeard, IsOnBoard, body_of};
@@ -73,7 +72,7 @@ impl World {
     {
         let job = job.try_clone()?;
         let layout = Layout::new(&job, workers);
-        let words = start_words(alloc, &job, &layout)?;
+        let words = layout.start_words(alloc, &job)?;
         let bodies = start_bodies(alloc, workers)?;
         Ok(World {
             alloc,
@@ -334,18 +333,6 @@ fn heard(effect: Effect) -> u64
         None | Some(Op::Store(_, _)) => 0,
         Some(_) => effect.before,
     }
-}
-
-// The words that a board starts with.
-#[tactic(auto, unfolding(pram_words::specs::Start::start_words))]
-fn start_words(alloc: Global, job: &Job, layout: &Layout) -> Result<Vec<u64>, AllocError>
-    ensures { IfOk result (λ words. words.items ≡ first_words layout.now job.now) }
-{
-    let mut words = Vec::with_capacity(alloc, layout.length() as usize)?;
-    for k in 0..layout.length() {
-        words.push(layout.start_word(job, k))?;
-    }
-    Ok(words)
 }
 
 // So many workers, newly started.

@@ -4,13 +4,15 @@ use Rattle.std.specs.List.{AllByRecursion}
 use Rattle.std.proofs.lemmas.Bool.{cond_both, cases_Bool, eqb-false, leb-false, ltb-true, le-ltb, lt-ltb}
 use Rattle.std.proofs.lemmas.Option.{slice_get_within}
 use Rattle.pram_text.specs.declared.instr.Instr.{Instr}
-use Rattle.pram_text.specs.declared.instr.Instr.TheVariants.{Set, Pid, Add, Sub, Mul, And, Or, Xor, Lt, Eq, Ld, St, Jz, Jmp, Halt}
+use Rattle.pram_text.specs.declared.instr.Operands.{Operands}
+use Rattle.pram_text.specs.declared.instr.Operands.TheVariants.{Bare, Target, TargetNumber, TargetOne, TargetTwo, Two, OnePlace, Place}
+use Rattle.pram_text.specs.Instructions.{AreOperands, row_of}
 use Rattle.pram_text.specs.declared.instr.Rule.{Rule}
 use Rattle.pram_text.specs.declared.instr.Rule.TheVariants.{Common, Priority, Crew}
 use Rattle.pram_text.specs.Job.{JobData, IsInstr}
 use Rattle.pram_step.specs.declared.requests.Request.{Request}
 use Rattle.pram_step.specs.Machine.{register_place, counter_place}
-use Rattle.pram_step.specs.Instructions.{operands_of, cell_read, goes_to, place_part, value_part, HasShape}
+use Rattle.pram_step.specs.Instructions.{read_by, sources_of, cell_read, goes_to, place_part, value_part, HasShape}
 use Rattle.pram_step.proofs.Shapes.{decided_shape, instr_is}
 use Rattle.pram_words.specs.declared.phases.Kind.{Kind}
 use Rattle.pram_words.specs.declared.phases.Kind.TheVariants.{Compute, Apply, Verify}
@@ -25,7 +27,8 @@ use Rattle.walkx.specs.Doing.{Doing}
 use Rattle.walkx.specs.Doing as doing
 use Rattle.walkx.specs.Laws.{WhatIsAskedIsAdmitted, WhoIsGoingSteps}
 use Rattle.walkx.specs.Scripts.{Script, asks, ends, behind, rest, first_op, op_with, heard_in}
-use Rattle.walkx.specs.Tasks.{first_is_older, older, older_word, loads_both, reads_place, writes_place, reads_registers, reads_cell, claim_of, differs, raises_request, executes, compute_task, hears_part, claims, carries, apply_task, crew_apply_task, reports, verify_task, crew_verify_task, claim_task, priority_apply_task, task_of}
+use Rattle.pram_words.specs.Stamps.{first_is_older, older, older_word}
+use Rattle.walkx.specs.Tasks.{loads_both, reads_place, writes_place, reads_registers, reads_cell, claim_of, differs, raises_request, executes, compute_task, hears_part, claims, carries, apply_task, crew_apply_task, reports, verify_task, crew_verify_task, claim_task, priority_apply_task, task_of}
 use Rattle.walkx.specs.Walk.{Then, Walking, Fits, IsBoard, IsGoing, IsPhase, HearsAdmitted, AllAdmitted, AsksAdmitted, IsStepOn, node_of, script_by, script_of, rest_of, ask_of, next_op, end_of, phase_begun, marks, stands_at, way_down, begin_script, turn_script}
 use Rattle.walkx.proofs.Boards.{admits, in_range, is_below, place_shape, same_cells, same_procs, asked_part, stamps, step_most}
 use Rattle.walkx.proofs.Cells.{cell_is}
@@ -40,22 +43,18 @@ AllAsk job y (ends r) = Unit {0}
 
 -- ---- the request of an instruction
 
-pub operands_fit : (len : ℕ) (instr : Instr) → IsInstr len instr → AllByRecursion (λ r. r < 4) (operands_of instr)
-operands_fit len (Set r k) h = tt
-operands_fit len (Pid r) h = tt
-operands_fit len (Add r a b) h = (h.1, (h.2, tt))
-operands_fit len (Sub r a b) h = (h.1, (h.2, tt))
-operands_fit len (Mul r a b) h = (h.1, (h.2, tt))
-operands_fit len (And r a b) h = (h.1, (h.2, tt))
-operands_fit len (Or r a b) h = (h.1, (h.2, tt))
-operands_fit len (Xor r a b) h = (h.1, (h.2, tt))
-operands_fit len (Lt r a b) h = (h.1, (h.2, tt))
-operands_fit len (Eq r a b) h = (h.1, (h.2, tt))
-operands_fit len (Ld r a) h = (h.1, tt)
-operands_fit len (St a b) h = (h.0, (h.1, tt))
-operands_fit len (Jz r place) h = (h.0, tt)
-operands_fit len (Jmp place) h = tt
-operands_fit len Halt h = tt
+sources_among : (len : ℕ) (operands : Operands) → AreOperands len operands → AllByRecursion (λ r. r < 4) (read_by operands)
+sources_among len Bare are = tt
+sources_among len (Target r) are = tt
+sources_among len (TargetNumber r k) are = tt
+sources_among len (TargetOne r a) are = (are.1, tt)
+sources_among len (TargetTwo r a b) are = (are.1, (are.2, tt))
+sources_among len (Two a b) are = (are.0, (are.1, tt))
+sources_among len (OnePlace r place) are = (are.0, tt)
+sources_among len (Place place) are = tt
+
+pub sources_fit : (len : ℕ) (instr : Instr) → IsInstr len instr → AllByRecursion (λ r. r < 4) (sources_of instr)
+sources_fit len instr is = sources_among len (row_of instr).1 is
 
 -- the data place is below the counters, the value below 2^32, and the next counter at most one past the code's end
 record Shape (job : JobData) (r : Request) : Type 0 where
@@ -160,7 +159,7 @@ module _ (job : JobData) (y : LayoutData) (board : IsBoard job y) where
       let limits = board.limits in
       let is = instr_is job counter instr limits e in
       let within = slice_get_within job.code counter instr e in
-      registers_ask t i (operands_of instr) [] after _ proc (operands_fit (length job.code) instr is) tt late
+      registers_ask t i (sources_of instr) [] after _ proc (sources_fit (length job.code) instr is) tt late
       (λ values fit. cell_asks t (cell_read job instr (slice_index values 0)) after _ (λ c f. cell_is job instr (slice_index values 0) c f) late
       (λ v fits. raises_ask t i _ after time proc (shape_of job i _ _ (omega arith) (decided_shape job i counter (slice_index values 0) (slice_index values 1) v instr is (omega (arith, limits.procs)) (at_index values 0 fit) (at_index values 1 fit) fits within)) late))
 

@@ -14,7 +14,7 @@ use Rattle.walkx.proofs.BoundWeight.{low_of, phases_weight, later_weight}
 use Rattle.walkx.proofs.BoundTurns.{Grown, turns_most}
 use Rattle.walkx.proofs.BoundTasks.{IsWithin}
 
--- A script with at most so many operations leads, behind each history that may be heard, to what is said of its end.
+-- A script with at most so many operations leads, after each history that may be heard, to what is said of its end.
 abbrev pub Leads : JobData → LayoutData → ℕ → (Then → List (Op × ℕ) → Type 0) → Script Then → ℕ → List (Op × ℕ) → Type 0
 Leads job y w to (asks op next) k history = (1 ≤ k) × ((found : ℕ) → MayHear job y w history op found → Leads job y w to (next found) (k - 1) ((op, found) ∷ history))
 Leads job y w to (ends r) k history = to r history
@@ -25,7 +25,7 @@ leads_more job y w to (asks op next) j k history h leads =
     (omega (arith, leads.0), λ found may. leads_more job y w to (next found) (j - 1) (k - 1) ((op, found) ∷ history) (omega arith) (leads.1 found may))
 leads_more job y w to (ends r) j k history h leads = leads
 
--- ---- a script that leads so behind each longer history
+-- ---- a script that leads so after each longer history
 
 abbrev pub LeadsOn : JobData → LayoutData → ℕ → (Then → List (Op × ℕ) → Type 0) → List (Op × ℕ) → ℕ → Script Then → Type 0
 LeadsOn job y w to before k script = (history : List (Op × ℕ)) → Grown before history → Leads job y w to script k history

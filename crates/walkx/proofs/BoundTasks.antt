@@ -2,12 +2,14 @@
 use Rattle.std.proofs.Common.{ℕ, ◌+◌, ◌-◌, ◌*◌, ◌≤◌, Bool, ◌||◌, ◌==◌, nat_lt, if◌then◌else◌, List, [], ◌∷◌, ◌++◌, length, slice_get, Option, Some, None, arith}
 use Rattle.std.proofs.lemmas.Bool.{cond_both}
 use Rattle.pram_text.specs.declared.instr.Instr.{Instr}
-use Rattle.pram_text.specs.declared.instr.Instr.TheVariants.{Set, Pid, Add, Sub, Mul, And, Or, Xor, Lt, Eq, Ld, St, Jz, Jmp, Halt}
+use Rattle.pram_text.specs.declared.instr.Operands.{Operands}
+use Rattle.pram_text.specs.declared.instr.Operands.TheVariants.{Bare, Target, TargetNumber, TargetOne, TargetTwo, Two, OnePlace, Place}
+use Rattle.pram_text.specs.Instructions.{row_of}
 use Rattle.pram_text.specs.declared.instr.Rule.{Rule}
 use Rattle.pram_text.specs.declared.instr.Rule.TheVariants.{Common, Priority, Crew}
 use Rattle.pram_text.specs.Job.{JobData}
 use Rattle.pram_step.specs.declared.requests.Request.{Request}
-use Rattle.pram_step.specs.Instructions.{operands_of, goes_to}
+use Rattle.pram_step.specs.Instructions.{read_by, sources_of, goes_to}
 use Rattle.pram_words.specs.declared.phases.Kind.{Kind}
 use Rattle.pram_words.specs.declared.phases.Kind.TheVariants.{Compute, Apply, Verify}
 use Rattle.pram_words.specs.declared.words.Word.TheVariants.{Claim}
@@ -44,22 +46,18 @@ writes_place_within G is k y t p value after late =
 
 -- ---- the compute task
 
-operands_few : (instr : Instr) → length (operands_of instr) ≤ 2
-operands_few (Set r k) = omega arith
-operands_few (Pid r) = omega arith
-operands_few (Add r a b) = omega arith
-operands_few (Sub r a b) = omega arith
-operands_few (Mul r a b) = omega arith
-operands_few (And r a b) = omega arith
-operands_few (Or r a b) = omega arith
-operands_few (Xor r a b) = omega arith
-operands_few (Lt r a b) = omega arith
-operands_few (Eq r a b) = omega arith
-operands_few (Ld r a) = omega arith
-operands_few (St a b) = omega arith
-operands_few (Jz r place) = omega arith
-operands_few (Jmp place) = omega arith
-operands_few Halt = omega arith
+few_among : (operands : Operands) → length (read_by operands) ≤ 2
+few_among Bare = omega arith
+few_among (Target r) = omega arith
+few_among (TargetNumber r k) = omega arith
+few_among (TargetOne r a) = omega arith
+few_among (TargetTwo r a b) = omega arith
+few_among (Two a b) = omega arith
+few_among (OnePlace r place) = omega arith
+few_among (Place place) = omega arith
+
+sources_few : (instr : Instr) → length (sources_of instr) ≤ 2
+sources_few instr = few_among (row_of instr).1
 
 reads_registers_within : {R : Type 0} (G : ℕ → Script R → Type 0) → IsWithin G → (j k : ℕ) (job : JobData) (y : LayoutData) (t i : ℕ) (rs values : List ℕ) (after : Script R) (next : List ℕ → Script R) →
     2 * length rs + k ≤ j → G k after → ((vs : List ℕ) → G k (next vs)) → G j (reads_registers job y t i rs values after next)
@@ -83,8 +81,8 @@ executes_within : {R : Type 0} (G : ℕ → Script R → Type 0) → IsWithin G 
     G k after → G (k + 9) (executes job y t i counter instr after)
 executes_within G is k job y t i counter None after late = is.more (k + 9) (k + 3) _ (omega arith) (raises_request_within G is k y t i (goes_to counter) after late)
 executes_within G is k job y t i counter (Some instr) after late =
-    let few = operands_few instr in
-    reads_registers_within G is (k + 9) (k + 3 + 2) job y t i (operands_of instr) [] after _ (omega arith) (is.more (k + 3 + 2) k after (omega arith) late)
+    let few = sources_few instr in
+    reads_registers_within G is (k + 9) (k + 3 + 2) job y t i (sources_of instr) [] after _ (omega arith) (is.more (k + 3 + 2) k after (omega arith) late)
     (λ values. reads_cell_within G is (k + 3) y t _ after _ (is.more (k + 3) k after (omega arith) late) (λ v. raises_request_within G is k y t i _ after late))
 
 compute_within : {R : Type 0} (G : ℕ → Script R → Type 0) → IsWithin G → (k : ℕ) (job : JobData) (y : LayoutData) (t i : ℕ) (after : Script R) →

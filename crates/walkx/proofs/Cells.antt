@@ -1,14 +1,10 @@
 -- The cell that an instruction reads.
-use Rattle.std.proofs.Common.{◌≡◌, ℕ, ◌<◌, nat_lt, Some, None, refl, inl, inr, arith}
+use Rattle.std.proofs.Common.{◌≡◌, ℕ, ◌<◌, nat_lt, Some, None, inl, inr, arith}
 use Rattle.std.proofs.lemmas.Bool.{cases_Bool, ltb-true}
 use Rattle.pram_text.specs.declared.instr.Instr.{Instr}
 use Rattle.pram_text.specs.declared.instr.Instr.TheVariants.{Ld}
 use Rattle.pram_text.specs.Job.{JobData}
-use Rattle.pram_step.specs.Instructions.{cell_read, decided}
-use Rattle.walkx.specs.Inner.Posts.{PostData, step_of, then_marks}
-use Rattle.walkx.specs.Inner.Stages.{reads_for, then_asks}
-use Rattle.walkx.specs.declared.stage.Want.TheVariants.{Cell}
-use Rattle.walkx.specs.Tasks.{reads_place}
+use Rattle.pram_step.specs.Instructions.{cell_read}
 
 -- only a load reads a cell
 pub cell_is : (job : JobData) (instr : Instr) (a c : ℕ) → cell_read job instr a ≡ Some c → c < job.cells
@@ -17,10 +13,3 @@ cell_is job (Ld r _) a c e = elim (cases_Bool (nat_lt a job.cells)) [
   | inr h ↦ absurd (let g : None ≡ Some c = rw h at e in cc)
 ]
 cell_is job _ a c e = absurd (cc)
-
--- and its request needs no second operand
-pub cell_asks : (at : PostData) (instr : Instr) (counter a b c : ℕ) → cell_read at.job instr a ≡ Some c
-    → then_asks at instr counter a b ≡ reads_place at.layout (step_of at) c (then_marks at) (reads_for at (Cell instr counter a))
-unfolding decided
-cell_asks at (Ld r _) counter a b c e = rw e refl
-cell_asks at _ counter a b c e = absurd (cc)

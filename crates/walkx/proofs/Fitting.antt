@@ -15,16 +15,13 @@ use Rattle.walkx.specs.declared.operation.Ended.{Ended}
 use Rattle.walkx.specs.declared.operation.Op.{Op}
 use Rattle.walkx.specs.Doing.{Doing}
 use Rattle.walkx.specs.Doing as doing
+use Rattle.walkx.specs.Playing.{hearing}
 use Rattle.walkx.specs.Laws.{NewWorkersFit, AnswersKeepFit}
 use Rattle.walkx.specs.Scripts.{Script, asks, ends, behind, rest, heard_in}
 use Rattle.walkx.specs.Walk.{Then, begins, turns, stops, Walking, Fits, IsBoard, IsGoing, IsPhase, Matches, AllAdmitted, script_by, script_of, rest_of, node_of, ask_of, goes_on, phase_begun, heard_of, turn_script, begin_script}
 use Rattle.walkx.proofs.Boards.{in_range}
 use Rattle.walkx.proofs.Ends.{AllEnds, Brings, worker_ends}
 use Rattle.walkx.proofs.Going.{asks_of, going_or_over, matches_of, next_of, op_with_first, told_going, told_over}
-
--- the worker with one answer more in the same script
-abbrev pub hearing : Walking → ℕ → Walking
-hearing w found = record w { heard = found ∷ w.heard }
 
 pub heard_more : (job : JobData) (y : LayoutData) (w : Walking) (found : ℕ) → IsGoing w.now → Matches w.now (rest_of job y w) → heard_of job y (hearing w found) ≡ (ask_of job y w, found) ∷ heard_of job y w
 heard_more job y w found going goes =

@@ -10,7 +10,8 @@ use Rattle.walkx.specs.Records.{Record, empty, after, both, Has, Knows}
 use Rattle.walkx.specs.Scripts.{Script, asks, ends, behind, heard_in}
 use Rattle.walkx.specs.Walk.{Then, begins, turns, stops, Walking, IsGoing, script_by, script_of, rest_of, node_of, ask_of, goes_on, phase_begun, heard_of}
 use Rattle.walkx.proofs.Ends.{AllEnds, Brings, worker_ends}
-use Rattle.walkx.proofs.Fitting.{hearing, heard_more, stops_begin}
+use Rattle.walkx.specs.Playing.{hearing}
+use Rattle.walkx.proofs.Fitting.{heard_more, stops_begin}
 use Rattle.walkx.proofs.Going.{going_or_over, told_going, told_over}
 
 -- ---- what a record has

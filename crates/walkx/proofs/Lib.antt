@@ -1,13 +1,12 @@
 pub mod Boards
 pub mod Cells
-pub mod Hearing
 pub mod Looks
 pub mod Going
 pub mod Ends
 pub mod Fitting
 pub mod Knowing
 pub mod Asking
-pub mod Tells
+pub mod Heard
 pub mod BoundWeight
 pub mod BoundWay
 pub mod BoundTurns
@@ -17,3 +16,12 @@ pub mod BoundTurn
 pub mod BoundWalk
 pub mod BoundSteps
 pub mod BoundHeard
+pub mod Passing
+pub mod Back
+pub mod Settling
+pub mod Turning
+pub mod CellParts
+pub mod Passes
+pub mod Short
+pub mod Comes
+pub mod Workers

@@ -6,8 +6,8 @@ use Rattle.walkx.specs.declared.operation.Op.TheVariants.{Load}
 use Rattle.walkx.specs.declared.operation.ReadOp.{ReadOp}
 use Rattle.walkx.specs.declared.operation.ReadOp.TheVariants as read
 use Rattle.walkx.specs.declared.operation.Reading.{Reading}
-use Rattle.walkx.specs.declared.stage.Glance.{Glance}
-use Rattle.walkx.specs.declared.stage.Glance.TheVariants as glance
+use Rattle.walkx.specs.declared.reader.Glance.{Glance}
+use Rattle.walkx.specs.declared.reader.Glance.TheVariants as glance
 use Rattle.walkx.specs.Inner.Glances.{ReaderData, IsGlance, IsLaterGlance, most_looked, script_of_glance}
 use Rattle.walkx.specs.Serving.{Follows}
 use Rattle.walkx.specs.Reads.{Looking, LooksFit, HeardAdmitted, look_of, looked, looks_for, reader_script, read_script}

@@ -10,7 +10,7 @@ use Rattle.walkx.specs.Walk.{Walking, heard_of, ask_of, told}
 
 -- ---- the walk of a worker over answers, the newest first
 
--- the worker behind these answers
+-- the worker after these answers
 abbrev pub told_all : JobData → LayoutData → Walking → List ℕ → Walking
 told_all job y w [] = w
 told_all job y w (found ∷ earlier) = told job y (told_all job y w earlier) found
@@ -36,7 +36,7 @@ abbrev pub low : List (Op × ℕ) → ℕ → ℕ
 low [] k = 0
 low (e ∷ earlier) k = max (shown e.0 e.1 k) (low earlier k)
 
--- What worker w may load from word k behind a history: of a node nothing below what the history
+-- What worker w may load from word k after a history: of a node nothing below what the history
 -- shows, of the root nothing above the last phase, and as its position a node.
 pub record MayLoad (job : JobData) (y : LayoutData) (w : ℕ) (earlier : List (Op
     × ℕ)) (k found : ℕ) : Type 0 where
@@ -48,7 +48,7 @@ abbrev pub MayHear : JobData → LayoutData → ℕ → List (Op × ℕ) → Op 
 MayHear job y w earlier (Load k) found = MayLoad job y w earlier k found
 MayHear job y w earlier _ found = Unit {0}
 
--- each answer of a history may be heard behind those before it
+-- each answer of a history may be heard after those before it
 abbrev pub IsHeard : JobData → LayoutData → ℕ → List (Op × ℕ) → Type 0
 IsHeard job y w [] = Unit {0}
 IsHeard job y w (e ∷ earlier) = MayHear job y w earlier e.0 e.1 × IsHeard job y w earlier

@@ -1,4 +1,5 @@
 -- What private contracts cite.
 pub mod Posts
-pub mod Stages
+pub mod Heard
+pub mod Workers
 pub mod Glances

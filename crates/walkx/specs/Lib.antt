@@ -13,3 +13,7 @@ pub mod Serving
 pub mod Requests
 pub mod Bound
 pub mod Laws
+pub mod Driving
+pub mod Parts
+pub mod Playing
+pub mod Rests

@@ -12,7 +12,7 @@ use Rattle.walkx.specs.declared.operation.ReadOp.TheVariants as read
 use Rattle.walkx.specs.declared.operation.Reading.{Reading}
 use Rattle.walkx.specs.declared.operation.Reading.TheVariants.{At}
 use Rattle.walkx.specs.Scripts.{Script, asks, ends, rest, heard_in}
-use Rattle.walkx.specs.Tasks.{newer_payload}
+use Rattle.pram_words.specs.Stamps.{newer_payload}
 use Rattle.walkx.specs.Walk.{HearsAdmitted}
 
 -- *Seen step*: the step that the root and then word 0 show to be finished.

@@ -7,12 +7,12 @@ pub data Script (R : Type 0) : Type 0 where
   asks : Op → (ℕ → Script R) → Script R
   ends : R → Script R
 
--- the rest of a script behind an answer
+-- the rest of a script after an answer
 abbrev pub behind : {R : Type 0} → Script R → ℕ → Script R
 behind (asks op next) found = next found
 behind (ends r) found = ends r
 
--- the rest behind these answers, the newest first
+-- the rest after these answers, the newest first
 abbrev pub rest : {R : Type 0} → Script R → List ℕ → Script R
 rest script [] = script
 rest script (found ∷ earlier) = behind (rest script earlier) found

@@ -7,13 +7,14 @@ use Rattle.pram_text.specs.declared.instr.Rule.{Rule}
 use Rattle.pram_text.specs.declared.instr.Rule.TheVariants.{Common, Priority, Crew}
 use Rattle.pram_text.specs.Job.{JobData}
 use Rattle.pram_step.specs.declared.requests.Request.{Request}
-use Rattle.pram_step.specs.Instructions.{operands_of, cell_read, decided}
+use Rattle.pram_step.specs.Instructions.{sources_of, cell_read, decided}
 use Rattle.pram_step.specs.Instructions.{goes_to, place_part, value_part}
 use Rattle.pram_step.specs.Machine.{register_place, counter_place}
 use Rattle.pram_words.specs.declared.phases.Kind.{Kind}
 use Rattle.pram_words.specs.declared.phases.Kind.TheVariants.{Compute, Apply, Verify}
 use Rattle.pram_words.specs.declared.words.Word.TheVariants.{Conflict, Asked, Stored, Claim}
-use Rattle.pram_words.specs.Stamps.{stamped_word, stamp_of, payload_of}
+use Rattle.pram_words.specs.Stamps.{stamped_word, stamp_of, payload_of, older, older_word}
+use Rattle.pram_words.specs.Stamps.{newer_payload}
 use Rattle.pram_words.specs.Words.{LayoutData, number_of}
 use Rattle.walkx.specs.declared.operation.Op.TheVariants.{Load, Max, Swap}
 use Rattle.walkx.specs.Scripts.{Script, asks}
@@ -23,21 +24,6 @@ use Rattle.walkx.specs.Scripts.{Script, asks}
 -- one of them was written in this step or a later one
 abbrev pub is_late : ℕ → ℕ → ℕ → Bool
 is_late t a b = nat_le t (stamp_of a) || nat_le t (stamp_of b)
-
--- The older one has the lesser stamp; of equal stamps it is the first one.
-abbrev pub first_is_older : ℕ → ℕ → Bool
-first_is_older a b = nat_le (stamp_of a) (stamp_of b)
-
--- the older one's number and itself
-abbrev pub older : ℕ → ℕ → ℕ
-older a b = if first_is_older a b then 0 else 1
-
-abbrev pub older_word : ℕ → ℕ → ℕ
-older_word a b = if first_is_older a b then a else b
-
--- the payload of the newer one
-abbrev pub newer_payload : ℕ → ℕ → ℕ
-newer_payload a b = payload_of (if first_is_older a b then b else a)
 
 -- both words are loaded, the first one first
 abbrev pub loads_both : {R : Type 0} → LayoutData → ℕ → (ℕ → ℕ → Script R) → Script R
@@ -60,7 +46,7 @@ writes_place y t p value after = loads_both y p (λ a b.
 
 -- ---- the compute task of step t, for processor i
 
--- these registers are read in turn, behind those that were read before
+-- these registers are read in turn, after those that were read before
 abbrev pub reads_registers : {R : Type 0} → JobData → LayoutData → ℕ → ℕ → List ℕ → List ℕ →
     Script R → (List ℕ → Script R) → Script R
 reads_registers job y t i [] values after next = next values
@@ -84,7 +70,7 @@ abbrev pub executes : {R : Type 0} → JobData → LayoutData → ℕ → ℕ �
     Script R
 executes job y t i counter None after = raises_request y t i (goes_to counter) after
 executes job y t i counter (Some instr) after =
-    reads_registers job y t i (operands_of instr) [] after (λ values.
+    reads_registers job y t i (sources_of instr) [] after (λ values.
     reads_cell y t (cell_read job instr (slice_index values 0)) after (λ v.
     raises_request y t i (decided job i counter instr (slice_index values 0)
     (slice_index values 1) v) after))

@@ -30,7 +30,7 @@ pub data Then : Type 0 where
 abbrev pub back_script : LayoutData → ℕ → Script Then
 back_script y w = asks (Load (number_of y (Position w))) (λ n. ends (begins n))
 
--- The root shows the last phase that is finished everywhere. Behind a third pass a conflict is
+-- The root shows the last phase that is finished everywhere. After a third pass a conflict is
 -- looked for.
 unfoldable pub begin_script : JobData → LayoutData → ℕ → Script Then
 begin_script job y n = asks (Load (number_of y (Node 1))) (λ root.
@@ -52,7 +52,7 @@ stands_at y w n q = asks (Store (number_of y (Position w)) n) (λ stored. ends (
 abbrev pub marks : LayoutData → ℕ → ℕ → Script Then
 marks y n q = asks (Max (number_of y (Node n)) q) (λ found. ends (turns n q))
 
--- the work at an unfinished leaf; the leaves behind those of the processors have none
+-- the work at an unfinished leaf; the leaves after those of the processors have none
 abbrev pub leaf_script : JobData → LayoutData → ℕ → ℕ → Script Then
 leaf_script job y n q =
     if nat_le (y.leaves + job.procs) n then marks y n q

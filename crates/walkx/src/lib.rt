@@ -1,25 +1,34 @@
 //! A worker and a reader, asked and told one atomic step at a time.
 #![tactic(auto)]
 
-mod apply;
-mod ask;
-mod compute;
+mod begins;
+mod carry;
+mod claim;
+mod compare;
 pub mod laws;
+mod left;
+mod next;
 mod operation;
-mod place;
+mod parts;
+mod playback;
 mod post;
 mod reader;
 mod record;
-mod stage;
-mod turn;
-mod verify;
+mod request;
+mod scripts;
+mod steps;
+mod tasks;
+pub mod turns;
 mod words;
 mod worker;
 
 pub use laws::own_steps_are_bounded;
+pub use left::Stopped;
 pub use operation::{Activity, Ended, Op, ReadOp, Reading};
+pub use post::Post;
 pub use reader::Reader;
 pub use record::Recorded;
+pub use steps::Steps;
 pub use words::{request_of, seen_step};
 pub use worker::Worker;
 

@@ -1,17 +1,22 @@
 //! Where a worker stands.
-ghost use Rattle.std.specs.Prelude.{◌≡◌, ◌≢◌, ◌↔◌, IsTrue, ◌-◌, ◌<◌, ◌≤◌};
+ghost use Rattle.std.specs.Prelude.{◌≡◌, ◌≢◌, ◌↔◌, IsTrue, ◌+◌, ◌-◌, ◌^◌, ◌<◌, ◌≤◌, ◌==◌, nat_lt};
+ghost use Rattle.pram_words.specs.Stamps.{stamp_of};
+ghost use Rattle.walkx.specs.Tasks.{is_late};
 ghost use Rattle.pram_step.specs.Machine.{counter_place, register_place};
 ghost use Rattle.pram_words.specs.Phases.{kind_at};
 ghost use Rattle.pram_words.specs.Words.{counters_of, length_of, number_of, places_of};
-ghost use Rattle.pram_words.specs.declared.words.Word.TheVariants.{Asked};
-ghost use Rattle.walkx.specs.Inner.Posts.{IsCell, IsLeaf, IsPost, PostData, part_raised, post_data};
+ghost use Rattle.pram_words.specs.declared.words.Word.TheVariants.{Asked, Stored};
+ghost use Rattle.walkx.specs.Inner.Posts.{IsCell, IsLeaf, IsLeafOf, IsPost, PostData};
+ghost use Rattle.walkx.specs.Inner.Posts.{part_raised, post_data};
 ghost use Rattle.walkx.specs.Inner.Posts.{processor_of, step_of};
 ghost use Rattle.walkx.specs.Tasks.{claim_of};
+ghost use Rattle.walkx.specs.Parts.{claim_loaded, claim_raised, differs_from, is_cell_part};
+ghost use Rattle.walkx.specs.Parts.{owner_place, report_made};
 ghost use Rattle.walkx.specs.Walk.{IsBoard, IsLayoutOf};
 
 use crate::operation::Op;
 use pram_text::{Job, Rule};
-use pram_words::{Kind, Layout, kind_of, stamped, step_of};
+use pram_words::{Kind, Layout, kind_of, payload, stamp, stamped, step_of};
 use std::marker::Model;
 
 /// The law that a job and the layout of its board are within their limits. It does nothing.
@@ -25,7 +30,7 @@ pub(crate) fn within_limits(job: &Job, layout: &Layout)
 
 /// A worker at a node, in the phase of its turn, with the job and the layout of its board.
 #[derive(Drop)]
-pub(crate) struct Post<'a> {
+pub struct Post<'a> {
     job: &'a Job,
     layout: &'a Layout,
     worker: u32,
@@ -42,13 +47,9 @@ impl<'a> Model for Post<'a> {
 }
 
 impl<'a> Post<'a> {
-    pub(crate) fn new(
-        job: &'a Job,
-        layout: &'a Layout,
-        worker: u32,
-        node: u32,
-        phase: u64,
-    ) -> Post<'a>
+    /// A worker at this node, in this phase.
+    #[inline(always)]
+    pub fn new(job: &'a Job, layout: &'a Layout, worker: u32, node: u32, phase: u64) -> Post<'a>
         requires { IsPost (post_data job.now layout.now worker node phase) }
         ensures { result ≡ post_data job.now layout.now worker node phase }
     {
@@ -61,6 +62,7 @@ impl<'a> Post<'a> {
         }
     }
 
+    #[inline(always)]
     pub(crate) fn job(&self) -> &Job
         ensures value { result.now ≡ self.now.job }
         ensures limits { IsPost self.now }
@@ -68,6 +70,7 @@ impl<'a> Post<'a> {
         self.job
     }
 
+    #[inline(always)]
     pub(crate) fn layout(&self) -> &Layout
         ensures value { result.now ≡ self.now.layout }
         ensures limits { IsPost self.now }
@@ -75,6 +78,7 @@ impl<'a> Post<'a> {
         self.layout
     }
 
+    #[inline(always)]
     pub(crate) fn worker(&self) -> u32
         ensures value { result ≡ self.now.worker }
         ensures limits { IsPost self.now }
@@ -82,6 +86,7 @@ impl<'a> Post<'a> {
         self.worker
     }
 
+    #[inline(always)]
     pub(crate) fn node(&self) -> u32
         ensures value { result ≡ self.now.node }
         ensures limits { IsPost self.now }
@@ -89,6 +94,7 @@ impl<'a> Post<'a> {
         self.node
     }
 
+    #[inline(always)]
     pub(crate) fn phase(&self) -> u64
         ensures value { result ≡ self.now.phase }
         ensures limits { IsPost self.now }
@@ -97,6 +103,7 @@ impl<'a> Post<'a> {
     }
 
     /// The same, known to be a leaf of a processor.
+    #[inline(always)]
     pub(crate) fn leaf(&self) -> Leaf<'a>
         requires { IsLeaf self.now }
         ensures { result ≡ self.now }
@@ -107,6 +114,8 @@ impl<'a> Post<'a> {
             worker: self.worker,
             node: self.node,
             phase: self.phase,
+            step: step_of(self.phase),
+            processor: self.node - self.layout.leaves(),
         }
     }
 }
@@ -119,6 +128,8 @@ pub(crate) struct Leaf<'a> {
     worker: u32,
     node: u32,
     phase: u64,
+    step: u32,
+    processor: u32,
 }
 
 impl<'a> Model for Leaf<'a> {
@@ -126,10 +137,12 @@ impl<'a> Model for Leaf<'a> {
 
     ghost view = { λ p. post_data p.job.now p.layout.now p.worker p.node p.phase };
 
-    ghost invariant = { λ p. IsLeaf (post_data p.job.now p.layout.now p.worker p.node p.phase) };
+    ghost invariant = { λ p. IsLeafOf
+        (post_data p.job.now p.layout.now p.worker p.node p.phase) p.step p.processor };
 }
 
 impl<'a> Leaf<'a> {
+    #[inline(always)]
     pub(crate) fn job(&self) -> &Job
         ensures value { result.now ≡ self.now.job }
         ensures limits { IsLeaf self.now }
@@ -137,31 +150,27 @@ impl<'a> Leaf<'a> {
         self.job
     }
 
-    pub(crate) fn layout(&self) -> &Layout
-        ensures value { result.now ≡ self.now.layout }
-        ensures limits { IsLeaf self.now }
-    {
-        self.layout
-    }
-
     /// The processor of the leaf.
+    #[inline(always)]
     pub(crate) fn processor(&self) -> u32
         ensures value { result ≡ processor_of self.now }
         ensures below { result < self.now.layout.procs }
         ensures limits { IsLeaf self.now }
     {
-        self.node - self.layout.leaves()
+        self.processor
     }
 
     /// The step of the phase.
+    #[inline(always)]
     pub(crate) fn step(&self) -> u32
         ensures value { result ≡ step_of self.now }
         ensures limits { IsLeaf self.now }
     {
-        step_of(self.phase)
+        self.step
     }
 
     /// What the phase does.
+    #[inline(always)]
     pub(crate) fn kind(&self) -> Kind
         ensures value { result ≡ kind_at self.now.phase }
         ensures limits { IsLeaf self.now }
@@ -169,6 +178,7 @@ impl<'a> Leaf<'a> {
         kind_of(self.phase)
     }
 
+    #[inline(always)]
     pub(crate) fn rule(&self) -> Rule
         ensures value { result ≡ self.now.job.rule }
         ensures limits { IsLeaf self.now }
@@ -177,25 +187,28 @@ impl<'a> Leaf<'a> {
     }
 
     /// The place of the processor's counter.
+    #[inline(always)]
     pub(crate) fn counter_place(&self) -> u32
         ensures value { result ≡ counter_place self.now.job (processor_of self.now) }
         ensures below { result < places_of self.now.layout }
         ensures limits { IsLeaf self.now }
     {
-        self.job.cells() + 4 * self.job.procs() + self.processor()
+        self.job.counter_place(self.processor())
     }
 
     /// The place of a register of the processor.
+    #[inline(always)]
     pub(crate) fn register_place(&self, register: u8) -> u32
         requires { register < 4 }
         ensures value { result ≡ register_place self.now.job (processor_of self.now) register }
         ensures below { result < places_of self.now.layout }
         ensures limits { IsLeaf self.now }
     {
-        self.job.cells() + 4 * self.processor() + u32::from(register)
+        self.job.register_place(self.processor(), register)
     }
 
     /// The word of part j of the processor's request.
+    #[inline(always)]
     pub(crate) fn request_word(&self, j: u32) -> u32
         requires { j < 3 }
         ensures { result ≡ number_of self.now.layout (Asked (processor_of self.now) j) }
@@ -204,6 +217,7 @@ impl<'a> Leaf<'a> {
     }
 
     /// Part j of the processor's request is raised to this payload of the step.
+    #[inline(always)]
     pub(crate) fn raise(&self, j: u32, payload: u32) -> Op
         requires { j < 3 }
         ensures { result ≡ part_raised self.now j payload }
@@ -212,6 +226,7 @@ impl<'a> Leaf<'a> {
     }
 
     /// The processor's claim.
+    #[inline(always)]
     pub(crate) fn claim(&self) -> u32
         ensures { result ≡ claim_of self.now.job (processor_of self.now) }
     {
@@ -219,12 +234,101 @@ impl<'a> Leaf<'a> {
     }
 
     /// Whether a data place plus 1, or 0 for none, is that of a cell.
+    #[inline(always)]
     pub(crate) fn is_cell(&self, part: u32) -> bool
+        ensures value { result ≡ is_cell_part self.now.job part }
         ensures cell { IsTrue result ↔ ((1 ≤ part) × (part - 1 < self.now.job.cells)) }
         ensures claims { IsTrue result → self.now.job.rule ≢ Rule.Common → IsCell self.now.layout
             (part - 1) }
         ensures limits { IsLeaf self.now }
     {
         part != 0 && part - 1 < self.job.cells()
+    }
+
+    /// The first word of a place; the second one comes next.
+    #[tactic(auto, using(crate::proofs::Boards::length_small))]
+    #[inline(always)]
+    pub(crate) fn place_word(&self, place: u32) -> u32
+        requires { place < places_of self.now.layout }
+        ensures first { result ≡ number_of self.now.layout (Stored place 0) }
+        ensures second { result + 1 ≡ number_of self.now.layout (Stored place 1) }
+        ensures below { result + 1 < 2 ^ 32 }
+        ensures limits { IsLeaf self.now }
+    {
+        self.layout.place_word(place)
+    }
+
+    /// The word is of the step.
+    #[inline(always)]
+    pub(crate) fn is_of(&self, word: u64) -> bool
+        ensures value { result ≡ (stamp_of word == step_of self.now) }
+        ensures limits { IsLeaf self.now }
+    {
+        stamp(word) == self.step()
+    }
+
+    /// One of the two words was written in the step or later.
+    #[inline(always)]
+    pub(crate) fn is_late(&self, first: u64, second: u64) -> bool
+        ensures { result ≡ is_late (step_of self.now) first second }
+    {
+        let step = self.step();
+        step <= stamp(first) || step <= stamp(second)
+    }
+
+    /// A cell is claimed for the processor.
+    #[inline(always)]
+    pub(crate) fn claiming(&self, cell: u32) -> Op
+        requires { IsCell self.now.layout cell }
+        ensures { result ≡ claim_raised self.now cell }
+    {
+        let word = self.layout.claim_word(cell);
+        Op::Max(word, stamped(self.step(), self.claim()))
+    }
+
+    /// The claim to a cell is loaded.
+    #[inline(always)]
+    pub(crate) fn claim_look(&self, cell: u32) -> Op
+        requires { IsCell self.now.layout cell }
+        ensures { result ≡ claim_loaded self.now cell }
+    {
+        Op::Load(self.layout.claim_word(cell))
+    }
+
+    /// The step is reported as against the rule.
+    #[inline(always)]
+    pub(crate) fn reporting(&self) -> Op
+        ensures { result ≡ report_made self.now }
+    {
+        Op::Swap(self.layout.conflict_word(), 0, u64::from(self.step()))
+    }
+
+    /// The word is of a later step.
+    #[inline(always)]
+    pub(crate) fn is_past(&self, word: u64) -> bool
+        ensures { result ≡ nat_lt (step_of self.now) (stamp_of word) }
+    {
+        self.step() < stamp(word)
+    }
+
+    /// The word is of the step and has another payload.
+    #[inline(always)]
+    pub(crate) fn differs(&self, value: u32, word: u64) -> bool
+        ensures { result ≡ differs_from self.now value word }
+    {
+        self.is_of(word) && payload(word) != value
+    }
+
+    /// The data place of a request to a cell, if the claim to the cell is the processor's own.
+    #[inline(always)]
+    pub(crate) fn owner_place(&self, place: u32, claim: u64) -> u32
+        ensures value { result ≡ owner_place self.now place claim }
+        ensures most { result ≤ place }
+    {
+        if payload(claim) == self.claim() {
+            place
+        } else {
+            0
+        }
     }
 }

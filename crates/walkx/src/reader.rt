@@ -8,13 +8,28 @@ ghost use Rattle.walkx.specs.Scripts.{ends};
 ghost use Rattle.walkx.specs.Walk.{IsBoard};
 
 use crate::operation::{ReadOp, Reading};
-use crate::place::newer;
 use crate::post::within_limits;
-use crate::stage::Glance;
 use crate::words::seen_step;
 use pram_text::Job;
-use pram_words::{Layout, payload, stamp};
+use pram_words::{Layout, newer_payload, payload, stamp};
 use std::marker::Model;
+
+/// What a reader asks next, and what for.
+#[derive(Clone, Copy)]
+pub(crate) enum Glance {
+    /// The root is loaded.
+    Begin,
+    /// The conflict is loaded, the root being this.
+    Look(u64),
+    /// The first word is loaded, this step having been seen.
+    First(u32),
+    /// The second word is loaded, the first being this.
+    Second(u32, u64),
+    /// The first word is loaded again, the two having been these.
+    Again(u32, u64, u64),
+    /// The reader is over.
+    Over(Reading),
+}
 
 /// A reader of a cell. It asks for one atomic step at a time, five at most, and is told the answer.
 #[derive(Drop)]
@@ -28,7 +43,7 @@ pub struct Reader {
 impl Model for Reader {
     ghost use Rattle.std.specs.Prelude.{◌≤◌};
     ghost use Rattle.walkx.specs.Inner.Glances.{ReaderData, most_looked, reader_data};
-    ghost use Rattle.walkx.specs.Inner.Stages.{newest};
+    ghost use Rattle.walkx.specs.Inner.Heard.{newest};
 
     ghost Value = { ReaderData };
 
@@ -160,7 +175,7 @@ fn after_both(layout: &Layout, cell: u32, step: u32, first: u64, second: u64) ->
         if stamp(second) <= step {
             Glance::Over(Reading::At {
                 step,
-                value: newer(first, second),
+                value: newer_payload(first, second),
             })
         } else {
             Glance::Again(step, first, second)

@@ -152,32 +152,6 @@ fn make(
     }
 }
 
-// Makes steps of a worker, each told with the next one asked, until it is over: how many.
-fn proceed(
-    rt: &impl Abort,
-    job: &Job,
-    layout: &Layout,
-    worker: &mut Worker,
-    words: &mut Vec<u64>,
-) -> u32
-    requires layout { IsLayoutOf job.now layout.now }
-    requires serves { Serves job.now layout.now worker.old }
-{
-    let mut op = worker.ask(job, layout);
-    for made in 0..1000 {
-        if worker.ended().is_some() {
-            assert_eq!(rt; op, worker.ask(job, layout));
-            return made;
-        }
-        let before = act(rt, words, op);
-        if let Op::Load(k) = op {
-            assert!(rt; layout.admits(job, k, before));
-        }
-        op = worker.proceed(job, layout, before);
-    }
-    1000
-}
-
 // One processor sets a register in one step: each operation, with the word before it.
 fn follow(rt: &impl Abort, job: &Job, layout: &Layout, worker: &mut Worker, words: &mut Vec<u64>)
     requires layout { IsLayoutOf job.now layout.now }
@@ -273,15 +247,6 @@ fn two_processors_are_done_after_101_steps(rt: HostRuntime) -> Result<(), Fail> 
         run(&rt, &job, &layout, &mut worker, &mut words, NEVER),
         101
     );
-    assert_eq!(rt; worker.ended(), Some(Ended::Done));
-    Ok(())
-}
-
-#[test]
-fn two_processors_are_done_as_soon_by_one_call_a_step(rt: HostRuntime) -> Result<(), Fail> {
-    let (job, layout, mut words) = fresh(rt.alloc(), TWO)?;
-    let mut worker = Worker::start(0);
-    assert_eq!(rt; proceed(&rt, &job, &layout, &mut worker, &mut words), 101);
     assert_eq!(rt; worker.ended(), Some(Ended::Done));
     Ok(())
 }
@@ -429,7 +394,7 @@ fn a_read_looks_again(rt: HostRuntime) -> Result<(), Fail> {
 }
 
 #[test]
-fn steps_are_seen_behind_a_conflict_or_none(rt: HostRuntime) {
+fn steps_are_seen_after_a_conflict_or_none(rt: HostRuntime) {
     for (root, conflict, step) in [(0, 0, 0), (4, 0, 1), (5, 0, 1), (6, 0, 2), (6, 2, 1)] {
         assert!(rt; root <= LAST_PHASE);
         assert_eq!(rt; seen_step(root, conflict), step);

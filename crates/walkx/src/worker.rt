@@ -1,9 +1,9 @@
 //! The worker.
-use crate::ask::operation;
+use crate::next::Next;
 use crate::operation::{Activity, Ended, Op};
+use crate::playback::play_back;
 use crate::post::{Post, within_limits};
-use crate::stage::{Stage, Step};
-use crate::turn::after;
+use crate::scripts::opening;
 use pram_text::Job;
 use pram_words::Layout;
 use std::marker::Model;
@@ -13,34 +13,38 @@ use std::marker::Model;
 pub struct Worker {
     number: u32,
     node: Option<u32>,
-    phase: u64,
-    stage: Stage,
+    activity: Activity,
+    asked: Option<Op>,
     heard: [u64; 15],
     count: usize,
 }
 
 impl Model for Worker {
     ghost use Rattle.std.specs.Prelude.{◌≤◌};
-    ghost use Rattle.walkx.specs.Inner.Stages.{WorkerData, most_heard, newest, worker_data};
+    ghost use Rattle.walkx.specs.Inner.Heard.{newest};
+    ghost use Rattle.walkx.specs.Inner.Workers.{WorkerData, worker_data};
 
     ghost Value = { WorkerData };
 
-    ghost view = { λ w. worker_data w.number w.node w.phase w.stage (newest w.count w.heard) };
+    ghost view = { λ w. worker_data w.number w.node w.activity w.asked (newest w.count w.heard) };
 
-    ghost invariant = { λ w. w.count ≤ most_heard w.stage };
+    ghost invariant = { λ w. w.count ≤ 15 };
 }
 
 impl Worker {
-    ghost use Rattle.std.specs.Prelude.{◌≡◌, ◌<◌, ◌≤◌, ◌*◌, None, length};
+    ghost use Rattle.std.specs.Prelude.{◌≡◌, ◌<◌, ◌≤◌, ◌*◌, Some, None, length};
     ghost use Rattle.pram_text.specs.Job.{JobData};
     ghost use Rattle.pram_words.specs.Words.{LayoutData};
-    ghost use Rattle.walkx.specs.Records.{Record, Knows};
     ghost use Rattle.walkx.specs.Activities.{activity_of};
-    ghost use Rattle.walkx.specs.Inner.Stages.{post_of};
+    ghost use Rattle.walkx.specs.Playing.{ComesTo, IsPlayable, asked_after, come_to, hearing};
+    ghost use Rattle.walkx.specs.Playing.{stand_of};
+    ghost use Rattle.walkx.specs.Records.{Record, Knows};
+    ghost use Rattle.walkx.specs.Scripts.{first_op};
     ghost use Rattle.walkx.specs.Serving.{Serves};
     ghost use Rattle.walkx.specs.Turns.{beginning, turn_begun};
     ghost use Rattle.walkx.specs.Walk.{AsksAdmitted, HearsAdmitted, IsBoard, IsLayoutOf};
-    ghost use Rattle.walkx.specs.Walk.{IsStepOn, ask_of, come_back, end_of, started, told};
+    ghost use Rattle.walkx.specs.Walk.{IsStepOn, ask_of, come_back, end_of, rest_of, script_of};
+    ghost use Rattle.walkx.specs.Walk.{started, told};
 
     /// Worker w, at its first leaf.
     pub fn start(w: u32) -> Worker
@@ -52,8 +56,8 @@ impl Worker {
         Worker {
             number: w,
             node: None,
-            phase: 0,
-            stage: Stage::Begin,
+            activity: Activity::Begin,
+            asked: None,
             heard: [0; 15],
             count: 0,
         }
@@ -69,8 +73,8 @@ impl Worker {
         Worker {
             number: w,
             node: None,
-            phase: 0,
-            stage: Stage::Back,
+            activity: Activity::Back,
+            asked: None,
             heard: [0; 15],
             count: 0,
         }
@@ -87,8 +91,8 @@ impl Worker {
     pub fn ended(&self) -> Option<Ended>
         ensures { result ≡ end_of self.now.walking.now }
     {
-        match self.stage {
-            Stage::Over(ended) => Some(ended),
+        match self.activity {
+            Activity::Over(ended) => Some(ended),
             _ => None,
         }
     }
@@ -102,15 +106,11 @@ impl Worker {
     }
 
     /// Which script is in progress.
+    #[tactic(auto, using(crate::proofs::Workers::same_activity))]
     pub fn activity(&self) -> Activity
         ensures { result ≡ activity_of self.now.walking.now }
     {
-        match self.stage {
-            Stage::Back => Activity::Back,
-            Stage::Begin | Stage::Look(_) => Activity::Begin,
-            Stage::Over(ended) => Activity::Over(ended),
-            _ => Activity::Turn(self.phase),
-        }
+        self.activity
     }
 
     /// The node and the phase of the turn that the worker is at the start of, if it is at one.
@@ -135,11 +135,12 @@ impl Worker {
             Knows job y r self.new.walking }
     {
         self.node = Some(start);
-        self.stage = Stage::Begin;
+        self.activity = Activity::Begin;
+        self.asked = None;
         self.count = 0;
     }
 
-    /// How many atomic steps of the script in progress are behind the worker.
+    /// How many answers of the script in progress the worker has heard.
     pub fn heard(&self) -> u32
         ensures { result ≡ length self.now.walking.heard }
     {
@@ -156,7 +157,8 @@ impl Worker {
         ensures admitted { AsksAdmitted job.now layout.now result }
         ensures step { end_of self.now.walking.now ≡ None → IsStepOn layout.now result }
     {
-        operation(&self.post(job, layout), self.stage)
+        within_limits(job, layout);
+        self.next_operation(job, layout)
     }
 
     /// Hears the answer of the step that it asked for.
@@ -168,66 +170,135 @@ impl Worker {
         ensures told { self.new.walking ≡ told job.now layout.now self.old.walking answer }
         ensures serves { Serves job.now layout.now self.new }
     {
-        let _ = self.proceed(job, layout, answer);
+        match self.ended() {
+            Some(_) => {}
+            None => self.hear_on(job, layout, answer),
+        }
     }
 
-    /// Hears the answer of the step that it asked for, and gives its next atomic step: `tell` and
-    /// then `ask`, in some four fifths of their time.
+    // The next atomic step.
     #[inline(always)]
-    pub fn proceed(&mut self, job: &Job, layout: &Layout, answer: u64) -> Op
+    fn next_operation(&self, job: &Job, layout: &Layout) -> Op
+        requires layout { IsLayoutOf job.now layout.now }
+        requires serves { Serves job.now layout.now self.now }
+        ensures { result ≡ ask_of job.now layout.now self.now.walking }
+    {
+        within_limits(job, layout);
+        match self.asked() {
+            Some(op) => op,
+            None => self.first_operation(job, layout),
+        }
+    }
+
+    // Where the worker is held in the midst of a script.
+    #[inline(always)]
+    fn asked(&self) -> Option<Op>
+        ensures { result ≡ self.now.asked }
+    {
+        self.asked
+    }
+
+    // The first atomic step of the script.
+    #[inline(always)]
+    fn first_operation(&self, job: &Job, layout: &Layout) -> Op
+        requires layout { IsLayoutOf job.now layout.now }
+        requires playable { IsPlayable job.now layout.now self.now.walking }
+        ensures { first_op (script_of job.now layout.now self.now.walking) ≡ Some result }
+    {
+        opening(&self.post(job, layout), self.activity)
+    }
+
+    // An answer to a worker that is not over.
+    #[inline(always)]
+    fn hear_on(&mut self, job: &Job, layout: &Layout, answer: u64)
         requires layout { IsLayoutOf job.now layout.now }
         requires serves { Serves job.now layout.now self.old }
+        requires going { end_of self.old.walking.now ≡ None }
         requires admitted { HearsAdmitted job.now layout.now (ask_of job.now layout.now
             self.old.walking) answer }
         ensures told { self.new.walking ≡ told job.now layout.now self.old.walking answer }
         ensures serves { Serves job.now layout.now self.new }
-        ensures asks { result ≡ ask_of job.now layout.now self.new.walking }
-        ensures admitted { AsksAdmitted job.now layout.now result }
-        ensures step { end_of self.new.walking.now ≡ None → IsStepOn layout.now result }
     {
-        let at = self.post(job, layout);
-        match after(&at, self.stage, answer) {
-            Step::On(stage) => {
-                self.stage = stage;
-                self.heard[self.count] = answer;
-                self.count += 1;
-                operation(&at, stage)
-            }
-            Step::Begins(node) => {
-                self.node = Some(node);
-                self.stage = Stage::Begin;
-                self.count = 0;
-                self.ask(job, layout)
-            }
-            Step::Turns(node, phase) => {
-                self.node = Some(node);
-                self.phase = phase;
-                self.stage = Stage::Node;
-                self.count = 0;
-                self.ask(job, layout)
-            }
-            Step::Stops(ended) => {
-                self.stage = Stage::Over(ended);
-                self.heard[self.count] = answer;
-                self.count += 1;
-                Op::Over(ended)
-            }
-            Step::Stays(ended) => Op::Over(ended),
+        within_limits(job, layout);
+        self.hear(answer);
+        match self.left(job, layout) {
+            Ok(next) => self.go_on(next),
+            Err(op) => self.hold(op),
         }
     }
 
+    // What the script comes to with what the worker heard, or the operation that it asks next.
+    #[inline(always)]
+    fn left(&self, job: &Job, layout: &Layout) -> Result<Next, Op>
+        requires layout { IsLayoutOf job.now layout.now }
+        requires playable { IsPlayable job.now layout.now self.now.walking }
+        ensures { ComesTo (rest_of job.now layout.now self.now.walking) result }
+    {
+        let post = self.post(job, layout);
+        play_back(&post, self.activity, &self.heard[..self.count])
+    }
+
     // Where the worker stands.
+    #[inline(always)]
     fn post<'a>(&self, job: &'a Job, layout: &'a Layout) -> Post<'a>
         requires layout { IsLayoutOf job.now layout.now }
-        requires serves { Serves job.now layout.now self.now }
-        ensures value { result ≡ post_of job.now layout.now self.now }
-        ensures board { IsBoard job.now layout.now }
+        requires playable { IsPlayable job.now layout.now self.now.walking }
+        ensures { result ≡ stand_of job.now layout.now self.now.walking }
     {
         within_limits(job, layout);
         let node = match self.node {
             Some(node) => node,
             None => layout.first_leaf(self.number),
         };
-        Post::new(job, layout, self.number, node, self.phase)
+        let phase = match self.activity {
+            Activity::Turn(phase) => phase,
+            _ => 0,
+        };
+        Post::new(job, layout, self.number, node, phase)
+    }
+
+    // One answer more.
+    #[inline(always)]
+    fn hear(&mut self, answer: u64)
+        requires { length self.old.walking.heard < 15 }
+        ensures { self.new.walking ≡ hearing self.old.walking answer }
+    {
+        self.heard[self.count] = answer;
+        self.count += 1;
+    }
+
+    // The worker is held at this operation.
+    #[inline(always)]
+    fn hold(&mut self, op: Op)
+        ensures walking { self.new.walking ≡ self.old.walking }
+        ensures asked { self.new.asked ≡ Some op }
+    {
+        self.asked = Some(op);
+    }
+
+    // The script was heard whole.
+    #[inline(always)]
+    fn go_on(&mut self, next: Next)
+        ensures walking { self.new.walking ≡ come_to self.old.walking next }
+        ensures asked { self.new.asked ≡ asked_after next }
+    {
+        match next {
+            Next::Begins(node) => {
+                self.node = Some(node);
+                self.activity = Activity::Begin;
+                self.asked = None;
+                self.count = 0;
+            }
+            Next::Turns(node, phase) => {
+                self.node = Some(node);
+                self.activity = Activity::Turn(phase);
+                self.asked = None;
+                self.count = 0;
+            }
+            Next::Stops(ended) => {
+                self.activity = Activity::Over(ended);
+                self.asked = Some(Op::Over(ended));
+            }
+        }
     }
 }

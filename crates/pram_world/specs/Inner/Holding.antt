@@ -7,11 +7,11 @@ use Rattle.walkx.specs.declared.operation.Op.{Op}
 use Rattle.walkx.specs.declared.operation.Op.TheVariants.{Load, Store, Max, Swap, Over}
 use Rattle.walkx.specs.Operations.{answer}
 use Rattle.walkx.specs.Records.{Record, Knows}
-use Rattle.walkx.specs.Inner.Stages.{WorkerData}
+use Rattle.walkx.specs.Inner.Workers.{WorkerData}
 use Rattle.walkx.specs.Serving.{Serves}
 use Rattle.walkx.specs.Walk.{Walking, Fits, started}
-use Rattle.lawful_words.specs.Board.{Stands}
-use Rattle.lawful_words.specs.Moments.{Backed}
+use Rattle.lawful_walk.specs.Board.{Stands}
+use Rattle.lawful_walk.specs.Moments.{Backed}
 use Rattle.pram_world.specs.declared.event.Effect.{Effect}
 use Rattle.pram_world.specs.declared.world.Runner.{Runner}
 use Rattle.pram_world.specs.declared.world.Runner.TheVariants as runner

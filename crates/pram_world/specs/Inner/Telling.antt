@@ -5,8 +5,8 @@ use Rattle.pram_step.specs.declared.requests.Request.{Request}
 use Rattle.pram_step.specs.Runs.{requests_after, state_after}
 use Rattle.pram_words.specs.declared.words.Word.TheVariants.{Stored}
 use Rattle.pram_words.specs.Words.{LayoutData}
-use Rattle.walkx.specs.Tasks.{newer_payload}
-use Rattle.lawful_words.specs.Board.{conflict, held}
+use Rattle.pram_words.specs.Stamps.{newer_payload}
+use Rattle.lawful_walk.specs.Board.{conflict, held}
 use Rattle.pram_world.specs.declared.outcome.Standing.{Standing}
 use Rattle.pram_world.specs.declared.outcome.Standing.TheVariants.{Disputed, Finished, Going}
 

@@ -8,10 +8,10 @@ use Rattle.pram_words.specs.declared.words.Word.TheVariants.{Conflict, Stored}
 use Rattle.walkx.specs.declared.operation.Op.TheVariants.{Load}
 use Rattle.walkx.specs.declared.operation.Reading.{Reading}
 use Rattle.walkx.specs.declared.operation.Reading.TheVariants.{At}
-use Rattle.walkx.specs.declared.stage.Glance.{Glance}
-use Rattle.walkx.specs.declared.stage.Glance.TheVariants as glance
+use Rattle.walkx.specs.declared.reader.Glance.{Glance}
+use Rattle.walkx.specs.declared.reader.Glance.TheVariants as glance
 use Rattle.walkx.specs.Scripts.{Script, asks, ends, behind}
-use Rattle.walkx.specs.Tasks.{newer_payload}
+use Rattle.pram_words.specs.Stamps.{newer_payload}
 use Rattle.walkx.specs.Reads.{HeardAdmitted, Looking, look_of, looks_for, read_script}
 use Rattle.walkx.specs.Reads.{reader_script, step_seen, lesser, told_at}
 
@@ -39,7 +39,7 @@ script_of_glance y c (glance.Again s a b) =
     asks (Load (number_of y (Stored c 0))) (λ again. reads_again s a b again)
 script_of_glance y c (glance.Over reading) = ends reading
 
--- an answer to a stage, and a stage behind it
+-- an answer to a stage, and a stage after it
 abbrev pub HearsGlance : JobData → LayoutData → ℕ → Glance → ℕ → Type 0
 HearsGlance job y c g answer = HeardAdmitted job y (looks_for (script_of_glance y c g)) answer
 
@@ -47,7 +47,7 @@ abbrev pub StandsBehindGlance : LayoutData → ℕ → Glance → ℕ → Glance
 StandsBehindGlance y c old answer new =
     script_of_glance y c new ≡ behind (script_of_glance y c old) answer
 
--- a root that was heard is a phase behind a step
+-- a root that was heard is the phase that ends a step
 abbrev pub IsGlance : Glance → Type 0
 IsGlance (glance.Look root) = (root % 3 ≡ 0) × (root ≤ LAST_PHASE)
 IsGlance _ = Unit {0}

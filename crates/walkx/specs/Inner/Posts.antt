@@ -1,9 +1,9 @@
 -- Where a worker stands, with the job and its board.
-use Rattle.std.specs.Prelude.{IsTrue, ℕ, ◌+◌, ◌-◌, ◌*◌, ◌<◌, ◌≤◌}
+use Rattle.std.specs.Prelude.{◌≡◌, IsTrue, ℕ, ◌+◌, ◌-◌, ◌*◌, ◌<◌, ◌≤◌}
 use Rattle.pram_text.specs.Job.{JobData}
 use Rattle.pram_words.specs.Phases.{step_at}
 use Rattle.pram_words.specs.Stamps.{stamped_word}
-use Rattle.pram_words.specs.Words.{LayoutData, number_of, places_of}
+use Rattle.pram_words.specs.Words.{LayoutData, number_of}
 use Rattle.pram_words.specs.declared.words.Word.TheVariants.{Asked}
 use Rattle.walkx.specs.declared.operation.Op.{Op}
 use Rattle.walkx.specs.declared.operation.Op.TheVariants.{Max}
@@ -43,7 +43,13 @@ step_of at = step_at at.phase
 abbrev pub processor_of : PostData → ℕ
 processor_of at = at.node - at.layout.leaves
 
--- behind a task the leaf is marked
+-- the same leaf, with its step and its processor
+pub record IsLeafOf (at : PostData) (t i : ℕ) : Type 0 where
+  pub leaf : IsLeaf at
+  pub step : t ≡ step_of at
+  pub processor : i ≡ processor_of at
+
+-- after a task the leaf is marked
 abbrev pub then_marks : PostData → Script Then
 then_marks at = marks at.layout at.node at.phase
 
@@ -55,7 +61,3 @@ part_raised at j payload =
 -- a cell with a claim word
 abbrev pub IsCell : LayoutData → ℕ → Type 0
 IsCell y c = IsTrue y.claims × (c < y.cells)
-
--- a data place plus 1, or 0 for none
-abbrev pub IsPart : LayoutData → ℕ → Type 0
-IsPart y part = part ≤ places_of y

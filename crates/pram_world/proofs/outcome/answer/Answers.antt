@@ -1,6 +1,6 @@
 use Rattle.std.proofs.Common.{◌≡◌, ◌*◌, ◌/◌, subst, refl, sym, ap, ◌∙◌, arith}
 use Rattle.pram_step.specs.Runs.{IsReached, state_after}
-use Rattle.lawful_words.specs.Board.{conflict, root}
+use Rattle.lawful_walk.specs.Board.{conflict, root}
 use Rattle.pram_world.proofs.Answering.{root_most, finished_clear, finished_last, disputed, finished_so, still}
 use Rattle.pram_world.proofs.outcome.answer.Goals as goal
 

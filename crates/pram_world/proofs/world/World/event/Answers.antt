@@ -1,5 +1,5 @@
 use Rattle.std.proofs.Common.{sym, subst}
-use Rattle.lawful_words.specs.Board.{Stands, Grows}
+use Rattle.lawful_walk.specs.Board.{Stands, Grows}
 use Rattle.pram_world.specs.declared.event.Event.{Event}
 use Rattle.pram_world.specs.declared.event.Event.TheVariants.{Go, Stop, Back}
 use Rattle.pram_world.specs.Worlds.{WorldData, KeepsBoard, StaleChangesNothing}

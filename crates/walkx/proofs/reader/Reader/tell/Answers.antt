@@ -1,6 +1,6 @@
 use Rattle.std.proofs.Common.{arith, ◌<◌, length}
 use Rattle.walkx.proofs.Looks.{few, heard_by}
-use Rattle.walkx.proofs.Tells.{newest-push}
+use Rattle.walkx.proofs.Heard.{newest-push}
 use Rattle.walkx.proofs.reader.Reader.tell.Goals as goal
 
 pub returns : goal.returns

@@ -1,4 +1,4 @@
-use Rattle.walkx.proofs.Tells.{starts}
+use Rattle.walkx.proofs.Workers.{starts}
 use Rattle.walkx.proofs.worker.Worker.start.Goals as goal
 
 pub returns-clause-serves : goal.returns-clause-serves

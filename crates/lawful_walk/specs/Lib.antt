@@ -1,0 +1,9 @@
+pub mod Steps
+pub mod Board
+pub mod Moments
+pub mod Seen
+pub mod Faithful
+pub mod Writes
+pub mod WordLaws
+pub mod Walks
+pub mod WalkLaws

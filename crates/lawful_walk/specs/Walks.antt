@@ -1,0 +1,78 @@
+-- What a worker that a record knows does next, and what a read answers.
+use Rattle.std.specs.Prelude.{◌≡◌, ◌≢◌, ℕ, suc, ◌*◌, ◌≤◌, List, [], ◌∷◌, slice_index}
+use Rattle.pram_text.specs.Job.{JobData}
+use Rattle.pram_step.specs.Runs.{IsReached, state_after, IsFault}
+use Rattle.pram_words.specs.declared.words.Word.{Word}
+use Rattle.pram_words.specs.declared.words.Word.TheVariants.{Conflict, Node, Position}
+use Rattle.pram_words.specs.Words.{LayoutData, IsWord}
+use Rattle.walkx.specs.declared.operation.Op.{Op}
+use Rattle.walkx.specs.Bound.{told_all}
+use Rattle.walkx.specs.Doing.{Doing}
+use Rattle.walkx.specs.Doing as doing
+use Rattle.walkx.specs.Operations.{words_after, answer}
+use Rattle.walkx.specs.Walk.{Walking, ask_of}
+use Rattle.walkx.specs.Records.{Record, after}
+use Rattle.pram_step.specs.declared.answer.Fault.{Fault}
+use Rattle.lawful_walk.specs.Board.{held, root}
+use Rattle.lawful_walk.specs.Moments.{Backed, Keeps}
+use Rattle.lawful_walk.specs.Seen.{Heard, Shows, KnowsStep, HeardThen}
+
+-- the phase that it is in, or 0, which is over for all words
+abbrev pub phase_now : Doing → ℕ
+phase_now (doing.Turn q) = q
+phase_now _ = 0
+
+-- A step that keeps the words. Where the phase q is over, no word but worker w's position
+-- changes: q = 0 for a script of loads.
+pub record Goes (job : JobData) (y : LayoutData) (w q : ℕ) (op : Op) (words : List ℕ) : Type 0 where
+  pub keeps : Keeps job y op words
+  pub stale : q ≤ root y words → (a : Word) → IsWord y a → a ≢ Position w →
+      held y (words_after words op) a ≡ held y words a
+
+-- Its next operation goes well, and the words that it leaves bear out the record with it.
+pub record Moves (job : JobData) (y : LayoutData) (r : Record) (w : Walking) (words : List ℕ) :
+    Type 0 where
+  pub goes : Goes job y w.number (phase_now w.now) (ask_of job y w) words
+  pub backed : Backed job y (after r (ask_of job y w) (answer words (ask_of job y w)))
+      (words_after words (ask_of job y w))
+
+-- its steps with these answers, the newest first
+abbrev pub steps_of : JobData → LayoutData → Walking → List ℕ → List (Op × ℕ)
+steps_of job y w [] = []
+steps_of job y w (found ∷ earlier) =
+    (ask_of job y (told_all job y w earlier), found) ∷ steps_of job y w earlier
+
+-- an answer of a read, the record before the read and the one after it being these
+pub record IsLawfulRead (job : JobData) (y : LayoutData) (before behind : Record) (c step value :
+    ℕ) : Type 0 where
+  pub reached : IsReached job step
+  pub holds : value ≡ slice_index (state_after job step) c
+  pub lasts : (t : ℕ) → KnowsStep y before t → t ≤ step
+  -- so is what the loads of this read show of the root and of word 0
+  pub seen : (t : ℕ) → Shows y behind t → t ≤ step
+  pub known : (t : ℕ) × KnowsStep y behind t × (step ≤ t)
+  pub named : (u : ℕ) → u ≢ 0 → Heard y before Conflict u → suc step ≡ u
+
+-- ---- what a worker that is over has heard
+
+-- the last step is shown, and word 0 was heard as 0 after the root as 3T
+pub record DoneWell (job : JobData) (y : LayoutData) (r : Record) : Type 0 where
+  pub shows : Shows y r job.steps
+  pub heard : HeardThen y r (Node 1) (3 * job.steps) Conflict 0
+  pub reached : IsReached job job.steps
+
+-- word 0 was heard as the step of the first conflict, which is one of the job's
+pub record IsConflict (job : JobData) (t : ℕ) : Type 0 where
+  pub fault : Fault
+  pub is : IsFault job fault
+  pub step : fault.step ≡ t
+
+-- what a load of the root and then one of word 0 say: the step that they show, and a conflict
+pub record ProgressWell (job : JobData) (y : LayoutData) (before behind : Record) (step u : ℕ) :
+    Type 0 where
+  pub reached : IsReached job step
+  pub shows : Shows y behind step
+  pub lasts : (t : ℕ) → KnowsStep y before t → t ≤ step
+  pub seen : (t : ℕ) → Shows y behind t → t ≤ step
+  pub named : (v : ℕ) → v ≢ 0 → Heard y before Conflict v → suc step ≡ v
+  pub conflict : u ≢ 0 → IsConflict job u

@@ -1,5 +1,0 @@
-use Rattle.lawful_words.proofs.Starting.{starts_stand}
-use Rattle.lawful_words.proofs.laws.start_words_are_lawful.Goals as goal
-
-pub returns : goal.returns
-returns c = starts_stand

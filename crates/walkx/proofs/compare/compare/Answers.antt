@@ -1,0 +1,13 @@
+use Rattle.walkx.specs.Parts.{compares_data}
+use Rattle.walkx.proofs.compare.compare.Goals as goal
+
+pub compare_data-requires-clause-next : goal.compare_data-requires-clause-next
+compare_data-requires-clause-next g c =
+    let at = c.args.leaf.now in
+    let r = c.requires.due in
+    record {
+      from = r.from;
+      after = r.after;
+      next = λ done. r.after;
+      here = c.in_ok-place.ensures.plays.on r.from r.after (λ place. compares_data at place r.after (λ done. r.after)) r.here;
+    }

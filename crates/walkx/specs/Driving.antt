@@ -1,0 +1,85 @@
+-- Where a driver stands in a script that it plays, and what each function of the walk promises.
+use Rattle.std.specs.Prelude.{ℕ, Option, Some, None, Result, Ok, Err, IfOk}
+use Rattle.walkx.specs.declared.operation.Op.{Op}
+use Rattle.walkx.specs.Scripts.{Script, asks, ends}
+use Rattle.walkx.specs.Walk.{Then, HearsAdmitted}
+use Rattle.walkx.specs.Inner.Posts.{PostData}
+use Rattle.walkx.specs.declared.left.Left.{Left}
+use Rattle.walkx.specs.declared.left.Stopped.{Stopped}
+use Rattle.walkx.specs.declared.left.Left.TheVariants.{Late, Held}
+
+-- begun there at that script, the driver stands here at this one, or it is held
+abbrev pub Standing : Type 0 → Type 1
+Standing D = D × Script Then → D → Option (Script Then) → Type 0
+
+-- a part of a script, by what follows where the worker is late, and what follows each result
+abbrev pub Part : Type 0 → Type 0
+Part A = Script Then → (A → Script Then) → Script Then
+
+-- what follows a part
+abbrev pub left_as : Script Then → Left → Option (Script Then)
+left_as after Late = Some after
+left_as after Held = None
+
+abbrev pub comes : {A : Type 0} → Script Then → (A → Script Then) → Result A Left →
+    Option (Script Then)
+comes after next (Ok a) = Some (next a)
+comes after next (Err why) = left_as after why
+
+-- the driver is to play this part next
+pub record IsNext {D A : Type 0} (stands : Standing D) (d : D) (part : Part A) : Type 0 where
+  pub from : D × Script Then
+  pub after : Script Then
+  pub next : A → Script Then
+  pub here : stands from d (Some (part after next))
+
+-- it played this part up to its result, or it was held in it
+pub record Plays {D A : Type 0} (stands : Standing D) (d : D) (part : Part A) (e : D)
+    (result : Result A Left) : Type 0 where
+  pub on : (from : D × Script Then) (after : Script Then) (next : A → Script Then) →
+      stands from d (Some (part after next)) → stands from e (comes after next result)
+
+-- the same of a whole task, which a late worker ends as any other
+pub record IsDue {D : Type 0} (stands : Standing D) (d : D) (task : Script Then → Script Then) :
+    Type 0 where
+  pub from : D × Script Then
+  pub after : Script Then
+  pub here : stands from d (Some (task after))
+
+pub record Ends {D : Type 0} (stands : Standing D) (d : D) (task : Script Then → Script Then)
+    (e : D) (result : Result (Unit {0}) Left) : Type 0 where
+  pub on : (from : D × Script Then) (after : Script Then) →
+      stands from d (Some (task after)) → stands from e (comes after (λ done. after) result)
+
+-- one operation
+abbrev pub makes : Op → Part ℕ
+makes op after next = asks op next
+
+abbrev pub goes : {A : Type 0} → (A → Script Then) → Result A Stopped → Option (Script Then)
+goes next (Ok a) = Some (next a)
+goes next (Err why) = None
+
+-- it made this operation, and the answer is one that the word may have; or it is held there
+pub record Makes {D : Type 0} (stands : PostData → Standing D) (d : D) (op : Op) (e : D)
+    (result : Result ℕ Stopped) : Type 0 where
+  pub on : (at : PostData) (from : D × Script Then) (next : ℕ → Script Then) →
+      stands at from d (Some (asks op next)) → stands at from e (goes next result)
+  pub admitted : (at : PostData) → IsNext (stands at) d (makes op) →
+      IfOk result (HearsAdmitted at.job at.layout op)
+
+-- the driver is at this script, and no part comes after it
+pub record IsHere {D : Type 0} (stands : Standing D) (d : D) (script : Script Then) : Type 0 where
+  pub from : D × Script Then
+  pub here : stands from d (Some script)
+
+-- it played the script to its end, which its result names, or it was held in it
+pub record Reaches {D A : Type 0} (stands : Standing D) (d : D) (script : Script Then)
+    (to : A → Then) (e : D) (result : Result A Stopped) : Type 0 where
+  pub on : (from : D × Script Then) → stands from d (Some script) →
+      stands from e (goes (λ a. ends (to a)) result)
+
+-- the end of a task, late or not
+abbrev pub settled : Result (Unit {0}) Left → Result (Unit {0}) Stopped
+settled (Ok done) = Ok done
+settled (Err Late) = Ok tt
+settled (Err Held) = Err (record {})

@@ -1,0 +1,7 @@
+-- The answers that a worker or a reader heard, by the fields of the code.
+use Rattle.std.specs.Prelude.{ℕ, zero, suc, List, [], ◌∷◌, slice_index}
+
+-- the first so many of a list, the last of them first
+abbrev pub newest : ℕ → List ℕ → List ℕ
+newest zero xs = []
+newest (suc n) xs = slice_index xs n ∷ newest n xs

@@ -1,0 +1,27 @@
+-- The model of a worker's code.
+use Rattle.std.specs.Prelude.{ℕ, List, Option}
+use Rattle.walkx.specs.declared.operation.Activity.{Activity}
+use Rattle.walkx.specs.declared.operation.Activity.TheVariants as activity
+use Rattle.walkx.specs.declared.operation.Op.{Op}
+use Rattle.walkx.specs.Doing.{Doing}
+use Rattle.walkx.specs.Doing as doing
+use Rattle.walkx.specs.Walk.{Walking}
+
+abbrev pub doing_in : Activity → Doing
+doing_in activity.Back = doing.Back
+doing_in activity.Begin = doing.Begin
+doing_in (activity.Turn q) = doing.Turn q
+doing_in (activity.Over e) = doing.Over e
+
+-- a worker, and the operation that it is held at; none at the start of a script
+pub record WorkerData : Type 0 where
+  pub walking : Walking
+  pub asked : Option Op
+
+-- by the fields of the code
+abbrev pub worker_data : ℕ → Option ℕ → Activity → Option Op → List ℕ → WorkerData
+worker_data number node now asked heard =
+    record {
+      walking = record { number = number; node = node; now = doing_in now; heard = heard };
+      asked = asked;
+    }

@@ -1,0 +1,83 @@
+-- What is left of a turn in its midst.
+use Rattle.std.specs.Prelude.{ℕ, ◌*◌, ◌/◌, ◌%◌, ◌+◌, ◌&&◌, ◌==◌, nat_le, if◌then◌else◌, Option}
+use Rattle.std.specs.Prelude.{Some, None}
+use Rattle.pram_words.specs.declared.words.Word.TheVariants.{Conflict, Node}
+use Rattle.pram_words.specs.Words.{number_of}
+use Rattle.walkx.specs.declared.operation.Op.TheVariants.{Load}
+use Rattle.walkx.specs.Scripts.{Script, asks, ends}
+use Rattle.walkx.specs.declared.next.Next.{Next}
+use Rattle.walkx.specs.declared.next.Next.TheVariants as next
+use Rattle.walkx.specs.declared.operation.Activity.{Activity}
+use Rattle.walkx.specs.declared.operation.Activity.TheVariants as activity
+use Rattle.walkx.specs.declared.operation.Ended.TheVariants as ended
+use Rattle.walkx.specs.Walk.{Then, begins, turns, stops, back_script, begin_script, leaf_script}
+use Rattle.walkx.specs.Walk.{stands_at, turn_script, way_down}
+use Rattle.walkx.specs.Inner.Posts.{PostData, then_marks}
+
+abbrev pub moves : PostData → ℕ → Script Then
+moves at to = stands_at at.layout at.worker to at.phase
+
+abbrev pub leaf_of : PostData → Script Then
+leaf_of at = leaf_script at.job at.layout at.node at.phase
+
+abbrev pub after_children : PostData → ℕ → ℕ → Script Then
+after_children at l r = if nat_le at.phase l && nat_le at.phase r then then_marks at
+    else moves at (way_down at.layout at.worker at.node at.phase l r)
+
+abbrev pub inner_of : PostData → Script Then
+inner_of at =
+    asks (Load (number_of at.layout (Node (2 * at.node)))) (λ l.
+    asks (Load (number_of at.layout (Node (2 * at.node + 1)))) (λ r. after_children at l r))
+
+abbrev pub leaves_up : PostData → Script Then
+leaves_up at = if at.node == 1 then ends (begins 1) else moves at (at.node / 2)
+
+abbrev pub after_node : PostData → ℕ → Script Then
+after_node at found =
+    if nat_le at.phase found then leaves_up at
+    else (if nat_le at.layout.leaves at.node then leaf_of at else inner_of at)
+
+abbrev pub turn_of : PostData → Script Then
+turn_of at = turn_script at.job at.layout at.worker at.node at.phase
+
+-- what comes of a turn that leads to this node, or to none
+abbrev pub leads : PostData → Option ℕ → Then
+leads at None = begins 1
+leads at (Some n) = turns n at.phase
+
+abbrev pub stays : PostData → ℕ → Then
+stays at n = turns n at.phase
+
+-- ---- the scripts back and begin
+
+-- what comes of a script
+abbrev pub then_of : Next → Then
+then_of (next.Begins n) = begins n
+then_of (next.Turns n q) = turns n q
+then_of (next.Stops e) = stops e
+
+abbrev pub back_of : PostData → Script Then
+back_of at = back_script at.layout at.worker
+
+abbrev pub begin_of : PostData → Script Then
+begin_of at = begin_script at.job at.layout at.node
+
+-- the root was heard, and the conflict
+abbrev pub after_conflict : PostData → ℕ → ℕ → Script Then
+after_conflict at root u =
+    if u == 0 then (if root == 3 * at.job.steps then ends (stops ended.Done)
+    else ends (turns at.node (root + 1))) else ends (stops (ended.Conflict u))
+
+abbrev pub conflict_of : PostData → ℕ → Script Then
+conflict_of at root = asks (Load (number_of at.layout Conflict)) (after_conflict at root)
+
+abbrev pub after_root : PostData → ℕ → Script Then
+after_root at root =
+    if root % 3 == 0 then conflict_of at root else ends (turns at.node (root + 1))
+
+-- the script of an activity; a worker that is over has heard a whole begin
+abbrev pub script_in : PostData → Activity → Script Then
+script_in at activity.Back = back_of at
+script_in at activity.Begin = begin_of at
+script_in at (activity.Turn q) = turn_of at
+script_in at (activity.Over e) = begin_of at

@@ -1,0 +1,88 @@
+//! Parts of a task.
+ghost use Rattle.std.specs.Prelude.{◌≡◌, ◌<◌, ◌≤◌, ◌==◌, IfOk};
+ghost use Rattle.pram_words.specs.Words.{most_asked, places_of};
+ghost use Rattle.walkx.specs.Driving.{IsNext, Plays};
+ghost use Rattle.walkx.specs.Parts.{both_of, hears, swap_of, writes};
+
+use crate::left::Left;
+use crate::operation::Op;
+use crate::post::Leaf;
+use crate::steps::Steps;
+use pram_words::{payload, stamp, stamped};
+
+/// Part j of the request, as long as it is of the step.
+#[inline(always)]
+pub(crate) fn hear_part<S: Steps>(steps: &mut S, leaf: &Leaf, j: u32) -> Result<u32, Left>
+    requires part { j < 3 }
+    requires next { IsNext (S.stands leaf.now) steps.old (hears leaf.now j) }
+    ensures most { IfOk result (λ v. v ≤ most_asked leaf.now.layout leaf.now.job j) }
+    ensures plays { Plays (S.stands leaf.now) steps.old (hears leaf.now j) steps.new result }
+{
+    let found = steps.make(Op::Load(leaf.request_word(j)))?;
+    if leaf.is_of(found) {
+        Ok(payload(found))
+    } else {
+        Err(Left::Late)
+    }
+}
+
+/// Both words of a place.
+#[inline(always)]
+pub(crate) fn hear_both<S: Steps>(
+    steps: &mut S,
+    leaf: &Leaf,
+    place: u32,
+) -> Result<(u64, u64), Left>
+    requires place { place < places_of leaf.now.layout }
+    requires next { IsNext (S.stands leaf.now) steps.old (both_of leaf.now place) }
+    ensures plays { Plays (S.stands leaf.now) steps.old (both_of leaf.now place) steps.new result }
+{
+    let word = leaf.place_word(place);
+    let first = steps.make(Op::Load(word))?;
+    let second = steps.make(Op::Load(word + 1))?;
+    Ok((first, second))
+}
+
+/// A place is written, unless it was written in the step or later.
+#[inline(always)]
+pub(crate) fn write_place<S: Steps>(
+    steps: &mut S,
+    leaf: &Leaf,
+    place: u32,
+    value: u32,
+) -> Result<(), Left>
+    requires place { place < places_of leaf.now.layout }
+    requires next { IsNext (S.stands leaf.now) steps.old (writes leaf.now place value) }
+    ensures plays { Plays (S.stands leaf.now) steps.old (writes leaf.now place value) steps.new
+        result }
+{
+    let (first, second) = hear_both(steps, leaf, place)?;
+    if leaf.is_late(first, second) {
+        return Ok(());
+    }
+    steps.make(older_swap(leaf, place, value, first, second))?;
+    Ok(())
+}
+
+// The older of the two words is swapped for the value.
+#[inline(always)]
+fn older_swap(leaf: &Leaf, place: u32, value: u32, first: u64, second: u64) -> Op
+    requires { place < places_of leaf.now.layout }
+    ensures { result ≡ swap_of leaf.now place value first second }
+{
+    let word = leaf.place_word(place);
+    let new = stamped(leaf.step(), value);
+    if stamp(first) <= stamp(second) {
+        Op::Swap(word, first, new)
+    } else {
+        Op::Swap(word + 1, second, new)
+    }
+}
+
+/// There is no data place.
+#[inline(always)]
+pub(crate) fn is_none(place: u32) -> bool
+    ensures { result ≡ (place == 0) }
+{
+    place == 0
+}

@@ -1,0 +1,62 @@
+//! The driver of a worker that is asked and told.
+ghost use Rattle.std.specs.Prelude.{◌≡◌, ◌*◌, ◌≤◌, length};
+ghost use Rattle.walkx.specs.Inner.Heard.{newest};
+ghost use Rattle.walkx.specs.Playing.{ComesTo};
+ghost use Rattle.walkx.specs.Rests.{script_in};
+ghost use Rattle.walkx.specs.Scripts.{heard_in, rest};
+ghost use Rattle.walkx.specs.Walk.{AllAdmitted};
+
+use crate::left::Stopped;
+use crate::next::Next;
+use crate::operation::{Activity, Ended, Op};
+use crate::post::Post;
+use crate::scripts::play;
+use crate::steps::Steps;
+
+/// Plays back the answers that were heard in a script, and is held at the first operation that has
+/// none.
+#[derive(Drop)]
+pub(crate) struct Playback<'a> {
+    pub heard: &'a [u64],
+    pub played: usize,
+    /// Where it is held.
+    pub asked: Op,
+}
+
+impl<'a> Steps for Playback<'a> {
+    ghost use Rattle.walkx.specs.Playing.{stands_back};
+
+    ghost stands = { stands_back };
+
+    #[inline(always)]
+    fn make(&mut self, op: Op) -> Result<u64, Stopped> {
+        if self.played < self.heard.len() {
+            let answer = self.heard[self.played];
+            self.played += 1;
+            Ok(answer)
+        } else {
+            self.asked = op;
+            Err(Stopped)
+        }
+    }
+}
+
+/// What the script of an activity comes to with these answers, or the operation that has none yet.
+#[inline(always)]
+pub(crate) fn play_back(post: &Post, activity: Activity, heard: &[u64]) -> Result<Next, Op>
+    requires phase { post.now.phase ≤ 3 * post.now.job.steps }
+    requires admitted { AllAdmitted post.now.job post.now.layout (heard_in (script_in post.now
+        activity) (newest (length heard.now) heard.now)) }
+    ensures { ComesTo (rest (script_in post.now activity) (newest (length heard.now) heard.now))
+        result }
+{
+    let mut steps = Playback {
+        heard,
+        played: 0,
+        asked: Op::Over(Ended::Done),
+    };
+    match play(&mut steps, post, activity) {
+        Ok(next) => Ok(next),
+        Err(_) => Err(steps.asked),
+    }
+}
