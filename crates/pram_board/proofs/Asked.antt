@@ -14,5 +14,11 @@ none_of (doing.Turn q) going = refl
 none_of (doing.Over e) going = absurd going
 
 -- what was asked of the task that lies inside the board
-pub asks_of : (u t : Task) (w : Walking) (op : Op) → u ≡ t → op ≡ ask_of u.job u.layout w → AsksAdmitted u.job u.layout op → (end_of w.now ≡ None → IsStepOn u.layout op) → Asks t w op
-asks_of u t w op same is admitted step = subst (λ (x : Task). Asks x w op) same (record { is = is; admitted = admitted; step = step })
+pub asks_of : (u t : Task) (w : Walking) (op : Op) → u ≡ t → op ≡ ask_of u.job u.layout w →
+    AsksAdmitted u.job u.layout op → (end_of w.now ≡ None → IsStepOn u.layout op) → Asks t w op
+asks_of u t w op same is admitted step = subst (λ (x : Task). Asks x w op) same (record {
+  is =
+      is;
+  admitted = admitted;
+  step = step;
+})

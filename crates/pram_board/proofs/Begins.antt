@@ -6,9 +6,9 @@ use Rattle.pram_words.specs.Words.{LayoutData}
 use Rattle.walkx.specs.declared.operation.Op.{Op}
 use Rattle.walkx.specs.Records.{Record, empty, after, both, Has}
 use Rattle.walkx.proofs.Knowing.{has_left, has_more, has_right}
-use Rattle.lawful_words.specs.Moments.{afters}
-use Rattle.lawful_words.specs.Seen.{BeginsWith, Heard, Shows, KnowsStep}
-use Rattle.lawful_words.proofs.Knowing.{heard_too, shows_too, knows_too}
+use Rattle.lawful_walk.specs.Moments.{afters}
+use Rattle.lawful_walk.specs.Seen.{BeginsWith, Heard, Shows, KnowsStep}
+use Rattle.lawful_walk.proofs.Knowing.{heard_too, shows_too, knows_too}
 
 pub begins_self : (r : Record) → BeginsWith r r
 begins_self empty = refl

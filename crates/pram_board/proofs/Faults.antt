@@ -15,10 +15,10 @@ use Rattle.walkx.specs.Records.{Record, after}
 use Rattle.walkx.specs.Requests.{AreWordsOf}
 use Rattle.walkx.specs.Walk.{IsBoard}
 use Rattle.walkx.proofs.Boards.{same_procs}
-use Rattle.lawful_words.specs.Moments.{Sound, WasBacked}
-use Rattle.lawful_words.specs.Seen.{Heard}
-use Rattle.lawful_words.proofs.Knowing.{conflict_now}
-use Rattle.walk_laws.proofs.Sounding.{sound_conflict, was_part}
+use Rattle.lawful_walk.specs.Moments.{Sound, WasBacked}
+use Rattle.lawful_walk.specs.Seen.{Heard}
+use Rattle.lawful_walk.proofs.Knowing.{conflict_now}
+use Rattle.lawful_walk.proofs.Sounding.{sound_conflict, was_part}
 use Rattle.pram_board.specs.declared.task.Task.{Task}
 use Rattle.pram_board.specs.Seats.{Place, hears, HasLoaded, KnowsConflict}
 use Rattle.pram_board.proofs.Begins.{heard_afters}

@@ -10,10 +10,10 @@ use Rattle.walkx.specs.declared.operation.Op.{Op}
 use Rattle.walkx.specs.declared.operation.Op.TheVariants.{Load, Store, Max, Swap}
 use Rattle.walkx.specs.Operations.{words_after, answer}
 use Rattle.walkx.specs.Records.{Record, after, both}
-use Rattle.lawful_words.specs.Board.{Stands, Grows}
-use Rattle.lawful_words.specs.Moments.{Backed, Sound, Keeps}
-use Rattle.lawful_words.proofs.Moments.{same, backed_later, backs}
-use Rattle.walk_laws.proofs.Sounding.{sound_of}
+use Rattle.lawful_walk.specs.Board.{Stands, Grows}
+use Rattle.lawful_walk.specs.Moments.{Backed, Sound, Keeps}
+use Rattle.lawful_walk.proofs.Moments.{same, backed_later, backs}
+use Rattle.lawful_walk.proofs.Sounding.{sound_of}
 use Rattle.pram_board.specs.declared.task.Task.{Task}
 use Rattle.pram_board.specs.declared.task.View.{View}
 use Rattle.pram_board.specs.Rules.{idle, opened, united, Bears, Holds, Heard, Loaded, Stored, Raised, Swapped, May}

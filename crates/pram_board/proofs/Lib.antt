@@ -11,6 +11,5 @@ pub mod Playing
 pub mod Due
 pub mod Telling
 pub mod Stepping
-pub mod Passes
 pub mod Working
 pub mod Remembering

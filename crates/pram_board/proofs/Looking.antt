@@ -11,10 +11,10 @@ use Rattle.walkx.specs.declared.operation.Reading.TheVariants.{At}
 use Rattle.walkx.specs.Reads.{Looking, look_of, looked, looks_for, reader_script, read_script, step_seen}
 use Rattle.walkx.specs.Records.{after}
 use Rattle.walkx.specs.Scripts.{Script, asks, ends, behind, rest, op_with, heard_in}
-use Rattle.lawful_words.specs.Moments.{Sound, WasBacked}
-use Rattle.walk_laws.specs.Walks.{IsLawfulRead}
-use Rattle.lawful_words.specs.Moments.{afters}
-use Rattle.walk_laws.proofs.Sounding.{was_read}
+use Rattle.lawful_walk.specs.Moments.{Sound, WasBacked}
+use Rattle.lawful_walk.specs.Walks.{IsLawfulRead}
+use Rattle.lawful_walk.specs.Moments.{afters}
+use Rattle.lawful_walk.proofs.Sounding.{was_read}
 use Rattle.pram_board.specs.declared.task.Task.{Task}
 use Rattle.pram_board.specs.Seats.{Place, hears, WasRead}
 

@@ -10,10 +10,10 @@ use Rattle.walkx.specs.declared.operation.Op.{Op}
 use Rattle.walkx.specs.declared.operation.Op.TheVariants.{Load}
 use Rattle.walkx.specs.Records.{Record, after}
 use Rattle.walkx.specs.Walk.{IsBoard}
-use Rattle.walkx.specs.Tasks.{newer_payload}
-use Rattle.lawful_words.specs.Moments.{Sound, afters}
-use Rattle.lawful_words.specs.Seen.{KnowsStep}
-use Rattle.walk_laws.proofs.Sounding.{was_place}
+use Rattle.pram_words.specs.Stamps.{newer_payload}
+use Rattle.lawful_walk.specs.Moments.{Sound, afters}
+use Rattle.lawful_walk.specs.Seen.{KnowsStep}
+use Rattle.lawful_walk.proofs.Sounding.{was_place}
 use Rattle.pram_board.specs.declared.task.Task.{Task}
 use Rattle.pram_board.specs.Seats.{Place, hears, hears_all, IsLoad, HasLoaded}
 use Rattle.pram_board.proofs.Begins.{knows_afters}
@@ -64,9 +64,6 @@ more_loads n m p q r first second =
       loads = all_append second.steps first.steps second.loads first.loads;
       count = (let l = length-append second.steps first.steps in let a = first.count in let b = second.count in omega arith);
     }
-
-pub same_desk : (n : ℕ) (p q : Place) → HasLoaded n p q → q.desk ≡ p.desk
-same_desk n p q loads = ap (λ (z : Place). z.desk) loads.is
 
 pub still_known : (t : Task) (n : ℕ) (p q : Place) (s : ℕ) → HasLoaded n p q → KnowsStep t.layout p.record_of s → KnowsStep t.layout q.record_of s
 still_known t n p q s loads knows = subst (λ (z : Place). KnowsStep t.layout z.record_of s) (sym loads.is) (knows_afters t.layout p.record_of loads.steps s knows)

@@ -1,26 +1,23 @@
 -- What a later record has of an earlier one.
-use Rattle.std.proofs.Common.{◌≡◌, ℕ, ◌==◌, Option, IfSome, List, [], ◌∷◌, refl, sym, subst, inl, inr}
+use Rattle.std.proofs.Common.{◌≡◌, ℕ, ◌==◌, Option, IfSome, List, [], ◌∷◌, refl, sym, ap, subst, inl, inr, ◌∙◌}
 use Rattle.std.proofs.lemmas.Bool.{cases_Bool, eqb-false}
 use Rattle.pram_words.specs.declared.words.Word.TheVariants.{Conflict, Node}
 use Rattle.pram_words.specs.Words.{number_of}
 use Rattle.walkx.specs.declared.operation.Op.{Op}
 use Rattle.walkx.specs.declared.operation.Op.TheVariants.{Load}
-use Rattle.walkx.specs.Records.{Record, both}
 use Rattle.walkx.specs.Reads.{Looking, reader_script}
 use Rattle.walkx.specs.Scripts.{heard_in}
 use Rattle.walkx.specs.Walk.{Walking}
 use Rattle.walkx.proofs.Knowing.{has_left, has_right}
-use Rattle.walk_laws.specs.Walks.{steps_of}
-use Rattle.lawful_words.specs.Seen.{Heard, KnowsStep}
+use Rattle.lawful_walk.specs.Moments.{Sound}
+use Rattle.lawful_walk.specs.Walks.{steps_of}
+use Rattle.lawful_walk.specs.Seen.{Heard, KnowsStep}
 use Rattle.pram_board.specs.declared.look.Progress.{Progress}
 use Rattle.pram_board.specs.declared.task.Task.{Task}
-use Rattle.pram_board.specs.Seats.{Place, hears_all, unites, HasLoaded, KnowsConflict, Progressed, Remembers}
+use Rattle.pram_board.specs.Seats.{Desk, Place, hears_all, unites, HasLoaded, IsLater, KnowsConflict, Progressed, Remembers}
 use Rattle.pram_board.specs.Worked.{Ran}
 use Rattle.pram_board.proofs.Begins.{has_afters}
 use Rattle.pram_board.proofs.Looking.{Looks}
-
-pub remembers_same : (p q : Place) → q ≡ p → Remembers p.record_of q.record_of
-remembers_same p q is = subst (λ (s : Place). Remembers p.record_of s.record_of) (sym is) (λ steps has. has)
 
 pub remembers_more : (p q : Place) (made : List (Op × ℕ)) → q ≡ hears_all p made → Remembers p.record_of q.record_of
 remembers_more p q made is = subst (λ (s : Place). Remembers p.record_of s.record_of) (sym is) (has_afters p.record_of made)
@@ -28,8 +25,24 @@ remembers_more p q made is = subst (λ (s : Place). Remembers p.record_of s.reco
 pub remembers_loads : (n : ℕ) (p q : Place) → HasLoaded n p q → Remembers p.record_of q.record_of
 remembers_loads n p q loads = remembers_more p q loads.steps loads.is
 
+pub later_loads : (d : Desk) (n : ℕ) (p q : Place) → p.desk ≡ d → HasLoaded n p q →
+    Sound d.task.job d.task.layout q.record_of → IsLater d p q
+later_loads d n p q desk loads sound = record {
+  desk = ap (λ (z : Place). z.desk) loads.is ∙ desk;
+  keeps = remembers_loads n p q loads;
+  sound = sound;
+}
+
 pub remembers_ran : (t : Task) (p : Place) (w : Walking) (n : ℕ) (q : Place) (now : Walking) → Ran t p w n q now → Remembers p.record_of q.record_of
 remembers_ran t p w n q now ran = remembers_more p q (steps_of t.job t.layout w ran.answers) ran.seat
+
+pub later_ran : (d : Desk) (p : Place) (w : Walking) (n : ℕ) (q : Place) (now : Walking) →
+    q.desk ≡ d → Ran d.task p w n q now → Sound d.task.job d.task.layout q.record_of → IsLater d p q
+later_ran d p w n q now desk ran sound = record {
+  desk = desk;
+  keeps = remembers_ran d.task p w n q now ran;
+  sound = sound;
+}
 
 pub remembers_first : (p q joined : Place) → joined ≡ unites p q → Remembers p.record_of joined.record_of
 remembers_first p q joined is = subst (λ (s : Place). Remembers p.record_of s.record_of) (sym is) (has_left p.record_of q.record_of)

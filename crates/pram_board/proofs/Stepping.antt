@@ -1,34 +1,67 @@
--- One atomic step of straight work.
-use Rattle.std.proofs.Common.{◌≡◌, ℕ, ◌<◌, sym, ap, subst, ◌∙◌}
-use Rattle.pram_text.specs.Job.{JobData}
-use Rattle.pram_words.specs.Words.{LayoutData, length_of}
+-- One atomic step of a driver.
+use Rattle.std.proofs.Common.{◌≡◌, ℕ, ◌+◌, ◌%◌, ◌^◌, refl, sym, ap, subst, ◌∙◌}
 use Rattle.walkx.specs.declared.operation.Op.{Op}
-use Rattle.walkx.specs.declared.operation.Op.TheVariants.{Load}
 use Rattle.walkx.specs.Records.{after}
-use Rattle.walkx.specs.Walk.{AsksAdmitted, HearsAdmitted}
-use Rattle.lawful_words.specs.Moments.{Sound}
+use Rattle.walkx.specs.Scripts.{Script, asks}
+use Rattle.walkx.specs.Turns.{turning}
+use Rattle.walkx.specs.Walk.{Then, HearsAdmitted, turn_script}
+use Rattle.lawful_walk.specs.Moments.{Sound}
 use Rattle.pram_board.specs.declared.task.Task.{Task}
 use Rattle.pram_board.specs.Rules.{May}
-use Rattle.pram_board.specs.Seats.{Desk, Place, hears}
-use Rattle.pram_board.specs.Inner.Plays.{IsAt, IsDue}
-use Rattle.pram_board.proofs.Due.{due_may}
-use Rattle.pram_board.proofs.Steps.{admits, may_load}
+use Rattle.pram_board.specs.Seats.{Place, hears}
+use Rattle.pram_board.specs.Inner.Plays.{Drives, Driving, Walks}
+use Rattle.pram_board.proofs.Due.{due_asks, due_may}
+use Rattle.pram_board.proofs.Playing.{asked, joined, still}
+use Rattle.pram_board.proofs.Steps.{admits}
 
-abbrev task_of : JobData → LayoutData → Task
-task_of job y = record { job = job; layout = y }
+pub driver_may : (t : Task) (from : Driving × Script Then) (d : Driving) (op : Op)
+    (next : ℕ → Script Then) → Drives t from d (asks op next) → May d.desk.task d.seat.record_of op
+driver_may t from d op next h =
+    subst (λ (u : Task). May u d.seat.record_of op) (sym h.here.task)
+    (due_may t from d op next h)
 
-pub may_hear : (b : Desk) (job : JobData) (y : LayoutData) (p : Place) (k : ℕ) → IsAt b job y p → k < length_of y → May b.task p.record_of (Load k)
-may_hear b job y p k at below = subst (λ (t : Task). May t p.record_of (Load k)) (sym at.task) (may_load (task_of job y) p.record_of k below)
+module _ (t : Task) (from : Driving × Script Then) (d : Driving) (op : Op)
+    (next : ℕ → Script Then) (found : ℕ) (q : Place) (h : Drives t from d (asks op next))
+    (grows : q ≡ hears d.seat op found)
+    (sound : Sound d.desk.task.job d.desk.task.layout q.record_of) where
+  pub driver_hears : HearsAdmitted t.job t.layout op found
+  driver_hears =
+      let here : Sound t.job t.layout q.record_of =
+      subst (λ (u : Task). Sound u.job u.layout q.record_of) h.here.task sound in
+      let now : Sound t.job t.layout (after d.seat.record_of op found) =
+      subst (λ (x : Place). Sound t.job t.layout x.record_of) grows here in
+      admits t d.seat.record_of op found now (due_asks t from d op next h)
 
-pub may_make : (b : Desk) (job : JobData) (y : LayoutData) (p : Place) (n : ℕ) (op : Op) → IsAt b job y p → IsDue job y op (p, n) → May b.task p.record_of op
-may_make b job y p n op at due = subst (λ (t : Task). May t p.record_of op) (sym at.task) (due_may (task_of job y) op (p, n) at.board due)
+  pub driver_makes : (n : ℕ) → n ≡ (d.made + 1) % 2 ^ 64 →
+      Drives t from (record { desk = d.desk; seat = q; made = n }) (next found)
+  driver_makes n count =
+      let e : Driving = record { desk = d.desk; seat = q; made = n } in
+      record {
+        here = record {
+          desk = ap (λ (x : Place). x.desk) grows ∙ h.here.desk;
+          task = h.here.task;
+          board = h.here.board;
+        };
+        by = h.by;
+        fresh = h.fresh;
+        going = h.going;
+        fits = h.fits;
+        knows = h.knows;
+        begun = h.begun;
+        plays = joined t from.1 (asks op next) (next found) from.0 d e h.plays
+            (asked t op next found d e driver_hears refl grows count);
+      }
 
--- the seat is still at its desk, and the answer is admitted
-pub still_at : (b : Desk) (job : JobData) (y : LayoutData) (p q : Place) (op : Op) (found : ℕ) → IsAt b job y p → q ≡ hears p op found → IsAt b job y q
-still_at b job y p q op found at grows = record { desk = ap (λ (x : Place). x.desk) grows ∙ at.desk; task = at.task; board = at.board }
-
-pub heard_well : (b : Desk) (job : JobData) (y : LayoutData) (p q : Place) (op : Op) (found : ℕ) → IsAt b job y p → q ≡ hears p op found → Sound b.task.job b.task.layout q.record_of → AsksAdmitted job y op → HearsAdmitted job y op found
-heard_well b job y p q op found at grows sound ok =
-    let here : Sound job y q.record_of = subst (λ (t : Task). Sound t.job t.layout q.record_of) at.task sound in
-    let now : Sound job y (after p.record_of op found) = subst (λ (x : Place). Sound job y x.record_of) grows here in
-    admits (task_of job y) p.record_of op found now ok
+-- nothing was made yet
+pub driver_starts : (t : Task) (d : Driving) (number n q : ℕ) → Walks t d (turning number n q) →
+    Drives t (d, turn_script t.job t.layout number n q) d (turn_script t.job t.layout number n q)
+driver_starts t d number n q walks = record {
+  here = walks.here;
+  by = turning number n q;
+  fresh = refl;
+  going = tt;
+  fits = walks.fits;
+  knows = walks.knows;
+  begun = refl;
+  plays = still t (turn_script t.job t.layout number n q) d;
+}

@@ -10,12 +10,12 @@ use Rattle.walkx.specs.declared.operation.Op.TheVariants.{Load}
 use Rattle.walkx.specs.Records.{Record, after, Knows}
 use Rattle.walkx.specs.Walk.{Walking, Fits, IsBoard, IsLayoutOf, AsksAdmitted, HearsAdmitted, IsStepOn, ask_of}
 use Rattle.walkx.proofs.Boards.{root_most, conflict_most}
-use Rattle.lawful_words.specs.Board.{Stands}
-use Rattle.lawful_words.specs.Moments.{Backed, Moment, Sound, WasBacked}
-use Rattle.lawful_words.proofs.Moments.{load_keeps}
-use Rattle.lawful_words.proofs.Starting.{starts_stand}
-use Rattle.walk_laws.proofs.Staying.{answer_admitted}
-use Rattle.walk_laws.proofs.Turns.{workers_keep}
+use Rattle.lawful_walk.specs.Board.{Stands}
+use Rattle.lawful_walk.specs.Moments.{Backed, Moment, Sound, WasBacked}
+use Rattle.lawful_walk.proofs.Moments.{load_keeps}
+use Rattle.lawful_walk.proofs.Starting.{starts_stand}
+use Rattle.lawful_walk.proofs.Staying.{answer_admitted}
+use Rattle.lawful_walk.proofs.Turns.{workers_keep}
 use Rattle.pram_board.specs.declared.task.Task.{Task}
 use Rattle.pram_board.specs.Rules.{May}
 

@@ -11,9 +11,9 @@ use Rattle.walkx.specs.Reads.{step_seen}
 use Rattle.walkx.specs.Records.{Record, after, Knows}
 use Rattle.walkx.specs.Walk.{Walking, Fits, IsGoing, end_of}
 use Rattle.walkx.proofs.Knowing.{knows_next}
-use Rattle.lawful_words.specs.Moments.{Sound}
-use Rattle.walk_laws.specs.Walks.{ProgressWell}
-use Rattle.walk_laws.proofs.Sounding.{sound_ends, was_progress}
+use Rattle.lawful_walk.specs.Moments.{Sound}
+use Rattle.lawful_walk.specs.Walks.{ProgressWell}
+use Rattle.lawful_walk.proofs.Sounding.{sound_ends, was_progress}
 use Rattle.pram_board.specs.declared.look.Progress.{Progress}
 use Rattle.pram_board.specs.declared.task.Task.{Task}
 use Rattle.pram_board.specs.Seats.{Place, hears, Progressed}

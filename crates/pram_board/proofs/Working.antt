@@ -1,17 +1,23 @@
 -- The ticks of `work`, which goes on by one or by many.
-use Rattle.std.proofs.Common.{◌≡◌, ℕ, ◌+◌, ◌-◌, ◌%◌, ◌^◌, ◌<◌, ◌≤◌, Bool, Option, Some, None, IfSome, eqb, true, false, true≢false, refl, ◌⊎◌, sym, ap, subst, ◌∙◌, inl, inr, arith}
+use Rattle.std.proofs.Common.{◌≡◌, ℕ, ◌+◌, ◌-◌, ◌%◌, ◌^◌, ◌<◌, ◌≤◌, Bool, Option, Some, None}
+use Rattle.std.proofs.Common.{IfSome, eqb, eqb-true, true, false, true≢false, refl, sym, ap, subst}
+use Rattle.std.proofs.Common.{◌∙◌, inl, inr, arith}
 use Rattle.std.specs.Option.{is_some, option_eq}
-use Rattle.pram_text.specs.Job.{JobData}
-use Rattle.pram_words.specs.Words.{LayoutData}
 use Rattle.walkx.specs.Bound.{most_steps}
-use Rattle.walkx.specs.Records.{Record, Knows}
+use Rattle.walkx.specs.Inner.Workers.{WorkerData}
+use Rattle.walkx.specs.Records.{Knows}
+use Rattle.walkx.specs.Serving.{Serves}
 use Rattle.walkx.specs.Walk.{Walking, Fits, IsBoard, end_of}
-use Rattle.lawful_words.specs.Moments.{Sound}
+use Rattle.lawful_walk.specs.Moments.{Sound}
 use Rattle.pram_board.specs.declared.task.Task.{Task}
-use Rattle.pram_board.specs.Seats.{Desk, Place}
-use Rattle.pram_board.specs.Worked.{Ran, Ticked}
-use Rattle.pram_board.specs.Inner.Plays.{GoesOn, IsAt, Went}
-use Rattle.pram_board.proofs.Telling.{count_more, ran_more}
+use Rattle.pram_board.specs.Seats.{Desk, Place, IsLater}
+use Rattle.pram_board.specs.declared.work.Stay.{Stay}
+use Rattle.pram_board.specs.declared.work.Stay.TheVariants as stay
+use Rattle.pram_board.specs.Worked.{Ran, StaysAs, Ticked, Worked, Works, end_in}
+use Rattle.pram_board.proofs.Remembering.{later_ran}
+use Rattle.pram_board.proofs.Told.{shows_end}
+use Rattle.pram_board.specs.Inner.Plays.{Driving, GoesOn, IsAt, Led, Walks, Went}
+use Rattle.pram_board.proofs.Telling.{ran_more, went_more}
 use Rattle.pram_board.proofs.Works.{bound_small, fewer, ran_none, ran_on, room}
 
 count_once : (m n : ℕ) → n ≡ (m + 1) % 2 ^ 64 → n % 2 ^ 64 ≡ (m + 1) % 2 ^ 64
@@ -20,90 +26,203 @@ count_once m n is = omega arith
 below_once : (m n : ℕ) → n ≡ (m + 1) % 2 ^ 64 → n < 2 ^ 64
 below_once m n is = omega arith
 
--- all ticks so far are counted exactly, since they are few
-pub record Counted (t : Task) (p : Place) (w : Walking) (made : ℕ) (q : Place) (now : Walking) : Type 0 where
-  pub ran : Ran t p w made q now
-  pub most : made ≤ most_steps t.job t.layout
-
 exactly : (m n k : ℕ) → n % 2 ^ 64 ≡ (m + k) % 2 ^ 64 → n < 2 ^ 64 → m + k < 2 ^ 64 → n ≡ m + k
 exactly m n k count small few = omega arith
 
-module _ (t : Task) (p : Place) (w : Walking) (board : IsBoard t.job t.layout) (fits : Fits t.job t.layout w) (knows : Knows t.job t.layout p.record_of w) where
-  pub counted : (m : ℕ) (q : Place) (mid : Walking) (n : ℕ) (z : Place) (now : Walking) → Ran t p w m q mid → Sound t.job t.layout q.record_of → end_of mid.now ≡ None → (went : Went t (q, m) mid (z, n) now) → (went.ticks ≡ 1) ⊎ (end_of now.now ≡ None) → Sound t.job t.layout z.record_of →
-      (n ≡ m + went.ticks) × Counted t p w n z now
-  counted m q mid n z now ran sound going went ends sound_too =
-      let all : Ran t p w (m + went.ticks) z now = ran_more t p w m q mid went.ticks z now ran went.ran in
-      let before : m < most_steps t.job t.layout = fewer t p w m q mid board fits knows ran sound going in
-      let bound : most_steps t.job t.layout < 2 ^ 63 = bound_small t board in
-      let few : m + went.ticks ≤ most_steps t.job t.layout = elim ends [
-        | inl one ↦ omega arith
-        | inr none ↦ (let h = fewer t p w (m + went.ticks) z now board fits knows all sound_too none in omega arith)
-      ] in
-      let is : n ≡ m + went.ticks = exactly m n went.ticks went.count (went.small (omega arith)) (omega arith) in
-      (is, record { ran = subst (λ (k : ℕ). Ran t p w k z now) (sym is) all; most = subst (λ (k : ℕ). k ≤ most_steps t.job t.layout) (sym is) few })
+-- a worker that goes with a board, at the start of its ticks
+pub record Begun (b : Desk) (p : Place) (w : Walking) : Type 0 where
+  pub board : IsBoard b.task.job b.task.layout
+  pub fits : Fits b.task.job b.task.layout w
+  pub knows : Knows b.task.job b.task.layout p.record_of w
 
-  -- whole turns bring the count nearer to its bound
-  pub turns_on : (m0 m n : ℕ) (q : Place) (mid : Walking) (z : Place) (now : Walking) (first : Went t (p, m0) w (q, m) mid) (second : Went t (q, m) mid (z, n) now) → 1 ≤ second.ticks → end_of now.now ≡ None → Sound t.job t.layout z.record_of →
-      m0 < 2 ^ 63 → m0 + most_steps t.job t.layout - n < m0 + most_steps t.job t.layout - m
-  turns_on m0 m n q mid z now first second some none sound room =
-      let all : Ran t p w (first.ticks + second.ticks) z now = ran_more t p w first.ticks q mid second.ticks z now first.ran second.ran in
-      let small : m < 2 ^ 64 = first.small (omega arith) in
-      let small_too : n < 2 ^ 64 = second.small small in
-      let few : first.ticks + second.ticks < most_steps t.job t.layout = fewer t p w (first.ticks + second.ticks) z now board fits knows all sound none in
-      let bound : most_steps t.job t.layout < 2 ^ 63 = bound_small t board in
-      let is : m ≡ m0 + first.ticks = exactly m0 m first.ticks first.count small (omega arith) in
-      let is_too : n ≡ m0 + (first.ticks + second.ticks) = exactly m0 n (first.ticks + second.ticks) (count_more m0 m n first.ticks second.ticks first.count second.count) small_too (omega arith) in
-      omega arith
+module _ (p : Place) (w : Walking) (d : Driving) (mid : Walking) (e : Driving) (now : Walking)
+    (begun : Begun d.desk p w) (ran : Ran d.desk.task p w d.made d.seat mid)
+    (sound : Sound d.desk.task.job d.desk.task.layout d.seat.record_of)
+    (going : end_of mid.now ≡ None) where
+  before : d.made < most_steps d.desk.task.job d.desk.task.layout
+  before =
+      fewer d.desk.task p w d.made d.seat mid begun.board begun.fits begun.knows ran sound going
 
--- what a seat at a desk has heard is sound
-pub sound_at : (b : Desk) (job : JobData) (y : LayoutData) (p : Place) → IsAt b job y p → Sound p.desk.task.job p.desk.task.layout p.record_of → Sound job y p.record_of
-sound_at b job y p at sound = subst (λ (t : Task). Sound t.job t.layout p.record_of) (ap (λ (d : Desk). d.task) at.desk ∙ at.task) sound
+  module _ (limited : Bool) (goes : GoesOn limited d mid e now)
+      (sound_too : Sound e.desk.task.job e.desk.task.layout e.seat.record_of) where
+    all : Ran d.desk.task p w (d.made + goes.0.ticks) e.seat now
+    all = ran_more d.desk.task p w d.made d.seat mid goes.0.ticks e.seat now ran goes.0.ran
 
--- ---- the task that lies inside the board is the one that contracts see
+    few : d.made + goes.0.ticks ≤ most_steps d.desk.task.job d.desk.task.layout
+    few = elim goes.2 [
+      | inl one ↦ (let h = before in omega arith)
+      | inr far ↦
+          (let h = fewer d.desk.task p w (d.made + goes.0.ticks) e.seat now begun.board begun.fits
+          begun.knows all (subst (λ (b : Desk). Sound b.task.job b.task.layout e.seat.record_of)
+          goes.0.desk sound_too) far.1 in omega arith)
+    ]
 
-pub at_inside : (b : Desk) (u : Task) (p : Place) → u ≡ b.task → p.desk ≡ b → IsBoard b.task.job b.task.layout → IsAt b u.job u.layout p
-at_inside b u p same desk board = record { desk = desk; task = sym same; board = subst (λ (t : Task). IsBoard t.job t.layout) (sym same) board }
+    -- all ticks so far are counted exactly, since they are few
+    pub counted : e.made ≡ d.made + goes.0.ticks
+    counted =
+        let h = few in
+        let k = before in
+        let bound : most_steps d.desk.task.job d.desk.task.layout < 2 ^ 63 =
+        bound_small d.desk.task begun.board in
+        exactly d.made e.made goes.0.ticks goes.0.count (goes.0.small (omega arith)) (omega arith)
 
-pub fits_as : (t u : Task) (w v : Walking) → t ≡ u → w ≡ v → Fits t.job t.layout w → Fits u.job u.layout v
-fits_as t u w v same is fits = subst (λ (x : Task × Walking). Fits x.0.job x.0.layout x.1) (λ i. (same i, is i)) fits
+    pub ran_so_far : Ran e.desk.task p w e.made e.seat now
+    ran_so_far =
+        subst (λ (x : Desk × ℕ). Ran x.0.task p w x.1 e.seat now)
+        (λ i. (sym goes.0.desk i, sym counted i)) all
 
-pub knows_as : (t u : Task) (r : Record) (w v : Walking) → t ≡ u → w ≡ v → Knows t.job t.layout r w → Knows u.job u.layout r v
-knows_as t u r w v same is knows = subst (λ (x : Task × Walking). Knows x.0.job x.0.layout r x.1) (λ i. (same i, is i)) knows
+    pub most_so_far : e.made ≤ most_steps e.desk.task.job e.desk.task.layout
+    most_so_far =
+        subst (λ (x : Desk × ℕ). x.1 ≤ most_steps x.0.task.job x.0.task.layout)
+        (λ i. (sym goes.0.desk i, sym counted i)) few
 
-pub goes_as : (t u : Task) (p q : Place × ℕ) (w v w' v' : Walking) → t ≡ u → w ≡ w' → v ≡ v' → GoesOn t false p w q v → GoesOn u false p w' q v'
-goes_as t u p q w v w' v' same is is_too goes = subst (λ (x : Task × Walking × Walking). GoesOn x.0 false p x.1 q x.2) (λ i. (same i, is i, is_too i)) goes
+    pub nearer : most_steps e.desk.task.job e.desk.task.layout - e.made <
+        most_steps d.desk.task.job d.desk.task.layout - d.made
+    nearer =
+        subst (λ (b : Desk). most_steps b.task.job b.task.layout - e.made <
+        most_steps d.desk.task.job d.desk.task.layout - d.made) (sym goes.0.desk)
+        (let some = goes.1 in let h = before in let k = counted in omega arith)
+
+-- whole turns bring the count nearer to its bound
+pub turns_on : (t : Task) (p : Driving) (w : Walking) (q : Driving) (mid : Walking) (z : Driving)
+    (now : Walking) → IsBoard t.job t.layout → Fits t.job t.layout w →
+    Knows t.job t.layout p.seat.record_of w → (first : Went t p w q mid) →
+    (second : Went t q mid z now) → 1 ≤ second.ticks → end_of now.now ≡ None →
+    Sound t.job t.layout z.seat.record_of → p.made < 2 ^ 63 →
+    p.made + most_steps t.job t.layout - z.made < p.made + most_steps t.job t.layout - q.made
+turns_on t p w q mid z now board fits knows first second some none sound small_start =
+    let both : Went t p w z now = went_more t p w q mid z now first second in
+    let small : q.made < 2 ^ 64 = first.small (omega arith) in
+    let small_too : z.made < 2 ^ 64 = second.small small in
+    let few : both.ticks < most_steps t.job t.layout =
+    fewer t p.seat w both.ticks z.seat now board fits knows both.ran sound none in
+    let bound : most_steps t.job t.layout < 2 ^ 63 = bound_small t board in
+    let is : q.made ≡ p.made + first.ticks =
+    exactly p.made q.made first.ticks first.count small (omega arith) in
+    let is_too : z.made ≡ p.made + both.ticks =
+    exactly p.made z.made both.ticks both.count small_too (omega arith) in
+    omega arith
+
+-- what a seat at a board has heard is sound
+pub sound_at : (t : Task) (d : Driving) → IsAt t d →
+    Sound d.seat.desk.task.job d.seat.desk.task.layout d.seat.record_of →
+    Sound t.job t.layout d.seat.record_of
+sound_at t d here sound =
+    subst (λ (u : Task). Sound u.job u.layout d.seat.record_of)
+    (ap (λ (b : Desk). b.task) here.desk ∙ here.task) sound
 
 -- the limit is not passed
-pub within_limit : (t : Task) (limit : Option ℕ) (limited : Bool) (p q : Place × ℕ) (w now : Walking) → limited ≡ is_some limit → option_eq eqb limit (Some p.1) ≡ false → IfSome limit (λ k. p.1 ≤ k) → (goes : GoesOn t limited p w q now) → q.1 ≡ p.1 + goes.0.ticks → IfSome limit (λ k. q.1 ≤ k)
-within_limit t None limited p q w now some apart within goes is = tt
-within_limit t (Some k) limited p q w now some apart within goes is = elim goes.2 [
-  | inl one ↦ (let h : p.1 + 1 ≤ k = room (Some k) p.1 apart within in omega arith)
+pub within_limit : (limit : Option ℕ) (limited : Bool) (p q : Driving) (w now : Walking) →
+    limited ≡ is_some limit → option_eq eqb limit (Some p.made) ≡ false →
+    IfSome limit (λ k. p.made ≤ k) → (goes : GoesOn limited p w q now) →
+    q.made ≡ p.made + goes.0.ticks → IfSome limit (λ k. q.made ≤ k)
+within_limit None limited p q w now some apart within goes is = tt
+within_limit (Some k) limited p q w now some apart within goes is = elim goes.2 [
+  | inl one ↦ (let h : p.made + 1 ≤ k = room (Some k) p.made apart within in omega arith)
   | inr far ↦ absurd (true≢false (sym some ∙ far.0))
 ]
 
 -- one tick goes on in any case, and whole turns where there is no limit
-pub goes_once : (t : Task) (p : Place) (m : ℕ) (w : Walking) (q : Place) (n : ℕ) (now : Walking) → Ticked t p w q now → n ≡ (m + 1) % 2 ^ 64 → GoesOn t true (p, m) w (q, n) now
-goes_once t p m w q n now ticked count = (
-  record { ticks = 1; ran = ran_on t p w 0 p w q now ticked (ran_none t p w); count = count_once m n count; small = λ h. below_once m n count },
+pub goes_once : (p q : Driving) (w now : Walking) → Ticked p.desk.task p.seat w q.seat now →
+    q.desk ≡ p.desk → q.made ≡ (p.made + 1) % 2 ^ 64 → GoesOn true p w q now
+goes_once p q w now ticked desk count = (
+  record {
+    ticks = 1;
+    ran = ran_on p.desk.task p.seat w 0 p.seat w q.seat now ticked (ran_none p.desk.task p.seat w);
+    desk = desk;
+    count = count_once p.made q.made count;
+    small = λ h. below_once p.made q.made count;
+  },
   omega arith,
   inl refl,
 )
 
-pub goes_any : (t : Task) (limited : Bool) (p q : Place × ℕ) (w now : Walking) → GoesOn t true p w q now → GoesOn t limited p w q now
-goes_any t limited p q w now goes = (goes.0, goes.1, elim goes.2 [ inl one ↦ inl one | inr far ↦ absurd (true≢false far.0) ])
+pub goes_any : (limited : Bool) (p q : Driving) (w now : Walking) → GoesOn true p w q now →
+    GoesOn limited p w q now
+goes_any limited p q w now goes =
+    (goes.0, goes.1, elim goes.2 [ inl one ↦ inl one | inr far ↦ absurd (true≢false far.0) ])
 
-pub goes_free : (t : Task) (limited : Bool) (p q : Place × ℕ) (w now : Walking) → limited ≡ false → GoesOn t false p w q now → GoesOn t limited p w q now
-goes_free t limited p q w now is goes = subst (λ (b : Bool). GoesOn t b p w q now) (sym is) goes
+pub goes_free : (limited : Bool) (p q : Driving) (w now : Walking) → limited ≡ false →
+    GoesOn false p w q now → GoesOn limited p w q now
+goes_free limited p q w now is goes =
+    subst (λ (b : Bool). GoesOn b p w q now) (sym is) goes
 
 -- whole turns, up to one that has the worker begin
-pub goes_far : (t : Task) (p : Place × ℕ) (w : Walking) (q : Place × ℕ) (mid : Walking) (z : Place × ℕ) (now : Walking) → Went t p w q mid → (second : Went t q mid z now) → 1 ≤ second.ticks → end_of now.now ≡ None → GoesOn t false p w z now
-goes_far t p w q mid z now first second some none = (
-  record {
-    ticks = first.ticks + second.ticks;
-    ran = ran_more t p.0 w first.ticks q.0 mid second.ticks z.0 now first.ran second.ran;
-    count = count_more p.1 q.1 z.1 first.ticks second.ticks first.count second.count;
-    small = λ h. second.small (first.small h);
-  },
-  omega arith,
-  inr (refl, none),
-)
+pub goes_far : (p q : Driving) (w now : Walking) → Led p.desk.task p w q now →
+    end_of now.now ≡ None → GoesOn false p w q now
+goes_far p q w now led none = (led.went, led.some, inr (refl, none))
+
+pub led_more : (t : Task) (p : Driving) (w : Walking) (q : Driving) (mid : Walking) (z : Driving)
+    (now : Walking) → Went t p w q mid → Led t q mid z now → Led t p w z now
+led_more t p w q mid z now first second = record {
+  walks = second.walks;
+  went = went_more t p w q mid z now first second.went;
+  some = (let h = second.some in omega arith);
+}
+
+-- ---- the worker that the code has, and its board
+
+pub walks_of : (t : Task) (d : Driving) (w v : Walking) → t ≡ d.desk.task → w ≡ v →
+    d.seat.desk ≡ d.desk → IsBoard d.desk.task.job d.desk.task.layout →
+    Fits d.desk.task.job d.desk.task.layout w →
+    Knows d.desk.task.job d.desk.task.layout d.seat.record_of w → Walks t d v
+walks_of t d w v same is desk board fits knows =
+    subst (λ (x : Task × Walking). Walks x.0 d x.1) (λ i. (sym same i, is i)) (record {
+      here = record { desk = desk; task = refl; board = board };
+      fits = fits;
+      knows = knows;
+    })
+
+pub led_as : (t u : Task) (p q : Driving) (w w' now now' : Walking) → t ≡ u → w ≡ w' →
+    now ≡ now' → Led t p w q now → Led u p w' q now'
+led_as t u p q w w' now now' same is is_too led =
+    subst (λ (x : Task × Walking × Walking). Led x.0 p x.1 q x.2)
+    (λ i. (same i, is i, is_too i)) led
+
+pub works_on : (p q : Driving) (w : WorkerData) (first : Walking) →
+    Led p.desk.task p first q w.walking → Serves p.desk.task.job p.desk.task.layout w →
+    Works q.desk q.seat w
+works_on p q w first led serves =
+    subst (λ (b : Desk). Works b q.seat w) (sym led.went.desk) (record {
+      desk = led.walks.here.desk ∙ led.went.desk;
+      serves = serves;
+      knows = led.walks.knows;
+    })
+
+-- ---- the end of `work`
+
+pub is_limit : (limit : Option ℕ) (n : ℕ) → option_eq eqb limit (Some n) ≡ true → limit ≡ Some n
+is_limit None n is = absurd (true≢false (sym is))
+is_limit (Some k) n is = ap (λ (m : ℕ). Some m) (eqb-true k n is)
+
+end_as : (limit : Option ℕ) (n : ℕ) (now : Walking) (stay : Stay) → StaysAs limit n now stay →
+    end_in stay ≡ end_of now.now
+end_as limit n now (stay.Ended e) stays = sym stays
+end_as limit n now stay.Stopped stays = sym stays.1
+
+pub record Finished (b : Desk) (p : Place) (w : Walking) (limit : Option ℕ) (q : Place)
+    (now : WorkerData) (stay : Stay) : Type 0 where
+  pub worked : Worked b.task p w limit q now.walking stay
+  pub later : IsLater b p q
+  pub works : Works b q now
+
+pub finished : (b : Desk) (p : Place) (w : Walking) (limit : Option ℕ) (d : Driving)
+    (now : WorkerData) (stay : Stay) → d.desk ≡ b → Works d.desk d.seat now →
+    Sound d.desk.task.job d.desk.task.layout d.seat.record_of →
+    Ran d.desk.task p w d.made d.seat now.walking →
+    d.made ≤ most_steps d.desk.task.job d.desk.task.layout → IfSome limit (λ k. d.made ≤ k) →
+    StaysAs limit d.made now.walking stay → Finished b p w limit d.seat now stay
+finished b p w limit d now stay same works sound ran most within stays =
+    subst (λ (x : Desk). Finished x p w limit d.seat now stay) same (record {
+      worked = record {
+        ticks = d.made;
+        ran = ran;
+        most = most;
+        within = within;
+        stays = stays;
+        shows = shows_end d.desk.task d.seat.record_of now.walking (end_in stay)
+            (end_as limit d.made now.walking stay stays) sound works.serves.fits works.knows;
+      };
+      later = later_ran d.desk p w d.made d.seat now.walking works.desk ran sound;
+      works = works;
+    })

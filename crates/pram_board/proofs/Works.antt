@@ -5,10 +5,10 @@ use Rattle.std.specs.Option.{option_eq}
 use Rattle.walkx.specs.Bound.{told_all, history_of, most_steps}
 use Rattle.walkx.specs.Records.{Has, Knows}
 use Rattle.walkx.specs.Walk.{Walking, Fits, IsBoard, IsGoing, ask_of, told, end_of}
-use Rattle.lawful_words.specs.Moments.{Sound, afters}
-use Rattle.walk_laws.specs.Walks.{steps_of}
-use Rattle.walk_laws.proofs.Bounding.{history_known}
-use Rattle.walk_laws.proofs.Sounding.{sound_steps}
+use Rattle.lawful_walk.specs.Moments.{Sound, afters}
+use Rattle.lawful_walk.specs.Walks.{steps_of}
+use Rattle.lawful_walk.proofs.Bounding.{history_known}
+use Rattle.lawful_walk.proofs.Sounding.{sound_steps}
 use Rattle.pram_board.specs.declared.task.Task.{Task}
 use Rattle.pram_board.specs.Seats.{Place, hears}
 use Rattle.pram_board.specs.Worked.{Ran, Ticked}

@@ -1,11 +1,20 @@
 -- A code for tasks, by which they are told apart: what lets a task stand in what contracts see of a
 -- seat.
-use Rattle.std.specs.Prelude.{◌≡◌, ℕ, zero, suc, Bool, List, refl}
+use Rattle.std.specs.Prelude.{◌≡◌, ℕ, zero, suc, Bool, if◌then◌else◌, List, [], ◌∷◌, refl}
+use native.Mathlib.Omega.{arith}
+use Rattle.std.specs.Str.{bytes_eq}
 use Rattle.std.specs.Coded.{Coded, code_by, coded×, coded_ℕ, coded_bool, coded_list}
 use Rattle.pram_text.specs.Job.{JobData}
 use Rattle.pram_text.specs.declared.instr.Instr.{Instr}
-use Rattle.pram_text.specs.declared.instr.Instr.TheVariants.{Set, Pid, Add, Sub, Mul, And, Or, Xor}
-use Rattle.pram_text.specs.declared.instr.Instr.TheVariants.{Lt, Eq, Ld, St, Jz, Jmp, Halt}
+use Rattle.pram_text.specs.declared.instr.Instr.TheVariants.{Halt}
+use Rattle.pram_text.specs.declared.instr.Operands.{Operands}
+use Rattle.pram_text.specs.declared.instr.Operands.TheVariants.{Bare, Target, TargetNumber}
+use Rattle.pram_text.specs.declared.instr.Operands.TheVariants.{TargetOne, TargetTwo, Two}
+use Rattle.pram_text.specs.declared.instr.Operands.TheVariants.{OnePlace, Place}
+use Rattle.pram_text.specs.Instructions as Instructions
+use Rattle.pram_text.specs.Instructions.{bare, target, target_number, target_one, target_two}
+use Rattle.pram_text.specs.Instructions.{pair, one_place, at_place, row_of, table}
+use Rattle.pram_text.specs.Lines.{Word}
 use Rattle.pram_text.specs.declared.instr.Rule.{Rule}
 use Rattle.pram_text.specs.declared.instr.Rule.TheVariants.{Common, Priority, Crew}
 use Rattle.pram_words.specs.declared.layout.Form.{Form}
@@ -31,66 +40,47 @@ rule_again Common = refl
 rule_again Priority = refl
 rule_again Crew = refl
 
--- ---- instructions: a number for the kind, and the operands
+-- ---- instructions: the number of the row in the table, and the operands
+
+parts_by : Operands → ℕ × (ℕ × ℕ)
+parts_by Bare = (0, (0, 0))
+parts_by (Target r) = (r, (0, 0))
+parts_by (TargetNumber r k) = (r, (k, 0))
+parts_by (TargetOne r a) = (r, (a, 0))
+parts_by (TargetTwo r a b) = (r, (a, b))
+parts_by (Two a b) = (a, (b, 0))
+parts_by (OnePlace r place) = (r, (place, 0))
+parts_by (Place place) = (place, (0, 0))
+
+made_by : Instructions.Form → ℕ × (ℕ × ℕ) → Instr
+made_by (bare instr) p = instr
+made_by (target make) p = make p.0
+made_by (target_number make) p = make p.0 p.1.0
+made_by (target_one make) p = make p.0 p.1.0
+made_by (target_two make) p = make p.0 p.1.0 p.1.1
+made_by (pair make) p = make p.0 p.1.0
+made_by (one_place make) p = make p.0 p.1.0
+made_by (at_place make) p = make p.0
+
+-- the first row of this name
+row_number : List (Word × Instructions.Form) → Word → ℕ
+row_number [] name = 0
+row_number (row ∷ rows) name = if bytes_eq name row.0 then 0 else suc (row_number rows name)
+
+made_in : List (Word × Instructions.Form) → ℕ → ℕ × (ℕ × ℕ) → Instr
+made_in [] n p = Halt
+made_in (row ∷ rows) zero p = made_by row.1 p
+made_in (row ∷ rows) (suc n) p = made_in rows n p
 
 parts_of : Instr → ℕ × (ℕ × (ℕ × ℕ))
-parts_of (Set r k) = (0, (r, (k, 0)))
-parts_of (Pid r) = (1, (r, (0, 0)))
-parts_of (Add r a b) = (2, (r, (a, b)))
-parts_of (Sub r a b) = (3, (r, (a, b)))
-parts_of (Mul r a b) = (4, (r, (a, b)))
-parts_of (And r a b) = (5, (r, (a, b)))
-parts_of (Or r a b) = (6, (r, (a, b)))
-parts_of (Xor r a b) = (7, (r, (a, b)))
-parts_of (Lt r a b) = (8, (r, (a, b)))
-parts_of (Eq r a b) = (9, (r, (a, b)))
-parts_of (Ld r a) = (10, (r, (a, 0)))
-parts_of (St a b) = (11, (a, (b, 0)))
-parts_of (Jz r place) = (12, (r, (place, 0)))
-parts_of (Jmp place) = (13, (place, (0, 0)))
-parts_of Halt = (14, (0, (0, 0)))
-
-instr_from_kind : ℕ → ℕ × (ℕ × ℕ) → Instr
-instr_from_kind zero p = Set p.0 p.1.0
-instr_from_kind (suc zero) p = Pid p.0
-instr_from_kind (suc (suc zero)) p = Add p.0 p.1.0 p.1.1
-instr_from_kind (suc (suc (suc zero))) p = Sub p.0 p.1.0 p.1.1
-instr_from_kind (suc (suc (suc (suc zero)))) p = Mul p.0 p.1.0 p.1.1
-instr_from_kind (suc (suc (suc (suc (suc zero))))) p = And p.0 p.1.0 p.1.1
-instr_from_kind (suc (suc (suc (suc (suc (suc zero)))))) p = Or p.0 p.1.0 p.1.1
-instr_from_kind (suc (suc (suc (suc (suc (suc (suc zero))))))) p = Xor p.0 p.1.0 p.1.1
-instr_from_kind (suc (suc (suc (suc (suc (suc (suc (suc zero)))))))) p = Lt p.0 p.1.0 p.1.1
-instr_from_kind (suc (suc (suc (suc (suc (suc (suc (suc (suc zero))))))))) p = Eq p.0 p.1.0 p.1.1
-instr_from_kind (suc (suc (suc (suc (suc (suc (suc (suc (suc (suc zero)))))))))) p = Ld p.0 p.1.0
-instr_from_kind (suc (suc (suc (suc (suc (suc (suc (suc (suc (suc (suc zero))))))))))) p =
-    St p.0 p.1.0
-instr_from_kind (suc (suc (suc (suc (suc (suc (suc (suc (suc (suc (suc (suc zero)))))))))))) p =
-    Jz p.0 p.1.0
-instr_from_kind
-    (suc (suc (suc (suc (suc (suc (suc (suc (suc (suc (suc (suc (suc zero))))))))))))) p = Jmp p.0
-instr_from_kind
-    (suc (suc (suc (suc (suc (suc (suc (suc (suc (suc (suc (suc (suc (suc n)))))))))))))) p = Halt
+parts_of instr = (row_number table (row_of instr).0, parts_by (row_of instr).1)
 
 instr_from : ℕ × (ℕ × (ℕ × ℕ)) → Instr
-instr_from p = instr_from_kind p.0 p.1
+instr_from p = made_in table p.0 p.1
 
 instr_again : (i : Instr) → instr_from (parts_of i) ≡ i
-unfolding parts_of instr_from instr_from_kind
-instr_again (Set r k) = refl
-instr_again (Pid r) = refl
-instr_again (Add r a b) = refl
-instr_again (Sub r a b) = refl
-instr_again (Mul r a b) = refl
-instr_again (And r a b) = refl
-instr_again (Or r a b) = refl
-instr_again (Xor r a b) = refl
-instr_again (Lt r a b) = refl
-instr_again (Eq r a b) = refl
-instr_again (Ld r a) = refl
-instr_again (St a b) = refl
-instr_again (Jz r place) = refl
-instr_again (Jmp place) = refl
-instr_again Halt = refl
+unfolding parts_of instr_from parts_by made_by row_number made_in
+instr_again i = grind arith
 
 -- ---- forms
 

@@ -1,4 +1,3 @@
 -- What private contracts cite.
 pub mod Asked
 pub mod Plays
-pub mod Rests

@@ -9,8 +9,8 @@ use Rattle.walkx.specs.declared.operation.Op.{Op}
 use Rattle.walkx.specs.declared.operation.Op.TheVariants.{Load, Store, Max, Swap}
 use Rattle.walkx.specs.Records.{Record, empty, after, both}
 use Rattle.walkx.specs.Walk.{IsStepOn}
-use Rattle.lawful_words.specs.Board.{Stands}
-use Rattle.lawful_words.specs.Moments.{Backed, Sound, Keeps}
+use Rattle.lawful_walk.specs.Board.{Stands}
+use Rattle.lawful_walk.specs.Moments.{Backed, Sound, Keeps}
 use Rattle.pram_board.specs.declared.task.Task.{Task}
 use Rattle.pram_board.specs.declared.task.View.{View}
 

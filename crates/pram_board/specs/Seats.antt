@@ -15,9 +15,9 @@ use Rattle.walkx.specs.Reads.{step_seen, reader_script}
 use Rattle.walkx.specs.Records.{Record, empty, after, both, Has}
 use Rattle.walkx.specs.Codes.{coded_record}
 use Rattle.walkx.specs.Scripts.{ends, rest, heard_in}
-use Rattle.lawful_words.specs.Moments.{afters}
-use Rattle.lawful_words.specs.Seen.{Heard}
-use Rattle.walk_laws.specs.Walks.{IsLawfulRead, ProgressWell}
+use Rattle.lawful_walk.specs.Moments.{Sound, afters}
+use Rattle.lawful_walk.specs.Seen.{Heard}
+use Rattle.lawful_walk.specs.Walks.{IsLawfulRead, ProgressWell}
 use Rattle.pram_board.specs.declared.look.Progress.{Progress}
 use Rattle.pram_board.specs.declared.task.Task.{Task}
 use Rattle.pram_board.specs.Codes.{coded_task}
@@ -73,6 +73,12 @@ unites p q = record { desk = p.desk; record_of = both p.record_of q.record_of }
 -- the later record has what the earlier one had: each worker that it knew, for one
 abbrev pub Remembers : Record → Record → Type 0
 Remembers before later = (steps : List (Op × ℕ)) → Has before steps → Has later steps
+
+-- the seat later: it is of this board still, has what it had, and what it heard is sound
+pub record IsLater (d : Desk) (p q : Place) : Type 0 where
+  pub desk : q.desk ≡ d
+  pub keeps : Remembers p.record_of q.record_of
+  pub sound : Sound d.task.job d.task.layout q.record_of
 
 -- the record heard word 0 as another value than 0
 pub record KnowsConflict (y : LayoutData) (r : Record) : Type 0 where

@@ -1,6 +1,5 @@
 //! The board.
 ghost use Rattle.std.specs.Prelude.{◌≡◌, IfOk};
-ghost use Rattle.pram_words.specs.Start.{start_words};
 
 use crate::plays::{Law, Loads, Raises, Shares, Stores, Swaps, Unites};
 use crate::seat::Seat;
@@ -41,7 +40,7 @@ impl Board {
     ghost use Rattle.std.specs.Prelude.{◌≡◌, ◌≤◌, IfOk};
     ghost use Rattle.pram_words.specs.declared.layout.Form.TheVariants.{Compact, Wide};
     ghost use Rattle.walkx.specs.Walk.{IsBoard, IsLayoutOf};
-    ghost use Rattle.lawful_words.specs.Moments.{Sound};
+    ghost use Rattle.lawful_walk.specs.Moments.{Sound};
     ghost use Rattle.pram_board.specs.Rules.{May};
     ghost use Rattle.pram_board.specs.Seats.{IsOpened, Remembers, hears, unites};
 
@@ -71,7 +70,7 @@ impl Board {
         ensures { IfOk result (IsOpened job.now layout.form layout.workers) }
     {
         let job = job.try_clone()?;
-        let words = first_words(alloc, &job, &layout)?;
+        let words = layout.start_words(alloc, &job)?;
         // These tell the limits of the job and of the layout.
         let _ = job.cells();
         let _ = layout.leaves();
@@ -119,6 +118,15 @@ impl Board {
         let _ = &self.task;
     }
 
+    // What the board is about.
+    #[inline(always)]
+    pub(crate) fn task(&self) -> &Task
+        ensures value { result.now ≡ self.now.task }
+        ensures board { IsBoard self.now.task.job self.now.task.layout }
+    {
+        &self.task
+    }
+
     // One atomic step, and its answer. It is the only call that touches the words.
     pub(crate) fn step(&self, seat: &mut Seat, op: Op) -> u64
         requires desk { seat.old.desk ≡ self.now }
@@ -141,16 +149,4 @@ impl Board {
             Op::Over(_) => unreachable!(),
         }
     }
-}
-
-// The words that a board starts with.
-#[tactic(auto, unfolding(pram_words::specs::Start::start_words))]
-fn first_words(alloc: Global, job: &Job, layout: &Layout) -> Result<Vec<u64>, AllocError>
-    ensures { IfOk result (λ words. words.items ≡ start_words layout.now job.now) }
-{
-    let mut words = Vec::with_capacity(alloc, layout.length() as usize)?;
-    for k in 0..layout.length() {
-        words.push(layout.start_word(job, k))?;
-    }
-    Ok(words)
 }

@@ -3,18 +3,14 @@
 #![tactic(auto)]
 
 mod board;
-mod carry;
-mod compute;
-mod hand;
+mod driver;
 mod look;
 mod outcome;
-mod parts;
 mod plays;
 mod seat;
 mod task;
 #[cfg(test)]
 mod tests;
-mod turns;
 mod work;
 
 pub use board::Board;

@@ -16,9 +16,8 @@ pub struct Progress {
 
 impl Board {
     ghost use Rattle.std.specs.Prelude.{◌≡◌, ◌<◌, IfSome};
-    ghost use Rattle.lawful_words.specs.Moments.{Sound};
-    ghost use Rattle.lawful_words.specs.Seen.{KnowsStep};
-    ghost use Rattle.pram_board.specs.Seats.{KnowsConflict, Progressed, Remembers, WasRead};
+    ghost use Rattle.lawful_walk.specs.Seen.{KnowsStep};
+    ghost use Rattle.pram_board.specs.Seats.{IsLater, KnowsConflict, Progressed, WasRead};
 
     /// The finished step, by one load of the root and then one of word 0. It is no step below those
     /// that the seat has seen.
@@ -29,9 +28,7 @@ impl Board {
             KnowsStep self.now.task.layout seat.new.record_of self.now.task.job.steps }
         ensures conflict { IfSome result.conflict
             (λ step. KnowsConflict self.now.task.layout seat.new.record_of) }
-        ensures keeps { Remembers seat.old.record_of seat.new.record_of }
-        ensures sound { Sound self.now.task.job self.now.task.layout seat.new.record_of }
-        ensures desk { seat.new.desk ≡ self.now }
+        ensures later { IsLater self.now seat.old seat.new }
     {
         self.facts();
         let root = self.step(seat, Op::Load(self.task.layout.node_word(1)));
@@ -49,9 +46,7 @@ impl Board {
         requires desk { seat.old.desk ≡ self.now }
         requires cell { cell < self.now.task.job.cells }
         ensures read { WasRead self.now.task seat.old seat.new cell result }
-        ensures keeps { Remembers seat.old.record_of seat.new.record_of }
-        ensures sound { Sound self.now.task.job self.now.task.layout seat.new.record_of }
-        ensures desk { seat.new.desk ≡ self.now }
+        ensures later { IsLater self.now seat.old seat.new }
     {
         self.facts();
         seat.facts();

@@ -1,11 +1,10 @@
 //! What a board whose job has come to its end answers.
 ghost use Rattle.std.specs.Prelude.{◌≡◌};
-ghost use Rattle.walkx.specs.Tasks.{newer_payload};
 
 use crate::board::Board;
 use crate::seat::Seat;
 use pram_step::{Fault, Request, fault_of};
-use pram_words::{payload, stamp};
+use pram_words::newer_payload;
 use std::alloc::{AllocError, Global};
 use walkx::{Op, request_of};
 
@@ -18,9 +17,9 @@ impl Board {
     ghost use Rattle.pram_words.specs.Words.{length_of, number_of, places_of};
     ghost use Rattle.pram_words.specs.Stamps.{payload_of, stamp_of};
     ghost use Rattle.pram_words.specs.declared.words.Word.TheVariants.{Conflict, Stored};
-    ghost use Rattle.lawful_words.specs.Moments.{Sound};
-    ghost use Rattle.lawful_words.specs.Seen.{Heard, KnowsStep};
-    ghost use Rattle.pram_board.specs.Seats.{HasLoaded, KnowsConflict, Remembers};
+    ghost use Rattle.lawful_walk.specs.Moments.{Sound};
+    ghost use Rattle.lawful_walk.specs.Seen.{Heard, KnowsStep};
+    ghost use Rattle.pram_board.specs.Seats.{HasLoaded, IsLater, KnowsConflict};
 
     /// What each cell holds after the last step, cell 0 first. The seat is to have seen that step.
     /// It takes two loads a cell; where memory is refused, it takes none.
@@ -32,9 +31,7 @@ impl Board {
         ensures loads { IfOk result (λ cells. HasLoaded (2 * self.now.task.job.cells) seat.old
             seat.new) }
         ensures refused { IfErr result (λ refusal. seat.new ≡ seat.old) }
-        ensures keeps { Remembers seat.old.record_of seat.new.record_of }
-        ensures sound { Sound self.now.task.job self.now.task.layout seat.new.record_of }
-        ensures desk { seat.new.desk ≡ self.now }
+        ensures later { IsLater self.now seat.old seat.new }
     {
         self.facts();
         seat.facts();
@@ -56,9 +53,7 @@ impl Board {
         ensures loads { IfOk result (λ fault. HasLoaded (1 + 3 * self.now.task.job.procs) seat.old
             seat.new) }
         ensures refused { IfErr result (λ refusal. (n : ℕ) × HasLoaded n seat.old seat.new) }
-        ensures keeps { Remembers seat.old.record_of seat.new.record_of }
-        ensures sound { Sound self.now.task.job self.now.task.layout seat.new.record_of }
-        ensures desk { seat.new.desk ≡ self.now }
+        ensures later { IsLater self.now seat.old seat.new }
     {
         seat.facts();
         let mut requests = Vec::with_capacity(alloc, self.task.job.procs() as usize)?;
@@ -81,7 +76,7 @@ impl Board {
         self.step(seat, Op::Load(self.task.layout.conflict_word())) as u32
     }
 
-    // The request of a processor in the step that word 0 was heard to name, behind s steps.
+    // The request of a processor in the step that word 0 was heard to name, after s steps.
     fn request(&self, seat: &mut Seat, processor: u32) -> Request
         requires desk { seat.old.desk ≡ self.now }
         requires processor { processor < self.now.task.job.procs }
@@ -129,7 +124,7 @@ impl Board {
         let word = self.cell_word(cell);
         let first = self.step(seat, Op::Load(word));
         let second = self.step(seat, Op::Load(word + 1));
-        newer(first, second)
+        newer_payload(first, second)
     }
 
     // The first of the two words of a cell.
@@ -142,16 +137,5 @@ impl Board {
     {
         self.facts();
         self.task.layout.place_word(cell)
-    }
-}
-
-// The payload of the newer of the two words of a place.
-fn newer(first: u64, second: u64) -> u32
-    ensures { result ≡ newer_payload first second }
-{
-    if stamp(first) <= stamp(second) {
-        payload(second)
-    } else {
-        payload(first)
     }
 }

@@ -11,7 +11,7 @@ pub struct Seat {
 
 impl Model for Seat {
     ghost use Rattle.std.specs.Prelude.{◌≡◌, true, []};
-    ghost use Rattle.lawful_words.specs.Moments.{Sound};
+    ghost use Rattle.lawful_walk.specs.Moments.{Sound};
     ghost use Rattle.pram_board.specs.Seats.{Place, coded_place};
 
     ghost Value = { Place };
@@ -28,7 +28,7 @@ impl Model for Seat {
 }
 
 impl Seat {
-    ghost use Rattle.lawful_words.specs.Moments.{Sound};
+    ghost use Rattle.lawful_walk.specs.Moments.{Sound};
 
     /// What the seat has heard is sound: each part of its record agrees with itself and with the
     /// plain machine. The call does nothing.

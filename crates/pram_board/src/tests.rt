@@ -1,7 +1,6 @@
 //! Boards on one thread: worked rows, and a worker lost at each of its atomic steps.
 ghost use Rattle.std.specs.Prelude.{◌≡◌, ◌<◌, ◌≤◌, IfOk};
-ghost use Rattle.walkx.specs.Records.{Knows};
-ghost use Rattle.walkx.specs.Serving.{Serves};
+ghost use Rattle.pram_board.specs.Worked.{Works};
 
 use super::*;
 use pram_step::{Cells, Fault, RunAnswer};
@@ -50,10 +49,7 @@ fn finished(
     seat: &mut Seat,
     worker: &mut Worker,
 ) -> Result<RunAnswer, Fail>
-    requires desk { seat.old.desk ≡ board.now }
-    requires serves { Serves board.now.task.job board.now.task.layout worker.old }
-    requires knows { Knows board.now.task.job board.now.task.layout seat.old.record_of
-        worker.old.walking }
+    requires works { Works board.now seat.old worker.old }
     ensures desk { seat.new.desk ≡ board.now }
 {
     match board.work(seat, worker, &Open, None) {
@@ -117,18 +113,9 @@ fn take_turns(
     twin: &mut Worker,
     steps: u64,
 )
-    requires desk { seat.old.desk ≡ board.now }
-    requires serves { Serves board.now.task.job board.now.task.layout worker.old }
-    requires knows { Knows board.now.task.job board.now.task.layout seat.old.record_of
-        worker.old.walking }
-    requires other { other.old.desk ≡ board.now }
-    requires serves_too { Serves board.now.task.job board.now.task.layout twin.old }
-    requires knows_too { Knows board.now.task.job board.now.task.layout other.old.record_of
-        twin.old.walking }
-    ensures other { other.new.desk ≡ board.now }
-    ensures serves_too { Serves board.now.task.job board.now.task.layout twin.new }
-    ensures knows_too { Knows board.now.task.job board.now.task.layout other.new.record_of
-        twin.new.walking }
+    requires works { Works board.now seat.old worker.old }
+    requires twin { Works board.now other.old twin.old }
+    ensures twin { Works board.now other.new twin.new }
 {
     for _ in 0..steps {
         board.tick(seat, worker);
@@ -322,7 +309,7 @@ fn a_position_that_was_stored_is_found(rt: HostRuntime) -> Result<(), Fail> {
     Ok(())
 }
 
-// Step 5 is against the rule: the memory behind step 4 stays readable.
+// Step 5 is against the rule: the memory after step 4 stays readable.
 fn look_behind(rt: &(impl AllocGlobal + Abort), rule: &str, value: &str) -> Result<(), Fail> {
     let (board, seat) = opened(rt, one_cell(rt, rule, value)?.as_str(), 5)?;
     let (mut seat, mut other) = board.split(seat);
@@ -364,10 +351,7 @@ fn read_beside(
 ) -> u32
     requires cell { 0 < board.now.task.job.cells }
     requires reader { reader.old.desk ≡ board.now }
-    requires desk { seat.old.desk ≡ board.now }
-    requires serves { Serves board.now.task.job board.now.task.layout worker.old }
-    requires knows { Knows board.now.task.job board.now.task.layout seat.old.record_of
-        worker.old.walking }
+    requires works { Works board.now seat.old worker.old }
 {
     let mut seen = 0;
     for _ in 0..2000 {

@@ -18,10 +18,10 @@ use Rattle.walkx.specs.declared.operation.Op.{Op}
 use Rattle.walkx.specs.declared.operation.Op.TheVariants.{Load}
 use Rattle.walkx.specs.Records.{Record, Has, after, both}
 use Rattle.walkx.specs.Walk.{Walking}
-use Rattle.lawful_words.specs.Moments.{Sound, afters}
-use Rattle.lawful_words.specs.Seen.{Heard, Shows, BeginsWith}
-use Rattle.lawful_words.proofs.Knowing.{conflict_now}
-use Rattle.walk_laws.specs.Walks.{IsConflict, steps_of}
+use Rattle.lawful_walk.specs.Moments.{Sound, afters}
+use Rattle.lawful_walk.specs.Seen.{Heard, Shows, BeginsWith}
+use Rattle.lawful_walk.proofs.Knowing.{conflict_now}
+use Rattle.lawful_walk.specs.Walks.{IsConflict, steps_of}
 use Rattle.stop_plan.specs.declared.plan.Act.{Act}
 use Rattle.stop_plan.specs.declared.plan.Act.TheVariants as act
 use Rattle.stop_plan.specs.declared.plan.Row.{Row}
@@ -95,7 +95,7 @@ ends_back rows worker p q later desk is h = subst (λ (s : Place). EndsOrStops r
 
 -- ---- progress
 
--- behind a load of word 0 as 0, no conflict was ever heard
+-- after a load of word 0 as 0, no conflict was ever heard
 none_heard : (job : JobData) (y : LayoutData) (r : Record) (named u : ℕ) → Sound job y (after r (Load (number_of y Conflict)) named) → named ≡ 0 → u ≢ 0 →
     Heard y (after r (Load (number_of y Conflict)) named) Conflict u → ⊥
 none_heard job y r named u sound zero some heard = by heard.has

@@ -8,8 +8,8 @@ use Rattle.std.specs.Prelude.{codes, decimal}
 use Rattle.std.specs.Char.{digit_value}
 use Rattle.std.specs.Str.Parse.{AllDigits}
 use Rattle.csv.specs.Writing.{default_writer, field_text, fields_text, is_blank, needs_byte, needs_quotes, row_text}
-use Rattle.pram_io.specs.Transfer.{AppendsBeginning}
-use Rattle.pram_io.proofs.Beginnings.{beginning-longer}
+use Rattle.pram_streams.specs.Transfer.{AppendsBeginning}
+use Rattle.pram_streams.proofs.Beginnings.{beginning-longer}
 use Rattle.pram_run.specs.Printed.{kind_word, row_line, row_lines, sight_line, sight_lines, sights_text, trace_text}
 use Rattle.pram_run.specs.declared.sight.Sight.{Sight}
 use Rattle.pram_run.specs.declared.trace.StepKind.{StepKind}

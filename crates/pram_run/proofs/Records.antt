@@ -7,8 +7,8 @@ use Rattle.pram_words.specs.Words.{LayoutData}
 use Rattle.walkx.specs.declared.operation.Op.{Op}
 use Rattle.walkx.specs.Records.{Record, empty, after, both, Has}
 use Rattle.walkx.proofs.Knowing.{has_earlier}
-use Rattle.lawful_words.specs.Moments.{afters}
-use Rattle.lawful_words.specs.Seen.{Heard, HeardThen, Shows, KnowsStep, BeginsWith}
+use Rattle.lawful_walk.specs.Moments.{afters}
+use Rattle.lawful_walk.specs.Seen.{Heard, HeardThen, Shows, KnowsStep, BeginsWith}
 
 -- ---- a record begins with itself, and so on
 

@@ -29,7 +29,7 @@ pub tracks_none : (s : WorldData) (b : ℕ) → Held s → Tracks s b 0
 tracks_none s b h = record { made = h.made; holds = h.holds; counted = λ goes. counted_none s h.made b h.holds (goer s b goes) }
 
 module _ (s : WorldData) (b n c : ℕ) (goes_c : going s c ≡ true) (t : Tracks s b n) where
-  -- the world behind the step, and that it is the one of the definitions
+  -- the world after the step, and that it is the one of the definitions
   same_next : let g = goer s c goes_c in went s c (Some (walks g.worker)) ≡ happens s (Go c)
   same_next = let g = goer s c goes_c in ap (went s c) (sym g.walks)
 

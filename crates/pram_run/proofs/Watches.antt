@@ -10,7 +10,7 @@ use Rattle.std.proofs.lemmas.List.Elements.{All-cons, All-nil}
 use Rattle.walkx.specs.declared.operation.Reading.TheVariants.{At}
 use Rattle.walkx.specs.Reads.{reader_script}
 use Rattle.walkx.specs.Scripts.{heard_in}
-use Rattle.lawful_words.specs.Seen.{KnowsStep}
+use Rattle.lawful_walk.specs.Seen.{KnowsStep}
 use Rattle.pram_board.specs.declared.task.Task.{Task}
 use Rattle.pram_board.specs.Seats.{Place, WasRead, unites}
 use Rattle.pram_run.specs.declared.sight.Sight.{Sight}
@@ -25,7 +25,7 @@ use Rattle.pram_run.proofs.Endings.{goes_self, goes_trans, goes_all, looked_more
 abbrev Read : Task → Place → Place → Sight → Type 0
 Read t p q s = WasRead t p q s.cell (At s.step s.value)
 
--- one read more, behind the others
+-- one read more, after the others
 pub has_read_more : (t : Task) (p q next : Place) (ss : List Sight) (s : Sight) → HasRead t p ss q → Read t q next s → HasRead t p (ss ++ s ∷ []) next
 has_read_more t p q next [] s h r = (next, subst (λ (x : Place). Read t x next s) h r, refl)
 has_read_more t p q next (first ∷ ss) s h r = (h.0, h.1, has_read_more t h.0 q next ss s h.2 r)
@@ -84,7 +84,7 @@ listed_more first cells k old new s lt is cell listed =
     ap (map (λ (x : Sight). x.cell)) is ∙ (map-append (λ (x : Sight). x.cell) old (s ∷ []) ∙ (ap (λ (l : List ℕ). l ++ s.cell ∷ []) listed
     ∙ (append_assoc first (take k cells) (s.cell ∷ []) ∙ ap (λ (l : List ℕ). first ++ l) (ap (λ (v : ℕ). take k cells ++ v ∷ []) cell ∙ sym longer))))
 
--- one round more, behind the others
+-- one round more, after the others
 repeat_more : (n : ℕ) (cells : List ℕ) → repeat n cells ++ cells ≡ repeat (suc n) cells
 repeat_more zero cells = sym (append-nil cells)
 repeat_more (suc n) cells = append_assoc cells (repeat n cells) cells ∙ ap (λ (l : List ℕ). cells ++ l) (repeat_more n cells)

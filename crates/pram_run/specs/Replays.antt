@@ -16,7 +16,7 @@ use Rattle.pram_run.specs.Traces.{trace_of}
 abbrev pub world_events : Events Event
 world_events = record { go = λ b. Go b; stop = λ b. Stop b; back = λ b. Back b }
 
--- whether a worker still runs behind these events
+-- whether a worker still runs after these events
 abbrev pub running : JobData → ℕ → Running Event
 running job workers events b = going (run (start job workers) events) b
 

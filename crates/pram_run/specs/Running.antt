@@ -6,7 +6,7 @@ use Rattle.pram_step.specs.Runs.{IsReached, IsAnswer}
 use Rattle.pram_words.specs.declared.words.Word.TheVariants as word
 use Rattle.pram_words.specs.Words.{LayoutData}
 use Rattle.walkx.specs.Records.{Record}
-use Rattle.lawful_words.specs.Seen.{Heard, Shows}
+use Rattle.lawful_walk.specs.Seen.{Heard, Shows}
 use Rattle.stop_plan.specs.Plan.{PlanData, StopsAll}
 use Rattle.pram_board.specs.declared.task.Task.{Task}
 

@@ -4,14 +4,14 @@ use Rattle.std.specs.List.{repeat}
 use Rattle.std.specs.List.Sorted.{IsNonDecreasingBy}
 use Rattle.pram_step.specs.Runs.{IsReached, state_after}
 use Rattle.walkx.specs.declared.operation.Reading.TheVariants.{At}
-use Rattle.lawful_words.specs.Seen.{KnowsStep}
+use Rattle.lawful_walk.specs.Seen.{KnowsStep}
 use Rattle.pram_board.specs.declared.task.Task.{Task}
 use Rattle.stop_plan.specs.Plan.{PlanData}
 use Rattle.pram_board.specs.Seats.{Place, WasRead, unites}
 use Rattle.pram_run.specs.Obeyed.{AllObeyed, HasLooked}
 use Rattle.pram_run.specs.declared.sight.Sight.{Sight}
 
--- the reads of a list, one after the other, each lawful, from one seat's record to the one behind
+-- the reads of a list, one after the other, each lawful, from one seat's record to the one after
 -- them
 abbrev pub HasRead : Task → Place → List Sight → Place → Type 0
 HasRead t p [] q = q ≡ p

@@ -3,7 +3,7 @@ ghost use Rattle.std.specs.Prelude.{◌≡◌, ◌≤◌, ◌++◌, ◌↔◌, f
 ghost use Rattle.std.specs.Prelude.{map, take, IfOk, OnOk, IsErrOf, IsTrue};
 ghost use Rattle.std.specs.Io.KnownBytes.{Appends};
 ghost use Rattle.csv.specs.Writing.{default_writer, field_text, row_text, text_written};
-ghost use Rattle.pram_io.specs.Transfer.{AppendsBeginning};
+ghost use Rattle.pram_streams.specs.Transfer.{AppendsBeginning};
 ghost use Rattle.pram_run.specs.Inner.Printing.{IsBetweenRecords};
 ghost use Rattle.pram_run.specs.Printed.{kind_word, row_line, row_lines, sight_line};
 ghost use Rattle.pram_run.specs.Printed.{sight_lines, sights_text, trace_text};
@@ -12,7 +12,7 @@ use crate::sight::Sight;
 use crate::trace::{StepKind, Trace, TraceRow};
 use csv::{Error, Writer};
 use itoa::Buffer;
-use pram_io::{IntoWrite, PrintFault, Sink, put};
+use pram_streams::{IntoWrite, PrintFault, Sink, put};
 use std::alloc::{AllocError, Global};
 use std::io::Write;
 
@@ -26,7 +26,7 @@ const SIGHTS_HEADER: &str = "step,cell,value\n";
 const PIECE: usize = 512;
 
 /// Prints the rows of a trace below a header, the ticks counted from 1. They go out piece by piece,
-/// so that the text of all of them never stands in memory. Where memory runs out, a beginning of
+/// so that the text of all of them never stands in memory. Out of memory, a beginning of
 /// it was printed, as where the sink fails.
 pub fn print_trace<W: Sink>(
     alloc: Global,
@@ -105,7 +105,7 @@ fn write_row<W: Write + Drop>(
 }
 
 /// Prints sights below a header, in order. They go out piece by piece, as the rows of a trace do.
-/// Where memory runs out, a beginning of the text was printed, as where the sink fails.
+/// Out of memory, a beginning of the text was printed, as where the sink fails.
 pub fn print_sights<W: Sink>(
     alloc: Global,
     sink: &mut W,
@@ -206,7 +206,7 @@ fn kind_name(kind: StepKind) -> &'static str
 pub enum OutFault {
     /// The writer failed.
     Device,
-    /// Memory ran out.
+    /// Out of memory.
     Memory,
 }
 

@@ -1,10 +1,9 @@
 //! A plan obeyed on threads, one for each worker, over a board.
 ghost use Rattle.std.specs.Prelude.{◌≡◌, ℕ, ◌<◌, ◌≤◌, IfOk, OnOk, vec_len};
 ghost use Rattle.std.specs.Prelude.{vec_capacity, slice_index_or};
-ghost use Rattle.walkx.specs.Records.{Knows};
-ghost use Rattle.walkx.specs.Serving.{Serves};
+ghost use Rattle.pram_board.specs.Worked.{Works};
 ghost use Rattle.walkx.specs.Walk.{started};
-ghost use Rattle.lawful_words.specs.Seen.{BeginsWith};
+ghost use Rattle.lawful_walk.specs.Seen.{BeginsWith};
 ghost use Rattle.pram_run.specs.Inner.Obeying.{AllEndOrStop, EndsOrStops, GoesOn, HasObeyed};
 ghost use Rattle.pram_run.specs.Inner.Obeying.{WasAsked};
 ghost use Rattle.pram_run.specs.Obeyed.{AllObeyed, DoesRow, HasRun, Obeys};
@@ -207,16 +206,10 @@ fn obey_rows<G: Gate>(board: &Board, mut seat: Seat, number: u32, rows: &[Row], 
 // Obeys a row of the worker. What stops it, its caller looks after.
 fn obey_row<G: Gate>(board: &Board, seat: &mut Seat, worker: &mut Worker, row: &Row, gate: &G)
     requires worker { row.now.worker < board.now.task.layout.workers }
-    requires seat { seat.old.desk ≡ board.now }
-    requires serves { Serves board.now.task.job board.now.task.layout worker.old }
-    requires knows { Knows board.now.task.job board.now.task.layout seat.old.record_of
-        worker.old.walking }
+    requires works { Works board.now seat.old worker.old }
     ensures does { DoesRow board.now.task row.now seat.old worker.old.walking seat.new
         worker.new.walking }
-    ensures desk { seat.new.desk ≡ board.now }
-    ensures serves { Serves board.now.task.job board.now.task.layout worker.new }
-    ensures knows { Knows board.now.task.job board.now.task.layout seat.new.record_of
-        worker.new.walking }
+    ensures works { Works board.now seat.new worker.new }
 {
     match row.act {
         Act::Go => {

@@ -6,8 +6,8 @@ mod rules;
 ghost use Rattle.std.specs.Prelude.{◌≤◌};
 
 use super::*;
-use pram_io::{IntoWrite, PrintFault};
 use pram_step::{Fault, RunAnswer};
+use pram_streams::{IntoWrite, PrintFault};
 use pram_text::read_job;
 use std::io;
 use std::io::Write;

@@ -2,7 +2,7 @@
 ghost use Rattle.std.specs.Prelude.{◌≡◌, ◌≤◌, ◌<◌, ◌+◌, ◌*◌, ◌++◌, All, IfOk, length, map, vec_len};
 ghost use Rattle.std.specs.Prelude.{vec_capacity};
 ghost use Rattle.walkx.specs.declared.operation.Reading.TheVariants.{At};
-ghost use Rattle.lawful_words.specs.Seen.{BeginsWith};
+ghost use Rattle.lawful_walk.specs.Seen.{BeginsWith};
 ghost use Rattle.pram_board.specs.Seats.{Place};
 ghost use Rattle.pram_run.specs.Inner.Obeying.{AllEndOrStop, GoesOn};
 ghost use Rattle.pram_run.specs.Running.{IsRun};
@@ -24,7 +24,7 @@ use walkx::Reading;
 
 /// Does what `run` does, with a reader beside the workers on a thread of its own: it goes so many
 /// rounds through the cells, in order, with one read for each. Before each read it passes the gate
-/// as the worker behind the plan's last one, with the number of its reads so far. The list has all
+/// as the worker after the plan's last one, with the number of its reads so far. The list has all
 /// that it read, in order.
 pub fn watch<R: Threads + Wait, G: Gate + Sync>(
     rt: &R,
@@ -92,7 +92,7 @@ fn watch_workers<R: Threads + Wait, G: Gate + Sync>(
     )
 }
 
-/// What the reader's thread gives back: the seat behind its reads, and what they told.
+/// What the reader's thread gives back: the seat after its reads, and what they told.
 #[derive(Drop)]
 struct Watched<'a> {
     before: Snapshot<Seat>,

@@ -1,7 +1,7 @@
 -- What the threads of a run give back.
 use Rattle.std.specs.Prelude.{◌≡◌, ◌<◌, ◌⊎◌, ℕ, true, List}
 use Rattle.walkx.specs.Walk.{started}
-use Rattle.lawful_words.specs.Seen.{BeginsWith}
+use Rattle.lawful_walk.specs.Seen.{BeginsWith}
 use Rattle.stop_plan.specs.declared.plan.Row.{Row}
 use Rattle.stop_plan.specs.Plan.{PlanData, stops}
 use Rattle.pram_board.specs.Seats.{Place}

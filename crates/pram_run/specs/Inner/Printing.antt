@@ -2,8 +2,8 @@
 use Rattle.std.specs.Prelude.{◌≡◌, false}
 use Rattle.csv.specs.Writing.{default_writer, fields_written, has_written, writer_setup}
 use Rattle.csv.specs.declared.writer.Writer.{Writer}
-use Rattle.pram_io.specs.declared.print.PrintFault.{PrintFault}
-use Rattle.pram_io.specs.declared.print.PrintFault.TheVariants as print
+use Rattle.pram_streams.specs.declared.print.PrintFault.{PrintFault}
+use Rattle.pram_streams.specs.declared.print.PrintFault.TheVariants as print
 use Rattle.pram_run.specs.declared.print.OutFault.{OutFault}
 use Rattle.pram_run.specs.declared.print.OutFault.TheVariants.{Device, Memory}
 

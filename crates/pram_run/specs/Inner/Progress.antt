@@ -10,7 +10,7 @@ use Rattle.pram_run.specs.declared.trace.TraceRow.{TraceRow}
 use Rattle.pram_run.specs.Replays.{running, world_events}
 use Rattle.pram_run.specs.Traces.{trace_of}
 
--- the world is the one behind these events, and the rows are its atomic steps so far
+-- the world is the one after these events, and the rows are its atomic steps so far
 pub record IsBehind (job : JobData) (workers : ℕ) (events : List Event) (s : WorldData) (rows :
     List TraceRow) : Type 0 where
   pub world : s ≡ run (start job workers) events

@@ -25,7 +25,7 @@ pub returns-then-progress-steps-clause-answer : goal.returns-then-progress-steps
 returns-then-progress-steps-clause-answer c =
     let low : c.progress-progress.result.step < c.args.board.now.task.job.steps = omega (arith, c.steps.ensures.value, ap (λ (j : JobData). j.steps) c.requires.job) in
     unfinished_shown c.args.board.now.task c.args.seat.now c.progress-progress.new.seat c.progress-progress.result
-    c.progress-progress.ensures.progressed c.progress-progress.ensures.sound (sym c.is_some.ensures ∙ c.if-is_some.false) low
+    c.progress-progress.ensures.progressed c.progress-progress.ensures.later.sound (sym c.is_some.ensures ∙ c.if-is_some.false) low
 
 pub returns-then-progress-steps-clause-looked : goal.returns-then-progress-steps-clause-looked
 returns-then-progress-steps-clause-looked c = progress_looks _ _ _ _ c.progress-progress.ensures.progressed

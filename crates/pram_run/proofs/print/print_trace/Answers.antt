@@ -3,8 +3,8 @@ use Rattle.std.proofs.lemmas.List.{take_all}
 use Rattle.std.proofs.Math.Seq.{take-length}
 use Rattle.std.proofs.KnownBytes.{Appends-trans}
 use Rattle.std.specs.Io.KnownBytes.{Appends}
-use Rattle.pram_io.specs.Transfer.{AppendsBeginning}
-use Rattle.pram_io.proofs.Beginnings.{beginning-behind}
+use Rattle.pram_streams.specs.Transfer.{AppendsBeginning}
+use Rattle.pram_streams.proofs.Beginnings.{beginning-behind}
 use Rattle.pram_run.specs.Printed.{row_lines, trace_text}
 use Rattle.pram_run.proofs.Lines.{trace-begins}
 use Rattle.pram_run.proofs.print.print_trace.Goals as goal

@@ -11,8 +11,11 @@ use Rattle.pram_run.proofs.runner.obey_rows.Goals.{then-row-number+else-eq, else
 pub loop-row-init : goal.loop-row-init
 loop-row-init g c = record {
   goes_on = goes_self c.args.seat;
-  serves = c.start-worker.ensures.serves c.args.board.now.task.job c.args.board.now.task.layout c.requires.worker;
-  knows = c.start-worker.ensures.known c.args.board.now.task.job c.args.board.now.task.layout c.args.seat.record_of;
+  works = record {
+    desk = c.requires.seat;
+    serves = c.start-worker.ensures.serves c.args.board.now.task.job c.args.board.now.task.layout c.requires.worker;
+    knows = c.start-worker.ensures.known c.args.board.now.task.job c.args.board.now.task.layout c.args.seat.record_of;
+  };
   obeys = λ q h. rw (← c.start-worker.ensures.value) h;
 }
 
@@ -21,15 +24,13 @@ loop-row-preserved g c =
     elim c.if-row-number.branch [
       | then-row-number+else-eq w ↦ record {
         goes_on = rw w.seat-is (goes_trans c.args.seat c.loop-row.seat w.obey_row.new.seat c.loop-row.invariant.goes_on (acts_goes _ _ _ _ _ _ _ _ w.obey_row.ensures.does));
-        serves = rw w.worker-is w.obey_row.ensures.serves;
-        knows = rw (w.seat-is, w.worker-is) w.obey_row.ensures.knows;
+        works = rw (w.seat-is, w.worker-is) w.obey_row.ensures.works;
         obeys = rw (w.seat-is, w.worker-is) (λ q h. c.loop-row.invariant.obeys q (own_row _ _ _ _ _ _ _ _ _ q c.loop-row-test.true w.if-row-number.true
             (λ stops. let same = rw stops at w.eq.ensures in absurd (cc)) w.obey_row.ensures.does h));
       }
       | else-row-number w ↦ record {
         goes_on = rw w.seat-is c.loop-row.invariant.goes_on;
-        serves = rw w.worker-is c.loop-row.invariant.serves;
-        knows = rw (w.seat-is, w.worker-is) c.loop-row.invariant.knows;
+        works = rw (w.seat-is, w.worker-is) c.loop-row.invariant.works;
         obeys = rw (w.seat-is, w.worker-is) (λ q h. c.loop-row.invariant.obeys q (other_row _ _ _ _ _ _ _ q c.loop-row-test.true w.if-row-number.false h));
       }
     ]

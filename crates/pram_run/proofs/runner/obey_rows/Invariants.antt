@@ -1,8 +1,7 @@
 use Rattle.std.proofs.Common.{drop}
-use Rattle.walkx.specs.Records.{Knows}
-use Rattle.walkx.specs.Serving.{Serves}
 use Rattle.walkx.specs.Walk.{started}
 use Rattle.pram_board.specs.Seats.{Place}
+use Rattle.pram_board.specs.Worked.{Works}
 use Rattle.pram_run.specs.Inner.Obeying.{GoesOn}
 use Rattle.pram_run.specs.Obeyed.{Obeys}
 use Rattle.pram_run.proofs.runner.obey_rows.Given as goal
@@ -11,7 +10,6 @@ use Rattle.pram_run.proofs.runner.obey_rows.Given as goal
 abbrev pub invariant-loop-row : goal.invariant-loop-row
 invariant-loop-row g l = record {
   goes_on : GoesOn l.fn.seat l.seat;
-  serves : Serves l.board.task.job l.board.task.layout l.worker;
-  knows : Knows l.board.task.job l.board.task.layout l.seat.record_of l.worker.walking;
+  works : Works l.board l.seat l.worker;
   obeys : (q : Place) → Obeys l.board.task l.number (drop l.row-index l.rows) l.seat l.worker.walking q → Obeys l.board.task l.number l.rows l.fn.seat (started l.number) q;
 }

@@ -29,7 +29,7 @@ loop-cell-preserved g c =
     subst (λ (r : Reading). WasRead task seat next sight.cell r) c.sight_of-sight.ensures.tells
     (subst (λ (n : ℕ). WasRead task seat next n c.read.result) (sym cell) c.read.ensures.read) in
     let items = c.push_reserved.ensures.items in record {
-      desk = c.read.ensures.desk;
+      desk = c.read.ensures.later.desk;
       reads = λ p h. subst (λ (ss : List Sight). HasRead task p ss next) (sym items) (has_read_more task p seat next c.loop-cell.sights.items sight (was.reads p h) read);
       listed = listed_more _ c.args.cells.now c.loop-cell.cell-index c.loop-cell.sights.items c.push_reserved.new.self.items sight c.loop-cell-test.true items cell was.listed;
       len = omega (arith, c.push_reserved.ensures.len, was.len);

@@ -1,10 +1,10 @@
 use Rattle.std.proofs.Common.{◌≡◌, ◌*◌, ◌+◌, suc, ap, sym, subst, arith}
 use Rattle.pram_step.specs.Runs.{AreConflicting}
-use Rattle.lawful_words.specs.Moments.{Sound}
+use Rattle.lawful_walk.specs.Moments.{Sound}
 use Rattle.pram_board.specs.Seats.{Desk, HasLoaded}
 use Rattle.pram_board.proofs.Memory.{more_loads}
 use Rattle.pram_board.proofs.Faults.{still_heard, requests_more, conflicting}
-use Rattle.pram_board.proofs.Remembering.{remembers_loads}
+use Rattle.pram_board.proofs.Remembering.{later_loads}
 use Rattle.pram_board.proofs.board.Board.fault.Goals as goal
 
 pub loop-processor-preserved : goal.loop-processor-preserved
@@ -32,5 +32,7 @@ fault_of-requires c =
     let here : AreConflicting c.self.inside.task.job c.named-named.result c.loop-processor.requests.items = subst (λ (d : Desk). AreConflicting d.task.job c.named-named.result c.loop-processor.requests.items) (sym c.self.view_is) all in
     subst (AreConflicting c.self.inside.task.job c.named-named.result) (sym c.as_slice.ensures.value) here
 
-pub returns-clause-keeps : goal.returns-clause-keeps
-returns-clause-keeps c = remembers_loads _ _ _ c.loop-processor.invariant.loads
+pub returns-clause-later : goal.returns-clause-later
+returns-clause-later c =
+    let i = c.loop-processor.invariant in
+    later_loads _ _ _ _ c.requires.desk i.loads i.sound

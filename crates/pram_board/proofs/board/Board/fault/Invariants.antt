@@ -3,8 +3,8 @@ use Rattle.std.specs.List.{range_with_len}
 use Rattle.pram_step.specs.Instructions.{request_in}
 use Rattle.pram_step.specs.Runs.{state_after}
 use Rattle.pram_words.specs.declared.words.Word.TheVariants.{Conflict}
-use Rattle.lawful_words.specs.Moments.{Sound}
-use Rattle.lawful_words.specs.Seen.{Heard}
+use Rattle.lawful_walk.specs.Moments.{Sound}
+use Rattle.lawful_walk.specs.Seen.{Heard}
 use Rattle.pram_board.specs.Seats.{HasLoaded}
 use Rattle.pram_board.proofs.board.Board.fault.Given as goal
 

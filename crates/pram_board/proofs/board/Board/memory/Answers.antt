@@ -1,9 +1,9 @@
 use Rattle.std.proofs.Common.{◌≡◌, ◌*◌, ◌+◌, take, refl, ap, subst, ◌∙◌, arith}
 use Rattle.pram_step.specs.Runs.{IsReached, state_after}
-use Rattle.walk_laws.proofs.Sounding.{sound_known}
+use Rattle.lawful_walk.proofs.Sounding.{sound_known}
 use Rattle.pram_board.specs.Seats.{Desk, HasLoaded}
 use Rattle.pram_board.proofs.Memory.{more_loads, still_known, cells_more}
-use Rattle.pram_board.proofs.Remembering.{remembers_loads}
+use Rattle.pram_board.proofs.Remembering.{later_loads}
 use Rattle.pram_board.proofs.board.Board.memory.Goals as goal
 
 pub last_value-value-requires-clause-knows : goal.last_value-value-requires-clause-knows
@@ -34,5 +34,7 @@ returns-clause-cells c =
     let reached : IsReached t.job t.job.steps = sound_known t.job t.layout c.loop-cell.seat.record_of t.job.steps i.sound (still_known t (2 * c.loop-cell.cell) c.args.seat.now c.loop-cell.seat t.job.steps i.loads c.requires.knows) in
     (state_after t.job t.job.steps, record { reached = reached; state = refl }, i.values ∙ ap (λ k. take k (state_after t.job t.job.steps)) all)
 
-pub returns-clause-keeps : goal.returns-clause-keeps
-returns-clause-keeps c = remembers_loads _ _ _ c.loop-cell.invariant.loads
+pub returns-clause-later : goal.returns-clause-later
+returns-clause-later c =
+    let i = c.loop-cell.invariant in
+    later_loads _ _ _ _ c.requires.desk i.loads i.sound

@@ -1,6 +1,6 @@
 use Rattle.std.proofs.Common.{◌≡◌, ◌≤◌, ◌*◌, take}
 use Rattle.pram_step.specs.Runs.{state_after}
-use Rattle.lawful_words.specs.Moments.{Sound}
+use Rattle.lawful_walk.specs.Moments.{Sound}
 use Rattle.pram_board.specs.Seats.{HasLoaded}
 use Rattle.pram_board.proofs.board.Board.memory.Given as goal
 

@@ -1,7 +1,7 @@
 use Rattle.std.proofs.Common.{sym, subst, ◌∙◌}
 use Rattle.pram_text.specs.Job.{JobData}
 use Rattle.walkx.specs.Walk.{IsLayoutOf}
-use Rattle.lawful_words.specs.Board.{Stands}
+use Rattle.lawful_walk.specs.Board.{Stands}
 use Rattle.pram_board.proofs.Keeps.{opens}
 use Rattle.pram_board.proofs.Steps.{starts}
 use Rattle.pram_board.proofs.board.Board.of_layout.Goals as goal

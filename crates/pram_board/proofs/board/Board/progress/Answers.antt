@@ -2,7 +2,7 @@ use Rattle.std.proofs.Common.{◌≡◌, ◌<◌, ap, subst, ◌∙◌}
 use Rattle.pram_words.specs.Words.{length_of, number_of}
 use Rattle.pram_words.specs.declared.words.Word.TheVariants.{Conflict, Node}
 use Rattle.walkx.specs.declared.operation.Op.TheVariants.{Load}
-use Rattle.lawful_words.specs.Moments.{Sound}
+use Rattle.lawful_walk.specs.Moments.{Sound}
 use Rattle.pram_board.specs.Seats.{Desk, Place, hears}
 use Rattle.pram_board.proofs.Steps.{may_load, root_small, conflict_small}
 use Rattle.pram_board.proofs.Remembering.{progress_conflict, progress_known, remembers_progress}
@@ -39,5 +39,10 @@ returns-clause-knows c = progress_known _ _ _ _ (returns-clause-progressed c)
 pub returns-clause-conflict : goal.returns-clause-conflict
 returns-clause-conflict c = progress_conflict _ _ _ _ (returns-clause-progressed c)
 
-pub returns-clause-keeps : goal.returns-clause-keeps
-returns-clause-keeps c = remembers_progress _ _ _ _ (returns-clause-progressed c)
+pub returns-clause-later : goal.returns-clause-later
+returns-clause-later c = record {
+  desk = ap (λ (p : Place). p.desk) c.step-named.ensures.grows
+      ∙ ap (λ (p : Place). p.desk) c.step-root.ensures.grows ∙ c.requires;
+  keeps = remembers_progress _ _ _ _ (returns-clause-progressed c);
+  sound = c.step-named.ensures.sound;
+}

@@ -6,15 +6,21 @@ use Rattle.walkx.specs.Serving.{Follows}
 use Rattle.walkx.proofs.Boards.{same_cells}
 use Rattle.walkx.specs.Reads.{HeardAdmitted, LooksFit, LooksOnBoard, look_of, looked, looks_for}
 use Rattle.walkx.specs.Records.{after}
-use Rattle.lawful_words.specs.Moments.{Sound}
+use Rattle.lawful_walk.specs.Moments.{Sound}
 use Rattle.pram_board.specs.Seats.{Desk, Place}
 use Rattle.pram_board.proofs.Looking.{looks_on, looks_over}
 use Rattle.pram_board.proofs.Remembering.{remembers_looks}
 use Rattle.pram_board.proofs.Steps.{admits}
 use Rattle.pram_board.proofs.board.Board.read.Goals as goal
 
-pub returns-in-Over-clause-keeps : goal.returns-in-Over-clause-keeps
-returns-in-Over-clause-keeps c = remembers_looks _ _ _ _ _ c.loop-reading.invariant.looks
+pub returns-in-Over-clause-later : goal.returns-in-Over-clause-later
+returns-in-Over-clause-later c =
+    let i = c.loop-reading.invariant in
+    record {
+      desk = i.desk;
+      keeps = remembers_looks _ _ _ _ _ i.looks;
+      sound = i.sound;
+    }
 
 pub returns-in-Over-clause-read : goal.returns-in-Over-clause-read
 returns-in-Over-clause-read c =

@@ -1,7 +1,7 @@
 use Rattle.std.proofs.Common.{◌≡◌, ◌-◌, length}
 use Rattle.walkx.specs.Serving.{Follows}
 use Rattle.walkx.specs.Reads.{LooksFit}
-use Rattle.lawful_words.specs.Moments.{Sound}
+use Rattle.lawful_walk.specs.Moments.{Sound}
 use Rattle.pram_board.proofs.Looking.{Looks}
 use Rattle.pram_board.proofs.board.Board.read.Given as goal
 

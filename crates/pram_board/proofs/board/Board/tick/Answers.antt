@@ -1,24 +1,27 @@
-use Rattle.std.proofs.Common.{Some, [], ◌∷◌, ap, sym, subst, ◌∙◌}
-use Rattle.walkx.specs.Walk.{ask_of}
-use Rattle.lawful_words.specs.Moments.{Sound}
+use Rattle.std.proofs.Common.{Some, ap, sym, subst, ◌∙◌}
+use Rattle.lawful_walk.specs.Moments.{Sound}
 use Rattle.pram_board.specs.Seats.{Desk}
 use Rattle.pram_board.proofs.Asked.{asks_of}
 use Rattle.pram_board.proofs.Told.{shows_end}
-use Rattle.pram_board.proofs.Remembering.{remembers_more}
 use Rattle.pram_board.proofs.board.Board.tick.Goals as goal
 
 pub advance-requires-clause-asks : goal.advance-requires-clause-asks
-advance-requires-clause-asks c = asks_of c.self.inside.task c.args.self.now.task c.args.worker.now.walking c.ask-op.result (ap (λ d. d.task) c.self.view_is) c.ask-op.ensures.asks c.ask-op.ensures.admitted c.ask-op.ensures.step
+advance-requires-clause-asks c = asks_of c.self.inside.task c.args.self.now.task
+    c.args.worker.now.walking c.ask-op.result (ap (λ d. d.task) c.self.view_is)
+    c.ask-op.ensures.asks c.ask-op.ensures.admitted c.ask-op.ensures.step
 
 pub returns-in-Some-clause-shows : goal.returns-in-Some-clause-shows
 returns-in-Some-clause-shows c =
     let t = c.args.self.now.task in
     let r = c.args.seat.now.record_of in
-    shows_end t r c.args.worker.now.walking (Some c.in-Some.ended) (sym c.in-Some.is ∙ c.ended.ensures) (subst (λ (d : Desk). Sound d.task.job d.task.layout r) c.requires.desk c.facts.ensures) c.requires.serves.fits c.requires.knows
+    let works = c.requires.works in
+    shows_end t r c.args.worker.now.walking (Some c.in-Some.ended)
+    (sym c.in-Some.is ∙ c.ended.ensures)
+    (subst (λ (d : Desk). Sound d.task.job d.task.layout r) works.desk c.facts.ensures)
+    works.serves.fits works.knows
 
 pub returns-clause-shows : goal.returns-clause-shows
 returns-clause-shows c =
-    shows_end c.args.self.now.task c.advance.new.seat.record_of c.advance.new.worker.walking c.ended-2.result c.ended-2.ensures c.advance.ensures.sound (c.advance.ensures.serves).fits c.advance.ensures.knows
-
-pub returns-clause-keeps : goal.returns-clause-keeps
-returns-clause-keeps c = remembers_more _ _ ((ask_of c.args.self.now.task.job c.args.self.now.task.layout c.args.worker.now.walking, c.advance.ensures.ticked.found) ∷ []) c.advance.ensures.ticked.seat
+    let works = c.advance.ensures.works in
+    shows_end c.args.self.now.task c.advance.new.seat.record_of c.advance.new.worker.walking
+    c.ended-2.result c.ended-2.ensures c.advance.ensures.later.sound works.serves.fits works.knows

@@ -1,0 +1,21 @@
+use Rattle.std.proofs.Common.{◌≡◌, ◌-◌, ◌≤◌, IfSome}
+use Rattle.walkx.specs.Bound.{most_steps}
+use Rattle.lawful_walk.specs.Moments.{Sound}
+use Rattle.pram_board.specs.Worked.{Ran, Works}
+use Rattle.pram_board.proofs.driver.Driver.work.Given as goal
+
+abbrev pub invariant-loop-ended : goal.invariant-loop-ended
+invariant-loop-ended g l = record {
+  same : l.self.seat.ghost_name ≡ l.fn.self.seat.ghost_name;
+  board : l.self.board.now ≡ l.fn.self.board.now;
+  works : Works l.self.board.now l.self.seat.now l.worker;
+  sound : Sound l.self.board.now.task.job l.self.board.now.task.layout l.self.seat.now.record_of;
+  ran : Ran l.self.board.now.task l.fn.self.seat.now l.fn.worker.walking l.self.made
+      l.self.seat.now l.worker.walking;
+  most : l.self.made ≤ most_steps l.self.board.now.task.job l.self.board.now.task.layout;
+  within : IfSome l.limit (λ k. l.self.made ≤ k);
+}
+
+abbrev pub decreases-loop-ended : goal.decreases-loop-ended
+decreases-loop-ended g l =
+    most_steps l.self.board.now.task.job l.self.board.now.task.layout - l.self.made
