@@ -1,11 +1,10 @@
 -- What an opened board is, and what a watch of it tells of the job alone.
-use Rattle.std.proofs.Common.{◌≡◌, ℕ, List, All, ap, subst, ◌∙◌}
+use Rattle.std.proofs.Common.{◌≡◌, ℕ, List, subst, ◌∙◌}
 use Rattle.std.proofs.lemmas.List.Elements.{All-weaker}
 use Rattle.std.specs.Prelude.{slice_index}
 use Rattle.pram_text.specs.Job.{JobData}
 use Rattle.pram_step.specs.Runs.{IsReached, state_after}
 use Rattle.pram_words.specs.declared.layout.Form.TheVariants.{Wide}
-use Rattle.pram_words.specs.Words.{LayoutData}
 use Rattle.stop_plan.specs.Plan.{PlanData}
 use Rattle.pram_board.specs.Seats.{Desk, Place, IsOpened}
 use Rattle.pram_board.specs.declared.task.Task.{Task}
@@ -16,12 +15,6 @@ use Rattle.pram_commands.specs.Threads.{HasSights, IsTrueOf}
 -- what an opened board is
 pub job_of : (job : JobData) (workers : ℕ) (made : Desk × Place) → IsOpened job Wide workers made → made.0.task.job ≡ job
 job_of job workers made opened = opened.0
-
-pub workers_of : (job : JobData) (workers : ℕ) (made : Desk × Place) → IsOpened job Wide workers made → made.0.task.layout.workers ≡ workers
-workers_of job workers made opened = ap (λ (y : LayoutData). y.workers) opened.1
-
-pub desk_of : (job : JobData) (workers : ℕ) (made : Desk × Place) → IsOpened job Wide workers made → made.1.desk ≡ made.0
-desk_of job workers made opened = ap (λ (p : Place). p.desk) opened.2
 
 -- the same board with a seat of the same value
 pub opened_as : (job : JobData) (workers : ℕ) (desk : Desk) (p q : Place) → q ≡ p → IsOpened job Wide workers (desk, p) → IsOpened job Wide workers (desk, q)

@@ -1,4 +1,4 @@
 pub mod Cells
+pub mod Doing
 pub mod Ends
-pub mod Refusals
 pub mod Statuses

@@ -1,12 +1,20 @@
 -- The status of a line: that of what was done, or of the refusal that was told.
-use Rattle.std.proofs.Common.{rules, Result, Ok, Err, IfOk, IfErr, ap, ◌≡◌, ◌≢◌, ◌⊎◌, ◌∙◌, ◌<◌, ◌≤◌, ℕ, sym, subst, inl, inr, arith}
-use Rattle.std.specs.Prelude.{IsErrOf}
+use Rattle.std.proofs.Common.{Result, Ok, Err, IfOk, IfErr, IsTrue, ap, ◌≡◌, ◌≢◌, ◌⊎◌, ◌∙◌, ◌<◌, ◌≤◌, ℕ, Option, Some, None, refl, sym, subst, inl, inr, arith}
+use Rattle.std.specs.Prelude.{is_some}
+use Rattle.pram_text.specs.Job.{JobData}
+use Rattle.pram_step.specs.Runs.{IsAnswer}
+use Rattle.pram_step.specs.declared.answer.RunAnswer.{RunAnswer}
+use Rattle.pram_step.specs.declared.answer.RunAnswer.TheVariants as answer
+use Rattle.pram_commands.specs.Did.{Begins, Command, Did, Prints, Wrote, Writing, ends_with, tells_status}
 use Rattle.pram_commands.specs.Faults.{fault_status}
-use Rattle.pram_commands.specs.Served.{Did, Exchange, Served}
+use Rattle.pram_commands.specs.Inputs.{Reading}
+use Rattle.pram_commands.specs.Line.{command_of}
+use Rattle.pram_commands.specs.Served.{Served}
 use Rattle.pram_commands.specs.declared.fault.CommandFault.{CommandFault}
 use Rattle.pram_commands.specs.declared.fault.CommandFault.TheVariants.{Text, Plan, OutsideCell, JobDevice, PlanDevice, OutDevice, JobTooLarge, PlanTooLarge, Memory}
 use Rattle.pram_commands.specs.declared.line.Line.{Line}
-use Rattle.pram_commands.proofs.Refusals.{is-not, line-cause, line-refused}
+use Rattle.pram_commands.specs.declared.line.Line.TheVariants as line
+use Rattle.pram_commands.proofs.Doing.{err_same, ok_not_err}
 
 -- what was told with another status than 5 is no lack of memory
 told : (result status n : ℕ) → (result ≡ 5) ⊎ (result ≡ status) → n < 5 → result ≡ n → status ≡ n
@@ -40,39 +48,99 @@ told-failed : (f : CommandFault) (status : ℕ) → (status ≡ 5) ⊎ (status �
 told-failed f status (inl memory) four = omega arith
 told-failed f status (inr same) four = omega arith
 
-err-same : (f other : CommandFault) → IsErrOf {T = ℕ} (Err f) other → f ≡ other
-err-same f other is = cc is
+-- a status of an answer
+record IsAnswerStatus (n : ℕ) : Type 0 where
+  most : n ≤ 3
+  other : n ≢ 2
 
-module _ (line : Line) (x : Exchange) where
-  -- a line that was done
-  served-done : (status : ℕ) → Did line x (Ok status) → Served line x status
-  served-done status did = search rules
+answer-status : (given : Option RunAnswer) → IsAnswerStatus (ends_with given)
+answer-status None = record { most = omega arith; other = λ e. omega (arith, e) }
+answer-status (Some (answer.Final cells)) = record { most = omega arith; other = λ e. omega (arith, e) }
+answer-status (Some (answer.Conflict fault)) = record { most = omega arith; other = λ e. omega (arith, e) }
+answer-status (Some (answer.Unfinished step)) = record { most = omega arith; other = λ e. omega (arith, e) }
 
-  -- one that was not
-  served-fault : (fault : CommandFault) (status : ℕ) → Did line x (Err fault) → (status ≡ 5) ⊎ (status ≡ fault_status fault) → Served line x status
-  served-fault fault status did is =
-      let low = told-status fault status is in
-      record {
-        done = λ ends. elim ends [ inl less ↦ absurd (omega (arith, less, low.least)) | inr three ↦ absurd (low.other three) ];
-        most = low.most;
-        stops = λ three. absurd (low.other three);
-        refused = λ two. let same = told status (fault_status fault) 2 is (omega arith) two in (
-          line-refused _ _ _ _ line fault same did.explains,
-          did.unwritten (is-not _ OutDevice same (λ e. omega (arith, e))) (is-not _ Memory same (λ e. omega (arith, e))),
-        );
-        failed = λ four. let same = told status (fault_status fault) 4 is (omega arith) four in
-            line-cause _ _ _ _ line fault _ _ _
-            (record { of_job = λ e. did.job_failed.1 (ap (λ f. Err f) e); of_plan = λ e. did.plan_failed.1 (ap (λ f. Err f) e); of_out = λ e. did.out_failed.1 (ap (λ f. Err f) e) })
-            same did.explains;
-        job = λ failed. told-failed fault status is (ap fault_status (err-same fault JobDevice (did.job_failed.0 failed)));
-        plan = λ failed. told-failed fault status is (ap fault_status (err-same fault PlanDevice (did.plan_failed.0 failed)));
-        out = λ failed. told-failed fault status is (ap fault_status (err-same fault OutDevice (did.out_failed.0 failed)));
-        begins = λ _. did.begins;
-        job_reads = did.job_reads;
-        plan_reads = did.plan_reads;
-      }
+-- where a job on the plain machine has an answer, it is done
+ended-plain : (job : JobData) (ended : RunAnswer) (given : Option RunAnswer) → IsAnswer job ended → given ≡ Some ended → ends_with given ≡ 3 → ⊥
+ended-plain job (answer.Final cells) given is same three = let status = ap ends_with same in omega (arith, three, status)
+ended-plain job (answer.Conflict fault) given is same three = let status = ap ends_with same in omega (arith, three, status)
+ended-plain job (answer.Unfinished step) given is same three = is
 
-  pub served : (done : Result ℕ CommandFault) (status : ℕ) → Did line x done → IfOk done (λ s. status ≡ s)
-      → IfErr done (λ fault. (status ≡ 5) ⊎ (status ≡ fault_status fault)) → Served line x status
-  served (Ok s) status did same is = subst (λ (n : ℕ). Served line x n) (sym same) (served-done s did)
-  served (Err fault) status did same is = served-fault fault status did is
+-- what a fault wrote with the status of a refused text, and with another
+wrote-none : (command : Command) (r : Reading) (w : Writing) (fault : CommandFault) → fault_status fault ≡ 2 → Wrote command r w fault → w.Unwritten
+wrote-none command r w OutDevice two wrote = absurd (omega (arith, two))
+wrote-none command r w Memory two wrote = absurd (omega (arith, two))
+wrote-none command r w (Text number kind) two wrote = wrote
+wrote-none command r w (Plan row kind) two wrote = wrote
+wrote-none command r w (OutsideCell cell) two wrote = wrote
+wrote-none command r w JobDevice two wrote = wrote
+wrote-none command r w PlanDevice two wrote = wrote
+wrote-none command r w JobTooLarge two wrote = wrote
+wrote-none command r w PlanTooLarge two wrote = wrote
+
+wrote-some : (command : Command) (r : Reading) (w : Writing) (fault : CommandFault) → Wrote command r w fault → w.Unwritten ⊎ Begins command r w
+wrote-some command r w OutDevice wrote = inr wrote
+wrote-some command r w Memory wrote = elim wrote [ inl none ↦ inl none | inr some ↦ inr some.1 ]
+wrote-some command r w (Text number kind) wrote = inl wrote
+wrote-some command r w (Plan row kind) wrote = inl wrote
+wrote-some command r w (OutsideCell cell) wrote = inl wrote
+wrote-some command r w JobDevice wrote = inl wrote
+wrote-some command r w PlanDevice wrote = inl wrote
+wrote-some command r w JobTooLarge wrote = inl wrote
+wrote-some command r w PlanTooLarge wrote = inl wrote
+
+module _ (r : Reading) (w : Writing) (Unread : Type 0) where
+  -- a line whose command follows no plan ends
+  stops : (l : Line) (status : ℕ) → Prints (command_of l) r w (tells_status status) → status ≡ 3 → IsTrue (is_some (command_of l).workers)
+  stops (line.Check file) status prints three = let none = ap ends_with prints.comes.1 in absurd (omega (arith, prints.is, three, none))
+  stops (line.Plain file) status prints three =
+      absurd (ended-plain prints.job prints.comes.ended prints.answer prints.comes.ends.0 prints.comes.gives (sym prints.is ∙ three))
+  stops (line.Steps file from to) status prints three =
+      absurd (ended-plain prints.job prints.comes.ended prints.answer prints.comes.ends.0 prints.comes.gives (sym prints.is ∙ three))
+  stops (line.Run file workers name progress pace) status prints three = refl
+  stops (line.Watch file workers cells rounds name progress pace) status prints three = refl
+  stops (line.Replay file workers name) status prints three = refl
+
+  module _ (line : Line) where
+    -- a line that was done
+    served-done : (status : ℕ) → Did (command_of line) r w Unread tells_status (Ok status) → Served line r w status
+    served-done status did =
+        let prints = did.done in
+        let ends = subst IsAnswerStatus (sym prints.is) (answer-status prints.answer) in
+        record {
+          done = λ _. prints;
+          most = let most = ends.most in omega (arith, most);
+          stops = stops line status prints;
+          refused = λ two. absurd (ends.other two);
+          failed = λ four. let most = ends.most in absurd (omega (arith, most, four));
+          job = λ failed. absurd (ok_not_err status JobDevice (did.job_failed.0 failed));
+          plan = λ failed. absurd (ok_not_err status PlanDevice (did.plan_failed.0 failed));
+          out = λ failed. absurd (ok_not_err status OutDevice (did.out_failed.0 failed));
+          begins = λ four. let most = ends.most in absurd (omega (arith, most, four));
+          job_reads = did.job_reads;
+          plan_reads = did.plan_reads;
+        }
+
+    -- one that was not
+    served-fault : (fault : CommandFault) (status : ℕ) → Did {A = ℕ} (command_of line) r w Unread tells_status (Err fault)
+        → (status ≡ 5) ⊎ (status ≡ fault_status fault) → Served line r w status
+    served-fault fault status did is =
+        let low = told-status fault status is in
+        record {
+          done = λ ends. elim ends [ inl less ↦ absurd (omega (arith, less, low.least)) | inr three ↦ absurd (low.other three) ];
+          most = low.most;
+          stops = λ three. absurd (low.other three);
+          refused = λ two. let same = told status (fault_status fault) 2 is (omega arith) two in
+              ((fault, same, did.explains), wrote-none (command_of line) r w fault same did.wrote);
+          failed = λ four. (fault, told status (fault_status fault) 4 is (omega arith) four, did.explains);
+          job = λ failed. told-failed fault status is (ap fault_status (err_same fault JobDevice (did.job_failed.0 failed)));
+          plan = λ failed. told-failed fault status is (ap fault_status (err_same fault PlanDevice (did.plan_failed.0 failed)));
+          out = λ failed. told-failed fault status is (ap fault_status (err_same fault OutDevice (did.out_failed.0 failed)));
+          begins = λ _. wrote-some (command_of line) r w fault did.wrote;
+          job_reads = did.job_reads;
+          plan_reads = did.plan_reads;
+        }
+
+    pub served : (done : Result ℕ CommandFault) (status : ℕ) → Did (command_of line) r w Unread tells_status done → IfOk done (λ s. status ≡ s)
+        → IfErr done (λ fault. (status ≡ 5) ⊎ (status ≡ fault_status fault)) → Served line r w status
+    served (Ok s) status did same is = subst (λ (n : ℕ). Served line r w n) (sym same) (served-done s did)
+    served (Err fault) status did same is = served-fault fault status did is

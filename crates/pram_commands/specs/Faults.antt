@@ -1,11 +1,9 @@
 -- What a command answers where a call below it fails, and the status of each fault.
 use Rattle.std.specs.Prelude.{ℕ}
-use Rattle.pram_io.specs.declared.job.PlainFault.{PlainFault}
-use Rattle.pram_io.specs.declared.job.PlainFault.TheVariants as plain
-use Rattle.pram_io.specs.declared.print.PrintFault.{PrintFault}
-use Rattle.pram_io.specs.declared.print.PrintFault.TheVariants as print
-use Rattle.pram_io.specs.declared.transfer.TakeFault.{TakeFault}
-use Rattle.pram_io.specs.declared.transfer.TakeFault.TheVariants as take
+use Rattle.pram_streams.specs.declared.print.PrintFault.{PrintFault}
+use Rattle.pram_streams.specs.declared.print.PrintFault.TheVariants as print
+use Rattle.pram_streams.specs.declared.transfer.TakeFault.{TakeFault}
+use Rattle.pram_streams.specs.declared.transfer.TakeFault.TheVariants as take
 use Rattle.pram_commands.specs.declared.fault.CommandFault.{CommandFault}
 use Rattle.pram_commands.specs.declared.fault.CommandFault.TheVariants.{Text, Plan}
 use Rattle.pram_commands.specs.declared.fault.CommandFault.TheVariants.{OutsideCell, JobDevice}
@@ -14,13 +12,11 @@ use Rattle.pram_commands.specs.declared.fault.CommandFault.TheVariants.{JobTooLa
 use Rattle.pram_commands.specs.declared.fault.CommandFault.TheVariants.{Memory}
 use Rattle.pram_commands.specs.declared.refusal.TheConstants.{REFUSED, FAILED, MEMORY}
 
--- where the work is a job's alone
-abbrev pub fault_of_plain : PlainFault → CommandFault
-fault_of_plain (plain.Text line kind) = Text line kind
-fault_of_plain plain.ReadDevice = JobDevice
-fault_of_plain plain.WriteDevice = OutDevice
-fault_of_plain plain.TooLarge = JobTooLarge
-fault_of_plain plain.Memory = Memory
+-- where the bytes of a job are taken
+abbrev pub fault_of_job_source : TakeFault → CommandFault
+fault_of_job_source take.Device = JobDevice
+fault_of_job_source take.Memory = Memory
+fault_of_job_source take.TooLarge = JobTooLarge
 
 -- where an answer is printed
 abbrev pub fault_of_print : PrintFault → CommandFault

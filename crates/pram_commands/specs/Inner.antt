@@ -1,3 +1,4 @@
 -- For private contracts alone.
+pub mod Puts
 pub mod Refusals
 pub mod Cells

@@ -1,11 +1,13 @@
 pub mod CellLists
+pub mod Did
 pub mod Faults
 pub mod Files
 pub mod Inner
 pub mod Inputs
 pub mod Line
+pub mod Plain
 pub mod Progress
 pub mod Replayed
-pub mod Serve
 pub mod Served
+pub mod Steps
 pub mod Threads

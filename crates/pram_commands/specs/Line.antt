@@ -1,6 +1,12 @@
--- The files that a line names.
-use Rattle.std.specs.Prelude.{ℕ, List, Option, None, option_map}
+-- The files that a line names, and its command.
+use Rattle.std.specs.Prelude.{ℕ, List, Option, None, ⊤, option_map}
 use Rattle.std.specs.Borrow.{Bor}
+use Rattle.pram_commands.specs.CellLists.{cells_of}
+use Rattle.pram_commands.specs.Did.{Command}
+use Rattle.pram_commands.specs.Plain.{checking, plainly}
+use Rattle.pram_commands.specs.Replayed.{replaying}
+use Rattle.pram_commands.specs.Steps.{stepping}
+use Rattle.pram_commands.specs.Threads.{running, watching}
 use Rattle.pram_commands.specs.declared.line.Line.{Line}
 use Rattle.pram_commands.specs.declared.line.Line.TheVariants.{Check, Plain, Steps}
 use Rattle.pram_commands.specs.declared.line.Line.TheVariants.{Run, Watch, Replay}
@@ -23,3 +29,19 @@ plan_of (Steps file from to) = None
 plan_of (Run file workers plan progress pace) = text_of plan
 plan_of (Watch file workers cells rounds plan progress pace) = text_of plan
 plan_of (Replay file workers plan) = text_of plan
+
+-- what the line comes to: its command says which bytes it prints on a job and a plan, and how it ends
+abbrev pub command_of : Line → Command
+command_of (Check file) = checking
+command_of (Plain file) = plainly
+command_of (Steps file from to) = stepping (record { from = from; to = to })
+command_of (Run file workers plan progress pace) = running workers.count
+command_of (Watch file workers cells rounds plan progress pace) =
+    watching workers.count (cells_of cells.text.now) rounds
+command_of (Replay file workers plan) = replaying workers.count
+
+-- The line is done by the thread that calls.
+abbrev pub StartsNoThread : Line → Type 0
+StartsNoThread (Run file workers plan progress pace) = ⊥
+StartsNoThread (Watch file workers cells rounds plan progress pace) = ⊥
+StartsNoThread _ = ⊤

@@ -1,15 +1,11 @@
--- What runs and watches on threads say of their job, and of the sources and the sink by their bytes
--- before and after.
-use Rattle.std.specs.Prelude.{◌≡◌, ◌++◌, ℕ, List, Option, map, slice_index, All}
+-- What the commands come to that run a job on threads.
+use Rattle.std.specs.Prelude.{◌≡◌, ℕ, List, [], Some, ⊤, map, slice_index, All}
 use Rattle.std.specs.List.{repeat}
 use Rattle.std.specs.List.Sorted.{IsNonDecreasingBy}
-use Rattle.std.specs.Io.KnownBytes.{Appends}
 use Rattle.pram_text.specs.Job.{JobData}
 use Rattle.pram_step.specs.Runs.{IsReached, state_after}
 use Rattle.pram_step.specs.declared.answer.RunAnswer.{RunAnswer}
 use Rattle.pram_words.specs.declared.layout.Form.TheVariants.{Wide}
-use Rattle.pram_io.specs.Printed.{printed}
-use Rattle.pram_io.specs.Transfer.{AppendsBeginning}
 use Rattle.stop_plan.specs.Plan.{PlanData}
 use Rattle.pram_board.specs.Seats.{Desk, Place, IsOpened}
 use Rattle.pram_run.specs.Obeyed.{HasRun}
@@ -17,7 +13,7 @@ use Rattle.pram_run.specs.Printed.{sights_text}
 use Rattle.pram_run.specs.Running.{IsRun}
 use Rattle.pram_run.specs.Watching.{HasWatched}
 use Rattle.pram_run.specs.declared.sight.Sight.{Sight}
-use Rattle.pram_commands.specs.Inputs.{GivesBoth}
+use Rattle.pram_commands.specs.Did.{Answering, Command}
 
 -- The seat is the one that a run of the plan's workers came to, from the first seat of a new board
 -- of the job; and its record tells the answer.
@@ -32,35 +28,14 @@ pub record EndsAt (job : JobData) (plan : PlanData) (later : Place) (answer : Ru
 abbrev pub IsEnd : JobData → PlanData → RunAnswer → Type 0
 IsEnd job plan answer = (later : Place) × EndsAt job plan later answer
 
--- The sink took the printed answer of a run of the job under the plan.
-pub record TakesRun (job : JobData) (plan : PlanData) (sink sink' : Option (List ℕ))
-    (answer : RunAnswer) : Type 0 where
-  pub ends : IsEnd job plan answer
-  pub prints : Appends sink sink' (printed answer job.steps)
-
--- The sink took a beginning of it.
-pub record BeginsRun (job : JobData) (plan : PlanData) (sink sink' : Option (List ℕ))
-    : Type 0 where
-  pub answer : RunAnswer
-  pub ends : IsEnd job plan answer
-  pub prints : AppendsBeginning sink sink' (printed answer job.steps)
-
--- The sources gave a job and a plan, and the sink took the answer of their run.
-pub record PrintsRun (job_source job_source' plan_source plan_source' : Option (List ℕ))
-    (workers : ℕ) (sink sink' : Option (List ℕ)) (answer : RunAnswer) : Type 0 where
-  pub job : JobData
-  pub plan : PlanData
-  pub gives : GivesBoth job_source job_source' plan_source plan_source' workers job plan
-  pub takes : TakesRun job plan sink sink' answer
-
--- The sources gave a job and a plan, and the sink took a beginning of the answer of their run.
-pub record PrintsRunBeginning
-    (job_source job_source' plan_source plan_source' : Option (List ℕ)) (workers : ℕ)
-    (sink sink' : Option (List ℕ)) : Type 0 where
-  pub job : JobData
-  pub plan : PlanData
-  pub gives : GivesBoth job_source job_source' plan_source plan_source' workers job plan
-  pub begins : BeginsRun job plan sink sink'
+-- it prints the answer of a run of the job under the plan
+abbrev pub running : ℕ → Command
+running workers = record {
+  workers = Some workers;
+  cells = [];
+  InPieces = ⊥;
+  Comes = λ job plan. Answering (λ answer front. IsEnd job plan answer × (front ≡ [])) job;
+}
 
 -- what the cell holds after the step, which is reached
 pub record IsTrueOf (job : JobData) (sight : Sight) : Type 0 where
@@ -89,37 +64,19 @@ pub record IsWatchEnd (job : JobData) (plan : PlanData) (cells : List ℕ) (roun
   pub later : Place
   pub at_it : WatchEndsAt job plan cells rounds later sights answer
 
--- The sink took the sights of a watch of the job under the plan, and then its printed answer.
-pub record TakesWatch (job : JobData) (plan : PlanData) (cells : List ℕ) (rounds : ℕ)
-    (sink sink' : Option (List ℕ)) (answer : RunAnswer) : Type 0 where
+-- A watch came to this answer, and these bytes tell what its reader saw.
+pub record TellsSights (job : JobData) (plan : PlanData) (cells : List ℕ) (rounds : ℕ)
+    (answer : RunAnswer) (front : List ℕ) : Type 0 where
   pub sights : List Sight
   pub saw : HasSights job cells rounds sights
   pub ends : IsWatchEnd job plan cells rounds sights answer
-  pub prints : Appends sink sink' (sights_text sights ++ printed answer job.steps)
+  pub text : front ≡ sights_text sights
 
--- The sink took a beginning of these.
-pub record BeginsWatch (job : JobData) (plan : PlanData) (cells : List ℕ) (rounds : ℕ)
-    (sink sink' : Option (List ℕ)) : Type 0 where
-  pub answer : RunAnswer
-  pub sights : List Sight
-  pub saw : HasSights job cells rounds sights
-  pub ends : IsWatchEnd job plan cells rounds sights answer
-  pub prints : AppendsBeginning sink sink' (sights_text sights ++ printed answer job.steps)
-
--- The sources gave a job and a plan, and the sink took their watch.
-pub record PrintsWatch (job_source job_source' plan_source plan_source' : Option (List ℕ))
-    (workers : ℕ) (cells : List ℕ) (rounds : ℕ) (sink sink' : Option (List ℕ))
-    (answer : RunAnswer) : Type 0 where
-  pub job : JobData
-  pub plan : PlanData
-  pub gives : GivesBoth job_source job_source' plan_source plan_source' workers job plan
-  pub takes : TakesWatch job plan cells rounds sink sink' answer
-
--- The sources gave a job and a plan, and the sink took a beginning of their watch.
-pub record PrintsWatchBeginning
-    (job_source job_source' plan_source plan_source' : Option (List ℕ)) (workers : ℕ)
-    (cells : List ℕ) (rounds : ℕ) (sink sink' : Option (List ℕ)) : Type 0 where
-  pub job : JobData
-  pub plan : PlanData
-  pub gives : GivesBoth job_source job_source' plan_source plan_source' workers job plan
-  pub begins : BeginsWatch job plan cells rounds sink sink'
+-- it prints the sights of a watch of the job under the plan, and then the answer
+abbrev pub watching : ℕ → List ℕ → ℕ → Command
+watching workers cells rounds = record {
+  workers = Some workers;
+  cells = cells;
+  InPieces = ⊤;
+  Comes = λ job plan. Answering (TellsSights job plan cells rounds) job;
+}

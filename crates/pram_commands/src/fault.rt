@@ -1,9 +1,7 @@
 //! Why a command was not done.
 ghost use Rattle.std.specs.Prelude.{◌≡◌};
-ghost use Rattle.pram_commands.specs.Faults.{fault_of_plain, fault_of_print};
 ghost use Rattle.pram_commands.specs.declared.fault.CommandFault.TheVariants.{Memory};
 
-use pram_io::{PlainFault, PrintFault};
 use pram_text::TextKind;
 use std::alloc::AllocError;
 use stop_plan::PlanKind;
@@ -27,33 +25,8 @@ pub enum CommandFault {
     JobTooLarge,
     /// The plan's source has more than `MOST` bytes.
     PlanTooLarge,
-    /// Memory ran out.
+    /// Out of memory.
     Memory,
-}
-
-impl From<PlainFault> for CommandFault {
-    ghost from_gives = { λ fault made. made ≡ fault_of_plain fault };
-
-    fn from(fault: PlainFault) -> CommandFault {
-        match fault {
-            PlainFault::Text { line, kind } => CommandFault::Text { line, kind },
-            PlainFault::ReadDevice => CommandFault::JobDevice,
-            PlainFault::WriteDevice => CommandFault::OutDevice,
-            PlainFault::TooLarge => CommandFault::JobTooLarge,
-            PlainFault::Memory => CommandFault::Memory,
-        }
-    }
-}
-
-impl From<PrintFault> for CommandFault {
-    ghost from_gives = { λ fault made. made ≡ fault_of_print fault };
-
-    fn from(fault: PrintFault) -> CommandFault {
-        match fault {
-            PrintFault::Device => CommandFault::OutDevice,
-            PrintFault::Memory => CommandFault::Memory,
-        }
-    }
 }
 
 impl From<AllocError> for CommandFault {

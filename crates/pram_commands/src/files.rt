@@ -1,10 +1,12 @@
 //! A line served from the files that it names.
 ghost use Rattle.std.specs.Prelude.{◌≡◌, ℕ, false, List, Option};
+ghost use Rattle.pram_commands.specs.Did.{writing};
 ghost use Rattle.pram_commands.specs.Files.{ServesFiles};
 
 use crate::line::Line;
-use crate::server::serve_sources;
-use pram_io::{Empty, Sink, Source};
+use crate::server::serve;
+use crate::sources::{Console, Sources};
+use pram_streams::{Empty, Sink, Source};
 use std::alloc::Global;
 use std::rt::Clock;
 use std::sync::Wait;
@@ -30,20 +32,19 @@ pub fn serve_files<R: Threads + Wait + Clock + Eprint + Sync, F: Folder, O: Sink
     alloc: Global,
     folder: &F,
     line: &Line<'_>,
-    out: &mut O,
-    err: &mut E,
+    console: &mut Console<O, E>,
 ) -> u8
-    requires out { O.has_failed out.old ≡ false }
-    requires err { E.has_failed err.old ≡ false }
-    ensures { ServesFiles (F.holds folder.now) line.now (O.taken out.old) (O.taken out.new)
-        (O.has_failed out.new) (out.new ≡ out.old) result }
+    requires out { O.has_failed console.old.out ≡ false }
+    requires err { E.has_failed console.old.err ≡ false }
+    ensures { ServesFiles (F.holds folder.now) line.now
+        (writing O.taken O.has_failed console.old.out console.new.out) result }
 {
-    let mut job = folder.open(line.file());
+    let job = folder.open(line.file());
     match line.plan() {
         Some(name) => {
-            let mut plan = folder.open(name);
-            serve_sources(rt, alloc, line, &mut job, &mut plan, out, err)
+            let plan = folder.open(name);
+            serve(rt, alloc, line, &mut Sources { job, plan }, console)
         }
-        None => serve_sources(rt, alloc, line, &mut job, &mut Empty, out, err),
+        None => serve(rt, alloc, line, &mut Sources { job, plan: Empty }, console),
     }
 }

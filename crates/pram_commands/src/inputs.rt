@@ -1,13 +1,15 @@
 //! A job and its plan from their sources.
-ghost use Rattle.std.specs.Prelude.{◌≡◌, ◌≢◌, ◌↔◌, false, IfOk, IfErr, IsErrOf, IsTrue};
-ghost use Rattle.pram_io.specs.Transfer.{GivesSome};
-ghost use Rattle.pram_commands.specs.Faults.{fault_of_plan_source};
-ghost use Rattle.pram_commands.specs.Inputs.{Explains, ExplainsPlan, GivesBoth, GivesPlan, IsOfJob};
+ghost use Rattle.std.specs.Prelude.{◌≡◌, ◌↔◌, false, IfOk, IfErr, IsErrOf, IsTrue};
+ghost use Rattle.pram_streams.specs.Transfer.{GivesSome};
+ghost use Rattle.pram_commands.specs.Faults.{fault_of_job_source, fault_of_plan_source};
+ghost use Rattle.pram_commands.specs.Inputs.{ExplainsJob, ExplainsPlan, GivesJob, GivesPlan, Took};
+ghost use Rattle.pram_commands.specs.Inputs.{reading};
 
 use crate::fault::CommandFault;
+use crate::sources::{Inputs, Sources};
 use crate::workers::Workers;
-use pram_io::{Source, TakeFault, take, take_job};
-use pram_text::Job;
+use pram_streams::{Source, TakeFault, take};
+use pram_text::{Job, TextFault, TextKind, read_job};
 use std::alloc::Global;
 use stop_plan::{Plan, PlanFault, PlanKind, read_plan};
 
@@ -15,30 +17,44 @@ use stop_plan::{Plan, PlanFault, PlanKind, read_plan};
 /// the job is refused, nothing is read of the plan.
 pub fn take_inputs<J: Source, P: Source>(
     alloc: Global,
-    job: &mut J,
-    plan: &mut P,
     workers: Workers,
-) -> Result<(Job, Plan), CommandFault>
-    requires job { J.has_failed job.old ≡ false }
-    requires plan { P.has_failed plan.old ≡ false }
-    ensures ok { IfOk result (λ both. GivesBoth (J.remaining job.old) (J.remaining job.new)
-        (P.remaining plan.old) (P.remaining plan.new) workers.count both.0 both.1) }
-    ensures explains { IfErr result (Explains (J.remaining job.old) (J.remaining job.new)
-        (P.remaining plan.old) (P.remaining plan.new) workers.count) }
-    ensures no_output { IfErr result (λ fault. fault ≢ CommandFault.OutDevice) }
-    ensures job_first { IfErr result (λ fault. IsOfJob fault → plan.new ≡ plan.old) }
-
-    // Whether a source failed is answered truly. The sources stand after the bytes read so far.
-    ensures job_failed { IsTrue (J.has_failed job.new)
-        ↔ IsErrOf result CommandFault.JobDevice }
-    ensures plan_failed { IsTrue (P.has_failed plan.new)
-        ↔ IsErrOf result CommandFault.PlanDevice }
-    ensures job_reads { GivesSome (J.remaining job.old) (J.remaining job.new) }
-    ensures plan_reads { GivesSome (P.remaining plan.old) (P.remaining plan.new) }
+    sources: &mut Sources<J, P>,
+) -> Result<Inputs, CommandFault>
+    requires job { J.has_failed sources.old.job ≡ false }
+    requires plan { P.has_failed sources.old.plan ≡ false }
+    ensures { Took workers.count (reading J.remaining J.has_failed P.remaining P.has_failed
+        sources.old.job sources.new.job sources.old.plan sources.new.plan)
+        (sources.new.plan ≡ sources.old.plan) result }
 {
-    let job = take_job(alloc, job)?;
-    let plan = take_plan(alloc, plan, workers)?;
-    Ok((job, plan))
+    let job = take_job(alloc, &mut sources.job)?;
+    let plan = take_plan(alloc, &mut sources.plan, workers)?;
+    Ok(Inputs { job, plan })
+}
+
+/// The job that the bytes of a source spell.
+pub fn take_job<J: Source>(alloc: Global, source: &mut J) -> Result<Job, CommandFault>
+    requires { J.has_failed source.old ≡ false }
+    ensures ok { IfOk result (GivesJob (J.remaining source.old) (J.remaining source.new)) }
+    ensures explains { IfErr result (ExplainsJob (J.remaining source.old)
+        (J.remaining source.new)) }
+    ensures failed { IsTrue (J.has_failed source.new)
+        ↔ IsErrOf result CommandFault.JobDevice }
+    ensures reads { GivesSome (J.remaining source.old) (J.remaining source.new) }
+{
+    let text = match take(alloc, source) {
+        Ok(text) => text,
+        Err(fault) => return Err(job_fault(fault)),
+    };
+    match read_job(alloc, text.as_slice()) {
+        Ok(job) => Ok(job),
+        Err(
+            TextFault {
+                kind: TextKind::Memory,
+                ..
+            },
+        ) => Err(CommandFault::Memory),
+        Err(TextFault { line, kind }) => Err(CommandFault::Text { line, kind }),
+    }
 }
 
 /// The plan for so many workers that the bytes of a source spell.
@@ -58,7 +74,7 @@ pub fn take_plan<P: Source>(
 {
     let text = match take(alloc, source) {
         Ok(text) => text,
-        Err(fault) => return Err(source_fault(fault)),
+        Err(fault) => return Err(plan_fault(fault)),
     };
     match read_plan(alloc, text.as_slice(), workers.count) {
         Ok(plan) => Ok(plan),
@@ -72,7 +88,17 @@ pub fn take_plan<P: Source>(
     }
 }
 
-fn source_fault(fault: TakeFault) -> CommandFault
+fn job_fault(fault: TakeFault) -> CommandFault
+    ensures { result ≡ fault_of_job_source fault }
+{
+    match fault {
+        TakeFault::Device => CommandFault::JobDevice,
+        TakeFault::Memory => CommandFault::Memory,
+        TakeFault::TooLarge => CommandFault::JobTooLarge,
+    }
+}
+
+fn plan_fault(fault: TakeFault) -> CommandFault
     ensures { result ≡ fault_of_plan_source fault }
 {
     match fault {

@@ -3,29 +3,28 @@
 #![tactic(auto)]
 
 mod cell_list;
+mod commands;
 mod fault;
 mod files;
 mod inputs;
 mod line;
 mod progress;
 mod refusal;
-mod replays;
-mod runs;
 mod server;
+mod sources;
 #[cfg(test)]
 mod tests;
 mod threads;
-mod watches;
 mod workers;
 
 pub use cell_list::CellList;
+pub use commands::{Reads, check, plain, replay, run, steps, watch};
 pub use fault::CommandFault;
 pub use files::{Folder, serve_files};
-pub use inputs::{take_inputs, take_plan};
+pub use inputs::{take_inputs, take_job, take_plan};
 pub use line::Line;
 pub use refusal::{CONFLICT, DONE, FAILED, MEMORY, REFUSED, Refusal, UNFINISHED, tell};
-pub use replays::replay;
-pub use runs::run;
 pub use server::{serve, serve_alone};
-pub use watches::watch;
+pub use sources::{Console, Inputs, Sources};
+pub use threads::Manner;
 pub use workers::Workers;

@@ -53,7 +53,7 @@ pub enum Line<'a> {
 
 impl<'a> Line<'a> {
     ghost use Rattle.std.specs.Prelude.{◌≡◌, ◌↔◌, IsTrue};
-    ghost use Rattle.pram_commands.specs.Served.{StartsNoThread};
+    ghost use Rattle.pram_commands.specs.Line.{StartsNoThread};
 
     /// Whether the line is done by the thread that calls.
     pub fn starts_no_thread(&self) -> bool

@@ -31,25 +31,53 @@ impl fmt::Display for ProgressLine {
     }
 }
 
-/// Starts a thread of the scope that tells on standard error how far the board is, until the work
-/// is done. It asks about four times a second, and tells each step once.
+/// Who tells how far a board of a job of so many steps is. One that is not wanted is silent.
+#[derive(Drop)]
+pub(crate) struct Teller {
+    pub wanted: bool,
+    pub steps: u32,
+    done: AtomicBool,
+}
+
+impl Teller {
+    pub fn new(wanted: bool, steps: u32) -> Teller
+        ensures { result.steps ≡ steps }
+    {
+        Teller {
+            wanted,
+            steps,
+            done: AtomicBool::new(false),
+        }
+    }
+
+    /// The work is done, and there is no more to tell.
+    pub fn end(&self) {
+        self.done.store(true, Ordering::SeqCst);
+    }
+}
+
+/// Where the teller is wanted, starts a thread of the scope that tells on standard error how far
+/// the board is, until the work is done. It asks about four times a second, and tells each step
+/// once.
 pub(crate) fn start_teller<'s, E, R: Clock + Eprint + Sync>(
     scope: &Scope<'s, E>,
     rt: &'s R,
     board: &'s Board,
     seat: Seat,
-    steps: u32,
-    done: &'s AtomicBool,
+    teller: &'s Teller,
 ) -> Result<Seat, AllocError>
     requires seat { seat.desk ≡ board.now }
-    requires steps { steps ≡ board.now.task.job.steps }
+    requires steps { teller.now.steps ≡ board.now.task.job.steps }
     ensures { IfOk result (λ mine. mine ≡ seat) }
 {
+    if !teller.wanted {
+        return Ok(seat);
+    }
     let (seat, theirs) = board.split(seat);
     let tell = move || -> ()
         requires seat { theirs.desk ≡ board.now }
-        requires steps { steps ≡ board.now.task.job.steps }
-    { tell_steps(rt, board, theirs, steps, done) };
+        requires steps { teller.now.steps ≡ board.now.task.job.steps }
+    { tell_steps(rt, board, theirs, teller) };
     match scope.spawn(tell) {
         Ok(_) => Ok(seat),
         Err(_) => Err(AllocError),
@@ -57,23 +85,17 @@ pub(crate) fn start_teller<'s, E, R: Clock + Eprint + Sync>(
 }
 
 // Tells the line whenever it has changed. Where standard error fails, that is all.
-pub(crate) fn tell_steps<R: Clock + Eprint>(
-    rt: &R,
-    board: &Board,
-    mut seat: Seat,
-    steps: u32,
-    done: &AtomicBool,
-)
+pub(crate) fn tell_steps<R: Clock + Eprint>(rt: &R, board: &Board, mut seat: Seat, teller: &Teller)
     requires seat { seat.desk ≡ board.now }
-    requires steps { steps ≡ board.now.task.job.steps }
+    requires steps { teller.now.steps ≡ board.now.task.job.steps }
 {
     let mut told = None;
     for nap in 0..u64::MAX {
-        if done.load(Ordering::SeqCst) {
+        if teller.done.load(Ordering::SeqCst) {
             return;
         }
         if nap % NAPS == 0 {
-            let line = progress_line(board, &mut seat, steps);
+            let line = progress_line(board, &mut seat, teller.steps);
             if told != Some(line) {
                 let _ = rt.eprintln(line);
                 told = Some(line);

@@ -3,7 +3,7 @@ ghost use Rattle.std.specs.Prelude.{◌≡◌, ◌≢◌, ◌⊎◌, codes, fals
 ghost use Rattle.std.specs.Io.KnownBytes.{Appends};
 ghost use Rattle.pram_commands.specs.Inner.Refusals.{TakesTold, refusal_status, refusal_text};
 
-use pram_io::{Sink, put};
+use pram_streams::{Sink, put};
 use pram_text::TextKind;
 use std::alloc::{AllocError, Global};
 use std::fmt;

@@ -1,4 +1,7 @@
 //! Tests of what no clause says.
+mod answers;
+mod failing;
+mod gallery;
 mod inputs;
 mod progress;
 mod refusals;

@@ -5,20 +5,49 @@ ghost use Rattle.pram_words.specs.declared.layout.Form.TheVariants.{Wide};
 ghost use Rattle.pram_board.specs.Seats.{IsOpened};
 ghost use Rattle.pram_commands.specs.Threads.{EndsAt, HasSights, WatchEndsAt};
 
-use crate::progress::start_teller;
+use crate::progress::{Teller, start_teller};
+use crate::sources::Inputs;
 use crate::workers::Workers;
 use pram_board::{Board, Seat};
 use pram_run::Sight;
 use pram_step::RunAnswer;
-use pram_text::Job;
 use std::alloc::{AllocError, Global};
 use std::rt::Clock;
 use std::sync::Wait;
-use std::sync::atomic::{AtomicBool, Ordering};
 use std::thread;
 use std::thread::{Scope, Threads};
 use std::time::Duration;
-use stop_plan::{Gate, Open, Paced, Plan};
+use stop_plan::{Gate, Open, Paced};
+
+/// How a job goes on threads: with so many workers; whether standard error is told how far they
+/// are; and the pause before each tick of a worker, in microseconds. Where there is none, the
+/// workers do not wait.
+#[derive(Clone, Copy, Debug, PartialEq, Eq)]
+pub struct Manner {
+    pub workers: Workers,
+    pub progress: bool,
+    pub pace: Option<u32>,
+}
+
+/// A job and its plan, with what a reader beside the workers reads: so many rounds through cells of
+/// the job.
+#[derive(Drop)]
+pub(crate) struct Watched<'a> {
+    pub inputs: &'a Inputs,
+    pub cells: &'a [u32],
+    pub rounds: u32,
+    pub ghost within: { All (λ c. c < inputs.now.job.cells) cells.now },
+}
+
+/// What workers go over: a board, past a gate, while a teller tells how far it is.
+#[derive(Drop)]
+struct Floor<'a, G> {
+    alloc: Global,
+    board: &'a Board,
+    gate: &'a G,
+    teller: &'a Teller,
+    ghost steps: { teller.now.steps ≡ board.now.task.job.steps },
+}
 
 // The gate whose passes each take so many microseconds.
 fn paced<R: Clock>(rt: &R, micros: u32) -> Paced<'_, R>
@@ -27,105 +56,70 @@ fn paced<R: Clock>(rt: &R, micros: u32) -> Paced<'_, R>
     Paced::new(rt, Duration::from_micros(u64::from(micros)))
 }
 
-/// Runs the plan's workers, and answers how the job ended, with the seat that saw it. Where there
-/// is a pace, each worker takes a pause of so many microseconds before each tick.
+/// Runs the plan's workers, and answers how the job ended, with the seat that saw it.
 pub(crate) fn run_job<R: Threads + Wait + Clock + Eprint + Sync>(
     rt: &R,
     alloc: Global,
-    job: &Job,
-    workers: Workers,
-    plan: &Plan,
-    progress: bool,
-    pace: Option<u32>,
+    inputs: &Inputs,
+    manner: Manner,
 ) -> Result<(RunAnswer, Seat), AllocError>
-    requires { plan.now.workers ≡ workers.count }
-    ensures { IfOk result (λ r. EndsAt job.now plan.now r.1 r.0) }
+    ensures { IfOk result (λ r. EndsAt inputs.now.job inputs.now.plan r.1 r.0) }
 {
-    match pace {
-        None => run_behind(rt, alloc, job, workers, plan, progress, &Open),
-        Some(micros) => run_behind(rt, alloc, job, workers, plan, progress, &paced(rt, micros)),
+    match manner.pace {
+        None => run_past(rt, alloc, inputs, manner.progress, &Open),
+        Some(micros) => run_past(rt, alloc, inputs, manner.progress, &paced(rt, micros)),
     }
 }
 
-// The same behind a gate.
-fn run_behind<R: Threads + Wait + Clock + Eprint + Sync, G: Gate + Sync>(
+// The same past a gate.
+fn run_past<R: Threads + Wait + Clock + Eprint + Sync, G: Gate + Sync>(
     rt: &R,
     alloc: Global,
-    job: &Job,
-    workers: Workers,
-    plan: &Plan,
+    inputs: &Inputs,
     progress: bool,
     gate: &G,
 ) -> Result<(RunAnswer, Seat), AllocError>
-    requires { plan.now.workers ≡ workers.count }
-    ensures { IfOk result (λ r. EndsAt job.now plan.now r.1 r.0) }
+    ensures { IfOk result (λ r. EndsAt inputs.now.job inputs.now.plan r.1 r.0) }
 {
-    let (board, seat) = Board::open_wide(alloc, job, workers.count)?;
-    if progress {
-        return run_told(rt, alloc, job, &board, seat, plan, gate);
-    }
-    run_alone(rt, alloc, job, &board, seat, plan, gate)
-}
-
-fn run_alone<R: Threads + Wait, G: Gate + Sync>(
-    rt: &R,
-    alloc: Global,
-    job: &Job,
-    board: &Board,
-    seat: Seat,
-    plan: &Plan,
-    gate: &G,
-) -> Result<(RunAnswer, Seat), AllocError>
-    requires { IsOpened job.now Wide plan.now.workers (board.now, seat) }
-    ensures { IfOk result (λ r. EndsAt job.now plan.now r.1 r.0) }
-{
-    let (seat, answer) = pram_run::run(rt, alloc, job, board, seat, plan, gate);
-    Ok((answer?, seat))
-}
-
-fn run_told<R: Threads + Wait + Clock + Eprint + Sync, G: Gate + Sync>(
-    rt: &R,
-    alloc: Global,
-    job: &Job,
-    board: &Board,
-    seat: Seat,
-    plan: &Plan,
-    gate: &G,
-) -> Result<(RunAnswer, Seat), AllocError>
-    requires { IsOpened job.now Wide plan.now.workers (board.now, seat) }
-    ensures { IfOk result (λ r. EndsAt job.now plan.now r.1 r.0) }
-{
-    let done = AtomicBool::new(false);
-    let done = &done;
+    let (board, seat) = Board::open_wide(alloc, &inputs.job, inputs.plan.workers())?;
+    let board = &board;
+    let teller = &Teller::new(progress, inputs.job.steps());
     thread::scope(
         thread::scope_env(),
         rt,
         |scope| -> Result<(RunAnswer, Seat), AllocError>
-            requires { IsOpened job.now Wide plan.now.workers (board.now, seat) }
-            ensures { IfOk result (λ r. EndsAt job.entry.now plan.entry.now r.1 r.0) }
-        { run_in(scope, rt, alloc, job, board, seat, plan, done, gate) },
+            requires opened { IsOpened inputs.now.job Wide inputs.now.plan.workers (board.now, seat) }
+            requires steps { teller.now.steps ≡ board.now.task.job.steps }
+            ensures { IfOk result (λ r. EndsAt inputs.entry.now.job inputs.entry.now.plan r.1 r.0) }
+        {
+            let floor = Floor {
+                alloc,
+                board,
+                gate,
+                teller,
+            };
+            run_on(scope, rt, &floor, inputs, seat)
+        },
     )
 }
 
-// Starts a thread of the scope that tells how far the board is, and runs beside it.
-fn run_in<'s, E, R: Threads + Wait + Clock + Eprint + Sync, G: Gate + Sync>(
+// Starts the teller in the scope, and runs beside it.
+fn run_on<'s, E, R: Threads + Wait + Clock + Eprint + Sync, G: Gate + Sync>(
     scope: &Scope<'s, E>,
     rt: &'s R,
-    alloc: Global,
-    job: &Job,
-    board: &'s Board,
+    floor: &Floor<'s, G>,
+    inputs: &Inputs,
     seat: Seat,
-    plan: &Plan,
-    done: &'s AtomicBool,
-    gate: &G,
 ) -> Result<(RunAnswer, Seat), AllocError>
-    requires { IsOpened job.now Wide plan.now.workers (board.now, seat) }
-    ensures { IfOk result (λ r. EndsAt job.now plan.now r.1 r.0) }
+    requires { IsOpened inputs.now.job Wide inputs.now.plan.workers (floor.now.board.now, seat) }
+    ensures { IfOk result (λ r. EndsAt inputs.now.job inputs.now.plan r.1 r.0) }
 {
-    let seat = start_teller(scope, rt, board, seat, job.steps(), done)?;
-    let answer = run_alone(rt, alloc, job, board, seat, plan, gate);
-    done.store(true, Ordering::SeqCst);
-    answer
+    let (board, teller) = (floor.board, floor.teller);
+    let (job, plan) = (&inputs.job, &inputs.plan);
+    let seat = start_teller(scope, rt, board, seat, teller)?;
+    let (seat, answer) = pram_run::run(rt, floor.alloc, job, board, seat, plan, floor.gate);
+    teller.end();
+    Ok((answer?, seat))
 }
 
 /// The same as `run_job`, with a reader beside the workers, and what it read. The reader takes a
@@ -133,139 +127,93 @@ fn run_in<'s, E, R: Threads + Wait + Clock + Eprint + Sync, G: Gate + Sync>(
 pub(crate) fn watch_job<R: Threads + Wait + Clock + Eprint + Sync>(
     rt: &R,
     alloc: Global,
-    job: &Job,
-    workers: Workers,
-    plan: &Plan,
-    cells: &[u32],
-    rounds: u32,
-    progress: bool,
-    pace: Option<u32>,
+    watched: &Watched<'_>,
+    manner: Manner,
 ) -> Result<(RunAnswer, Vec<Sight>, Seat), AllocError>
-    requires workers { plan.now.workers ≡ workers.count }
-    requires cells { All (λ c. c < job.now.cells) cells.now }
-    ensures ends { IfOk result (λ r. WatchEndsAt job.now plan.now cells.now rounds r.2 r.1.items
-        r.0) }
-    ensures sights { IfOk result (λ r. HasSights job.now cells.now rounds r.1.items) }
+    ensures ends { IfOk result (λ r. WatchEndsAt watched.now.inputs.now.job
+        watched.now.inputs.now.plan watched.now.cells.now watched.now.rounds r.2 r.1.items r.0) }
+    ensures sights { IfOk result (λ r. HasSights watched.now.inputs.now.job watched.now.cells.now
+        watched.now.rounds r.1.items) }
 {
-    match pace {
-        None => watch_behind(
-            rt, alloc, job, workers, plan, cells, rounds, progress, &Open,
-        ),
-        Some(micros) => {
-            let gate = paced(rt, micros);
-            watch_behind(
-                rt, alloc, job, workers, plan, cells, rounds, progress, &gate,
-            )
-        }
+    match manner.pace {
+        None => watch_past(rt, alloc, watched, manner.progress, &Open),
+        Some(micros) => watch_past(rt, alloc, watched, manner.progress, &paced(rt, micros)),
     }
 }
 
-// The same behind a gate.
-fn watch_behind<R: Threads + Wait + Clock + Eprint + Sync, G: Gate + Sync>(
+// The same past a gate.
+fn watch_past<R: Threads + Wait + Clock + Eprint + Sync, G: Gate + Sync>(
     rt: &R,
     alloc: Global,
-    job: &Job,
-    workers: Workers,
-    plan: &Plan,
-    cells: &[u32],
-    rounds: u32,
+    watched: &Watched<'_>,
     progress: bool,
     gate: &G,
 ) -> Result<(RunAnswer, Vec<Sight>, Seat), AllocError>
-    requires workers { plan.now.workers ≡ workers.count }
-    requires cells { All (λ c. c < job.now.cells) cells.now }
-    ensures ends { IfOk result (λ r. WatchEndsAt job.now plan.now cells.now rounds r.2 r.1.items
-        r.0) }
-    ensures sights { IfOk result (λ r. HasSights job.now cells.now rounds r.1.items) }
+    ensures ends { IfOk result (λ r. WatchEndsAt watched.now.inputs.now.job
+        watched.now.inputs.now.plan watched.now.cells.now watched.now.rounds r.2 r.1.items r.0) }
+    ensures sights { IfOk result (λ r. HasSights watched.now.inputs.now.job watched.now.cells.now
+        watched.now.rounds r.1.items) }
 {
-    let (board, seat) = Board::open_wide(alloc, job, workers.count)?;
-    if progress {
-        return watch_told(rt, alloc, job, &board, seat, plan, cells, rounds, gate);
-    }
-    watch_alone(rt, alloc, job, &board, seat, plan, cells, rounds, gate)
-}
-
-fn watch_alone<R: Threads + Wait, G: Gate + Sync>(
-    rt: &R,
-    alloc: Global,
-    job: &Job,
-    board: &Board,
-    seat: Seat,
-    plan: &Plan,
-    cells: &[u32],
-    rounds: u32,
-    gate: &G,
-) -> Result<(RunAnswer, Vec<Sight>, Seat), AllocError>
-    requires opened { IsOpened job.now Wide plan.now.workers (board.now, seat) }
-    requires cells { All (λ c. c < job.now.cells) cells.now }
-    ensures ends { IfOk result (λ r. WatchEndsAt job.now plan.now cells.now rounds r.2 r.1.items
-        r.0) }
-    ensures sights { IfOk result (λ r. HasSights job.now cells.now rounds r.1.items) }
-{
-    let (seat, watched) = pram_run::watch(rt, alloc, job, board, seat, plan, cells, rounds, gate);
-    let (answer, sights) = watched?;
-    Ok((answer, sights, seat))
-}
-
-fn watch_told<R: Threads + Wait + Clock + Eprint + Sync, G: Gate + Sync>(
-    rt: &R,
-    alloc: Global,
-    job: &Job,
-    board: &Board,
-    seat: Seat,
-    plan: &Plan,
-    cells: &[u32],
-    rounds: u32,
-    gate: &G,
-) -> Result<(RunAnswer, Vec<Sight>, Seat), AllocError>
-    requires opened { IsOpened job.now Wide plan.now.workers (board.now, seat) }
-    requires cells { All (λ c. c < job.now.cells) cells.now }
-    ensures ends { IfOk result (λ r. WatchEndsAt job.now plan.now cells.now rounds r.2 r.1.items
-        r.0) }
-    ensures sights { IfOk result (λ r. HasSights job.now cells.now rounds r.1.items) }
-{
-    let done = AtomicBool::new(false);
-    let done = &done;
+    let Watched {
+        inputs,
+        cells,
+        rounds,
+        ..
+    } = *watched;
+    let (board, seat) = Board::open_wide(alloc, &inputs.job, inputs.plan.workers())?;
+    let board = &board;
+    let teller = &Teller::new(progress, inputs.job.steps());
     thread::scope(
         thread::scope_env(),
         rt,
         |scope| -> Result<(RunAnswer, Vec<Sight>, Seat), AllocError>
-            requires opened { IsOpened job.now Wide plan.now.workers (board.now, seat) }
-            requires cells { All (λ c. c < job.now.cells) cells.now }
-            ensures ends { IfOk result (λ r. WatchEndsAt job.entry.now plan.entry.now
+            requires opened { IsOpened inputs.now.job Wide inputs.now.plan.workers (board.now, seat) }
+            requires within { All (λ c. c < inputs.now.job.cells) cells.now }
+            requires steps { teller.now.steps ≡ board.now.task.job.steps }
+            ensures ends { IfOk result (λ r. WatchEndsAt inputs.entry.now.job inputs.entry.now.plan
                 cells.entry.now rounds r.2 r.1.items r.0) }
-            ensures sights { IfOk result (λ r. HasSights job.entry.now cells.entry.now rounds
+            ensures sights { IfOk result (λ r. HasSights inputs.entry.now.job cells.entry.now rounds
                 r.1.items) }
         {
-            watch_in(
-                scope, rt, alloc, job, board, seat, plan, cells, rounds, done, gate,
-            )
+            let floor = Floor {
+                alloc,
+                board,
+                gate,
+                teller,
+            };
+            let watched = Watched {
+                inputs,
+                cells,
+                rounds,
+            };
+            watch_on(scope, rt, &floor, &watched, seat)
         },
     )
 }
 
-// Starts a thread of the scope that tells how far the board is, and watches beside it.
-fn watch_in<'s, E, R: Threads + Wait + Clock + Eprint + Sync, G: Gate + Sync>(
+// Starts the teller in the scope, and watches beside it.
+fn watch_on<'s, E, R: Threads + Wait + Clock + Eprint + Sync, G: Gate + Sync>(
     scope: &Scope<'s, E>,
     rt: &'s R,
-    alloc: Global,
-    job: &Job,
-    board: &'s Board,
+    floor: &Floor<'s, G>,
+    watched: &Watched<'_>,
     seat: Seat,
-    plan: &Plan,
-    cells: &[u32],
-    rounds: u32,
-    done: &'s AtomicBool,
-    gate: &G,
 ) -> Result<(RunAnswer, Vec<Sight>, Seat), AllocError>
-    requires opened { IsOpened job.now Wide plan.now.workers (board.now, seat) }
-    requires cells { All (λ c. c < job.now.cells) cells.now }
-    ensures ends { IfOk result (λ r. WatchEndsAt job.now plan.now cells.now rounds r.2 r.1.items
-        r.0) }
-    ensures sights { IfOk result (λ r. HasSights job.now cells.now rounds r.1.items) }
+    requires { IsOpened watched.now.inputs.now.job Wide watched.now.inputs.now.plan.workers
+        (floor.now.board.now, seat) }
+    ensures ends { IfOk result (λ r. WatchEndsAt watched.now.inputs.now.job
+        watched.now.inputs.now.plan watched.now.cells.now watched.now.rounds r.2 r.1.items r.0) }
+    ensures sights { IfOk result (λ r. HasSights watched.now.inputs.now.job watched.now.cells.now
+        watched.now.rounds r.1.items) }
 {
-    let seat = start_teller(scope, rt, board, seat, job.steps(), done)?;
-    let watched = watch_alone(rt, alloc, job, board, seat, plan, cells, rounds, gate);
-    done.store(true, Ordering::SeqCst);
-    watched
+    let (alloc, board, teller) = (floor.alloc, floor.board, floor.teller);
+    let (job, plan) = (&watched.inputs.job, &watched.inputs.plan);
+    let (cells, rounds) = (watched.cells, watched.rounds);
+    let seat = start_teller(scope, rt, board, seat, teller)?;
+    let (seat, done) = pram_run::watch(
+        rt, alloc, job, board, seat, plan, cells, rounds, floor.gate,
+    );
+    teller.end();
+    let (answer, sights) = done?;
+    Ok((answer, sights, seat))
 }

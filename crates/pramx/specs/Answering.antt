@@ -1,22 +1,20 @@
 -- What a status says of the words that the program was given.
-use Rattle.std.specs.Prelude.{◌≡◌, ◌⊎◌, ℕ, Bool, List, Option}
+use Rattle.std.specs.Prelude.{◌≡◌, ◌⊎◌, ℕ, List, Option}
 use Rattle.clap.specs.Words.{Text, subcommand_of}
+use Rattle.pram_commands.specs.Did.{Writing}
 use Rattle.pram_commands.specs.Files.{ServesFiles}
 use Rattle.pram_commands.specs.declared.line.Line.{Line}
 use Rattle.pram_commands.specs.declared.refusal.TheConstants.{MEMORY}
 use Rattle.pramx.specs.CommandLine.{AreRefused, IsMet, pramx}
 
 -- The words mean a line, and it was served from the files that it names.
-pub record ServesWords (Holds : List ℕ → Option (List ℕ) → Type 0) (words : List Text)
-    (out out' : Option (List ℕ)) (out_failed : Bool) (Unwritten : Type 0) (status : ℕ)
-    : Type 0 where
+pub record ServesWords (Holds : List ℕ → Option (List ℕ) → Type 0) (words : List Text) (w : Writing)
+    (status : ℕ) : Type 0 where
   pub line : Line
   pub met : IsMet (subcommand_of pramx words) line
-  pub serves : ServesFiles Holds line out out' out_failed Unwritten status
+  pub serves : ServesFiles Holds line w status
 
 -- So it is, unless the command refuses the words, or memory ran out.
-abbrev pub AnswersWords : (List ℕ → Option (List ℕ) → Type 0) → List Text
-    → (out out' : Option (List ℕ)) → Bool → Type 0 → ℕ → Type 0
-AnswersWords Holds words out out' out_failed Unwritten status =
-    ServesWords Holds words out out' out_failed Unwritten status
-    ⊎ (AreRefused words ⊎ (status ≡ MEMORY))
+abbrev pub AnswersWords : (List ℕ → Option (List ℕ) → Type 0) → List Text → Writing → ℕ → Type 0
+AnswersWords Holds words w status =
+    ServesWords Holds words w status ⊎ (AreRefused words ⊎ (status ≡ MEMORY))

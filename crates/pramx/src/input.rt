@@ -3,7 +3,7 @@ ghost use Rattle.std.specs.Prelude.{⊤};
 ghost use Rattle.pramx.specs.Input.{remaining_of};
 
 use pram_commands::Folder;
-use pram_io::FromRead;
+use pram_streams::FromRead;
 use std::fs;
 use std::io::{ErrorKind, Read, Result};
 use std::rt::Files;

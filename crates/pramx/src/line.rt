@@ -108,7 +108,7 @@ fn machine_command<'a>(alloc: Global) -> Result<Command<'a>, AllocError>
     let plain = file_command(alloc, "plain", "Run a job on the plain machine")?;
     let steps = steps_command(alloc)?;
     Command::new(alloc, "pramx")
-        .version("0.1.0")
+        .version("0.2.0")
         .about("Runs programs of a synchronous parallel machine with shared memory.")
         .after_help(EXAMPLES)
         .subcommand_required(true)

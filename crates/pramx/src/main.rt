@@ -5,6 +5,7 @@
 
 ghost use Rattle.std.specs.Prelude.{◌≡◌, ◌≢◌, ◌⊎◌, ◌≤◌, false, map};
 ghost use Rattle.clap.specs.Words.{kind_of};
+ghost use Rattle.pram_commands.specs.Did.{writing};
 ghost use Rattle.pramx.specs.Answering.{AnswersWords};
 ghost use Rattle.pramx.specs.CommandLine.{EndsByWords};
 
@@ -16,8 +17,8 @@ mod tests;
 use crate::input::RealFiles;
 use crate::line::read_line;
 use clap::error::ErrorKind;
-use pram_commands::{DONE, FAILED, Folder, MEMORY, Refusal, serve_files, tell};
-use pram_io::{IntoWrite, Sink, put};
+use pram_commands::{Console, DONE, FAILED, Folder, MEMORY, Refusal, serve_files, tell};
+use pram_streams::{IntoWrite, Sink, put};
 use std::alloc::{AllocError, Global};
 use std::env::{self, Env};
 use std::io;
@@ -27,9 +28,11 @@ use std::sync::Wait;
 use std::thread::Threads;
 
 fn main(rt: HostRuntime) -> ExitCode {
-    let mut out = IntoWrite::new(io::writer(&rt));
-    let mut err = IntoWrite::new(rt.stderr());
-    ExitCode::from(status(&rt, &RealFiles::new(&rt), &mut out, &mut err))
+    let mut console = Console {
+        out: IntoWrite::new(io::writer(&rt)),
+        err: IntoWrite::new(rt.stderr()),
+    };
+    ExitCode::from(status(&rt, &RealFiles::new(&rt), &mut console))
 }
 
 /// Does what the program's words ask, and answers the exit status.
@@ -38,22 +41,22 @@ fn status<
     F: Folder,
     O: Sink,
     E: Sink,
->(rt: &R, folder: &F, out: &mut O, err: &mut E) -> u8
-    requires out { O.has_failed out.old ≡ false }
-    requires err { E.has_failed err.old ≡ false }
+>(rt: &R, folder: &F, console: &mut Console<O, E>) -> u8
+    requires out { O.has_failed console.old.out ≡ false }
+    requires err { E.has_failed console.old.err ≡ false }
     ensures { result ≤ MEMORY }
 {
     let alloc = rt.alloc();
     let words = match words_of(rt) {
         Ok(words) => words,
         Err(error) if error.kind() == io::ErrorKind::OutOfMemory => {
-            return tell(alloc, Refusal::Memory, err);
+            return tell(alloc, Refusal::Memory, &mut console.err);
         }
-        Err(_) => return tell(alloc, Refusal::Word, err),
+        Err(_) => return tell(alloc, Refusal::Word, &mut console.err),
     };
     match texts_of(alloc, words.as_slice()) {
-        Ok(texts) => answer_words(rt, alloc, folder, texts.as_slice(), out, err),
-        Err(AllocError) => tell(alloc, Refusal::Memory, err),
+        Ok(texts) => answer_words(rt, alloc, folder, texts.as_slice(), console),
+        Err(AllocError) => tell(alloc, Refusal::Memory, &mut console.err),
     }
 }
 
@@ -72,19 +75,18 @@ fn answer_words<'a, R: Eprint + Threads + Wait + Clock + Sync, F: Folder, O: Sin
     alloc: Global,
     folder: &F,
     words: &'a [&'a str],
-    out: &mut O,
-    err: &mut E,
+    console: &mut Console<O, E>,
 ) -> u8
-    requires out { O.has_failed out.old ≡ false }
-    requires err { E.has_failed err.old ≡ false }
+    requires out { O.has_failed console.old.out ≡ false }
+    requires err { E.has_failed console.old.err ≡ false }
     ensures status { result ≤ MEMORY }
     ensures words { EndsByWords (map (λ w. w.now) words.entry.now) result }
     ensures answers { AnswersWords (F.holds folder.now) (map (λ w. w.now) words.entry.now)
-        (O.taken out.old) (O.taken out.new) (O.has_failed out.new) (out.new ≡ out.old) result }
+        (writing O.taken O.has_failed console.old.out console.new.out) result }
 {
     match read_line(alloc, words) {
-        Ok(line) => serve_files(rt, alloc, folder, &line, out, err),
-        Err(error) => refusal_status(alloc, &error, out, err),
+        Ok(line) => serve_files(rt, alloc, folder, &line, console),
+        Err(error) => refusal_status(alloc, &error, console),
     }
 }
 
@@ -93,11 +95,10 @@ fn answer_words<'a, R: Eprint + Threads + Wait + Clock + Sync, F: Folder, O: Sin
 fn refusal_status<O: Sink, E: Sink>(
     alloc: Global,
     error: &clap::Error,
-    out: &mut O,
-    err: &mut E,
+    console: &mut Console<O, E>,
 ) -> u8
-    requires out { O.has_failed out.old ≡ false }
-    requires err { E.has_failed err.old ≡ false }
+    requires out { O.has_failed console.old.out ≡ false }
+    requires err { E.has_failed console.old.err ≡ false }
     ensures status { result ≤ MEMORY }
     ensures memory { kind_of error.now ≡ ErrorKind.OutOfMemory → result ≡ MEMORY }
     ensures wrong { kind_of error.now ≢ ErrorKind.OutOfMemory
@@ -106,17 +107,17 @@ fn refusal_status<O: Sink, E: Sink>(
     ensures shown { (result ≡ DONE) ⊎ (FAILED ≤ result) }
 {
     if error.kind() == ErrorKind::OutOfMemory {
-        return tell(alloc, Refusal::Memory, err);
+        return tell(alloc, Refusal::Memory, &mut console.err);
     }
     let Ok(text) = format!(in alloc; "{error}") else {
-        return tell(alloc, Refusal::Memory, err);
+        return tell(alloc, Refusal::Memory, &mut console.err);
     };
     if error.use_stderr() {
-        let _ = put(err, text.as_bytes());
+        let _ = put(&mut console.err, text.as_bytes());
         return FAILED;
     }
-    match put(out, text.as_bytes()) {
+    match put(&mut console.out, text.as_bytes()) {
         Ok(()) => DONE,
-        Err(_) => tell(alloc, Refusal::Output, err),
+        Err(_) => tell(alloc, Refusal::Output, &mut console.err),
     }
 }

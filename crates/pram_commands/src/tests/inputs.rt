@@ -1,7 +1,12 @@
 //! Jobs and plans taken from their sources.
-use crate::{CellList, CommandFault, Workers, replay, run, take_inputs, take_plan, watch};
-use pram_io::{Empty, FromRead, IntoWrite};
+ghost use Rattle.std.specs.Prelude.{◌≡◌, false};
+
+use crate::{
+    CellList, CommandFault, Manner, Reads, Sources, Workers, replay, run, take_inputs, take_plan,
+    watch,
+};
 use pram_step::RunAnswer;
+use pram_streams::{Empty, FromRead, IntoWrite, Source};
 use std::test::Fail;
 
 const JOB: &[u8] = b"pram 1\ncells 1\nprocs 1\nsteps 0\ninit 0 5\ncode\nhalt\n";
@@ -10,27 +15,33 @@ const PLAN: &[u8] = b"worker,act,ticks\n1,go,2\n";
 
 const TWO: Workers = Workers { count: 2 };
 
+const SILENT: Manner = Manner {
+    workers: TWO,
+    progress: false,
+    pace: None,
+};
+
+fn sources() -> Sources<FromRead<&'static [u8]>, FromRead<&'static [u8]>>
+    ensures job { ⟦<FromRead<&'static [u8]> as Source>⟧.has_failed result.job ≡ false }
+    ensures plan { ⟦<FromRead<&'static [u8]> as Source>⟧.has_failed result.plan ≡ false }
+{
+    Sources {
+        job: FromRead::new(JOB),
+        plan: FromRead::new(PLAN),
+    }
+}
+
 #[test]
 fn takes_a_job_and_its_plan(rt: HostRuntime) -> Result<(), Fail> {
     let alloc = rt.alloc();
     let plan = take_plan(alloc, &mut FromRead::new(PLAN), TWO);
     assert!(rt; plan.is_ok_and(|plan| plan.rows().len() == 1));
-    let both = take_inputs(
-        alloc,
-        &mut FromRead::new(JOB),
-        &mut FromRead::new(PLAN),
-        TWO,
-    );
-    assert!(rt; both.is_ok_and(|both| both.0.cells() == 1 && both.1.rows().len() == 1));
+    let both = take_inputs(alloc, TWO, &mut sources());
+    assert!(rt; both.is_ok_and(|both| both.job.cells() == 1 && both.plan.rows().len() == 1));
     let none = take_plan(alloc, &mut Empty, TWO);
     assert!(rt; none.is_ok_and(|plan| plan.rows().is_empty()));
     let few = Workers { count: 1 };
-    let refused = take_inputs(
-        alloc,
-        &mut FromRead::new(JOB),
-        &mut FromRead::new(PLAN),
-        few,
-    );
+    let refused = take_inputs(alloc, few, &mut sources());
     assert!(rt; refused.is_err_and(|fault| matches!(fault, CommandFault::Plan { row: 2, .. })));
     Ok(())
 }
@@ -39,13 +50,7 @@ fn takes_a_job_and_its_plan(rt: HostRuntime) -> Result<(), Fail> {
 fn replays_between_devices(rt: HostRuntime) -> Result<(), Fail> {
     let alloc = rt.alloc();
     let mut out = IntoWrite::new(Vec::new(alloc));
-    let answer = replay(
-        alloc,
-        TWO,
-        &mut FromRead::new(JOB),
-        &mut FromRead::new(PLAN),
-        &mut out,
-    );
+    let answer = replay(alloc, TWO, &mut sources(), &mut out);
     match answer {
         Ok(RunAnswer::Final(cells)) => assert_eq!(rt; cells.as_slice(), [5].as_slice()),
         _ => panic!(rt; "no answer"),
@@ -61,9 +66,7 @@ fn replays_between_devices(rt: HostRuntime) -> Result<(), Fail> {
 fn runs_between_devices(rt: HostRuntime) -> Result<(), Fail> {
     let alloc = rt.alloc();
     let mut out = IntoWrite::new(Vec::new(alloc));
-    let job = &mut FromRead::new(JOB);
-    let plan = &mut FromRead::new(PLAN);
-    let answer = run(&rt, alloc, TWO, false, None, job, plan, &mut out);
+    let answer = run(&rt, alloc, SILENT, &mut sources(), &mut out);
     assert!(rt; matches!(answer, Ok(RunAnswer::Final(_))));
     assert_eq!(rt;
         out.into_inner().as_slice(),
@@ -76,12 +79,15 @@ fn runs_between_devices(rt: HostRuntime) -> Result<(), Fail> {
 fn watches_between_devices(rt: HostRuntime) -> Result<(), Fail> {
     let alloc = rt.alloc();
     let mut out = IntoWrite::new(Vec::new(alloc));
-    let job = &mut FromRead::new(JOB);
-    let plan = &mut FromRead::new(PLAN);
     let Some(cells) = CellList::read("0,0") else {
         panic!(rt; "no list");
     };
-    let answer = watch(&rt, alloc, TWO, cells, 2, false, None, job, plan, &mut out);
+    let reads = Reads {
+        manner: SILENT,
+        cells,
+        rounds: 2,
+    };
+    let answer = watch(&rt, alloc, reads, &mut sources(), &mut out);
     assert!(rt; matches!(answer, Ok(RunAnswer::Final(_))));
     let text = "step,cell,value\n0,0,5\n0,0,5\n0,0,5\n0,0,5\ndone steps=0\n0: 5\n";
     assert_eq!(rt; out.into_inner().as_slice(), text.as_bytes());

@@ -1,7 +1,7 @@
 //! Lines of progress.
 ghost use Rattle.std.specs.Prelude.{◌≡◌};
 
-use crate::progress::tell_steps;
+use crate::progress::{Teller, tell_steps};
 use pram_board::{Board, Seat};
 use pram_run::run;
 use pram_text::read_job;
@@ -10,7 +10,6 @@ use std::cell::RefCell;
 use std::fmt::{Display, Write};
 use std::io;
 use std::rt::Clock;
-use std::sync::atomic::{AtomicBool, Ordering};
 use std::test::Fail;
 use std::time::Duration;
 use stop_plan::{Open, Plan};
@@ -20,7 +19,7 @@ const JOB: &[u8] = b"pram 1\ncells 1\nprocs 1\nsteps 2\ncode\nhalt\n";
 // A standard error that keeps its text, and a clock at whose sleep the work is done.
 #[derive(Drop)]
 struct Ends {
-    done: AtomicBool,
+    teller: Teller,
     told: RefCell<String>,
 }
 
@@ -34,7 +33,7 @@ impl Clock for Ends {
     }
 
     fn sleep(&self, _duration: Duration) {
-        self.done.store(true, Ordering::SeqCst);
+        self.teller.end();
     }
 }
 
@@ -57,10 +56,10 @@ fn told(alloc: Global, board: &Board, seat: Seat, steps: u32) -> String
     requires steps { steps ≡ board.now.task.job.steps }
 {
     let rt = Ends {
-        done: AtomicBool::new(false),
+        teller: Teller::new(true, steps),
         told: RefCell::new(String::new(alloc)),
     };
-    tell_steps(&rt, board, seat, steps, &rt.done);
+    tell_steps(&rt, board, seat, &rt.teller);
     rt.told.into_inner()
 }
 

@@ -1,9 +1,9 @@
 //! Files and outputs that fail.
 use crate::tests::served::{
-    CHECK, Closed, FILE, PLAIN, Served, serve_source, serve_sources, serve_text,
+    CHECK, Drip, FILE, PLAIN, Served, serve_source, serve_sources, serve_text,
 };
-use crate::{Line, Workers, serve};
-use pram_io::{Empty, FromRead, IntoWrite, MOST};
+use crate::{Console, Line, Sources, Workers, serve};
+use pram_streams::{Empty, FromRead, IntoWrite, MOST};
 use std::test::Fail;
 
 const REPLAY: Line<'static> = Line::Replay {
@@ -31,11 +31,11 @@ fn is_refused(served: &Served, told: &str) -> bool {
 fn a_closed_file_is_named(rt: HostRuntime) {
     let alloc = rt.alloc();
     for line in [CHECK, PLAIN, RUN, REPLAY] {
-        let served = serve_source(&rt, alloc, &line, &mut Closed::new());
+        let served = serve_source(&rt, alloc, &line, Drip::new(&[], 0));
         assert!(rt; is_refused(&served, "file job.txt\n"));
     }
-    let plan = &mut Closed::new();
-    let served = serve_sources(&rt, alloc, &REPLAY, &mut FromRead::new(JOB), Some(plan));
+    let job = FromRead::new(JOB);
+    let served = serve_sources(&rt, alloc, &REPLAY, job, Drip::new(&[], 0));
     assert!(rt; is_refused(&served, "file plan.csv\n"));
 }
 
@@ -47,13 +47,13 @@ fn a_large_file_is_named(rt: HostRuntime) -> Result<(), Fail> {
         let served = serve_text(&rt, alloc, &line, text.as_slice());
         assert!(rt; is_refused(&served, "size job.txt\n"));
     }
-    let plan = &mut FromRead::new(text.as_slice());
-    let served = serve_sources(&rt, alloc, &REPLAY, &mut FromRead::new(JOB), Some(plan));
+    let plan = FromRead::new(text.as_slice());
+    let served = serve_sources(&rt, alloc, &REPLAY, FromRead::new(JOB), plan);
     assert!(rt; is_refused(&served, "size plan.csv\n"));
     Ok(())
 }
 
-// The output fails behind each byte in turn.
+// The output fails after each byte in turn.
 #[test]
 fn a_failing_output_took_a_beginning(rt: HostRuntime) {
     let alloc = rt.alloc();
@@ -61,11 +61,16 @@ fn a_failing_output_took_a_beginning(rt: HostRuntime) {
         let whole = serve_text(&rt, alloc, &line, JOB).out;
         for count in 0..whole.len() {
             let mut room = [0u8; 256];
-            let mut out = IntoWrite::new(&mut room[..count.min(256)]);
-            let mut err = IntoWrite::new(Vec::new(alloc));
-            let plan: Option<&mut Empty> = None;
-            let job = &mut FromRead::new(JOB);
-            let status = serve(&rt, alloc, &line, job, plan, &mut out, &mut err);
+            let mut console = Console {
+                out: IntoWrite::new(&mut room[..count.min(256)]),
+                err: IntoWrite::new(Vec::new(alloc)),
+            };
+            let mut sources = Sources {
+                job: FromRead::new(JOB),
+                plan: Empty,
+            };
+            let status = serve(&rt, alloc, &line, &mut sources, &mut console);
+            let Console { out, err } = console;
             assert_eq!(rt; status, 4);
             assert_eq!(rt; err.into_inner().as_slice(), "file -\n".as_bytes());
             assert!(rt; out.into_inner().is_empty());
@@ -78,10 +83,14 @@ fn a_failing_output_took_a_beginning(rt: HostRuntime) {
 fn the_status_stays_where_standard_error_fails(rt: HostRuntime) {
     let alloc = rt.alloc();
     let mut room = [0u8; 3];
-    let mut out = IntoWrite::new(Vec::new(alloc));
-    let mut err = IntoWrite::new(&mut room[..]);
-    let plan: Option<&mut Empty> = None;
-    let job = &mut FromRead::new(&JOB[..6]);
-    assert_eq!(rt; serve(&rt, alloc, &PLAIN, job, plan, &mut out, &mut err), 2);
-    assert!(rt; out.into_inner().is_empty());
+    let mut console = Console {
+        out: IntoWrite::new(Vec::new(alloc)),
+        err: IntoWrite::new(&mut room[..]),
+    };
+    let mut sources = Sources {
+        job: FromRead::new(&JOB[..6]),
+        plan: Empty,
+    };
+    assert_eq!(rt; serve(&rt, alloc, &PLAIN, &mut sources, &mut console), 2);
+    assert!(rt; console.out.into_inner().is_empty());
 }

@@ -4,7 +4,7 @@ ghost use Rattle.std.specs.Prelude.{◌≤◌};
 
 use crate::tests::served::{FILE, Served, serve_sources, serve_text};
 use crate::{Line, Workers};
-use pram_io::FromRead;
+use pram_streams::FromRead;
 use std::alloc::{AllocError, Global};
 use std::rt::Clock;
 use std::sync::Wait;
@@ -65,9 +65,9 @@ fn planned<R: Threads + Wait + Clock + Eprint + Sync>(
     let rows = format!(in alloc; "worker,act,ticks/{rows}")?;
     let rows = lines_of(alloc, rows.as_str())?;
     let line = replay_line(workers, Some("plan.csv"));
-    let job = &mut FromRead::new(text.as_slice());
-    let plan = &mut FromRead::new(rows.as_slice());
-    Ok(serve_sources(rt, alloc, &line, job, Some(plan)))
+    let job = FromRead::new(text.as_slice());
+    let plan = FromRead::new(rows.as_slice());
+    Ok(serve_sources(rt, alloc, &line, job, plan))
 }
 
 // How many lines stand above the answer, and the answer, with `/` for each line feed.

@@ -1,9 +1,8 @@
 //! A line served over a text.
 ghost use Rattle.std.specs.Prelude.{◌≡◌, false};
-ghost use Rattle.pram_commands.specs.Serve.{some_failed};
 
-use crate::{Line, serve};
-use pram_io::{Empty, Failed, FromRead, IntoWrite, Source};
+use crate::{Console, Line, Sources, serve};
+use pram_streams::{Empty, Failed, FromRead, IntoWrite, Source};
 use std::alloc::Global;
 use std::rt::Clock;
 use std::sync::Wait;
@@ -25,32 +24,34 @@ pub struct Served {
 }
 
 /// Serves a line over the source of its job.
-pub fn serve_source<R: Threads + Wait + Clock + Eprint + Sync, J: Source>(
+pub fn serve_source<R: Threads + Wait + Clock + Eprint + Sync, J: Source + Drop>(
     rt: &R,
     alloc: Global,
     line: &Line<'_>,
-    job: &mut J,
+    job: J,
 ) -> Served
-    requires { J.has_failed job.old ≡ false }
+    requires { J.has_failed job ≡ false }
 {
-    let plan: Option<&mut Empty> = None;
-    serve_sources(rt, alloc, line, job, plan)
+    serve_sources(rt, alloc, line, job, Empty)
 }
 
 /// Serves a line over the sources of its job and its plan.
-pub fn serve_sources<R: Threads + Wait + Clock + Eprint + Sync, J: Source, P: Source>(
+pub fn serve_sources<R: Threads + Wait + Clock + Eprint + Sync, J: Source + Drop, P: Source + Drop>(
     rt: &R,
     alloc: Global,
     line: &Line<'_>,
-    job: &mut J,
-    plan: Option<&mut P>,
+    job: J,
+    plan: P,
 ) -> Served
-    requires job { J.has_failed job.old ≡ false }
-    requires plan { some_failed P.has_failed plan ≡ false }
+    requires job { J.has_failed job ≡ false }
+    requires plan { P.has_failed plan ≡ false }
 {
-    let mut out = IntoWrite::new(Vec::new(alloc));
-    let mut err = IntoWrite::new(Vec::new(alloc));
-    let status = serve(rt, alloc, line, job, plan, &mut out, &mut err);
+    let mut console = Console {
+        out: IntoWrite::new(Vec::new(alloc)),
+        err: IntoWrite::new(Vec::new(alloc)),
+    };
+    let status = serve(rt, alloc, line, &mut Sources { job, plan }, &mut console);
+    let Console { out, err } = console;
     Served {
         out: out.into_inner(),
         err: err.into_inner(),
@@ -65,28 +66,57 @@ pub fn serve_text<R: Threads + Wait + Clock + Eprint + Sync>(
     line: &Line<'_>,
     text: &[u8],
 ) -> Served {
-    serve_source(rt, alloc, line, &mut FromRead::new(text))
+    serve_source(rt, alloc, line, FromRead::new(text))
 }
 
-/// A source of which each pull fails.
-#[derive(Drop)]
-pub struct Closed {
-    has_failed: bool,
-}
-
-impl Closed {
-    pub fn new() -> Self
-        ensures { ⟦<Closed as Source>⟧.has_failed result ≡ false }
-    {
-        Closed { has_failed: false }
+/// The source of a text, and no plan.
+pub fn of_text(text: &[u8]) -> Sources<FromRead<&[u8]>, Empty>
+    ensures job { ⟦<FromRead<&'static [u8]> as Source>⟧.has_failed result.job ≡ false }
+    ensures plan { ⟦<Empty as Source>⟧.has_failed result.plan ≡ false }
+{
+    Sources {
+        job: FromRead::new(text),
+        plan: Empty,
     }
 }
 
-impl Source for Closed {
+/// Gives one byte a pull, until the pulls are used up: the next one fails.
+#[derive(Drop)]
+pub struct Drip<'a> {
+    rest: &'a [u8],
+    pulls: usize,
+    has_failed: bool,
+}
+
+impl<'a> Drip<'a> {
+    pub fn new(rest: &'a [u8], pulls: usize) -> Self
+        ensures { ⟦<Drip<'a> as Source>⟧.has_failed result ≡ false }
+    {
+        Drip {
+            rest,
+            pulls,
+            has_failed: false,
+        }
+    }
+}
+
+impl Source for Drip<'_> {
     ghost has_failed = { λ s. s.has_failed };
 
-    fn pull(&mut self, _into: &mut [u8]) -> Result<usize, Failed> {
-        self.has_failed = true;
-        Err(Failed)
+    fn pull(&mut self, into: &mut [u8]) -> Result<usize, Failed> {
+        if self.pulls == 0 {
+            self.has_failed = true;
+            return Err(Failed);
+        }
+        self.pulls -= 1;
+        if into.is_empty() {
+            return Ok(0);
+        }
+        let Some((first, rest)) = self.rest.split_first() else {
+            return Ok(0);
+        };
+        into[0] = *first;
+        self.rest = rest;
+        Ok(1)
     }
 }

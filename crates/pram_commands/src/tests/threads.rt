@@ -5,7 +5,7 @@ ghost use Rattle.std.specs.Prelude.{◌≤◌};
 use crate::tests::replays::{lines_above, lines_of};
 use crate::tests::served::{FILE, Served, serve_sources};
 use crate::{CellList, Line, Workers};
-use pram_io::FromRead;
+use pram_streams::FromRead;
 use std::alloc::{AllocError, Global};
 use std::rt::Clock;
 use std::sync::Wait;
@@ -32,9 +32,9 @@ fn served<R: Threads + Wait + Clock + Eprint + Sync>(
     let text = lines_of(alloc, text)?;
     let rows = format!(in alloc; "worker,act,ticks/{rows}")?;
     let rows = lines_of(alloc, rows.as_str())?;
-    let job = &mut FromRead::new(text.as_slice());
-    let plan = &mut FromRead::new(rows.as_slice());
-    Ok(serve_sources(rt, alloc, line, job, Some(plan)))
+    let job = FromRead::new(text.as_slice());
+    let plan = FromRead::new(rows.as_slice());
+    Ok(serve_sources(rt, alloc, line, job, plan))
 }
 
 fn run_line(count: u32, progress: bool) -> Line<'static>

@@ -2,8 +2,8 @@
 ghost use Rattle.std.specs.Prelude.{⊤};
 
 use crate::answer_words;
-use pram_commands::Folder;
-use pram_io::{FromRead, IntoWrite};
+use pram_commands::{Console, Folder};
+use pram_streams::{FromRead, IntoWrite};
 use std::alloc::Global;
 use std::rt::Clock;
 use std::sync::Wait;
@@ -42,9 +42,12 @@ fn answer<R: Threads + Wait + Clock + Eprint + Sync>(
     alloc: Global,
     words: &'static [&'static str],
 ) -> Answered {
-    let mut out = IntoWrite::new(Vec::new(alloc));
-    let mut err = IntoWrite::new(Vec::new(alloc));
-    let status = answer_words(rt, alloc, &Shelf, words, &mut out, &mut err);
+    let mut console = Console {
+        out: IntoWrite::new(Vec::new(alloc)),
+        err: IntoWrite::new(Vec::new(alloc)),
+    };
+    let status = answer_words(rt, alloc, &Shelf, words, &mut console);
+    let Console { out, err } = console;
     Answered {
         status,
         out: out.into_inner(),

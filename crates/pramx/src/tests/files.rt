@@ -1,6 +1,6 @@
 //! Files as sources.
 use crate::input::Input;
-use pram_io::{FromRead, TakeFault, take};
+use pram_streams::{FromRead, TakeFault, take};
 use std::test::Fail;
 
 #[test]

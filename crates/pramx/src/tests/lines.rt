@@ -283,7 +283,7 @@ fn texts_of_errors_and_requests(rt: HostRuntime) -> Result<(), Fail> {
     let alloc = rt.alloc();
     for (words, wanted) in [
         (HELP, HELP_TEXT),
-        (VERSION, "pramx 0.1.0\n"),
+        (VERSION, "pramx 0.2.0\n"),
         (BAD_CELLS, BAD_CELLS_TEXT),
     ] {
         let text = text_of(alloc, words)?;

@@ -1,7 +1,6 @@
-use Rattle.std.proofs.Common.{◌≡◌, ◌∙◌, ℕ, List, lit<, ap, map}
+use Rattle.std.proofs.Common.{◌∙◌, ℕ, List, lit<, ap, map}
 use Rattle.std.proofs.lemmas.Iterator.Consumers.{YieldsList-at, YieldsList-end, YieldsList-turn}
 use Rattle.std.proofs.lemmas.Iterator.Splits.{YieldsList-from_str_split}
-use Rattle.std.specs.Borrow.{Bor}
 use Rattle.pram_commands.specs.CellLists.{cell_of}
 use Rattle.pram_commands.proofs.Cells.{mapped, turn_spelled}
 use Rattle.pram_commands.proofs.cell_list.CellList.numbers.Goals as goal

@@ -1,0 +1,46 @@
+-- What printing to the output came to, for a job and a plan at hand.
+use Rattle.std.specs.Prelude.{◌⊎◌, ◌↔◌, List, ℕ, Option, Result, Ok, Err, IfOk, IfErr, IsErrOf, IsTrue}
+use Rattle.std.specs.Io.KnownBytes.{Appends}
+use Rattle.pram_step.specs.declared.answer.RunAnswer.{RunAnswer}
+use Rattle.pram_streams.specs.Transfer.{AppendsBeginning}
+use Rattle.pram_streams.specs.declared.print.PrintFault.{PrintFault}
+use Rattle.pram_streams.specs.declared.print.PrintFault.TheVariants.{Device, Memory}
+use Rattle.pram_commands.specs.Did.{Writing, status_of}
+use Rattle.pram_commands.specs.Faults.{fault_of_print}
+use Rattle.pram_commands.specs.declared.fault.CommandFault.{CommandFault}
+
+-- The output took all that the relation tells, or a beginning of it.
+pub record PutAll (Comes : List ℕ → Option RunAnswer → Type 0) (w : Writing)
+    (Is : Option RunAnswer → Type 0) : Type 0 where
+  pub text : List ℕ
+  pub answer : Option RunAnswer
+  pub comes : Comes text answer
+  pub takes : Appends w.out w.out' text
+  pub is : Is answer
+
+pub record PutBeginning (Comes : List ℕ → Option RunAnswer → Type 0) (w : Writing) : Type 0 where
+  pub text : List ℕ
+  pub answer : Option RunAnswer
+  pub comes : Comes text answer
+  pub takes : AppendsBeginning w.out w.out' text
+
+abbrev pub PutSome : (List ℕ → Option RunAnswer → Type 0) → Type 0 → Writing → PrintFault → Type 0
+PutSome Comes InPieces w Device = PutBeginning Comes w
+PutSome Comes InPieces w Memory = w.Unwritten ⊎ (InPieces × PutBeginning Comes w)
+
+pub record Puts {A : Type 0} (Comes : List ℕ → Option RunAnswer → Type 0) (InPieces : Type 0)
+    (w : Writing) (Tells : A → Option RunAnswer → Type 0) (result : Result A PrintFault)
+    : Type 0 where
+  pub done : IfOk result (λ told. PutAll Comes w (Tells told))
+  pub wrote : IfErr result (PutSome Comes InPieces w)
+  pub failed : IsTrue w.failed ↔ IsErrOf result Device
+
+-- what a command answers where printing is its last act
+abbrev pub printed_as : {A : Type 0} → Result A PrintFault → Result A CommandFault
+printed_as (Ok told) = Ok told
+printed_as (Err fault) = Err (fault_of_print fault)
+
+-- what a line answers where a command gives an answer
+abbrev pub status_result : Result RunAnswer CommandFault → Result ℕ CommandFault
+status_result (Ok answer) = Ok (status_of answer)
+status_result (Err fault) = Err fault

@@ -1,0 +1,17 @@
+-- What the command comes to that prints the steps of a window.
+use Rattle.std.specs.Prelude.{◌≡◌, [], None, ⊤}
+use Rattle.pram_step.specs.Runs.{IsAnswer}
+use Rattle.pram_rows.specs.Rows.{rows_text}
+use Rattle.pram_rows.specs.Shown.{last_step}
+use Rattle.pram_rows.specs.declared.window.Window.{Window}
+use Rattle.pram_commands.specs.Did.{Answering, Command}
+
+-- it prints the rows of the window, and then the answer of the job
+abbrev pub stepping : Window → Command
+stepping window = record {
+  workers = None;
+  cells = [];
+  InPieces = ⊤;
+  Comes = λ job plan. Answering (λ answer front. IsAnswer job answer
+      × (front ≡ rows_text job window.from window.to (last_step job answer))) job;
+}

@@ -1,0 +1,153 @@
+//! The commands, and which of them a line asks for.
+ghost use Rattle.std.specs.Prelude.{◌≡◌, false};
+ghost use Rattle.pram_commands.specs.Did.{Did, status_of, tells_status, writing};
+ghost use Rattle.pram_commands.specs.Inner.Puts.{printed_as, status_result};
+ghost use Rattle.pram_commands.specs.Inputs.{reading};
+ghost use Rattle.pram_commands.specs.Line.{StartsNoThread, command_of};
+
+mod checks;
+mod plain_runs;
+mod replays;
+mod runs;
+mod step_rows;
+mod watches;
+
+use crate::fault::CommandFault;
+use crate::line::Line;
+use crate::refusal::{CONFLICT, DONE, UNFINISHED};
+use crate::sources::Sources;
+use crate::threads::Manner;
+pub use checks::check;
+pub use plain_runs::plain;
+use pram_rows::Window;
+use pram_step::RunAnswer;
+use pram_streams::{PrintFault, Sink, Source};
+pub use replays::replay;
+pub use runs::run;
+use std::alloc::Global;
+use std::rt::Clock;
+use std::sync::Wait;
+use std::thread::Threads;
+pub use step_rows::steps;
+pub use watches::{Reads, watch};
+
+/// Does what a line that starts no thread asks, and answers the status of its answer.
+pub(crate) fn do_alone<J: Source, P: Source, O: Sink>(
+    alloc: Global,
+    line: &Line<'_>,
+    sources: &mut Sources<J, P>,
+    out: &mut O,
+) -> Result<u8, CommandFault>
+    requires alone { StartsNoThread line.now }
+    requires job { J.has_failed sources.old.job ≡ false }
+    requires plan { P.has_failed sources.old.plan ≡ false }
+    requires out { O.has_failed out.old ≡ false }
+    ensures { Did (command_of line.now) (reading J.remaining J.has_failed P.remaining P.has_failed
+        sources.old.job sources.new.job sources.old.plan sources.new.plan)
+        (writing O.taken O.has_failed out.old out.new) (sources.new.plan ≡ sources.old.plan)
+        tells_status result }
+{
+    match *line {
+        Line::Check { .. } => {
+            check(alloc, sources, out)?;
+            Ok(DONE)
+        }
+        Line::Plain { .. } => ended(plain(alloc, sources, out)),
+        Line::Steps { from, to, .. } => ended(steps(alloc, Window { from, to }, sources, out)),
+        Line::Replay { workers, .. } => ended(replay(alloc, workers, sources, out)),
+        Line::Run { .. } | Line::Watch { .. } => unreachable!(),
+    }
+}
+
+/// The same for a line that starts threads.
+pub(crate) fn do_on_threads<
+    R: Threads + Wait + Clock + Eprint + Sync,
+    J: Source,
+    P: Source,
+    O: Sink,
+>(
+    rt: &R,
+    alloc: Global,
+    line: &Line<'_>,
+    sources: &mut Sources<J, P>,
+    out: &mut O,
+) -> Result<u8, CommandFault>
+    requires threads { ¬ StartsNoThread line.now }
+    requires job { J.has_failed sources.old.job ≡ false }
+    requires plan { P.has_failed sources.old.plan ≡ false }
+    requires out { O.has_failed out.old ≡ false }
+    ensures { Did (command_of line.now) (reading J.remaining J.has_failed P.remaining P.has_failed
+        sources.old.job sources.new.job sources.old.plan sources.new.plan)
+        (writing O.taken O.has_failed out.old out.new) (sources.new.plan ≡ sources.old.plan)
+        tells_status result }
+{
+    match *line {
+        Line::Run {
+            workers,
+            progress,
+            pace,
+            ..
+        } => {
+            let manner = Manner {
+                workers,
+                progress,
+                pace,
+            };
+            ended(run(rt, alloc, manner, sources, out))
+        }
+        Line::Watch {
+            workers,
+            cells,
+            rounds,
+            progress,
+            pace,
+            ..
+        } => {
+            let manner = Manner {
+                workers,
+                progress,
+                pace,
+            };
+            let reads = Reads {
+                manner,
+                cells,
+                rounds,
+            };
+            ended(watch(rt, alloc, reads, sources, out))
+        }
+        Line::Check { .. } | Line::Plain { .. } | Line::Steps { .. } | Line::Replay { .. } => {
+            unreachable!()
+        }
+    }
+}
+
+// The status in place of an answer.
+fn ended(done: Result<RunAnswer, CommandFault>) -> Result<u8, CommandFault>
+    ensures { result ≡ status_result done }
+{
+    match done {
+        Ok(answer) => Ok(answer_status(&answer)),
+        Err(fault) => Err(fault),
+    }
+}
+
+fn answer_status(answer: &RunAnswer) -> u8
+    ensures { result ≡ status_of answer.now }
+{
+    match answer {
+        RunAnswer::Final(_) => DONE,
+        RunAnswer::Conflict(_) => CONFLICT,
+        RunAnswer::Unfinished { .. } => UNFINISHED,
+    }
+}
+
+// What a command answers that prints as its last act.
+fn printed<A>(put: Result<A, PrintFault>) -> Result<A, CommandFault>
+    ensures { result ≡ printed_as put }
+{
+    match put {
+        Ok(done) => Ok(done),
+        Err(PrintFault::Device) => Err(CommandFault::OutDevice),
+        Err(PrintFault::Memory) => Err(CommandFault::Memory),
+    }
+}

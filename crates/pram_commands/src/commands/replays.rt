@@ -1,0 +1,49 @@
+//! Replays of a plan on one thread.
+ghost use Rattle.std.specs.Prelude.{◌≡◌, false};
+ghost use Rattle.pram_commands.specs.Did.{Did, tells, writing};
+ghost use Rattle.pram_commands.specs.Inner.Puts.{Puts};
+ghost use Rattle.pram_commands.specs.Inputs.{reading};
+ghost use Rattle.pram_commands.specs.Replayed.{replaying};
+
+use crate::commands::printed;
+use crate::fault::CommandFault;
+use crate::inputs::take_inputs;
+use crate::sources::{Inputs, Sources};
+use crate::workers::Workers;
+use pram_run::print_trace;
+use pram_step::RunAnswer;
+use pram_streams::{PrintFault, Sink, Source, print_answer};
+use std::alloc::Global;
+
+/// Reads a job, then its plan, and prints the trace of their replay and its answer. Where memory
+/// runs out, a beginning of it may stand printed.
+pub fn replay<J: Source, P: Source, O: Sink>(
+    alloc: Global,
+    workers: Workers,
+    sources: &mut Sources<J, P>,
+    out: &mut O,
+) -> Result<RunAnswer, CommandFault>
+    requires job { J.has_failed sources.old.job ≡ false }
+    requires plan { P.has_failed sources.old.plan ≡ false }
+    requires out { O.has_failed out.old ≡ false }
+    ensures { Did (replaying workers.count) (reading J.remaining J.has_failed P.remaining
+        P.has_failed sources.old.job sources.new.job sources.old.plan sources.new.plan)
+        (writing O.taken O.has_failed out.old out.new) (sources.new.plan ≡ sources.old.plan)
+        tells result }
+{
+    let inputs = take_inputs(alloc, workers, sources)?;
+    printed(put_replay(alloc, &inputs, out))
+}
+
+// Prints the trace of a replay, then its answer.
+fn put_replay<O: Sink>(alloc: Global, inputs: &Inputs, out: &mut O) -> Result<RunAnswer, PrintFault>
+    requires { O.has_failed out.old ≡ false }
+    ensures { Puts ((replaying 0).Comes inputs.now.job inputs.now.plan) (replaying 0).InPieces
+        (writing O.taken O.has_failed out.old out.new) tells result }
+{
+    let (job, plan) = (&inputs.job, &inputs.plan);
+    let (answer, trace) = pram_run::replay(alloc, job, plan.workers(), plan)?;
+    print_trace(alloc, out, trace.rows())?;
+    print_answer(alloc, out, &answer, job.steps())?;
+    Ok(answer)
+}

@@ -1,0 +1,50 @@
+//! What each processor of a job asks for, step by step.
+ghost use Rattle.std.specs.Prelude.{◌≡◌, false};
+ghost use Rattle.pram_commands.specs.Did.{Did, tells, writing};
+ghost use Rattle.pram_commands.specs.Inner.Puts.{Puts};
+ghost use Rattle.pram_commands.specs.Inputs.{reading};
+ghost use Rattle.pram_commands.specs.Plain.{no_plan};
+ghost use Rattle.pram_commands.specs.Steps.{stepping};
+
+use crate::commands::printed;
+use crate::fault::CommandFault;
+use crate::inputs::take_job;
+use crate::sources::Sources;
+use pram_rows::{Window, print_steps};
+use pram_step::RunAnswer;
+use pram_streams::{PrintFault, Sink, Source};
+use pram_text::Job;
+use std::alloc::Global;
+
+/// Reads a job, and prints the steps of the window and the answer. Where memory runs out, a
+/// beginning of it may stand printed. It costs what `print_steps` does.
+pub fn steps<J: Source, P: Source, O: Sink>(
+    alloc: Global,
+    window: Window,
+    sources: &mut Sources<J, P>,
+    out: &mut O,
+) -> Result<RunAnswer, CommandFault>
+    requires job { J.has_failed sources.old.job ≡ false }
+    requires plan { P.has_failed sources.old.plan ≡ false }
+    requires out { O.has_failed out.old ≡ false }
+    ensures { Did (stepping window) (reading J.remaining J.has_failed P.remaining P.has_failed
+        sources.old.job sources.new.job sources.old.plan sources.new.plan)
+        (writing O.taken O.has_failed out.old out.new) (sources.new.plan ≡ sources.old.plan)
+        tells result }
+{
+    let job = take_job(alloc, &mut sources.job)?;
+    printed(put_steps(alloc, &job, window, out))
+}
+
+fn put_steps<O: Sink>(
+    alloc: Global,
+    job: &Job,
+    window: Window,
+    out: &mut O,
+) -> Result<RunAnswer, PrintFault>
+    requires { O.has_failed out.old ≡ false }
+    ensures { Puts ((stepping window).Comes job.now no_plan) (stepping window).InPieces
+        (writing O.taken O.has_failed out.old out.new) tells result }
+{
+    print_steps(alloc, out, job, window)
+}

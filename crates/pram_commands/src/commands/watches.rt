@@ -1,0 +1,95 @@
+//! Watches: runs on threads, with a reader beside the workers.
+ghost use Rattle.std.specs.Prelude.{◌≡◌, [], false};
+ghost use Rattle.pram_commands.specs.CellLists.{cells_of};
+ghost use Rattle.pram_commands.specs.Did.{Did, tells, writing};
+ghost use Rattle.pram_commands.specs.Inner.Puts.{Puts};
+ghost use Rattle.pram_commands.specs.Inputs.{first_outside, reading};
+ghost use Rattle.pram_commands.specs.Threads.{watching};
+
+use crate::cell_list::CellList;
+use crate::commands::printed;
+use crate::fault::CommandFault;
+use crate::inputs::take_inputs;
+use crate::sources::Sources;
+use crate::threads::{Manner, Watched, watch_job};
+use pram_run::print_sights;
+use pram_step::RunAnswer;
+use pram_streams::{PrintFault, Sink, Source, print_answer};
+use pram_text::Job;
+use std::alloc::Global;
+use std::rt::Clock;
+use std::sync::Wait;
+use std::thread::Threads;
+
+/// A run in this manner, with a reader beside its workers that goes so many rounds through cells.
+#[derive(Clone, Copy, Debug, PartialEq, Eq)]
+pub struct Reads<'a> {
+    pub manner: Manner,
+    pub cells: CellList<'a>,
+    pub rounds: u32,
+}
+
+/// Does what `run` does, with a reader beside the workers; what each read told is printed before
+/// the answer, in order. The cells are judged after the job and its plan. The reads stand in memory
+/// until the workers are done, and the reader keeps the workers' pace.
+pub fn watch<R: Threads + Wait + Clock + Eprint + Sync, J: Source, P: Source, O: Sink>(
+    rt: &R,
+    alloc: Global,
+    reads: Reads<'_>,
+    sources: &mut Sources<J, P>,
+    out: &mut O,
+) -> Result<RunAnswer, CommandFault>
+    requires job { J.has_failed sources.old.job ≡ false }
+    requires plan { P.has_failed sources.old.plan ≡ false }
+    requires out { O.has_failed out.old ≡ false }
+    ensures { Did (watching reads.entry.manner.workers.count
+        (cells_of reads.entry.cells.text.now) reads.entry.rounds) (reading J.remaining J.has_failed
+        P.remaining P.has_failed sources.old.job sources.new.job sources.old.plan sources.new.plan)
+        (writing O.taken O.has_failed out.old out.new) (sources.new.plan ≡ sources.old.plan)
+        tells result }
+{
+    let Reads {
+        manner,
+        cells,
+        rounds,
+    } = reads;
+    let inputs = take_inputs(alloc, manner.workers, sources)?;
+    let cells = cells.numbers(alloc)?;
+    let cells = cells.as_slice();
+    if let Some(cell) = first_outside(&inputs.job, cells) {
+        return Err(CommandFault::OutsideCell { cell });
+    }
+    let watched = Watched {
+        inputs: &inputs,
+        cells,
+        rounds,
+    };
+    printed(put_watch(rt, alloc, &watched, manner, out))
+}
+
+// Prints the reads of a watch, then its answer.
+fn put_watch<R: Threads + Wait + Clock + Eprint + Sync, O: Sink>(
+    rt: &R,
+    alloc: Global,
+    watched: &Watched<'_>,
+    manner: Manner,
+    out: &mut O,
+) -> Result<RunAnswer, PrintFault>
+    requires { O.has_failed out.old ≡ false }
+    ensures { Puts ((watching 0 watched.now.cells.now watched.now.rounds).Comes
+        watched.now.inputs.now.job watched.now.inputs.now.plan) (watching 0 [] 0).InPieces
+        (writing O.taken O.has_failed out.old out.new) tells result }
+{
+    let (answer, sights, _seat) = watch_job(rt, alloc, watched, manner)?;
+    print_sights(alloc, out, sights.as_slice())?;
+    print_answer(alloc, out, &answer, watched.inputs.job.steps())?;
+    Ok(answer)
+}
+
+// The first of the cells that the job does not have.
+fn first_outside(job: &Job, cells: &[u32]) -> Option<u32>
+    ensures { result ≡ first_outside job.now cells.now }
+{
+    let count = job.cells();
+    cells.iter().find(|cell| **cell >= count).copied()
+}

@@ -1,0 +1,28 @@
+//! What a line reads, what that gives, and what it writes to.
+ghost use Rattle.std.specs.Prelude.{◌≤◌};
+
+use pram_text::Job;
+use stop_plan::Plan;
+
+/// The sources of a job and of its plan. Where a line names no plan, that is `Empty`.
+#[derive(Drop)]
+pub struct Sources<J, P> {
+    pub job: J,
+    pub plan: P,
+}
+
+/// A job, and a plan for its workers.
+#[derive(Drop)]
+pub struct Inputs {
+    pub job: Job,
+    pub plan: Plan,
+    pub ghost some: { 1 ≤ plan.workers },
+    pub ghost most: { plan.workers ≤ 64 },
+}
+
+/// The output, and standard error.
+#[derive(Drop)]
+pub struct Console<O, E> {
+    pub out: O,
+    pub err: E,
+}

@@ -1,0 +1,101 @@
+//! Devices that fail at each place in turn.
+ghost use Rattle.std.specs.Prelude.{◌≡◌, false};
+
+use crate::tests::served::{Drip, of_text};
+use crate::{CommandFault, Sources, check, plain};
+use pram_streams::{Empty, IntoWrite, MOST, Source};
+use pram_text::TextKind;
+use std::test::Fail;
+
+const TEXT: &[u8] = b"\
+pram 1
+cells 5
+procs 4
+steps 5
+init 1 1
+init 3 1
+code
+pid r0
+ld r1 r0
+jz r1 end
+set r2 4
+st r2 r1
+end: halt
+";
+
+const ANSWER: &[u8] = b"\
+done steps=5
+0: 0
+1: 1
+2: 0
+3: 1
+4: 1
+";
+
+const SUMMARY: &[u8] = b"ok cells=5 procs=4 steps=5 code=6\n";
+
+// A text whose source fails after so many bytes, and no plan.
+fn dripped(pulls: usize) -> Sources<Drip<'static>, Empty>
+    ensures job { ⟦<Drip<'static> as Source>⟧.has_failed result.job ≡ false }
+    ensures plan { ⟦<Empty as Source>⟧.has_failed result.plan ≡ false }
+{
+    Sources {
+        job: Drip::new(TEXT, pulls),
+        plan: Empty,
+    }
+}
+
+#[test]
+fn nothing_is_printed_where_a_pull_fails(rt: HostRuntime) -> Result<(), Fail> {
+    let alloc = rt.alloc();
+    for pulls in 0..=TEXT.len() {
+        let mut sink = IntoWrite::new(Vec::new(alloc));
+        let answer = plain(alloc, &mut dripped(pulls), &mut sink);
+        assert_eq!(rt; answer.err(), Some(CommandFault::JobDevice), "at {pulls}");
+        assert!(rt; sink.into_inner().is_empty());
+        let mut sink = IntoWrite::new(Vec::new(alloc));
+        let checked = check(alloc, &mut dripped(pulls), &mut sink);
+        assert_eq!(rt; checked, Err(CommandFault::JobDevice), "at {pulls}");
+        assert!(rt; sink.into_inner().is_empty());
+    }
+    // one pull more finds the end
+    let mut sink = IntoWrite::new(Vec::new(alloc));
+    plain(alloc, &mut dripped(TEXT.len() + 1), &mut sink)?;
+    assert_eq!(rt; sink.into_inner().as_slice(), ANSWER);
+    Ok(())
+}
+
+#[test]
+fn a_beginning_is_printed_where_a_push_fails(rt: HostRuntime) {
+    let alloc = rt.alloc();
+    for pushes in 0..ANSWER.len() {
+        let mut room = [0u8; 256];
+        let mut sink = IntoWrite::new(&mut room[..pushes.min(256)]);
+        let answer = plain(alloc, &mut of_text(TEXT), &mut sink);
+        assert_eq!(rt; answer.err(), Some(CommandFault::OutDevice), "at {pushes}");
+        assert!(rt; sink.into_inner().is_empty());
+        assert!(rt; ANSWER.starts_with(&room[..pushes.min(256)]));
+    }
+    for pushes in 0..SUMMARY.len() {
+        let mut room = [0u8; 256];
+        let mut sink = IntoWrite::new(&mut room[..pushes.min(256)]);
+        let checked = check(alloc, &mut of_text(TEXT), &mut sink);
+        assert_eq!(rt; checked, Err(CommandFault::OutDevice), "at {pushes}");
+        assert!(rt; sink.into_inner().is_empty());
+        assert!(rt; SUMMARY.starts_with(&room[..pushes.min(256)]));
+    }
+}
+
+#[test]
+fn a_text_of_the_greatest_size_is_judged(rt: HostRuntime) -> Result<(), Fail> {
+    let alloc = rt.alloc();
+    let text = vec![in alloc; b';'; MOST]?;
+    let mut sink = IntoWrite::new(Vec::new(alloc));
+    let checked = check(alloc, &mut of_text(text.as_slice()), &mut sink);
+    let fault = CommandFault::Text {
+        line: 1,
+        kind: TextKind::BadHeader,
+    };
+    assert_eq!(rt; checked, Err(fault));
+    Ok(())
+}

@@ -1,4 +1,0 @@
-pub mod Faults
-pub mod Plain
-pub mod Printed
-pub mod Transfer

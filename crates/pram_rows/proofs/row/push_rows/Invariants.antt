@@ -1,0 +1,13 @@
+use Rattle.std.proofs.Common.{◌≡◌, ◌++◌, ◌+◌}
+use Rattle.std.specs.List.{flat_map, range_with_len}
+use Rattle.csv.specs.Writing.{writer_pending, writer_under}
+use Rattle.pram_rows.specs.Inner.Printing.{IsBetweenRecords}
+use Rattle.pram_rows.specs.Rows.{row_line}
+use Rattle.pram_rows.proofs.row.push_rows.Given as goal
+
+-- the rows so far are written
+abbrev pub invariant-loop-processor : goal.invariant-loop-processor
+invariant-loop-processor l = record {
+  between : IsBetweenRecords l.writer;
+  text : (writer_under l.writer).items ++ writer_pending l.writer ≡ l.fn.bytes.items ++ flat_map (row_line l.job l.state (l.made + 1)) (range_with_len 0 l.processor);
+}

@@ -1,0 +1,62 @@
+-- What each processor asks for in each step, as text.
+use Rattle.std.specs.Prelude.{ℕ, ◌+◌, ◌-◌, ◌==◌, nat_lt, min, if◌then◌else◌, List}
+use Rattle.std.specs.Prelude.{[], ◌++◌, Option, Some, None, slice_get, codes, decimal}
+use Rattle.std.specs.List.{flat_map, range_with_len}
+use Rattle.pram_text.specs.declared.instr.Instr.{Instr}
+use Rattle.pram_text.specs.Job.{JobData}
+use Rattle.pram_step.specs.Machine.{State, counter, halted, register_place}
+use Rattle.pram_step.specs.Instructions.{request_in}
+use Rattle.pram_step.specs.Runs.{state_after}
+use Rattle.pram_rows.specs.Instructions.{instruction_text}
+
+-- why a processor with this counter has stopped
+abbrev pub stop_word : JobData → ℕ → List ℕ
+stop_word job counter = if counter == halted job then codes "halted" else codes "out_of_range"
+
+-- the instruction at a counter, or why there is none
+abbrev pub instruction_or_stop : JobData → ℕ → Option Instr → List ℕ
+instruction_or_stop job counter None = stop_word job counter
+instruction_or_stop job counter (Some instr) = instruction_text instr
+
+abbrev pub instruction_at : JobData → ℕ → List ℕ
+instruction_at job counter = instruction_or_stop job counter (slice_get job.code counter)
+
+-- what data of processor i goes to: nothing, a cell, or one of its own registers
+abbrev pub target_text : JobData → ℕ → Option (ℕ × ℕ) → List ℕ
+target_text job i None = []
+target_text job i (Some w) = if nat_lt w.0 job.cells then codes "cell " ++ decimal w.0
+    else codes "r" ++ decimal (w.0 - register_place job i 0)
+
+-- the data, if there is any
+abbrev pub value_text : Option (ℕ × ℕ) → List ℕ
+value_text None = []
+value_text (Some w) = decimal w.1
+
+-- the row of processor i in step n, which is made in state s
+unfoldable pub row_line : JobData → State → ℕ → ℕ → List ℕ
+row_line job s n i =
+    decimal n ++ codes "," ++ decimal i ++ codes "," ++ decimal (counter job s i) ++ codes ","
+    ++ instruction_at job (counter job s i) ++ codes ","
+    ++ target_text job i (request_in job s i).put ++ codes ","
+    ++ value_text (request_in job s i).put ++ codes "," ++ decimal (request_in job s i).next
+    ++ codes "\n"
+
+-- the rows of step n, one of each processor
+abbrev pub rows_in : JobData → State → ℕ → List ℕ
+rows_in job s n = flat_map (row_line job s n) (range_with_len 0 job.procs)
+
+-- the rows of the step after t steps
+abbrev pub step_lines : JobData → ℕ → List ℕ
+step_lines job t = rows_in job (state_after job t) (t + 1)
+
+-- the rows of so many steps after t steps
+abbrev pub lines_behind : JobData → ℕ → ℕ → List ℕ
+lines_behind job t count = flat_map (step_lines job) (range_with_len t count)
+
+abbrev pub header : List ℕ
+header = codes "step,processor,place,instruction,writes,value,next\n"
+
+-- the header, and the rows of the steps from one to another, those that there are: the last of all
+-- is `last`
+abbrev pub rows_text : JobData → ℕ → ℕ → ℕ → List ℕ
+rows_text job from to last = header ++ lines_behind job (from - 1) (min to last - (from - 1))

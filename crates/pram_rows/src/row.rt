@@ -1,0 +1,170 @@
+//! The rows of a step, written with `csv`.
+ghost use Rattle.std.specs.Prelude.{◌≡◌, ◌+◌, ◌<◌, ◌++◌, decimal, length};
+ghost use Rattle.std.specs.Prelude.{map, string_bytes, IfOk, IfSome, OnOk};
+ghost use Rattle.std.specs.Io.KnownBytes.{Appends};
+ghost use Rattle.csv.specs.Writing.{default_writer, field_text, row_text, text_written};
+ghost use Rattle.pram_step.specs.Machine.{IsDataPlace, counter as counter_of, place_count};
+ghost use Rattle.pram_step.specs.Runs.{IsStateAfter};
+ghost use Rattle.pram_rows.specs.Inner.Printing.{IsBetweenRecords};
+ghost use Rattle.pram_rows.specs.Rows.{instruction_at, row_line, rows_in};
+ghost use Rattle.pram_rows.specs.Rows.{stop_word, target_text, value_text};
+
+use crate::instruction::instruction_text;
+use csv::{Error, Writer};
+use itoa::Buffer;
+use pram_step::{State, laws, request};
+use pram_text::Job;
+use std::alloc::{AllocError, Global};
+use std::io::Write;
+
+/// Writes the rows of the step after so many steps, which lead to this state, after these bytes.
+pub(crate) fn push_rows(
+    alloc: Global,
+    job: &Job,
+    state: &State,
+    made: u32,
+    bytes: Vec<u8>,
+) -> Result<Vec<u8>, AllocError>
+    requires { IsStateAfter job.now made state.now }
+    ensures { IfOk result (λ rows. rows.items
+        ≡ bytes.items ++ rows_in job.now state.now (made + 1)) }
+{
+    let mut writer = Writer::from_writer(bytes);
+    for processor in 0..job.procs() {
+        write_row(alloc, &mut writer, job, state, made, processor)?;
+    }
+    match writer.into_inner() {
+        Ok(rows) => Ok(rows),
+        Err(_) => Err(AllocError),
+    }
+}
+
+// The fields of a row are numbers and words, which csv writes without quotes.
+fn write_row<W: Write + Drop>(
+    alloc: Global,
+    writer: &mut Writer<W>,
+    job: &Job,
+    state: &State,
+    made: u32,
+    processor: u32,
+) -> Result<(), AllocError>
+    requires between { IsBetweenRecords writer.old }
+    requires reached { IsStateAfter job.now made state.now }
+    requires processor { processor < job.now.procs }
+    ensures between { OnOk result (IsBetweenRecords writer.new) }
+    ensures text { OnOk result (Appends (text_written W.contents writer.old)
+        (text_written W.contents writer.new) (row_line job.now state.now (made + 1) processor)) }
+{
+    let _ = job.procs();
+    laws::requests_have_shape();
+    laws::states_have_all_places();
+    laws::counters_stay_within();
+    let place = counter(job, state, processor);
+    let asked = request(job, state, processor);
+    let instruction = instruction_in(alloc, job, place)?;
+    let target = target_in(alloc, job, processor, asked.put)?;
+    let mut steps = Buffer::new();
+    let mut processors = Buffer::new();
+    let mut places = Buffer::new();
+    let mut values = Buffer::new();
+    let mut nexts = Buffer::new();
+    write_record(
+        writer,
+        &[
+            number_text(&mut steps, u64::from(made) + 1),
+            number_text(&mut processors, u64::from(processor)),
+            number_text(&mut places, u64::from(place)),
+            instruction.as_bytes(),
+            target.as_bytes(),
+            value_in(&mut values, asked.put),
+            number_text(&mut nexts, u64::from(asked.next)),
+        ],
+    )
+}
+
+fn write_record<W: Write + Drop>(writer: &mut Writer<W>, fields: &[&[u8]]) -> Result<(), AllocError>
+    requires { IsBetweenRecords writer.old }
+    ensures between { OnOk result (IsBetweenRecords writer.new) }
+    ensures text { OnOk result (Appends (text_written W.contents writer.old)
+        (text_written W.contents writer.new)
+        (row_text default_writer (map (λ f. f.now) fields.now))) }
+{
+    match writer.write_fields(fields) {
+        Ok(()) => Ok(()),
+        Err(_) => Err(AllocError),
+    }
+}
+
+// A processor's counter.
+fn counter(job: &Job, state: &State, processor: u32) -> u32
+    requires processor { processor < job.now.procs }
+    requires places { length state.now ≡ place_count job.now }
+    ensures { result ≡ counter_of job.now state.now processor }
+{
+    state.get(job.counter_place(processor))
+}
+
+// The instruction at a counter, or why the processor has stopped.
+fn instruction_in(alloc: Global, job: &Job, counter: u32) -> Result<String, AllocError>
+    ensures { IfOk result (λ text. string_bytes text ≡ instruction_at job.now counter) }
+{
+    match job.code().get(counter as usize) {
+        Some(instr) => instruction_text(alloc, *instr),
+        None => {
+            let word = stop(job, counter);
+            format!(in alloc; "{word}")
+        }
+    }
+}
+
+// Why a processor with this counter has stopped.
+fn stop(job: &Job, counter: u32) -> &'static str
+    ensures { result.now ≡ stop_word job.now counter }
+{
+    if counter as usize == job.code().len() {
+        "halted"
+    } else {
+        "out_of_range"
+    }
+}
+
+// What data of a processor goes to.
+fn target_in(
+    alloc: Global,
+    job: &Job,
+    processor: u32,
+    put: Option<(u32, u32)>,
+) -> Result<String, AllocError>
+    requires processor { processor < job.now.procs }
+    requires place { IfSome put (λ w. IsDataPlace job.now processor w.0) }
+    ensures { IfOk result (λ text. string_bytes text ≡ target_text job.now processor put) }
+{
+    let _ = job.procs();
+    let cells = job.cells();
+    match put {
+        None => Ok(String::new(alloc)),
+        Some((place, _)) if place < cells => format!(in alloc; "cell {place}"),
+        Some((place, _)) => {
+            let register = place - job.register_place(processor, 0);
+            format!(in alloc; "r{register}")
+        }
+    }
+}
+
+// The data, if there is any.
+fn value_in(buffer: &mut Buffer, put: Option<(u32, u32)>) -> &[u8]
+    ensures text { result.now ≡ value_text put }
+    ensures plain { field_text default_writer result.now ≡ result.now }
+{
+    match put {
+        Some((_, value)) => number_text(buffer, u64::from(value)),
+        None => &[],
+    }
+}
+
+fn number_text(buffer: &mut Buffer, number: u64) -> &[u8]
+    ensures text { result.now ≡ decimal number }
+    ensures plain { field_text default_writer result.now ≡ result.now }
+{
+    buffer.format(number).as_bytes()
+}

@@ -1,0 +1,16 @@
+//! Sources and sinks of bytes, and a printed answer into a sink.
+#![tactic(auto)]
+
+mod device;
+mod from_read;
+mod into_write;
+mod print;
+#[cfg(test)]
+mod tests;
+mod transfer;
+
+pub use device::{Empty, Failed, Sink, Source};
+pub use from_read::FromRead;
+pub use into_write::IntoWrite;
+pub use print::{PrintFault, print_answer, print_summary};
+pub use transfer::{MOST, TakeFault, put, take};
