@@ -1,4 +1,4 @@
-// assemble.js CORE.wasm EXAMPLES OUT.html: puts the page into one file. The modules of src/ are
+// assemble.js CORE.wasm EXAMPLES TABLE OUT.html: puts the page into one file. The modules of src/ are
 // written one behind the other, each as a function of its own behind those that it imports.
 import { createHash } from 'node:crypto';
 import { readFileSync, readdirSync, writeFileSync } from 'node:fs';
@@ -28,7 +28,14 @@ function enclosed(name) {
   return `const ${name}_module = (() => {\n${body}return { ${exported.join(', ')} };\n})();\n`;
 }
 
-const bundle = () => `\n${[...modulesBehind('main')].map(enclosed).join('\n')}`;
+// The rows of the table of instructions: their names and the shapes of their operands.
+function instructionsOf(file) {
+  const rows = readFileSync(file, 'utf8').matchAll(/=> \("(\w+)", Operands::(\w+)/g);
+  return [...rows].map(([, name, operands]) => [name, operands]);
+}
+
+const bundle = (table) => `\n${[...modulesBehind('main')].map(enclosed).join('\n')}`
+  .replace('/*INSTRUCTIONS*/[]', JSON.stringify(instructionsOf(table)));
 
 function examplesOf(folder) {
   const names = readdirSync(folder).filter((name) => name.endsWith('.pram')).sort();
@@ -45,9 +52,9 @@ const policyOf = (style, script) =>
   `default-src 'none'; img-src data:; style-src ${hash(style)}; ` +
   `script-src ${hash(script)} 'wasm-unsafe-eval'; base-uri 'none'; form-action 'none'`;
 
-const [core, examples, out] = process.argv.slice(2);
+const [core, examples, table, out] = process.argv.slice(2);
 const style = `\n${read('style.css')}`;
-const script = bundle();
+const script = bundle(table);
 const parts = {
   POLICY: policyOf(style, script),
   STYLE: style,

@@ -15,24 +15,25 @@ export const FAULT = {
   TOO_LONG: 11,
 };
 
-// Instruction: its operands in words, and an example.
-const USAGE = {
-  set: ['a register and a number', 'set r1 5'],
-  pid: ['one register', 'pid r0'],
-  add: ['three registers', 'add r2 r0 r1'],
-  sub: ['three registers', 'sub r2 r0 r1'],
-  mul: ['three registers', 'mul r2 r0 r1'],
-  and: ['three registers', 'and r2 r0 r1'],
-  or: ['three registers', 'or r2 r0 r1'],
-  xor: ['three registers', 'xor r2 r0 r1'],
-  lt: ['three registers', 'lt r2 r0 r1'],
-  eq: ['three registers', 'eq r2 r0 r1'],
-  ld: ['two registers', 'ld r1 r0'],
-  st: ['two registers', 'st r0 r1'],
-  jz: ['a register and a label', 'jz r0 again'],
-  jmp: ['one label', 'jmp again'],
-  halt: ['no operand', 'halt'],
+// The table of instructions, name and operands, which the page's maker reads from the core's source.
+const INSTRUCTIONS = /*INSTRUCTIONS*/[];
+
+// The operands in words, and an example.
+const OPERANDS = {
+  Bare: ['no operand', ''],
+  Target: ['one register', ' r0'],
+  TargetNumber: ['a register and a number', ' r1 5'],
+  TargetOne: ['two registers', ' r1 r0'],
+  TargetTwo: ['three registers', ' r2 r0 r1'],
+  Two: ['two registers', ' r0 r1'],
+  OnePlace: ['a register and a label', ' r0 again'],
+  Place: ['one label', ' again'],
 };
+
+const USAGE = Object.fromEntries(INSTRUCTIONS.map(([name, operands]) => {
+  const [words, example] = OPERANDS[operands];
+  return [name, [words, `${name}${example}`]];
+}));
 
 const LIMITS = {
   cells: 'There are 1 to 65,536 cells.',
