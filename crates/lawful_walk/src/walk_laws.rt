@@ -3,7 +3,8 @@ ghost use Rattle.lawful_walk.specs.WalkLaws.{WorkersKeepWordsLawful, LateWorkers
 ghost use Rattle.lawful_walk.specs.WalkLaws.{KnownWorkersStayKnown, HistoriesAreKept};
 ghost use Rattle.lawful_walk.specs.WalkLaws.{OwnStepsAreBounded, EndsAreTrue};
 ghost use Rattle.lawful_walk.specs.WalkLaws.{RecordsOutliveGrowth, LoadsKeepRecords};
-ghost use Rattle.lawful_walk.specs.WalkLaws.{BackedRecordsAreSound, KnownStepsAreReached, KnownStepsLast};
+ghost use Rattle.lawful_walk.specs.WalkLaws.{BackedRecordsAreSound, KnownStepsAreReached};
+ghost use Rattle.lawful_walk.specs.WalkLaws.{KnownStepsLast};
 ghost use Rattle.lawful_walk.specs.WalkLaws.{ReadsAreLawful, ProgressIsTrue};
 ghost use Rattle.lawful_walk.specs.WalkLaws.{FinalValuesAreHeld, ConflictRequestsAreHeld};
 

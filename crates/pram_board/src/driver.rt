@@ -174,7 +174,8 @@ impl<'a, G: Gate> Driver<'a, G> {
         requires room { self.old.made < 2 ^ 63 }
         requires walks { Walks task.now (driving self.old) (turning number start phase) }
         ensures same { self.new.seat.ghost_name ≡ self.old.seat.ghost_name }
-        ensures led { Led task.now (driving self.old) (turning number start phase) (driving self.new) (beginning number 1) }
+        ensures led { Led task.now (driving self.old) (turning number start phase)
+            (driving self.new) (beginning number 1) }
     {
         let layout = task.layout;
         let mut node = start;
@@ -189,7 +190,8 @@ impl<'a, G: Gate> Driver<'a, G> {
     fn turn(&mut self, post: &Post) -> Option<u32>
         requires walks { Walks (task_at post.now) (driving self.old) (turning_at post.now) }
         ensures same { self.new.seat.ghost_name ≡ self.old.seat.ghost_name }
-        ensures led { Led (task_at post.now) (driving self.old) (turning_at post.now) (driving self.new) (led_to post.now result) }
+        ensures led { Led (task_at post.now) (driving self.old) (turning_at post.now)
+            (driving self.new) (led_to post.now result) }
     {
         match turn(self, post) {
             Ok(next) => next,

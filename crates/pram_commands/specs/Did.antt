@@ -129,8 +129,8 @@ Wrote command r w Memory = w.Unwritten ⊎ (command.InPieces × Begins command r
 Wrote command r w _ = w.Unwritten
 
 -- The command was done; or this fault explains why it was not, and what was written. Where the job
--- is at fault, or the command follows no plan, nothing was read of the plan. Whether a device failed is answered truly, and the
--- sources stand after the bytes read so far.
+-- is at fault, or the command follows no plan, nothing was read of the plan. Whether a device
+-- failed is answered truly, and the sources stand after the bytes read so far.
 pub record Did {A : Type 0} (command : Command) (r : Reading) (w : Writing) (Unread : Type 0)
     (Tells : A → Option RunAnswer → Type 0) (result : Result A CommandFault) : Type 0 where
   pub done : IfOk result (λ told. Prints command r w (Tells told))

@@ -30,7 +30,8 @@ plan_of (Run file workers plan progress pace) = text_of plan
 plan_of (Watch file workers cells rounds plan progress pace) = text_of plan
 plan_of (Replay file workers plan) = text_of plan
 
--- what the line comes to: its command says which bytes it prints on a job and a plan, and how it ends
+-- what the line comes to: its command says which bytes it prints on a job and a plan, and how it
+-- ends
 abbrev pub command_of : Line → Command
 command_of (Check file) = checking
 command_of (Plain file) = plainly

@@ -88,7 +88,8 @@ fn run_past<R: Threads + Wait + Clock + Eprint + Sync, G: Gate + Sync>(
         thread::scope_env(),
         rt,
         |scope| -> Result<(RunAnswer, Seat), AllocError>
-            requires opened { IsOpened inputs.now.job Wide inputs.now.plan.workers (board.now, seat) }
+            requires opened { IsOpened inputs.now.job Wide inputs.now.plan.workers
+                (board.now, seat) }
             requires steps { teller.now.steps ≡ board.now.task.job.steps }
             ensures { IfOk result (λ r. EndsAt inputs.entry.now.job inputs.entry.now.plan r.1 r.0) }
         {
@@ -167,7 +168,8 @@ fn watch_past<R: Threads + Wait + Clock + Eprint + Sync, G: Gate + Sync>(
         thread::scope_env(),
         rt,
         |scope| -> Result<(RunAnswer, Vec<Sight>, Seat), AllocError>
-            requires opened { IsOpened inputs.now.job Wide inputs.now.plan.workers (board.now, seat) }
+            requires opened { IsOpened inputs.now.job Wide inputs.now.plan.workers
+                (board.now, seat) }
             requires within { All (λ c. c < inputs.now.job.cells) cells.now }
             requires steps { teller.now.steps ≡ board.now.task.job.steps }
             ensures ends { IfOk result (λ r. WatchEndsAt inputs.entry.now.job inputs.entry.now.plan

@@ -3,7 +3,8 @@ ghost use Rattle.std.specs.Prelude.{◌≡◌, ◌++◌, ◌↔◌, false, strin
 ghost use Rattle.std.specs.Prelude.{IfOk, OnOk, IsErrOf, IsTrue};
 ghost use Rattle.std.specs.Io.KnownBytes.{Appends};
 ghost use Rattle.pram_streams.specs.declared.print.PrintFault.TheVariants.{Device, Memory};
-ghost use Rattle.pram_streams.specs.Printed.{cell_lines, conflict_line, printed, rule_mark, summary};
+ghost use Rattle.pram_streams.specs.Printed.{cell_lines, conflict_line, printed, rule_mark};
+ghost use Rattle.pram_streams.specs.Printed.{summary};
 ghost use Rattle.pram_streams.specs.Transfer.{AppendsBeginning};
 
 use crate::device::{Failed, Sink};

@@ -1,7 +1,8 @@
 //! The words of a shared board: stamps, phases, the tree of progress, and where each word lies.
 //!
-//! All calls are pure, and all but `start_words` take no memory and constant time, but for a worker's
-//! first leaf in the wide form, which takes time in the height of the tree.
+//! All calls are pure. `start_words` takes memory, and time in the number of words. The others take
+//! no memory and constant time, but for a worker's first leaf in the wide form, which takes time in
+//! the height of the tree.
 #![tactic(auto)]
 
 pub mod laws;

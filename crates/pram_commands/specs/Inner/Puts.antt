@@ -1,5 +1,6 @@
 -- What printing to the output came to, for a job and a plan at hand.
-use Rattle.std.specs.Prelude.{◌⊎◌, ◌↔◌, List, ℕ, Option, Result, Ok, Err, IfOk, IfErr, IsErrOf, IsTrue}
+use Rattle.std.specs.Prelude.{◌⊎◌, ◌↔◌, List, ℕ, Option, Result, Ok, Err, IfOk, IfErr, IsErrOf}
+use Rattle.std.specs.Prelude.{IsTrue}
 use Rattle.std.specs.Io.KnownBytes.{Appends}
 use Rattle.pram_step.specs.declared.answer.RunAnswer.{RunAnswer}
 use Rattle.pram_streams.specs.Transfer.{AppendsBeginning}
