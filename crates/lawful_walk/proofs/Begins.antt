@@ -1,5 +1,6 @@
 -- The scripts begin and back, and the turn at an inner node or a padded leaf.
-use Rattle.std.proofs.Common.{◌≡◌, ℕ, suc, ◌+◌, ◌*◌, ◌%◌, ◌<◌, ◌≤◌, ◌==◌, if◌then◌else◌, List, ◌∷◌, arith}
+use Rattle.std.proofs.Common.{◌≡◌, ℕ, suc, ◌+◌, ◌*◌, ◌%◌, ◌<◌, ◌≤◌}
+use Rattle.std.proofs.Common.{◌==◌, if◌then◌else◌, List, ◌∷◌, arith}
 use Rattle.std.proofs.lemmas.Bool.{cond_both}
 use Rattle.pram_text.specs.Job.{JobData}
 use Rattle.pram_words.specs.Phases.{step_at}
@@ -8,7 +9,8 @@ use Rattle.pram_words.specs.Words.{LayoutData, number_of}
 use Rattle.walkx.specs.declared.operation.Ended.TheVariants as ended
 use Rattle.walkx.specs.declared.operation.Op.{Op}
 use Rattle.walkx.specs.declared.operation.Op.TheVariants.{Load, Store, Max}
-use Rattle.walkx.specs.Walk.{Then, turns, begins, stops, begin_script, back_script, marks, stands_at}
+use Rattle.walkx.specs.Walk.{Then, turns, begins, stops, begin_script}
+use Rattle.walkx.specs.Walk.{back_script, marks, stands_at}
 use Rattle.walkx.specs.Scripts.{Script, asks, ends}
 use Rattle.lawful_walk.specs.Writes.{Floor}
 use Rattle.lawful_walk.specs.Board.{held, Stands}
@@ -20,54 +22,91 @@ use Rattle.lawful_walk.proofs.Frames.{only_set}
 use Rattle.lawful_walk.proofs.Setting.{store_keeps}
 use Rattle.lawful_walk.proofs.Effects.{writes_keep}
 
-pub back_safe : (job : JobData) (y : LayoutData) (v w q : ℕ) (history : List (Op × ℕ)) → Safe job y w q (back_script y v) history
-back_safe job y v w q history = load_safe {R = Then} job y w q (number_of y (Position v)) (λ n. ends (begins n)) history (λ found ok. tt)
+pub back_safe : (job : JobData) (y : LayoutData) (v w q : ℕ) (history : List (Op × ℕ)) →
+    Safe job y w q (back_script y v) history
+back_safe job y v w q history = load_safe {R = Then} job y w q (number_of y (Position v))
+    (λ n. ends (begins n)) history (λ found ok. tt)
 
-pub begin_safe : (job : JobData) (y : LayoutData) (n w q : ℕ) (history : List (Op × ℕ)) → Safe job y w q (begin_script job y n) history
+pub begin_safe : (job : JobData) (y : LayoutData) (n w q : ℕ) (history : List (Op × ℕ)) →
+    Safe job y w q (begin_script job y n) history
 unfolding begin_script
-begin_safe job y n w q history = load_safe {R = Then} job y w q (number_of y (Node 1)) _ history (λ r ok.
+begin_safe job y n w q history =
+    load_safe {R = Then} job y w q (number_of y (Node 1)) _ history (λ r ok.
     let longer : List (Op × ℕ) = (Load (number_of y (Node 1)), r) ∷ history in
-    cond_both (r % 3 == 0) (heard_none r) (ends (turns n (r + 1))) (λ (s : Script Then). Safe {R = Then} job y w q s longer) (λ e. load_safe {R = Then} job y w q (number_of y Conflict) (after_none r) longer (λ u ok. heard_safe r u ((Load (number_of y Conflict), u) ∷ longer))) (λ e. tt))
+    cond_both (r % 3 == 0) (heard_none r)
+    (ends (turns n (r + 1))) (λ (s : Script Then). Safe {R = Then} job y w q s longer)
+    (λ e. load_safe {R = Then} job y w q (number_of y Conflict) (after_none r) longer
+    (λ u ok. heard_safe r u ((Load (number_of y Conflict), u) ∷ longer))) (λ e. tt))
   where
     after_none : ℕ → ℕ → Script Then
-    after_none r u = if u == 0 then (if r == 3 * job.steps then ends (stops ended.Done) else ends (turns n (r + 1))) else ends (stops (ended.Conflict u))
+    after_none r u = if u == 0
+        then (if r == 3 * job.steps then ends (stops ended.Done) else ends (turns n (r + 1)))
+        else ends (stops (ended.Conflict u))
 
     heard_none : ℕ → Script Then
     heard_none r = asks (Load (number_of y Conflict)) (after_none r)
 
-    heard_safe : (r u : ℕ) (longest : List (Op × ℕ)) → Safe {R = Then} job y w q (after_none r u) longest
-    heard_safe r u longest = cond_both (u == 0) (if r == 3 * job.steps then ends (stops ended.Done) else ends (turns n (r + 1))) (ends (stops (ended.Conflict u))) (λ (s : Script Then). Safe {R = Then} job y w q s longest)
-        (λ e. cond_both (r == 3 * job.steps) (ends (stops ended.Done)) (ends (turns n (r + 1))) (λ (s : Script Then). Safe {R = Then} job y w q s longest) (λ e. tt) (λ e. tt)) (λ e. tt)
+    heard_safe : (r u : ℕ) (longest : List (Op × ℕ)) →
+        Safe {R = Then} job y w q (after_none r u) longest
+    heard_safe r u longest = cond_both (u == 0)
+        (if r == 3 * job.steps then ends (stops ended.Done) else ends (turns n (r + 1)))
+        (ends (stops (ended.Conflict u))) (λ (s : Script Then). Safe {R = Then} job y w q s longest)
+        (λ e. cond_both (r == 3 * job.steps) (ends (stops ended.Done)) (ends (turns n (r + 1)))
+        (λ (s : Script Then). Safe {R = Then} job y w q s longest) (λ e. tt) (λ e. tt)) (λ e. tt)
 
 -- a worker's position is stored
-pub store_goes : (job : JobData) (y : LayoutData) (w q n : ℕ) (words : List ℕ) → Stands job y words → w < y.workers → 1 ≤ n → n < 2 * y.leaves →
+pub store_goes : (job : JobData) (y : LayoutData) (w q n : ℕ) (words : List ℕ) →
+    Stands job y words → w < y.workers → 1 ≤ n → n < 2 * y.leaves →
     Goes job y w q (Store (number_of y (Position w)) n) words
 store_goes job y w q n words stands worker low high = record {
   keeps = store_keeps job y w n words stands worker low high;
-  stale = λ h a is other. (only_set y (Position w) n words stands.sizes stands.admitted.len worker).rest a is other;
+  stale = λ h a is other.
+      (only_set y (Position w) n words stands.sizes stands.admitted.len worker).rest a is other;
 }
 
-pub stands_safe : (job : JobData) (y : LayoutData) (w q n : ℕ) (history : List (Op × ℕ)) → w < y.workers → 1 ≤ n → n < 2 * y.leaves → Safe job y w q (stands_at y w n q) history
-stands_safe job y w q n history worker low high = (always job y history (Goes job y w q (Store (number_of y (Position w)) n)) (λ words stands. store_goes job y w q n words stands worker low high), λ found ok. tt)
+pub stands_safe : (job : JobData) (y : LayoutData) (w q n : ℕ) (history : List (Op × ℕ)) →
+    w < y.workers → 1 ≤ n → n < 2 * y.leaves → Safe job y w q (stands_at y w n q) history
+stands_safe job y w q n history worker low high = (
+  always job y history (Goes job y w q (Store (number_of y (Position w)) n))
+      (λ words stands. store_goes job y w q n words stands worker low high),
+  λ found ok. tt,
+)
 
-module _ (job : JobData) (y : LayoutData) (w q x : ℕ) (some : 1 ≤ q) (most : q ≤ 3 * job.steps) (step : step_at q ≡ suc x) (P : List ℕ → Type 0) (lasts : Lasts job y P) (floor : (words : List ℕ) → P words → Floor job y q x words) where
+module _ (job : JobData) (y : LayoutData) (w q x : ℕ) (some : 1 ≤ q) (most : q ≤ 3 * job.steps)
+    (step : step_at q ≡ suc x) (P : List ℕ → Type 0) (lasts : Lasts job y P)
+    (floor : (words : List ℕ) → P words → Floor job y q x words) where
   -- both children of an inner node were heard as finished
   pub inner_safe : (n l r : ℕ) (history : List (Op × ℕ)) → 1 ≤ n → n < y.leaves → q ≤ l → q ≤ r →
-      Sees job y history (Moment job y (Load (number_of y (Node (2 * n + 1)))) r (Moment job y (Load (number_of y (Node (2 * n)))) l P)) → Safe job y w q (marks y n q) history
+      Sees job y history (Moment job y (Load (number_of y (Node (2 * n + 1)))) r
+      (Moment job y (Load (number_of y (Node (2 * n)))) l P)) → Safe job y w q (marks y n q) history
   inner_safe n l r history low high left right sees = (
-    so job y history (Moment job y (Load (number_of y (Node (2 * n + 1)))) r (Moment job y (Load (number_of y (Node (2 * n)))) l P)) (Goes job y w q (Max (number_of y (Node n)) q))
+    so job y history (Moment job y (Load (number_of y (Node (2 * n + 1)))) r
+        (Moment job y (Load (number_of y (Node (2 * n)))) l P))
+        (Goes job y w q (Max (number_of y (Node n)) q))
         (λ words stands m.
         let first = m.earlier in
         let a : l ≡ held y first.words (Node (2 * n)) = first.heard in
         let b : r ≡ held y m.words (Node (2 * n + 1)) = m.heard in
-        let u : held y first.words (Node (2 * n)) ≤ held y m.words (Node (2 * n)) = first.since (Node (2 * n)) (omega arith, omega arith) in
-        let v : held y m.words (Node (2 * n)) ≤ held y words (Node (2 * n)) = m.since (Node (2 * n)) (omega arith, omega arith) in
-        let z : held y m.words (Node (2 * n + 1)) ≤ held y words (Node (2 * n + 1)) = m.since (Node (2 * n + 1)) (omega arith, omega arith) in
-        let p = lasts m.words words m.stands stands m.since (lasts first.words m.words first.stands m.stands first.since first.earlier) in
-        goes_of job y w q (Max (number_of y (Node n)) q) words ((writes_keep job y words q x stands some most step (floor words p)).inner n low high (omega arith) (omega arith))) sees,
+        let u : held y first.words (Node (2 * n)) ≤ held y m.words (Node (2 * n)) =
+        first.since (Node (2 * n)) (omega arith, omega arith) in
+        let v : held y m.words (Node (2 * n)) ≤ held y words (Node (2 * n)) =
+        m.since (Node (2 * n)) (omega arith, omega arith) in
+        let z : held y m.words (Node (2 * n + 1)) ≤ held y words (Node (2 * n + 1)) =
+        m.since (Node (2 * n + 1)) (omega arith, omega arith) in
+        let p = lasts m.words words m.stands stands m.since
+        (lasts first.words m.words first.stands m.stands first.since first.earlier) in
+        goes_of job y w q (Max (number_of y (Node n)) q) words
+        ((writes_keep job y words q x stands some most step (floor words p)).inner n low high
+        (omega arith) (omega arith))) sees,
     λ found ok. tt,
   )
 
-  pub padded_safe : (n : ℕ) (history : List (Op × ℕ)) → y.leaves + y.procs ≤ n → n < 2 * y.leaves → Sees job y history P → Safe job y w q (marks y n q) history
-  padded_safe n history low high sees =
-      (so job y history P (Goes job y w q (Max (number_of y (Node n)) q)) (λ words stands p. goes_of job y w q (Max (number_of y (Node n)) q) words ((writes_keep job y words q x stands some most step (floor words p)).padded n low high)) sees, λ found ok. tt)
+  pub padded_safe : (n : ℕ) (history : List (Op × ℕ)) → y.leaves + y.procs ≤ n → n < 2 * y.leaves →
+      Sees job y history P → Safe job y w q (marks y n q) history
+  padded_safe n history low high sees = (
+    so job y history P (Goes job y w q (Max (number_of y (Node n)) q))
+        (λ words stands p. goes_of job y w q (Max (number_of y (Node n)) q) words
+        ((writes_keep job y words q x stands some most step (floor words p)).padded n low high))
+        sees,
+    λ found ok. tt,
+  )

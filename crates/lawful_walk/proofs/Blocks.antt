@@ -1,5 +1,7 @@
--- Blocks of the tasks, by the lemmas on words: a request word is heard, a place is read, a node is marked. P is what is known; it lasts, and gives the floor.
-use Rattle.std.proofs.Common.{◌≡◌, ◌≢◌, ℕ, zero, suc, ◌+◌, ◌*◌, ◌<◌, ◌≤◌, ◌==◌, nat_le, true, false, List, ◌∷◌, slice_index, refl, sym, ap, ◌∙◌, inl, inr, lit<, arith}
+-- Blocks of the tasks, by the lemmas on words: a request word is heard, a place is read, a node is
+-- marked. P is what is known; it lasts, and gives the floor.
+use Rattle.std.proofs.Common.{◌≡◌, ◌≢◌, ℕ, zero, suc, ◌+◌, ◌*◌, ◌<◌, ◌≤◌, ◌==◌, nat_le, true, false}
+use Rattle.std.proofs.Common.{List, ◌∷◌, slice_index, refl, sym, ap, ◌∙◌, inl, inr, lit<, arith}
 use Rattle.std.proofs.lemmas.Bool.{cond_both, cases_Bool, eqb-true, eqb-false, leb-true}
 use Rattle.pram_text.specs.Job.{JobData}
 use Rattle.pram_step.specs.Runs.{AgreesAfter, state_after}
@@ -27,7 +29,9 @@ use Rattle.lawful_walk.proofs.Growths.{root_up, place_as_heard}
 use Rattle.lawful_walk.proofs.Values.{phase_low}
 use Rattle.lawful_walk.proofs.Effects.{writes_keep}
 
-module _ (job : JobData) (y : LayoutData) (w q x : ℕ) (some : 1 ≤ q) (most : q ≤ 3 * job.steps) (step : step_at q ≡ suc x) (P : List ℕ → Type 0) (lasts : Lasts job y P) (floor : (words : List ℕ) → P words → Floor job y q x words) where
+module _ (job : JobData) (y : LayoutData) (w q x : ℕ) (some : 1 ≤ q) (most : q ≤ 3 * job.steps)
+    (step : step_at q ≡ suc x) (P : List ℕ → Type 0) (lasts : Lasts job y P)
+    (floor : (words : List ℕ) → P words → Floor job y q x words) where
   -- ---- a request word, in the second or third pass
 
   Asks : ℕ → ℕ → ℕ → List ℕ → Type 0
@@ -37,23 +41,27 @@ module _ (job : JobData) (y : LayoutData) (w q x : ℕ) (some : 1 ≤ q) (most :
   unfolding Asks
   known i j found words stands m = lasts m.words words m.stands stands m.since m.earlier
 
-  asked_part : (i j found : ℕ) (words : List ℕ) → i < y.procs → j < 3 → Stands job y words → Asks i j found words → stamp_of found ≡ suc x → payload_of found ≡ part_after job x i j
+  asked_part : (i j found : ℕ) (words : List ℕ) → i < y.procs → j < 3 → Stands job y words →
+      Asks i j found words → stamp_of found ≡ suc x → payload_of found ≡ part_after job x i j
   unfolding Asks
   asked_part i j found words proc part stands m e =
       let s : stamp_of (held y m.words (Asked i j)) ≡ suc x = sym (ap stamp_of m.heard) ∙ e in
       ap payload_of m.heard ∙ ((m.stands.lawful.asked i j proc part).part x s).1
 
-  asked_stale : (i j found : ℕ) (words : List ℕ) → i < y.procs → j < 3 → 3 * x + 2 ≤ q → Stands job y words → Asks i j found words → stamp_of found ≢ suc x → q ≤ root y words
+  asked_stale : (i j found : ℕ) (words : List ℕ) → i < y.procs → j < 3 → 3 * x + 2 ≤ q →
+      Stands job y words → Asks i j found words → stamp_of found ≢ suc x → q ≤ root y words
   unfolding Asks
   asked_stale i j found words proc part phase stands m other =
       let b = facts job y m.words m.stands in
       let fl = (floor m.words m.earlier).root in
       let up = root_up job y m.words words m.stands m.since in
       let s : stamp_of found ≡ stamp_of (held y m.words (Asked i j)) = ap stamp_of m.heard in
-      let more : x < stamp_of (held y m.words (Asked i j)) = b.requests_raised x i j proc part (omega arith) in
+      let more : x < stamp_of (held y m.words (Asked i j)) =
+      b.requests_raised x i j proc part (omega arith) in
       stale_by (stamp_of (held y m.words (Asked i j))) refl (omega arith)
     where
-      stale_by : (s : ℕ) → stamp_of (held y m.words (Asked i j)) ≡ s → suc (suc x) ≤ s → q ≤ root y words
+      stale_by : (s : ℕ) → stamp_of (held y m.words (Asked i j)) ≡ s →
+          suc (suc x) ≤ s → q ≤ root y words
       stale_by zero e h = absurd (omega arith)
       stale_by (suc t) e h =
           let b = facts job y m.words m.stands in
@@ -61,29 +69,47 @@ module _ (job : JobData) (y : LayoutData) (w q x : ℕ) (some : 1 ≤ q) (most :
           let up = root_up job y m.words words m.stands m.since in
           omega arith
 
-  pub hears_safe : {R : Type 0} (i j : ℕ) → i < y.procs → j < 3 → 3 * x + 2 ≤ q → (after : Script R) (next : ℕ → Script R) (history : List (Op × ℕ)) → Sees job y history P →
-      ((longer : List (Op × ℕ)) → Sees job y longer (λ words. P words × (q ≤ root y words)) → Safe job y w q after longer) →
-      ((v : ℕ) (longer : List (Op × ℕ)) → Sees job y longer (λ words. P words × (v ≡ part_after job x i j)) → Safe job y w q (next v) longer) →
+  pub hears_safe : {R : Type 0} (i j : ℕ) → i < y.procs → j < 3 → 3 * x + 2 ≤ q →
+      (after : Script R) (next : ℕ → Script R) (history : List (Op × ℕ)) → Sees job y history P →
+      ((longer : List (Op × ℕ)) → Sees job y longer (λ words. P words × (q ≤ root y words)) →
+      Safe job y w q after longer) →
+      ((v : ℕ) (longer : List (Op × ℕ)) → Sees job y longer
+      (λ words. P words × (v ≡ part_after job x i j)) → Safe job y w q (next v) longer) →
       Safe job y w q (hears_part y (suc x) i j after next) history
   unfolding Asks
   hears_safe {R} i j proc part phase after next history sees stale on =
       load_safe {R = R} job y w q (number_of y (Asked i j)) _ history (λ found ok.
       let longer : List (Op × ℕ) = (Load (number_of y (Asked i j)), found) ∷ history in
-      let moment : Sees job y longer (Asks i j found) = heard job y history P (Load (number_of y (Asked i j))) found sees in
-      cond_both (stamp_of found == suc x) (next (payload_of found)) after (λ s. Safe job y w q s longer)
-      (λ e. on (payload_of found) longer (so job y longer (Asks i j found) (λ words. P words × (payload_of found ≡ part_after job x i j)) (λ words stands m. (known i j found words stands m, asked_part i j found words proc part stands m (eqb-true (stamp_of found) (suc x) e))) moment))
-      (λ e. stale longer (so job y longer (Asks i j found) (λ words. P words × (q ≤ root y words)) (λ words stands m. (known i j found words stands m, asked_stale i j found words proc part phase stands m (eqb-false (stamp_of found) (suc x) e))) moment)))
+      let moment : Sees job y longer (Asks i j found) =
+      heard job y history P (Load (number_of y (Asked i j))) found sees in
+      cond_both (stamp_of found == suc x)
+      (next (payload_of found)) after (λ s. Safe job y w q s longer)
+      (λ e. on (payload_of found) longer (so job y longer (Asks i j found)
+      (λ words. P words × (payload_of found ≡ part_after job x i j)) (λ words stands m. (
+        known i j found words stands m,
+        asked_part i j found words proc part stands m (eqb-true (stamp_of found) (suc x) e),
+      )) moment))
+      (λ e. stale longer
+      (so job y longer (Asks i j found) (λ words. P words × (q ≤ root y words)) (λ words stands m. (
+        known i j found words stands m,
+        asked_stale i j found words proc part phase stands m (eqb-false (stamp_of found) (suc x) e),
+      )) moment)))
 
   -- ---- a place, in the first pass
 
   Both : ℕ → ℕ → ℕ → List ℕ → Type 0
-  Both p a b = Moment job y (Load (number_of y (Stored p 1))) b (Moment job y (Load (number_of y (Stored p 0))) a P)
+  Both p a b = Moment job y (Load (number_of y (Stored p 1))) b
+      (Moment job y (Load (number_of y (Stored p 0))) a P)
 
   still : (p a b : ℕ) (words : List ℕ) → Stands job y words → Both p a b words → P words
   unfolding Both
-  still p a b words stands m = let first = m.earlier in lasts first.words words first.stands stands (onward y first.words m.words words first.since m.since) first.earlier
+  still p a b words stands m =
+      let first = m.earlier in
+      lasts first.words words first.stands stands
+      (onward y first.words m.words words first.since m.since) first.earlier
 
-  stale_stamp : (p k s : ℕ) (words now : List ℕ) → IsWord y (Stored p k) → Stands job y words → Stands job y now → Grows y words now →
+  stale_stamp : (p k s : ℕ) (words now : List ℕ) →
+      IsWord y (Stored p k) → Stands job y words → Stands job y now → Grows y words now →
       stamp_at y words p k ≡ s → x < s → q ≤ 3 * x + 1 → q ≤ root y now
   stale_stamp p k zero words now is stands after up e h phase = absurd (omega arith)
   stale_stamp p k (suc t) words now is stands after up e h phase =
@@ -92,47 +118,79 @@ module _ (job : JobData) (y : LayoutData) (w q x : ℕ) (some : 1 ≤ q) (most :
       let low = phase_low job.rule t in
       omega arith
 
-  pub reads_safe : {R : Type 0} (p : ℕ) → p < places_of y → q ≡ 3 * x + 1 → (after : Script R) (next : ℕ → Script R) (history : List (Op × ℕ)) → Sees job y history P →
-      ((longer : List (Op × ℕ)) → Sees job y longer (λ words. P words × (q ≤ root y words)) → Safe job y w q after longer) →
-      ((v : ℕ) (longer : List (Op × ℕ)) → Sees job y longer (λ words. P words × (v ≡ slice_index (state_after job x) p)) → Safe job y w q (next v) longer) →
+  pub reads_safe : {R : Type 0} (p : ℕ) → p < places_of y → q ≡ 3 * x + 1 →
+      (after : Script R) (next : ℕ → Script R) (history : List (Op × ℕ)) → Sees job y history P →
+      ((longer : List (Op × ℕ)) → Sees job y longer (λ words. P words × (q ≤ root y words)) →
+      Safe job y w q after longer) →
+      ((v : ℕ) (longer : List (Op × ℕ)) →
+      Sees job y longer (λ words. P words × (v ≡ slice_index (state_after job x) p)) →
+      Safe job y w q (next v) longer) →
       Safe job y w q (reads_place y (suc x) p after next) history
   unfolding Both
   reads_safe {R} p place phase after next history sees stale on =
       both_safe {R = R} job y w q p _ history P sees (λ a b longer moment.
-      cond_both (is_late (suc x) a b) after (next (newer_payload a b)) (λ s. Safe job y w q s longer)
-      (λ late. stale longer (so job y longer (Both p a b) (λ words. P words × (q ≤ root y words)) (λ words stands m. (still p a b words stands m, late_root a b late words stands m)) moment))
-      (λ early. on (newer_payload a b) longer (so job y longer (Both p a b) (λ words. P words × (newer_payload a b ≡ slice_index (state_after job x) p)) (λ words stands m. (still p a b words stands m, early_value a b early words stands m)) moment)))
+      cond_both (is_late (suc x) a b) after
+      (next (newer_payload a b)) (λ s. Safe job y w q s longer)
+      (λ late. stale longer (so job y longer (Both p a b) (λ words. P words × (q ≤ root y words))
+      (λ words stands m. (still p a b words stands m, late_root a b late words stands m)) moment))
+      (λ early. on (newer_payload a b) longer (so job y longer (Both p a b) (λ words.
+      P words × (newer_payload a b ≡ slice_index (state_after job x) p)) (λ words stands m. (
+        still p a b words stands m,
+        early_value a b early words stands m,
+      )) moment)))
     where
-      late_root : (a b : ℕ) → is_late (suc x) a b ≡ true → (words : List ℕ) → Stands job y words → Both p a b words → q ≤ root y words
+      late_root : (a b : ℕ) → is_late (suc x) a b ≡ true → (words : List ℕ) → Stands job y words →
+          Both p a b words → q ≤ root y words
       late_root a b late words stands m =
           let first = m.earlier in
           elim (cases_Bool (nat_le (suc x) (stamp_of a))) [
-            | inl h ↦ (let l = leb-true (suc x) (stamp_of a) h in stale_stamp p 0 (stamp_of a) first.words words (place, lit< tt) first.stands stands (onward y first.words m.words words first.since m.since) (sym (ap stamp_of first.heard)) (omega arith) (omega arith))
-            | inr h ↦ (let r : nat_le (suc x) (stamp_of b) ≡ true = rw h at late in let l = leb-true (suc x) (stamp_of b) r in stale_stamp p 1 (stamp_of b) m.words words (place, lit< tt) m.stands stands m.since (sym (ap stamp_of m.heard)) (omega arith) (omega arith))
+            | inl h ↦ (let l = leb-true (suc x) (stamp_of a) h in
+                stale_stamp p 0 (stamp_of a) first.words words (place, lit< tt) first.stands stands
+                (onward y first.words m.words words first.since m.since)
+                (sym (ap stamp_of first.heard)) (omega arith) (omega arith))
+            | inr h ↦ (let r : nat_le (suc x) (stamp_of b) ≡ true = rw h at late in
+                let l = leb-true (suc x) (stamp_of b) r in
+                stale_stamp p 1 (stamp_of b) m.words words (place, lit< tt) m.stands stands m.since
+                (sym (ap stamp_of m.heard)) (omega arith) (omega arith))
           ]
 
-      early_value : (a b : ℕ) → is_late (suc x) a b ≡ false → (words : List ℕ) → Stands job y words → Both p a b words → newer_payload a b ≡ slice_index (state_after job x) p
+      early_value : (a b : ℕ) → is_late (suc x) a b ≡ false →
+          (words : List ℕ) → Stands job y words → Both p a b words →
+          newer_payload a b ≡ slice_index (state_after job x) p
       early_value a b early words stands m =
           let first = m.earlier in
           let fl = floor first.words first.earlier in
           let low = fl.root in
-          (place_as_heard job y x p a b first.words m.words words first.stands m.stands stands first.since m.since place fl.reached (omega arith) first.heard m.heard early).value
+          (place_as_heard job y x p a b first.words m.words words first.stands m.stands stands
+          first.since m.since place fl.reached (omega arith) first.heard m.heard early).value
 
   -- ---- a leaf is marked, and a conflict is reported
 
   pub marks_safe : (i : ℕ) → i < y.procs → (history : List (Op × ℕ)) →
-      Sees job y history (λ words. P words × (root y words + 1 ≡ q → Done job.rule (kind_at q) job y x words i)) →
+      Sees job y history
+      (λ words. P words × (root y words + 1 ≡ q → Done job.rule (kind_at q) job y x words i)) →
       Safe job y w q (marks y (y.leaves + i) q) history
   marks_safe i proc history sees = (
-    so job y history (λ words. P words × (root y words + 1 ≡ q → Done job.rule (kind_at q) job y x words i)) (Goes job y w q (Max (number_of y (Node (y.leaves + i))) q))
-        (λ words stands h. goes_of job y w q (Max (number_of y (Node (y.leaves + i))) q) words ((writes_keep job y words q x stands some most step (floor words h.0)).leaf i proc h.1)) sees,
+    so job y history
+        (λ words. P words × (root y words + 1 ≡ q → Done job.rule (kind_at q) job y x words i))
+        (Goes job y w q (Max (number_of y (Node (y.leaves + i))) q))
+        (λ words stands h. goes_of job y w q (Max (number_of y (Node (y.leaves + i))) q) words
+        ((writes_keep job y words q x stands some most step (floor words h.0)).leaf i proc h.1))
+        sees,
     λ found ok. tt,
   )
 
-  pub reports_safe : {R : Type 0} → kind_at q ≡ Verify → (after : Script R) (history : List (Op × ℕ)) → Sees job y history (λ words. P words × (AgreesAfter job x → ⊥)) →
-      ((found : ℕ) → Safe job y w q after ((Swap (number_of y Conflict) 0 (suc x), found) ∷ history)) → Safe job y w q (reports y (suc x) after) history
+  pub reports_safe : {R : Type 0} →
+      kind_at q ≡ Verify → (after : Script R) (history : List (Op × ℕ)) →
+      Sees job y history (λ words. P words × (AgreesAfter job x → ⊥)) →
+      ((found : ℕ) →
+      Safe job y w q after ((Swap (number_of y Conflict) 0 (suc x), found) ∷ history)) →
+      Safe job y w q (reports y (suc x) after) history
   reports_safe kind after history sees next = (
-    so job y history (λ words. P words × (AgreesAfter job x → ⊥)) (Goes job y w q (Swap (number_of y Conflict) 0 (suc x)))
-        (λ words stands h. goes_of job y w q (Swap (number_of y Conflict) 0 (suc x)) words ((writes_keep job y words q x stands some most step (floor words h.0)).conflict kind h.1)) sees,
+    so job y history (λ words. P words × (AgreesAfter job x → ⊥))
+        (Goes job y w q (Swap (number_of y Conflict) 0 (suc x)))
+        (λ words stands h. goes_of job y w q (Swap (number_of y Conflict) 0 (suc x)) words
+        ((writes_keep job y words q x stands some most step (floor words h.0)).conflict kind h.1))
+        sees,
     λ found ok. next found,
   )

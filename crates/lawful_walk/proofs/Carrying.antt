@@ -1,5 +1,7 @@
--- A block of the passes that write: a processor's data and its next counter are carried out, where all its writes win.
-use Rattle.std.proofs.Common.{◌≡◌, ℕ, suc, ◌-◌, ◌*◌, ◌<◌, ◌≤◌, ◌==◌, false, List, sym, subst, inl, inr, arith}
+-- A block of the passes that write: a processor's data and its next counter are carried out, where
+-- all its writes win.
+use Rattle.std.proofs.Common.{◌≡◌, ℕ, suc, ◌-◌, ◌*◌, ◌<◌, ◌≤◌, ◌==◌}
+use Rattle.std.proofs.Common.{false, List, sym, subst, inl, inr, arith}
 use Rattle.std.proofs.lemmas.Bool.{cond_both, eqb-true, eqb-false}
 use Rattle.pram_text.specs.Job.{JobData}
 use Rattle.pram_step.specs.Machine.{counter_place}
@@ -19,35 +21,48 @@ use Rattle.lawful_walk.proofs.Sees.{Sees, Lasts, so}
 use Rattle.lawful_walk.proofs.Scripts.{Safe}
 use Rattle.lawful_walk.proofs.Writing.{writes_safe, late_later}
 
-module _ (job : JobData) (y : LayoutData) (w q x i place value next : ℕ) (some : 1 ≤ q) (most : q ≤ 3 * job.steps) (step : step_at q ≡ suc x) (phase : q ≡ phase_written job.rule x) (proc : i < job.procs)
-    (wins : (p v : ℕ) → Asks job x p i v → Wins job x p i) (P : List ℕ → Type 0) (lasts : Lasts job y P) (floor : (words : List ℕ) → P words → Floor job y q x words)
-    (parts : (words : List ℕ) → P words → (place ≡ part_after job x i 0) × (value ≡ part_after job x i 1) × (next ≡ part_after job x i 2)) where
+module _ (job : JobData) (y : LayoutData)
+    (w q x i place value next : ℕ) (some : 1 ≤ q) (most : q ≤ 3 * job.steps)
+    (step : step_at q ≡ suc x) (phase : q ≡ phase_written job.rule x) (proc : i < job.procs)
+    (wins : (p v : ℕ) → Asks job x p i v → Wins job x p i) (P : List ℕ → Type 0)
+    (lasts : Lasts job y P) (floor : (words : List ℕ) → P words → Floor job y q x words)
+    (parts : (words : List ℕ) → P words → (place ≡ part_after job x i 0)
+    × (value ≡ part_after job x i 1) × (next ≡ part_after job x i 2)) where
   ask_next : (words : List ℕ) → P words → Asks job x (counter_place job i) i next
-  ask_next words k = subst (λ (v : ℕ). Asks job x (counter_place job i) i v) (sym (parts words k).2) (counter_write job x i proc)
+  ask_next words k = subst (λ (v : ℕ). Asks job x (counter_place job i) i v)
+      (sym (parts words k).2) (counter_write job x i proc)
 
-  ask_data : (words : List ℕ) → Stands job y words → P words → (place == 0) ≡ false → Asks job x (place - 1) i value
+  ask_data : (words : List ℕ) → Stands job y words → P words → (place == 0) ≡ false →
+      Asks job x (place - 1) i value
   ask_data words stands k e =
       let f = eqb-false place 0 e in
       let h = parts words k in
       let g = h.0 in
-      subst (λ (v : ℕ). Asks job x (place - 1) i v) (sym h.1) (data_write job x i (place - 1) stands.limits proc (omega arith)).0
+      subst (λ (v : ℕ). Asks job x (place - 1) i v) (sym h.1)
+      (data_write job x i (place - 1) stands.limits proc (omega arith)).0
 
   place_in : (words : List ℕ) (p v : ℕ) → Stands job y words → Asks job x p i v → p < places_of y
   place_in words p v stands asks =
-      let is_board : IsBoard job y = record { limits = stands.limits; layout = stands.sizes; is = stands.layout } in
-      let a = (asks_fit job x p i v stands.limits asks).0 in let b = same_cells job y is_board in let c = same_procs job y is_board in omega arith
+      let is_board : IsBoard job y =
+      record { limits = stands.limits; layout = stands.sizes; is = stands.layout } in
+      let a = (asks_fit job x p i v stands.limits asks).0 in
+      let b = same_cells job y is_board in
+      let c = same_procs job y is_board in omega arith
 
   -- the counter alone
-  all_next : (words : List ℕ) → P words → place ≡ 0 → IsLate y x (counter_place job i) words → Carried job y x words i
+  all_next : (words : List ℕ) → P words → place ≡ 0 →
+      IsLate y x (counter_place job i) words → Carried job y x words i
   all_next words k none late p v asks = elim (each_write job x p i v asks) [
     | inl h ↦ subst (λ (p : ℕ). IsLate y x p words) (sym h.0) late
     | inr h ↦ absurd (let g = (parts words k).0 in let e = h.0 in omega arith)
   ]
 
-  all_both : (words : List ℕ) → P words → IsLate y x (place - 1) words → IsLate y x (counter_place job i) words → Carried job y x words i
+  all_both : (words : List ℕ) → P words → IsLate y x (place - 1) words →
+      IsLate y x (counter_place job i) words → Carried job y x words i
   all_both words k first late p v asks = elim (each_write job x p i v asks) [
     | inl h ↦ subst (λ (p : ℕ). IsLate y x p words) (sym h.0) late
-    | inr h ↦ subst (λ (p : ℕ). IsLate y x p words) (let g = (parts words k).0 in let e = h.0 in omega arith) first
+    | inr h ↦ subst (λ (p : ℕ). IsLate y x p words) (let g = (parts words k).0 in
+        let e = h.0 in omega arith) first
   ]
 
   Data : List ℕ → Type 0
@@ -55,21 +70,42 @@ module _ (job : JobData) (y : LayoutData) (w q x i place value next : ℕ) (some
 
   data_lasts : (place == 0) ≡ false → Lasts job y Data
   unfolding Data
-  data_lasts e words later a b up h = (lasts words later a b up h.0, late_later y x (place - 1) words later (place_in words (place - 1) value a (ask_data words a h.0 e)) up h.1)
+  data_lasts e words later a b up h = (
+    lasts words later a b up h.0,
+    late_later y x (place - 1) words later
+        (place_in words (place - 1) value a (ask_data words a h.0 e)) up h.1,
+  )
 
   Known : List ℕ → Type 0
   Known words = P words × Stands job y words
 
-  pub carries_safe : {R : Type 0} (after : Script R) (history : List (Op × ℕ)) → Sees job y history P →
-      ((longer : List (Op × ℕ)) → Sees job y longer (λ words. P words × Carried job y x words i) → Safe job y w q after longer) →
+  pub carries_safe : {R : Type 0} (after : Script R) (history : List (Op × ℕ)) →
+      Sees job y history P →
+      ((longer : List (Op × ℕ)) → Sees job y longer (λ words. P words × Carried job y x words i) →
+      Safe job y w q after longer) →
       Safe job y w q (carries job y (suc x) i place value next after) history
   unfolding Data Known
   carries_safe {R} after history sees on =
-      cond_both (place == 0) (writes_place y (suc x) (counter_place job i) next after) (writes_place y (suc x) (place - 1) value (writes_place y (suc x) (counter_place job i) next after)) (λ (s : Script R). Safe {R = R} job y w q s history)
-      (λ e. writes_safe job y w q x (counter_place job i) i next some most step phase P lasts floor (λ words k. (ask_next words k, wins _ _ (ask_next words k))) {R = R} after history sees (λ longer more.
-      on longer (so job y longer (λ words. P words × IsLate y x (counter_place job i) words) (λ words. P words × Carried job y x words i) (λ words stands h. (h.0, all_next words h.0 (eqb-true place 0 e) h.1)) more)))
+      cond_both (place == 0) (writes_place y (suc x) (counter_place job i) next after)
+      (writes_place y (suc x) (place - 1) value
+      (writes_place y (suc x) (counter_place job i) next after))
+      (λ (s : Script R). Safe {R = R} job y w q s history)
+      (λ e. writes_safe job y w q x (counter_place job i) i next some most step phase P lasts floor
+      (λ words k. (ask_next words k, wins _ _ (ask_next words k))) {R = R} after history sees
+      (λ longer more.
+      on longer (so job y longer (λ words. P words × IsLate y x (counter_place job i) words)
+      (λ words. P words × Carried job y x words i)
+      (λ words stands h. (h.0, all_next words h.0 (eqb-true place 0 e) h.1)) more)))
       (λ e. writes_safe job y w q x (place - 1) i value some most step phase Known
-      (λ words later a b up h. (lasts words later a b up h.0, b)) (λ words h. floor words h.0) (λ words h. let a = ask_data words h.1 h.0 e in (a, wins _ _ a)) {R = R} (writes_place y (suc x) (counter_place job i) next after) history (so job y history P Known (λ words stands k. (k, stands)) sees) (λ longer more.
-      writes_safe job y w q x (counter_place job i) i next some most step phase Data (data_lasts e) (λ words h. floor words h.0) (λ words h. (ask_next words h.0, wins _ _ (ask_next words h.0))) {R = R} after longer
-      (so job y longer (λ words. Known words × IsLate y x (place - 1) words) Data (λ words stands h. (h.0.0, h.1)) more) (λ longest all.
-      on longest (so job y longest (λ words. Data words × IsLate y x (counter_place job i) words) (λ words. P words × Carried job y x words i) (λ words stands h. (h.0.0, all_both words h.0.0 h.0.1 h.1)) all))))
+      (λ words later a b up h. (lasts words later a b up h.0, b)) (λ words h. floor words h.0)
+      (λ words h. let a = ask_data words h.1 h.0 e in
+      (a, wins _ _ a)) {R = R} (writes_place y (suc x) (counter_place job i) next after) history
+      (so job y history P Known (λ words stands k. (k, stands)) sees) (λ longer more.
+      writes_safe job y w q x (counter_place job i) i next some most step phase Data
+      (data_lasts e) (λ words h. floor words h.0)
+      (λ words h. (ask_next words h.0, wins _ _ (ask_next words h.0))) {R = R} after longer
+      (so job y longer (λ words. Known words × IsLate y x (place - 1) words) Data
+      (λ words stands h. (h.0.0, h.1)) more) (λ longest all.
+      on longest (so job y longest (λ words. Data words × IsLate y x (counter_place job i) words)
+      (λ words. P words × Carried job y x words i)
+      (λ words stands h. (h.0.0, all_both words h.0.0 h.0.1 h.1)) all))))

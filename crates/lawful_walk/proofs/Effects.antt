@@ -9,7 +9,8 @@ use Rattle.lawful_walk.specs.Board.{phase_in}
 use Rattle.pram_words.specs.declared.words.Word.TheVariants.{Position}
 use Rattle.lawful_walk.proofs.Frames.{only_set}
 use Rattle.lawful_walk.proofs.Raising.{kind_of, inner_does, padded_does, leaf_does}
-use Rattle.lawful_walk.proofs.Setting.{conflict_does, claim_does, stored_does, asked_does, store_keeps}
+use Rattle.lawful_walk.proofs.Setting.{conflict_does, claim_does}
+use Rattle.lawful_walk.proofs.Setting.{stored_does, asked_does, store_keeps}
 
 -- the phase of a kind in a step
 data Phase (x q : ℕ) : Type 0 where
@@ -25,20 +26,26 @@ phase_of_step x q some e = elim (cases_eq q (3 * x + 1)) [
 ]
 
 same_kind : (x q : ℕ) (kind : Kind) → Phase x q → kind_at q ≡ kind → phase_in x kind ≡ q
-same_kind x q kind (phase_is k e) h = subst (λ (k : Kind). phase_in x k ≡ q) (sym (kind_of x q k e) ∙ h) e
+same_kind x q kind (phase_is k e) h =
+    subst (λ (k : Kind). phase_in x k ≡ q) (sym (kind_of x q k e) ∙ h) e
 
-pub phase_at : (x q : ℕ) (kind : Kind) → 1 ≤ q → step_at q ≡ suc x → kind_at q ≡ kind → phase_in x kind ≡ q
+pub phase_at : (x q : ℕ) (kind : Kind) → 1 ≤ q → step_at q ≡ suc x →
+    kind_at q ≡ kind → phase_in x kind ≡ q
 phase_at x q kind some step e = same_kind x q kind (phase_of_step x q some step) e
 
 pub writes_keep : WritesKeepWordsLawful
 writes_keep job y words q x stands some most step floor = record {
-  request = λ i j proc part kind. asked_does job y words q x stands some most step floor i j proc part (phase_at x q Compute some step kind);
+  request = λ i j proc part kind. asked_does job y
+      words q x stands some most step floor i j proc part (phase_at x q Compute some step kind);
   inner = inner_does job y words q x stands some most step floor;
   padded = padded_does job y words q x stands some most step floor;
   leaf = leaf_does job y words q x stands some most step floor;
-  place = λ p i v a b phase asks wins as_heard. stored_does job y words q x stands some most step floor p i v phase asks wins a b as_heard;
-  conflict = λ kind not. conflict_does job y words q x stands some most step floor kind not (phase_at x q Verify some step kind);
-  claim = λ c i v is kind asks. claim_does job y words q x stands some most step floor c i v is (phase_at x q Apply some step kind) asks;
+  place = λ p i v a b phase asks wins as_heard.
+      stored_does job y words q x stands some most step floor p i v phase asks wins a b as_heard;
+  conflict = λ kind not. conflict_does job y words q x stands some most step floor kind not
+      (phase_at x q Verify some step kind);
+  claim = λ c i v is kind asks. claim_does job y words q x stands some most step floor c i v is
+      (phase_at x q Apply some step kind) asks;
   position = λ w n worker low high. record {
     keeps = store_keeps job y w n words stands worker low high;
     others = (only_set y (Position w) n words stands.sizes stands.admitted.len worker).rest;

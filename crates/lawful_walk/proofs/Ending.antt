@@ -1,5 +1,6 @@
 -- A worker that is over, and known: what it heard is so. Progress.
-use Rattle.std.proofs.Common.{◌≡◌, ◌≢◌, ℕ, zero, suc, ◌*◌, ◌≤◌, List, [], ◌∷◌, refl, sym, subst, inl, inr, lit<, arith}
+use Rattle.std.proofs.Common.{◌≡◌, ◌≢◌, ℕ, zero, suc, ◌*◌, ◌≤◌, List, []}
+use Rattle.std.proofs.Common.{◌∷◌, refl, sym, subst, inl, inr, lit<, arith}
 use Rattle.std.proofs.lemmas.Bool.{cases_lt}
 use Rattle.pram_text.specs.Job.{JobData}
 use Rattle.pram_step.specs.Runs.{IsReached, AgreesAfter}
@@ -27,35 +28,61 @@ use Rattle.lawful_walk.proofs.Reading.{load_root, load_conflict, glanced_both}
 
 -- ---- what a worker that is over heard
 
-over_rest : (d : Doing) (e : Ended) (script : Script Then) → d ≡ doing.Over e → Matches d script → script ≡ ends (stops e)
-over_rest d e script is h = (subst (λ (x : Doing). Matches x script → script ≡ ends (stops e)) (sym is) (λ g. g)) h
+over_rest : (d : Doing) (e : Ended) (script : Script Then) → d ≡ doing.Over e →
+    Matches d script → script ≡ ends (stops e)
+over_rest d e script is h =
+    (subst (λ (x : Doing). Matches x script → script ≡ ends (stops e)) (sym is) (λ g. g)) h
 
-pub over_heard : (job : JobData) (y : LayoutData) (w : Walking) (e : Ended) → Fits job y w → w.now ≡ doing.Over e → BeginEnds job y (node_of y w) (stops e) (heard_of job y w)
+pub over_heard : (job : JobData) (y : LayoutData) (w : Walking) (e : Ended) → Fits job y w →
+    w.now ≡ doing.Over e → BeginEnds job y (node_of y w) (stops e) (heard_of job y w)
 over_heard job y w e well is =
     subst (λ (d : Doing). Brings job y w.number (node_of y w) d (stops e) (heard_of job y w)) is
-    (subst (λ (s : Script Then). AllEnds (Brings job y w.number (node_of y w) w.now) s (heard_of job y w)) (over_rest w.now e (rest_of job y w) is well.matches) (worker_ends job y w))
+    (subst (λ (s : Script Then). AllEnds (Brings job y w.number (node_of y w) w.now) s
+    (heard_of job y w)) (over_rest w.now e (rest_of job y w) is well.matches) (worker_ends job y w))
 
 -- ---- the end
 
-pub both_shows : (y : LayoutData) (r : Record) (t : ℕ) → Has r (heard_both y (3 * t) 0) → Shows y r t
-both_shows y r zero has = inr (inr (refl, record { op = Load (number_of y (Node 1)); hears = refl; has = has_earlier r (Load (number_of y Conflict), 0) ((Load (number_of y (Node 1)), 0) ∷ []) has }))
-both_shows y r (suc k) has = inr (inl (0, (λ e. absurd (omega arith)), record { op = Load (number_of y (Node 1)); next = Load (number_of y Conflict); hears = refl; hears_next = refl; has = has }))
+pub both_shows : (y : LayoutData) (r : Record) (t : ℕ) →
+    Has r (heard_both y (3 * t) 0) → Shows y r t
+both_shows y r zero has = inr (inr (
+  refl,
+  record {
+    op = Load (number_of y (Node 1));
+    hears = refl;
+    has =
+        has_earlier r (Load (number_of y Conflict), 0) ((Load (number_of y (Node 1)), 0) ∷ []) has;
+  },
+))
+both_shows y r (suc k) has = inr (inl (
+  0,
+  (λ e. absurd (omega arith)),
+  record {
+    op = Load (number_of y (Node 1));
+    next = Load (number_of y Conflict);
+    hears = refl;
+    hears_next = refl;
+    has = has;
+  },
+))
 
 -- ---- the conflict
 
-is_first : (job : JobData) (s : ℕ) → IsReached job s → (AgreesAfter job s → ⊥) → suc s ≤ job.steps → IsConflict job (suc s)
+is_first : (job : JobData) (s : ℕ) → IsReached job s → (AgreesAfter job s → ⊥) →
+    suc s ≤ job.steps → IsConflict job (suc s)
 is_first job s reached not within = elim (reached_or_conflict job (suc s)) [
   | inl all ↦ absurd (not (all s (omega arith)))
-  | inr c ↦ (
-      let low : c.0.step ≤ suc s = c.2 in
-      elim (cases_lt s c.0.step) [
-        | inl k ↦ record { fault = c.0; is = record { first = c.1; within = omega arith }; step = omega arith }
-        | inr k ↦ absurd (conflict_ends job c.0 s c.1 k reached)
-      ]
-      )
+  | inr c ↦ (let low : c.0.step ≤ suc s = c.2 in elim (cases_lt s c.0.step) [
+    | inl k ↦ record {
+      fault = c.0;
+      is = record { first = c.1; within = omega arith };
+      step = omega arith;
+    }
+    | inr k ↦ absurd (conflict_ends job c.0 s c.1 k reached)
+  ])
 ]
 
-pub heard_conflict : (job : JobData) (y : LayoutData) (r : Record) (u : ℕ) (words : List ℕ) → Stands job y words → Backed job y r words →
+pub heard_conflict : (job : JobData) (y : LayoutData) (r : Record) (u : ℕ) (words : List ℕ) →
+    Stands job y words → Backed job y r words →
     Heard y r Conflict u → u ≢ 0 → IsConflict job u
 heard_conflict job y r zero words stands backed heard some = absurd (some refl)
 heard_conflict job y r (suc s) words stands backed heard some =
@@ -69,16 +96,19 @@ heard_conflict job y r (suc s) words stands backed heard some =
 
 -- ---- progress
 
-pub progress_well : (job : JobData) (y : LayoutData) (before : Record) (r u : ℕ) (words : List ℕ) → Stands job y words →
-    Backed job y (load_conflict y (load_root y before r) u) words → ProgressWell job y before (load_conflict y (load_root y before r) u) (step_seen r u) u
+pub progress_well : (job : JobData) (y : LayoutData) (before : Record) (r u : ℕ) (words : List ℕ) →
+    Stands job y words →
+    Backed job y (load_conflict y (load_root y before r) u) words →
+    ProgressWell job y before (load_conflict y (load_root y before r) u) (step_seen r u) u
 progress_well job y before r u words stands backed =
     let g = glanced_both job y before r u words stands backed in
-    let behind = load_conflict y (load_root y before r) u in
+    let later = load_conflict y (load_root y before r) u in
     record {
-      reached = (known_now job y behind (step_seen r u) words stands backed (inl g.shows)).0;
+      reached = (known_now job y later (step_seen r u) words stands backed (inl g.shows)).0;
       shows = g.shows;
       lasts = g.low;
       seen = g.shown;
       named = g.named;
-      conflict = λ some. heard_conflict job y behind u words stands backed (record { op = Load (number_of y Conflict); hears = refl; has = inl (refl, tt) }) some;
+      conflict = λ some. heard_conflict job y later u words stands backed
+          (record { op = Load (number_of y Conflict); hears = refl; has = inl (refl, tt) }) some;
     }

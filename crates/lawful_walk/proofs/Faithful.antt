@@ -1,5 +1,6 @@
 -- Records that the words bear out are faithful.
-use Rattle.std.proofs.Common.{◌≡◌, ℕ, suc, ◌==◌, ◌<◌, ◌≤◌, max, List, [], length, slice_index, sym, ap, subst, ◌∙◌, inl, inr, get_or-set_same, arith}
+use Rattle.std.proofs.Common.{◌≡◌, ℕ, suc, ◌==◌, ◌<◌, ◌≤◌, max, List, [], length, slice_index}
+use Rattle.std.proofs.Common.{sym, ap, subst, ◌∙◌, inl, inr, get_or-set_same, arith}
 use prog.Atomic.{either}
 use Rattle.std.proofs.lemmas.Bool.{cases_lt}
 use Rattle.pram_text.specs.Job.{JobData}
@@ -8,7 +9,8 @@ use Rattle.pram_step.proofs.Past.{last_most, before_most, written_value}
 use Rattle.pram_step.specs.History.{Asks, last_write, write_before}
 use Rattle.pram_words.proofs.Numbering.{numbering}
 use Rattle.pram_words.specs.declared.words.Word.{Word}
-use Rattle.pram_words.specs.declared.words.Word.TheVariants.{Conflict, Node, Asked, Position, Stored, Claim, Spare}
+use Rattle.pram_words.specs.declared.words.Word.TheVariants.{Conflict, Node, Asked}
+use Rattle.pram_words.specs.declared.words.Word.TheVariants.{Position, Stored, Claim, Spare}
 use Rattle.pram_words.specs.Stamps.{stamp_of, payload_of}
 use Rattle.pram_words.specs.Words.{LayoutData, IsWord, number_of}
 use Rattle.walkx.specs.declared.operation.Op.{Op}
@@ -16,7 +18,8 @@ use Rattle.walkx.specs.declared.operation.Op.TheVariants.{Load, Store, Max, Swap
 use Rattle.walkx.specs.Operations.{words_after, answer}
 use Rattle.walkx.specs.Records.{Record, empty, after, both}
 use Rattle.lawful_walk.specs.Board.{held, root, stamp_at, finished, Stands, Grows}
-use Rattle.lawful_walk.specs.Faithful.{Remains, left_by, IsBehind, IsPart, IsGiven, IsValue, IsFaithful, FaithfulAnswers}
+use Rattle.lawful_walk.specs.Faithful.{Remains, left_by, IsAfter, IsPart, IsGiven}
+use Rattle.lawful_walk.specs.Faithful.{IsValue, IsFaithful, FaithfulAnswers}
 use Rattle.lawful_walk.specs.WordLaws.{BackedIsFaithful, SoundIsFaithful}
 use Rattle.lawful_walk.specs.Moments.{Backed}
 use Rattle.lawful_walk.specs.Seen.{Hears}
@@ -53,9 +56,9 @@ left_is (Swap j old new) k words e below =
     (get_or-set_same words j v 0 (omega arith))
 left_is (Over ended) k words e below = absurd e
 
-behind_now : (job : JobData) (y : LayoutData) (r : Record) (now : List ℕ) (word : Word) →
-    Backed job y r now → IsWord y word → IsBehind y r word (held y now word)
-behind_now job y r now word backed is = record {
+after_now : (job : JobData) (y : LayoutData) (r : Record) (now : List ℕ) (word : Word) →
+    Backed job y r now → IsWord y word → IsAfter y r word (held y now word)
+after_now job y r now word backed is = record {
   heard = λ op found hears has.
       let m = held_then job y r op word found [] now backed hears has in
       subst (λ (a : ℕ). Remains word a (held y now word)) (sym m.is)
@@ -63,7 +66,8 @@ behind_now job y r now word backed is = record {
   left = λ op found hears has.
       let m = (find job y now r op found [] backed has).moment in
       let below : number_of y word < length m.words =
-      (let n = (numbering y m.stands.sizes).below word is in let l = m.stands.admitted.len in omega arith) in
+      (let n = (numbering y m.stands.sizes).below word is in
+      let l = m.stands.admitted.len in omega arith) in
       let e : held y (words_after m.words op) word ≡ left_by op found =
       left_is op (number_of y word) m.words hears below ∙ ap (left_by op) (sym m.heard) in
       subst (λ (a : ℕ). Remains word a (held y now word)) e
@@ -81,37 +85,47 @@ module _ (job : JobData) (y : LayoutData) (words : List ℕ) (p k s : ℕ)
       let f = facts job y words stands in
       let from = f.stored_from s p k is e in
       let win = winner job s p from.1 in
-      let below = place_below job y words (finished y words) stands.limits stands.sizes stands.layout stands.lawful f.root_low f.root_high p is.0 in
-      let value = word_value job y words (suc s) p k stands is e (reached_down job (suc s) (finished y words) low stands.lawful.reached) in
-      let writes = written_value job s p win.writer win.value stands.limits below (stands.lawful.reached s low) win.asks win.wins in
-      record { reached = from.0; writer = win.writer; asks = subst (Asks job s p win.writer) (sym (value ∙ writes)) win.asks; wins = win.wins }
+      let below = place_below job y words (finished y words) stands.limits
+      stands.sizes stands.layout stands.lawful f.root_low f.root_high p is.0 in
+      let value = word_value job y words (suc s) p k stands is e
+      (reached_down job (suc s) (finished y words) low stands.lawful.reached) in
+      let writes = written_value job s p win.writer win.value stands.limits below
+      (stands.lawful.reached s low) win.asks win.wins in
+      record {
+        reached = from.0;
+        writer = win.writer;
+        asks = subst (Asks job s p win.writer) (sym (value ∙ writes)) win.asks;
+        wins = win.wins;
+      }
 
   -- it is not: the word is new
   given_now : (word : ℕ) → stamp_of word ≡ suc s → finished y words ≤ s →
       WordIs job (finished y words) (root y words) p word → IsGiven job s p (payload_of word)
   given_now word e high (is_settled w) =
       let f = finished y words in
-      let z : stamp_of word ≡ last_write job (finished y words) p = ap stamp_of w ∙ stamp_step job (last_write job f p) p stands.limits in
+      let z : stamp_of word ≡ last_write job (finished y words) p =
+      ap stamp_of w ∙ stamp_step job (last_write job f p) p stands.limits in
       let m = last_most job f p in
       absurd (omega arith)
   given_now word e high (is_before w) =
       let f = finished y words in
-      let z : stamp_of word ≡ write_before job (last_write job (finished y words) p) p = ap stamp_of w ∙ stamp_step job (write_before job (last_write job f p) p) p stands.limits in
+      let z : stamp_of word ≡ write_before job (last_write job (finished y words) p) p =
+      ap stamp_of w ∙ stamp_step job (write_before job (last_write job f p) p) p stands.limits in
       let m = last_most job f p in
       let b = before_most job (last_write job f p) p in
       absurd (omega arith)
   given_now word e high (is_new n) =
       let z = n.stamp in
       let same : finished y words ≡ s = omega arith in
-      subst (λ (x : ℕ). IsGiven job x p (payload_of word)) same (record { reached = stands.lawful.reached; writer = n.writer; asks = n.asks; wins = n.wins })
+      subst (λ (x : ℕ). IsGiven job x p (payload_of word)) same
+      (record { reached = stands.lawful.reached; writer = n.writer; asks = n.asks; wins = n.wins })
 
   given : stamp_at y words p k ≡ suc s → IsGiven job s p (payload_of (held y words (Stored p k)))
   given e = elim (cases_lt s (finished y words)) [
     | inl c ↦ given_before e c
-    | inr c ↦ (
-        let f = facts job y words stands in
-        given_now (held y words (Stored p k)) e c (word_is job y words (finished y words) stands.limits stands.sizes stands.layout stands.lawful f.root_low f.root_high p k is)
-        )
+    | inr c ↦ (let f = facts job y words stands in
+        given_now (held y words (Stored p k)) e c (word_is job y words (finished y words)
+        stands.limits stands.sizes stands.layout stands.lawful f.root_low f.root_high p k is))
   ]
 
 value_is : (job : JobData) (y : LayoutData) (words : List ℕ) (p k : ℕ) → Stands job y words →
@@ -124,25 +138,34 @@ value_is job y words p k stands is = record {
 -- ---- records
 
 answer_faithful : (job : JobData) (y : LayoutData) (r : Record) (op : Op) (found : ℕ)
-    (words : List ℕ) → Stands job y words → Backed job y r words → found ≡ answer words op → IsFaithful job y r op found
+    (words : List ℕ) → Stands job y words → Backed job y r words →
+    found ≡ answer words op → IsFaithful job y r op found
 answer_faithful job y r op found words stands backed heard = record {
-  behind = λ word is hears. subst (IsBehind y r word) (sym (heard ∙ hears_is op (number_of y word) words hears)) (behind_now job y r words word backed is);
-  asked = λ i j proc part hears. subst (IsPart job i j) (sym (heard ∙ hears_is op (number_of y (Asked i j)) words hears)) ((stands.lawful.asked i j proc part).part);
-  stored = λ p k is hears. subst (IsValue job p) (sym (heard ∙ hears_is op (number_of y (Stored p k)) words hears)) (value_is job y words p k stands is);
+  later = λ word is hears.
+      subst (IsAfter y r word) (sym (heard ∙ hears_is op (number_of y word) words hears))
+      (after_now job y r words word backed is);
+  asked = λ i j proc part hears.
+      subst (IsPart job i j) (sym (heard ∙ hears_is op (number_of y (Asked i j)) words hears))
+      ((stands.lawful.asked i j proc part).part);
+  stored = λ p k is hears.
+      subst (IsValue job p) (sym (heard ∙ hears_is op (number_of y (Stored p k)) words hears))
+      (value_is job y words p k stands is);
 }
 
 answers_faithful : (job : JobData) (y : LayoutData) (r : Record) (now : List ℕ) →
     Backed job y r now → FaithfulAnswers job y r
 answers_faithful job y empty now backed = tt
-answers_faithful job y (after r op found) now m =
-    (answers_faithful job y r m.words m.earlier, answer_faithful job y r op found m.words m.stands m.earlier m.heard)
+answers_faithful job y (after r op found) now m = (
+  answers_faithful job y r m.words m.earlier,
+  answer_faithful job y r op found m.words m.stands m.earlier m.heard,
+)
 answers_faithful job y (both r s) now backed =
     (answers_faithful job y r now backed.0, answers_faithful job y s now backed.1)
 
 pub backed_faithful : BackedIsFaithful
 backed_faithful job y r words backed = record {
   answers = answers_faithful job y r words backed;
-  words = λ word is. behind_now job y r words word backed is;
+  words = λ word is. after_now job y r words word backed is;
 }
 
 pub sound_faithful : SoundIsFaithful

@@ -1,5 +1,8 @@
--- The blocks of the tasks, where what was heard is put in its place: a part of a request, the value of a place, a report, a claim.
-use Rattle.std.proofs.Common.{◌≡◌, ◌≢◌, ℕ, suc, ◌+◌, ◌*◌, ◌<◌, ◌≤◌, nat_lt, List, ◌∷◌, length, slice_index, get_or-set_same, IsTrue, sym, ap, subst, ◌∙◌, inl, inr, lit<, arith}
+-- The blocks of the tasks, where what was heard is put in its place: a part of a request, the value
+-- of a place, a report, a claim.
+use Rattle.std.proofs.Common.{◌≡◌, ◌≢◌, ℕ, suc, ◌+◌, ◌*◌, ◌<◌, ◌≤◌, nat_lt, List}
+use Rattle.std.proofs.Common.{◌∷◌, length, slice_index, get_or-set_same, IsTrue}
+use Rattle.std.proofs.Common.{sym, ap, subst, ◌∙◌, inl, inr, lit<, arith}
 use Rattle.std.specs.Prelude.{slice_set}
 use Rattle.std.proofs.lemmas.Bool.{cond_both, cases_eq, ltb-true, ltb-false}
 use Rattle.pram_text.specs.Job.{JobData}
@@ -31,81 +34,142 @@ use Rattle.lawful_walk.proofs.Scripts.{Safe}
 use Rattle.lawful_walk.proofs.Blocks.{hears_safe, reads_safe, reports_safe}
 use Rattle.lawful_walk.proofs.Known.{safe_known, floor_lasts, StaleSafe, raises_safe}
 
-module _ (job : JobData) (y : LayoutData) (w q x i : ℕ) (some : 1 ≤ q) (most : q ≤ 3 * job.steps) (step : step_at q ≡ suc x) (board : IsBoard job y) (proc : i < y.procs) where
+module _ (job : JobData) (y : LayoutData) (w q x i : ℕ) (some : 1 ≤ q) (most : q ≤ 3 * job.steps)
+    (step : step_at q ≡ suc x) (board : IsBoard job y) (proc : i < y.procs) where
   -- ---- one part of the request, or all three
 
-  pub hears : (j : ℕ) → j < 3 → 3 * x + 2 ≤ q → (after : Script Then) (next : ℕ → Script Then) (history : List (Op × ℕ)) → StaleSafe job y w q x after →
+  pub hears : (j : ℕ) → j < 3 → 3 * x + 2 ≤ q →
+      (after : Script Then) (next : ℕ → Script Then) (history : List (Op × ℕ)) →
+      StaleSafe job y w q x after →
       Sees job y history (Floor job y q x) →
-      ((longer : List (Op × ℕ)) → Sees job y longer (Floor job y q x) → Safe {R = Then} job y w q (next (part_after job x i j)) longer) → Safe {R = Then} job y w q (hears_part y (suc x) i j after next) history
+      ((longer : List (Op × ℕ)) → Sees job y longer (Floor job y q x) →
+      Safe {R = Then} job y w q (next (part_after job x i j)) longer) →
+      Safe {R = Then} job y w q (hears_part y (suc x) i j after next) history
   hears j part phase after next history stale sees on =
-      hears_safe job y w q x some most step (Floor job y q x) (floor_lasts job y q x) (λ words f. f) {R = Then} i j proc part phase after next history sees stale (λ v longer more.
-      safe_known {R = Then} job y w q (next v) longer (v ≡ part_after job x i j) (so job y longer (λ words. Floor job y q x words × (v ≡ part_after job x i j)) (λ words. v ≡ part_after job x i j) (λ words stands h. h.1) more) (λ e.
-      subst (λ (v : ℕ). Safe {R = Then} job y w q (next v) longer) (sym e) (on longer (so job y longer (λ words. Floor job y q x words × (v ≡ part_after job x i j)) (Floor job y q x) (λ words stands h. h.0) more))))
+      hears_safe job y w q x some most step (Floor job y q x) (floor_lasts job y q x)
+      (λ words f. f) {R = Then} i j proc part phase after next history sees stale (λ v longer more.
+      safe_known {R = Then} job y w q (next v) longer (v ≡ part_after job x i j)
+      (so job y longer (λ words. Floor job y q x words × (v ≡ part_after job x i j))
+      (λ words. v ≡ part_after job x i j) (λ words stands h. h.1) more) (λ e.
+      subst (λ (v : ℕ). Safe {R = Then} job y w q (next v) longer) (sym e)
+      (on longer (so job y longer (λ words. Floor job y q x words × (v ≡ part_after job x i j))
+      (Floor job y q x) (λ words stands h. h.0) more))))
 
-  pub hears_all : 3 * x + 2 ≤ q → (after : Script Then) (next : ℕ → ℕ → ℕ → Script Then) (history : List (Op × ℕ)) → StaleSafe job y w q x after →
+  pub hears_all : 3 * x + 2 ≤ q →
+      (after : Script Then) (next : ℕ → ℕ → ℕ → Script Then) (history : List (Op × ℕ)) →
+      StaleSafe job y w q x after →
       Sees job y history (Floor job y q x) →
-      ((longer : List (Op × ℕ)) → Sees job y longer (Floor job y q x) → Safe {R = Then} job y w q (next (part_after job x i 0) (part_after job x i 1) (part_after job x i 2)) longer) →
-      Safe {R = Then} job y w q (hears_part y (suc x) i 0 after (λ a. hears_part y (suc x) i 1 after (λ b. hears_part y (suc x) i 2 after (λ c. next a b c)))) history
+      ((longer : List (Op × ℕ)) → Sees job y longer (Floor job y q x) → Safe {R = Then} job y w q
+      (next (part_after job x i 0) (part_after job x i 1) (part_after job x i 2)) longer) →
+      Safe {R = Then} job y w q (hears_part y (suc x) i 0 after
+      (λ a. hears_part y (suc x) i 1 after (λ b. hears_part y (suc x) i 2 after (λ c. next a b c))))
+      history
   hears_all phase after next history stale sees on =
-      hears 0 (lit< tt) phase after (λ a. hears_part y (suc x) i 1 after (λ b. hears_part y (suc x) i 2 after (λ c. next a b c))) history stale sees (λ longer more.
-      hears 1 (lit< tt) phase after (λ b. hears_part y (suc x) i 2 after (λ c. next (part_after job x i 0) b c)) longer stale more (λ longer more.
-      hears 2 (lit< tt) phase after (λ c. next (part_after job x i 0) (part_after job x i 1) c) longer stale more on))
+      hears 0 (lit< tt) phase after
+      (λ a. hears_part y (suc x) i 1 after (λ b. hears_part y (suc x) i 2 after (λ c. next a b c)))
+      history stale sees (λ longer more.
+      hears 1 (lit< tt) phase after
+      (λ b. hears_part y (suc x) i 2 after (λ c. next (part_after job x i 0) b c)) longer stale more
+      (λ longer more.
+      hears 2 (lit< tt) phase after
+      (λ c. next (part_after job x i 0) (part_after job x i 1) c) longer stale more on))
 
   -- ---- a place, in the first pass
 
-  pub reads : (p : ℕ) → p < places_of y → q ≡ 3 * x + 1 → (after : Script Then) (next : ℕ → Script Then) (history : List (Op × ℕ)) →
+  pub reads : (p : ℕ) → p < places_of y →
+      q ≡ 3 * x + 1 → (after : Script Then) (next : ℕ → Script Then) (history : List (Op × ℕ)) →
       StaleSafe job y w q x after → Sees job y history (Floor job y q x) →
-      ((longer : List (Op × ℕ)) → Sees job y longer (Floor job y q x) → Safe {R = Then} job y w q (next (slice_index (state_after job x) p)) longer) → Safe {R = Then} job y w q (reads_place y (suc x) p after next) history
+      ((longer : List (Op × ℕ)) → Sees job y longer (Floor job y q x) →
+      Safe {R = Then} job y w q (next (slice_index (state_after job x) p)) longer) →
+      Safe {R = Then} job y w q (reads_place y (suc x) p after next) history
   reads p place phase after next history stale sees on =
-      reads_safe job y w q x some most step (Floor job y q x) (floor_lasts job y q x) (λ words f. f) {R = Then} p place phase after next history sees stale (λ v longer more.
-      safe_known {R = Then} job y w q (next v) longer (v ≡ slice_index (state_after job x) p) (so job y longer (λ words. Floor job y q x words × (v ≡ slice_index (state_after job x) p)) (λ words. v ≡ slice_index (state_after job x) p) (λ words stands h. h.1) more) (λ e.
-      subst (λ (v : ℕ). Safe {R = Then} job y w q (next v) longer) (sym e) (on longer (so job y longer (λ words. Floor job y q x words × (v ≡ slice_index (state_after job x) p)) (Floor job y q x) (λ words stands h. h.0) more))))
+      reads_safe job y w q x some most step (Floor job y q x) (floor_lasts job y q x)
+      (λ words f. f) {R = Then} p place phase after next history sees stale (λ v longer more.
+      safe_known {R = Then} job y w q (next v) longer (v ≡ slice_index (state_after job x) p)
+      (so job y longer (λ words. Floor job y q x words × (v ≡ slice_index (state_after job x) p))
+      (λ words. v ≡ slice_index (state_after job x) p) (λ words stands h. h.1) more) (λ e.
+      subst (λ (v : ℕ). Safe {R = Then} job y w q (next v) longer) (sym e) (on longer
+      (so job y longer (λ words. Floor job y q x words × (v ≡ slice_index (state_after job x) p))
+      (Floor job y q x) (λ words stands h. h.0) more))))
 
   -- ---- a conflict is reported: it is named after the swap, if the phase is not over
 
-  named_now : (words : List ℕ) → Stands job y words → conflict y (words_after words (Swap (number_of y Conflict) 0 (suc x))) ≢ 0
+  named_now : (words : List ℕ) → Stands job y words →
+      conflict y (words_after words (Swap (number_of y Conflict) 0 (suc x))) ≢ 0
   named_now words stands = elim (cases_eq (conflict y words) 0) [
-    | inl e ↦ (
-        let below : number_of y Conflict < length words = (let n = (numbering y stands.sizes).below Conflict tt in let l = stands.admitted.len in omega arith) in
-        let is : conflict y (slice_set words (number_of y Conflict) (suc x)) ≡ suc x = get_or-set_same words (number_of y Conflict) (suc x) 0 below in
-        subst (λ (l : List ℕ). conflict y l ≢ 0) (sym (swap_same words (number_of y Conflict) 0 (suc x) e)) (λ none. absurd (omega arith))
-        )
-    | inr n ↦ subst (λ (l : List ℕ). conflict y l ≢ 0) (sym (swap_other words (number_of y Conflict) 0 (suc x) n)) n
+    | inl e ↦ (let below : number_of y Conflict < length words =
+        (let n = (numbering y stands.sizes).below Conflict tt in
+        let l = stands.admitted.len in omega arith) in
+        let is : conflict y (slice_set words (number_of y Conflict) (suc x)) ≡ suc x =
+        get_or-set_same words (number_of y Conflict) (suc x) 0 below in
+        subst (λ (l : List ℕ). conflict y l ≢ 0)
+        (sym (swap_same words (number_of y Conflict) 0 (suc x) e)) (λ none. absurd (omega arith)))
+    | inr n ↦ subst (λ (l : List ℕ). conflict y l ≢ 0)
+        (sym (swap_other words (number_of y Conflict) 0 (suc x) n)) n
   ]
 
-  named_later : (words : List ℕ) → Stands job y words → Floor job y q x words → conflict y words ≢ 0 → root y words + 1 ≡ q → conflict y words ≡ suc x
+  named_later : (words : List ℕ) → Stands job y words → Floor job y q x words →
+      conflict y words ≢ 0 → root y words + 1 ≡ q → conflict y words ≡ suc x
   named_later words stands floor named live =
       let gone = alive job y words q x stands some most step floor live in
-      elim (facts job y words stands).conflict_next [ inl e ↦ absurd (named e) | inr e ↦ e ∙ ap suc gone ]
+      elim (facts job y words stands).conflict_next [
+        | inl e ↦ absurd (named e)
+        | inr e ↦ e ∙ ap suc gone
+      ]
 
-  pub reports_end : 3 * x + 3 ≡ q → (AgreesAfter job x → ⊥) → (after : Script Then) (history : List (Op × ℕ)) → Sees job y history (Floor job y q x) →
-      ((longer : List (Op × ℕ)) → Sees job y longer (λ words. Floor job y q x words × (root y words + 1 ≡ q → conflict y words ≡ suc x)) → Safe {R = Then} job y w q after longer) →
+  pub reports_end : 3 * x + 3 ≡ q → (AgreesAfter job x → ⊥) →
+      (after : Script Then) (history : List (Op × ℕ)) → Sees job y history (Floor job y q x) →
+      ((longer : List (Op × ℕ)) → Sees job y longer
+      (λ words. Floor job y q x words × (root y words + 1 ≡ q → conflict y words ≡ suc x)) →
+      Safe {R = Then} job y w q after longer) →
       Safe {R = Then} job y w q (reports y (suc x) after) history
   reports_end phase not after history sees on =
-      reports_safe job y w q x some most step (Floor job y q x) (floor_lasts job y q x) (λ words f. f) {R = Then} (kind_of x q Verify phase) after history
-      (so job y history (Floor job y q x) (λ words. Floor job y q x words × (AgreesAfter job x → ⊥)) (λ words stands f. (f, not)) sees) (λ found.
+      reports_safe job y w q x some most step (Floor job y q x)
+      (floor_lasts job y q x) (λ words f. f) {R = Then} (kind_of x q Verify phase) after history
+      (so job y history (Floor job y q x) (λ words. Floor job y q x words × (AgreesAfter job x → ⊥))
+      (λ words stands f. (f, not)) sees) (λ found.
       on ((Swap (number_of y Conflict) 0 (suc x), found) ∷ history)
-      (so job y ((Swap (number_of y Conflict) 0 (suc x), found) ∷ history) (Moment job y (Swap (number_of y Conflict) 0 (suc x)) found (Floor job y q x)) (λ words. Floor job y q x words × (root y words + 1 ≡ q → conflict y words ≡ suc x))
+      (so job y ((Swap (number_of y Conflict) 0 (suc x), found) ∷ history)
+      (Moment job y (Swap (number_of y Conflict) 0 (suc x)) found (Floor job y q x))
+      (λ words. Floor job y q x words × (root y words + 1 ≡ q → conflict y words ≡ suc x))
       (λ words stands m.
-      let floor = floor_lasts job y q x m.words words m.stands stands (onward y m.words (words_after m.words (Swap (number_of y Conflict) 0 (suc x))) words m.grew m.since) m.earlier in
+      let floor = floor_lasts job y q x m.words words m.stands stands (onward y m.words (words_after
+      m.words (Swap (number_of y Conflict) 0 (suc x))) words m.grew m.since) m.earlier in
       let named = named_now m.words m.stands in
-      let same : conflict y (words_after m.words (Swap (number_of y Conflict) 0 (suc x))) ≡ conflict y words = m.since Conflict tt named in
+      let same : conflict y (words_after m.words (Swap (number_of y Conflict) 0 (suc x)))
+      ≡ conflict y words = m.since Conflict tt named in
       (floor, named_later words stands floor (λ none. named (same ∙ none))))
       (heard job y history (Floor job y q x) (Swap (number_of y Conflict) 0 (suc x)) found sees)))
 
   -- ---- a cell is claimed
 
-  pub claimed_lasts : (p : ℕ) → IsTrue y.claims → Lasts job y (λ words. p < job.cells → stamped_word (suc x) (claim_of job i) ≤ held y words (Claim p))
-  claimed_lasts p claims words later a b up h cell = let up : held y words (Claim p) ≤ held y later (Claim p) = up (Claim p) (claims, let c = same_cells job y board in omega arith) in let l = h cell in omega arith
+  pub claimed_lasts : (p : ℕ) → IsTrue y.claims → Lasts job y
+      (λ words. p < job.cells → stamped_word (suc x) (claim_of job i) ≤ held y words (Claim p))
+  claimed_lasts p claims words later a b up h cell =
+      let up : held y words (Claim p) ≤ held y later (Claim p) =
+      up (Claim p) (claims, let c = same_cells job y board in omega arith) in
+      let l = h cell in omega arith
 
-  pub claims_safe : (p v : ℕ) → IsTrue y.claims → 3 * x + 2 ≡ q → Asks job x p i v → (after : Script Then) (history : List (Op × ℕ)) → Sees job y history (Floor job y q x) →
-      ((longer : List (Op × ℕ)) → Sees job y longer (λ words. Floor job y q x words × (p < job.cells → stamped_word (suc x) (claim_of job i) ≤ held y words (Claim p))) → Safe {R = Then} job y w q after longer) →
+  pub claims_safe : (p v : ℕ) → IsTrue y.claims → 3 * x + 2 ≡ q → Asks job x p i v →
+      (after : Script Then) (history : List (Op × ℕ)) → Sees job y history (Floor job y q x) →
+      ((longer : List (Op × ℕ)) → Sees job y longer (λ words. Floor job y q x words
+      × (p < job.cells → stamped_word (suc x) (claim_of job i) ≤ held y words (Claim p))) →
+      Safe {R = Then} job y w q after longer) →
       Safe {R = Then} job y w q (claims job y (suc x) i p after) history
   claims_safe p v has phase asked after history sees on =
-      cond_both (nat_lt p job.cells) (asks (Max (number_of y (Claim p)) (stamped_word (suc x) (claim_of job i))) (λ found. after)) after (λ (s : Script Then). Safe {R = Then} job y w q s history)
-      (λ e.
-      let cell : p < y.cells = (let l = ltb-true p job.cells e in let c = same_cells job y board in omega arith) in
-      raises_safe job y w q (Claim p) (stamped_word (suc x) (claim_of job i)) (Floor job y q x) (floor_lasts job y q x) (has, cell) (λ words later up. up (Claim p) (has, cell))
-      (λ words stands f. (writes_keep job y words q x stands some most step f).claim p i v (has, cell) (kind_of x q Apply phase) asked) after history sees (λ longer more.
-      on longer (so job y longer (λ words. Floor job y q x words × (stamped_word (suc x) (claim_of job i) ≤ held y words (Claim p))) (λ words. Floor job y q x words × (p < job.cells → stamped_word (suc x) (claim_of job i) ≤ held y words (Claim p))) (λ words stands h. (h.0, λ c. h.1)) more)))
-      (λ e. on history (so job y history (Floor job y q x) (λ words. Floor job y q x words × (p < job.cells → stamped_word (suc x) (claim_of job i) ≤ held y words (Claim p))) (λ words stands f. (f, λ c. absurd (let l = ltb-false p job.cells e in omega arith))) sees))
+      cond_both (nat_lt p job.cells)
+      (asks (Max (number_of y (Claim p)) (stamped_word (suc x) (claim_of job i))) (λ found. after))
+      after (λ (s : Script Then). Safe {R = Then} job y w q s history) (λ e.
+      let cell : p < y.cells = (let l = ltb-true p job.cells e in
+      let c = same_cells job y board in omega arith) in
+      raises_safe job y w q (Claim p) (stamped_word (suc x) (claim_of job i)) (Floor job y q x)
+      (floor_lasts job y q x) (has, cell) (λ words later up. up (Claim p) (has, cell))
+      (λ words stands f. (writes_keep job y words q x stands some most step f).claim p i v
+      (has, cell) (kind_of x q Apply phase) asked) after history sees (λ longer more.
+      on longer (so job y longer (λ words.
+      Floor job y q x words × (stamped_word (suc x) (claim_of job i) ≤ held y words (Claim p)))
+      (λ words. Floor job y q x words × (p < job.cells → stamped_word (suc x) (claim_of job i)
+      ≤ held y words (Claim p))) (λ words stands h. (h.0, λ c. h.1)) more)))
+      (λ e. on history (so job y history (Floor job y q x) (λ words. Floor job y q x words
+      × (p < job.cells → stamped_word (suc x) (claim_of job i) ≤ held y words (Claim p)))
+      (λ words stands f. (f, λ c. absurd (let l = ltb-false p job.cells e in omega arith))) sees))

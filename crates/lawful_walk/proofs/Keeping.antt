@@ -1,5 +1,7 @@
--- How the clauses of lawful words are kept: what is done stays done, and a root that rises over a third pass.
-use Rattle.std.proofs.Common.{◌≡◌, ◌≢◌, ◌⊎◌, ℕ, zero, suc, ◌+◌, ◌*◌, ◌<◌, ◌≤◌, IsTrue, List, slice_index, refl, sym, ap, subst, ◌∙◌, inl, inr, lit<, arith}
+-- How the clauses of lawful words are kept: what is done stays done, and a root that rises over a
+-- third pass.
+use Rattle.std.proofs.Common.{◌≡◌, ◌≢◌, ◌⊎◌, ℕ, zero, suc, ◌+◌, ◌*◌, ◌<◌, ◌≤◌, IsTrue, List}
+use Rattle.std.proofs.Common.{slice_index, refl, sym, ap, subst, ◌∙◌, inl, inr, lit<, arith}
 use Rattle.std.proofs.lemmas.Bool.{cases_eq}
 use Rattle.pram_text.specs.Job.{JobData, IsJob}
 use Rattle.pram_text.specs.declared.instr.Rule.{Rule}
@@ -15,12 +17,18 @@ use Rattle.walkx.specs.Walk.{IsLayoutOf, IsBoard}
 use Rattle.walkx.proofs.Boards.{same_cells, same_procs}
 use Rattle.pram_step.specs.History.{Asks, IsWritten, last_write, write_before}
 use Rattle.pram_step.proofs.LawFixed.{reached_more}
-use Rattle.pram_step.proofs.Past.{last_most, last_new, write_cases, Left, Set, written_value, before_most, asks_fit}
+use Rattle.pram_step.proofs.Past.{last_most, last_new, write_cases, Left}
+use Rattle.pram_step.proofs.Past.{Set, written_value, before_most, asks_fit}
 use Rattle.lawful_walk.specs.Steps.{word_of_step, settled, settled_before}
-use Rattle.lawful_walk.specs.Board.{held, root, conflict, leaf, stamp_at, finished, IsLate, HoldsNew, Raised, Carried, CarriedWon, Claimed, Stays, ClaimStays, Done, phase_in, IsNew, IsPair, newer_first, newer_second, new_first, new_second, ClaimsFor, IsClaimed, claimed_before, claimed_now, LawfulFor, Lawful, Grows}
+use Rattle.lawful_walk.specs.Board.{held, root, conflict, leaf, stamp_at, finished, IsLate}
+use Rattle.lawful_walk.specs.Board.{HoldsNew, Raised, Carried, CarriedWon, Claimed, Stays}
+use Rattle.lawful_walk.specs.Board.{ClaimStays, Done, phase_in, IsNew, IsPair, newer_first}
+use Rattle.lawful_walk.specs.Board.{newer_second, new_first, new_second, ClaimsFor, IsClaimed}
+use Rattle.lawful_walk.specs.Board.{claimed_before, claimed_now, LawfulFor, Lawful, Grows}
 use Rattle.lawful_walk.proofs.Values.{fin, phase_high, stamp_step}
 use Rattle.lawful_walk.proofs.Moments.{stamps_rise}
-use Rattle.lawful_walk.proofs.Facts.{place_below, low_leaf, raised, late, claim_fits, agrees_by, claim_high}
+use Rattle.lawful_walk.proofs.Facts.{place_below, low_leaf, raised, late}
+use Rattle.lawful_walk.proofs.Facts.{claim_fits, agrees_by, claim_high}
 
 has_claim_words : (rule : Rule) → rule ≢ Common → IsTrue (has_claims rule)
 has_claim_words Common other = absurd (other refl)
@@ -29,34 +37,49 @@ has_claim_words Crew other = refl
 
 -- ---- what is done stays done
 
-module _ (job : JobData) (y : LayoutData) (words later : List ℕ) (s : ℕ) (limits : IsJob job) (sizes : IsLayout y) (layout : IsLayoutOf job y) (up : Grows y words later)
-    (most : (p : ℕ) → p < places_of y → (stamp_at y later p 0 ≤ suc s) × (stamp_at y later p 1 ≤ suc s)) where
+module _ (job : JobData) (y : LayoutData) (words later : List ℕ) (s : ℕ)
+    (limits : IsJob job) (sizes : IsLayout y) (layout : IsLayoutOf job y) (up : Grows y words later)
+    (most : (p : ℕ) → p < places_of y →
+    (stamp_at y later p 0 ≤ suc s) × (stamp_at y later p 1 ≤ suc s)) where
   is_board : IsBoard job y
   is_board = record { limits = limits; layout = sizes; is = layout }
 
   place_of : (p i v : ℕ) → Asks job s p i v → p < places_of y
-  place_of p i v asks = let a = (asks_fit job s p i v limits asks).0 in let b = same_cells job y is_board in let c = same_procs job y is_board in omega arith
+  place_of p i v asks =
+      let a = (asks_fit job s p i v limits asks).0 in
+      let b = same_cells job y is_board in
+      let c = same_procs job y is_board in omega arith
 
   raised_later : (i : ℕ) → i < y.procs → Raised job y s words i → Raised job y s later i
-  raised_later i proc r j part = let h = r j part in let u = up (Asked i j) (proc, part) in omega arith
+  raised_later i proc r j part =
+      let h = r j part in
+      let u = up (Asked i j) (proc, part) in omega arith
 
   late_later : (p : ℕ) → p < places_of y → IsLate y s p words → IsLate y s p later
-  late_later p place (inl h) = let u = stamps_rise y words later p 0 (place, lit< tt) up in inl (omega arith)
-  late_later p place (inr h) = let u = stamps_rise y words later p 1 (place, lit< tt) up in inr (omega arith)
+  late_later p place (inl h) =
+      let u = stamps_rise y words later p 0 (place, lit< tt) up in inl (omega arith)
+  late_later p place (inr h) =
+      let u = stamps_rise y words later p 1 (place, lit< tt) up in inr (omega arith)
 
-  claim_later : (rule : Rule) → job.rule ≡ rule → rule ≢ Common → (i : ℕ) → Claimed job y s words i → Claimed job y s later i
+  claim_later : (rule : Rule) → job.rule ≡ rule → rule ≢ Common → (i : ℕ) →
+      Claimed job y s words i → Claimed job y s later i
   claim_later rule e other i claimed c v asks cell =
       let h = claimed c v asks cell in
-      let is : IsTrue y.claims = subst IsTrue (sym (ap (λ (z : LayoutData). z.claims) layout ∙ ap has_claims e)) (has_claim_words rule other) in
+      let is : IsTrue y.claims =
+      subst IsTrue (sym (ap (λ (z : LayoutData). z.claims) layout ∙ ap has_claims e))
+      (has_claim_words rule other) in
       let cells = same_cells job y is_board in
       let u = up (Claim c) (is, omega arith) in
       omega arith
 
-  holds_at : (p v k : ℕ) → p < places_of y → k < 2 → stamp_at y words p k ≡ suc s → payload_of (held y words (Stored p k)) ≡ v →
+  holds_at : (p v k : ℕ) → p < places_of y →
+      k < 2 → stamp_at y words p k ≡ suc s → payload_of (held y words (Stored p k)) ≡ v →
       (held y words (Stored p k) ≡ held y later (Stored p k)) → HoldsNew y later p (suc s) v
-  holds_at p v k place two e g same = (k, two, ap stamp_of (sym same) ∙ e, ap payload_of (sym same) ∙ g)
+  holds_at p v k place two e g same =
+      (k, two, ap stamp_of (sym same) ∙ e, ap payload_of (sym same) ∙ g)
 
-  new_later : (p v : ℕ) → p < places_of y → HoldsNew y words p (suc s) v → HoldsNew y later p (suc s) v
+  new_later : (p v : ℕ) → p < places_of y →
+      HoldsNew y words p (suc s) v → HoldsNew y later p (suc s) v
   new_later p v place (zero, two, e, g) = elim (up (Stored p 0) (place, two)) [
     | inl same ↦ holds_at p v 0 place two e g same
     | inr more ↦ absurd (let m = more.0 in let t = (most p place).0 in omega arith)
@@ -72,13 +95,17 @@ module _ (job : JobData) (y : LayoutData) (words later : List ℕ) (s : ℕ) (li
 
   stays_later : (i : ℕ) → Stays job y s words i → Stays job y s later i
   stays_later i (inl e) = inl (conflict_later e)
-  stays_later i (inr h) = inr (λ p v data_write. new_later p v (place_of p i v data_write.0) (h p v data_write))
+  stays_later i (inr h) =
+      inr (λ p v data_write. new_later p v (place_of p i v data_write.0) (h p v data_write))
 
-  claim_stays_later : (rule : Rule) → job.rule ≡ rule → rule ≢ Common → ((c : ℕ) → IsWord y (Claim c) → held y later (Claim c) ≡ held y words (Claim c)) →
+  claim_stays_later : (rule : Rule) → job.rule ≡ rule → rule ≢ Common →
+      ((c : ℕ) → IsWord y (Claim c) → held y later (Claim c) ≡ held y words (Claim c)) →
       (i : ℕ) → ClaimStays job y s words i → ClaimStays job y s later i
   claim_stays_later rule e other still i (inl u) = inl (conflict_later u)
   claim_stays_later rule e other still i (inr h) = inr (λ c v asks cell.
-      let is : IsTrue y.claims = subst IsTrue (sym (ap (λ (z : LayoutData). z.claims) layout ∙ ap has_claims e)) (has_claim_words rule other) in
+      let is : IsTrue y.claims =
+      subst IsTrue (sym (ap (λ (z : LayoutData). z.claims) layout ∙ ap has_claims e))
+      (has_claim_words rule other) in
       let cells = same_cells job y is_board in
       ap payload_of (still c (is, omega arith)) ∙ h c v asks cell)
 
@@ -88,7 +115,9 @@ module _ (job : JobData) (y : LayoutData) (words later : List ℕ) (s : ℕ) (li
   carried_later : (i : ℕ) → Carried job y s words i → Carried job y s later i
   carried_later i h p v asks = late_later p (place_of p i v asks) (h p v asks)
 
-  done_by : (rule : Rule) (kind : Kind) → job.rule ≡ rule → (kind ≡ Verify → (c : ℕ) → IsWord y (Claim c) → held y later (Claim c) ≡ held y words (Claim c)) →
+  done_by : (rule : Rule) (kind : Kind) → job.rule ≡ rule →
+      (kind ≡ Verify → (c : ℕ) → IsWord y (Claim c) →
+      held y later (Claim c) ≡ held y words (Claim c)) →
       (i : ℕ) → i < y.procs → Done rule kind job y s words i → Done rule kind job y s later i
   done_by Common Compute e still i proc d = raised_later i proc d
   done_by Common Apply e still i proc d = carried_later i d
@@ -97,31 +126,45 @@ module _ (job : JobData) (y : LayoutData) (words later : List ℕ) (s : ℕ) (li
   done_by Priority Apply e still i proc d = claim_later Priority e (λ r. absurd (cc)) i d
   done_by Priority Verify e still i proc d = won_later i d
   done_by Crew Compute e still i proc d = raised_later i proc d
-  done_by Crew Apply e still i proc d = (carried_later i d.0, claim_later Crew e (λ r. absurd (cc)) i d.1)
-  done_by Crew Verify e still i proc d = claim_stays_later Crew e (λ r. absurd (cc)) (still refl) i d
+  done_by Crew Apply e still i proc d =
+      (carried_later i d.0, claim_later Crew e (λ r. absurd (cc)) i d.1)
+  done_by Crew Verify e still i proc d =
+      claim_stays_later Crew e (λ r. absurd (cc)) (still refl) i d
 
-  pub done_later : (kind : Kind) → (kind ≡ Verify → (c : ℕ) → IsWord y (Claim c) → held y later (Claim c) ≡ held y words (Claim c)) → (i : ℕ) → i < y.procs →
+  pub done_later : (kind : Kind) →
+      (kind ≡ Verify → (c : ℕ) → IsWord y (Claim c) →
+      held y later (Claim c) ≡ held y words (Claim c)) → (i : ℕ) → i < y.procs →
       Done job.rule kind job y s words i → Done job.rule kind job y s later i
   done_later kind still i proc d = done_by job.rule kind refl still i proc d
 
 -- ---- a higher root
 
 new_up : (job : JobData) (f r s p word : ℕ) → r ≤ s → IsNew job f r p word → IsNew job f s p word
-new_up job f r s p word h n = record { stamp = n.stamp; writer = n.writer; asks = n.asks; wins = n.wins; stands = (let k = n.stands in omega arith) }
+new_up job f r s p word h n = record {
+  stamp = n.stamp;
+  writer = n.writer;
+  asks = n.asks;
+  wins = n.wins;
+  stands = (let k = n.stands in omega arith);
+}
 
-pub pair_up : (job : JobData) (f r s p a b : ℕ) → r ≤ s → IsPair job f r p a b → IsPair job f s p a b
+pub pair_up : (job : JobData) (f r s p a b : ℕ) → r ≤ s →
+    IsPair job f r p a b → IsPair job f s p a b
 pair_up job f r s p a b h (newer_first e g) = newer_first e g
 pair_up job f r s p a b h (newer_second e g some) = newer_second e g some
 pair_up job f r s p a b h (new_first n e) = new_first (new_up job f r s p a h n) e
 pair_up job f r s p a b h (new_second n e some) = new_second (new_up job f r s p b h n) e some
 
-pub claimed_up : (job : JobData) (f r s c word : ℕ) → r ≤ s → IsClaimed job f r c word → IsClaimed job f s c word
+pub claimed_up : (job : JobData) (f r s c word : ℕ) → r ≤ s →
+    IsClaimed job f r c word → IsClaimed job f s c word
 claimed_up job f r s c word h (claimed_before e g) = claimed_before e g
 claimed_up job f r s c word h (claimed_now e g low) = claimed_now e g (omega arith)
 
 -- ---- the root over a third pass without conflict: one step more is finished
 
-module _ (job : JobData) (y : LayoutData) (words : List ℕ) (f : ℕ) (limits : IsJob job) (sizes : IsLayout y) (layout : IsLayoutOf job y) (lawful : LawfulFor job y f words) (full : root y words ≡ 3 * f + 3) (none : conflict y words ≡ 0)
+module _ (job : JobData) (y : LayoutData) (words : List ℕ) (f : ℕ) (limits : IsJob job)
+    (sizes : IsLayout y) (layout : IsLayoutOf job y) (lawful : LawfulFor job y f words)
+    (full : root y words ≡ 3 * f + 3) (none : conflict y words ≡ 0)
     (flat : (i : ℕ) → i < y.procs → leaf y words i ≤ 3 * f + 3) where
   low : 3 * f ≤ root y words
   low = omega arith
@@ -130,69 +173,122 @@ module _ (job : JobData) (y : LayoutData) (words : List ℕ) (f : ℕ) (limits :
   high = omega arith
 
   agrees : AgreesAfter job f
-  agrees = agrees_by job y words f limits sizes layout lawful low high job.rule refl none (λ i proc. lawful.done i Verify proc (let l = low_leaf job y words f limits sizes layout lawful low high i proc in omega arith))
+  agrees = agrees_by job y words f limits sizes layout lawful low high job.rule refl none
+      (λ i proc. lawful.done i Verify proc
+      (let l = low_leaf job y words f limits sizes layout lawful low high i proc in omega arith))
 
   -- a new word is the settled one of the step
-  new_settled : (p word : ℕ) → p < places_of y → IsNew job f (root y words) p word → word ≡ settled job (suc f) p
+  new_settled : (p word : ℕ) → p < places_of y →
+      IsNew job f (root y words) p word → word ≡ settled job (suc f) p
   new_settled p word place n =
-      let last : last_write job (suc f) p ≡ suc f = last_new job f p (record { writer = n.writer; value = payload_of word; asks = n.asks }) in
-      let value : slice_index (state_after job (suc f)) p ≡ payload_of word = written_value job f p n.writer (payload_of word) limits (place_below job y words f limits sizes layout lawful low high p place) agrees n.asks n.wins in
+      let last : last_write job (suc f) p ≡ suc f =
+      last_new job f p (record { writer = n.writer; value = payload_of word; asks = n.asks }) in
+      let value : slice_index (state_after job (suc f)) p ≡ payload_of word =
+      written_value job f p n.writer (payload_of word) limits
+      (place_below job y words f limits sizes layout lawful low high p place)
+      agrees n.asks n.wins in
       let e = n.stamp in
       let here : word ≡ word_of_step job (suc f) p = omega arith in
       here ∙ ap (λ (n : ℕ). word_of_step job n p) (sym last)
 
-  next_pair : (p a b : ℕ) → p < places_of y → (IsWritten job f p → IsLate y f p words) → a ≡ held y words (Stored p 0) → b ≡ held y words (Stored p 1) →
+  next_pair : (p a b : ℕ) → p < places_of y → (IsWritten job f p → IsLate y f p words) →
+      a ≡ held y words (Stored p 0) → b ≡ held y words (Stored p 1) →
       IsPair job f (root y words) p a b → IsPair job (suc f) (root y words) p a b
   next_pair p a b place late ea eb pair = elim (write_cases job f p) [
     | inl l ↦ next_left p a b l pair
-    | inr w ↦ next_set p a b place w (elim (late w.written) [ inl h ↦ (let g = ap stamp_of ea in inl (omega arith)) | inr h ↦ (let g = ap stamp_of eb in inr (omega arith)) ]) pair
+    | inr w ↦ next_set p a b place w (elim (late w.written) [
+      | inl h ↦ (let g = ap stamp_of ea in inl (omega arith))
+      | inr h ↦ (let g = ap stamp_of eb in inr (omega arith))
+    ]) pair
   ]
     where
-      next_left : (p a b : ℕ) → Left job f p → IsPair job f (root y words) p a b → IsPair job (suc f) (root y words) p a b
-      next_left p a b l (newer_first e g) = newer_first (e ∙ ap (λ (n : ℕ). word_of_step job n p) (sym l.last)) (g ∙ ap (λ (n : ℕ). word_of_step job (write_before job n p) p) (sym l.last))
-      next_left p a b l (newer_second e g some) = newer_second (e ∙ ap (λ (n : ℕ). word_of_step job n p) (sym l.last)) (g ∙ ap (λ (n : ℕ). word_of_step job (write_before job n p) p) (sym l.last)) some
-      next_left p a b l (new_first n e) = absurd (l.none (record { writer = n.writer; value = payload_of a; asks = n.asks }))
-      next_left p a b l (new_second n e some) = absurd (l.none (record { writer = n.writer; value = payload_of b; asks = n.asks }))
+      next_left : (p a b : ℕ) → Left job f p → IsPair job f (root y words) p a b →
+          IsPair job (suc f) (root y words) p a b
+      next_left p a b l (newer_first e g) =
+          newer_first (e ∙ ap (λ (n : ℕ). word_of_step job n p) (sym l.last))
+          (g ∙ ap (λ (n : ℕ). word_of_step job (write_before job n p) p) (sym l.last))
+      next_left p a b l (newer_second e g some) =
+          newer_second (e ∙ ap (λ (n : ℕ). word_of_step job n p) (sym l.last))
+          (g ∙ ap (λ (n : ℕ). word_of_step job (write_before job n p) p) (sym l.last)) some
+      next_left p a b l (new_first n e) =
+          absurd (l.none (record { writer = n.writer; value = payload_of a; asks = n.asks }))
+      next_left p a b l (new_second n e some) =
+          absurd (l.none (record { writer = n.writer; value = payload_of b; asks = n.asks }))
 
-      before_now : (p word : ℕ) → Set job f p → word ≡ settled job f p → word ≡ settled_before job (suc f) p
-      before_now p word w e = e ∙ ap (λ (n : ℕ). word_of_step job (write_before job n p) p) (sym w.last)
+      before_now : (p word : ℕ) → Set job f p → word ≡ settled job f p →
+          word ≡ settled_before job (suc f) p
+      before_now p word w e =
+          e ∙ ap (λ (n : ℕ). word_of_step job (write_before job n p) p) (sym w.last)
 
       low_stamp : (t p : ℕ) → stamp_of (settled job t p) ≡ last_write job t p
       low_stamp t p = stamp_step job (last_write job t p) p limits
 
-      next_set : (p a b : ℕ) → p < places_of y → Set job f p → (f < stamp_of a) ⊎ (f < stamp_of b) → IsPair job f (root y words) p a b → IsPair job (suc f) (root y words) p a b
+      next_set : (p a b : ℕ) → p < places_of y → Set job f p → (f < stamp_of a) ⊎ (f < stamp_of b) →
+          IsPair job f (root y words) p a b → IsPair job (suc f) (root y words) p a b
       next_set p a b place w late (newer_first e g) = absurd (not_late p a b e g late)
         where
-          not_late : (p a b : ℕ) → a ≡ settled job f p → b ≡ settled_before job f p → (f < stamp_of a) ⊎ (f < stamp_of b) → ⊥
-          not_late p a b e g (inl h) = let s : stamp_of a ≡ last_write job f p = ap stamp_of e ∙ low_stamp f p in let m = last_most job f p in omega arith
-          not_late p a b e g (inr h) = let s : stamp_of b ≡ write_before job (last_write job f p) p = ap stamp_of g ∙ stamp_step job (write_before job (last_write job f p) p) p limits in let m = last_most job f p in let k = before_most job (last_write job f p) p in omega arith
+          not_late : (p a b : ℕ) → a ≡ settled job f p → b ≡ settled_before job f p →
+              (f < stamp_of a) ⊎ (f < stamp_of b) → ⊥
+          not_late p a b e g (inl h) =
+              let s : stamp_of a ≡ last_write job f p = ap stamp_of e ∙ low_stamp f p in
+              let m = last_most job f p in omega arith
+          not_late p a b e g (inr h) =
+              let s : stamp_of b ≡ write_before job (last_write job f p) p =
+              ap stamp_of g ∙ stamp_step job (write_before job (last_write job f p) p) p limits in
+              let m = last_most job f p in
+              let k = before_most job (last_write job f p) p in omega arith
       next_set p a b place w late (newer_second e g some) = absurd (not_late p a b e g late)
         where
-          not_late : (p a b : ℕ) → b ≡ settled job f p → a ≡ settled_before job f p → (f < stamp_of a) ⊎ (f < stamp_of b) → ⊥
-          not_late p a b e g (inr h) = let s : stamp_of b ≡ last_write job f p = ap stamp_of e ∙ low_stamp f p in let m = last_most job f p in omega arith
-          not_late p a b e g (inl h) = let s : stamp_of a ≡ write_before job (last_write job f p) p = ap stamp_of g ∙ stamp_step job (write_before job (last_write job f p) p) p limits in let m = last_most job f p in let k = before_most job (last_write job f p) p in omega arith
-      next_set p a b place w late (new_first n e) = newer_first (new_settled p a place n) (before_now p b w e)
-      next_set p a b place w late (new_second n e some) = newer_second (new_settled p b place n) (before_now p a w e) some
+          not_late : (p a b : ℕ) → b ≡ settled job f p → a ≡ settled_before job f p →
+              (f < stamp_of a) ⊎ (f < stamp_of b) → ⊥
+          not_late p a b e g (inr h) =
+              let s : stamp_of b ≡ last_write job f p = ap stamp_of e ∙ low_stamp f p in
+              let m = last_most job f p in omega arith
+          not_late p a b e g (inl h) =
+              let s : stamp_of a ≡ write_before job (last_write job f p) p =
+              ap stamp_of g ∙ stamp_step job (write_before job (last_write job f p) p) p limits in
+              let m = last_most job f p in
+              let k = before_most job (last_write job f p) p in omega arith
+      next_set p a b place w late (new_first n e) =
+          newer_first (new_settled p a place n) (before_now p b w e)
+      next_set p a b place w late (new_second n e some) =
+          newer_second (new_settled p b place n) (before_now p a w e) some
 
-  next_claim : (c word : ℕ) → ((i v : ℕ) → Asks job f c i v → stamped_word (suc f) (claim_of job i) ≤ word) → IsClaimed job f (root y words) c word →
+  next_claim : (c word : ℕ) →
+      ((i v : ℕ) → Asks job f c i v → stamped_word (suc f) (claim_of job i) ≤ word) →
+      IsClaimed job f (root y words) c word →
       IsClaimed job (suc f) (root y words) c word
   next_claim c word high_claims (claimed_before e g) = elim (write_cases job f c) [
     | inl l ↦ claimed_before (e ∙ sym l.last) g
-    | inr w ↦ absurd (let h = high_claims w.written.writer w.written.value w.written.asks in let m = last_most job f c in omega arith)
+    | inr w ↦ absurd (let h = high_claims w.written.writer w.written.value w.written.asks in
+        let m = last_most job f c in omega arith)
   ]
   next_claim c word high_claims (claimed_now e g l) =
-      let last : last_write job (suc f) c ≡ suc f = last_new job f c (record { writer = g.writer; value = g.value; asks = g.asks }) in
+      let last : last_write job (suc f) c ≡ suc f =
+      last_new job f c (record { writer = g.writer; value = g.value; asks = g.asks }) in
       claimed_before (e ∙ sym last) (λ s h.
       let same : f ≡ s = omega arith in
-      subst (λ (s : ℕ). ClaimsFor job s c (payload_of word) × ((i v : ℕ) → Asks job s c i v → claim_of job i ≤ payload_of word)) same (g, λ i v asks. let k = high_claims i v asks in let fits = claim_fits job y words f limits sizes layout lawful low high i in omega arith))
+      subst (λ (s : ℕ). ClaimsFor job s c (payload_of word)
+      × ((i v : ℕ) → Asks job s c i v → claim_of job i ≤ payload_of word)) same (
+        g,
+        λ i v asks. let k = high_claims i v asks in
+            let fits = claim_fits job y words f limits sizes layout lawful low high i in
+            omega arith,
+      ))
 
   pub root_over : LawfulFor job y (suc f) words
   root_over = record {
     reached = reached_more job f lawful.reached agrees;
     tree = lawful.tree;
-    asked = λ i j proc part. let a = lawful.asked i j proc part in let r = raised job y words f limits sizes layout lawful low high f i j proc part (omega arith) in record { low = omega arith; high = (let h = a.high in omega arith); part = a.part };
-    stored = λ p place. next_pair p _ _ place (λ w. late job y words f limits sizes layout lawful low high f p place (let h = phase_high job.rule f in omega arith) w) refl refl (lawful.stored p place);
-    claimed = λ c is. next_claim c _ (λ i v asks. claim_high job y words f limits sizes layout lawful low high f c i v is (omega arith) asks) (lawful.claimed c is);
+    asked = λ i j proc part. let a = lawful.asked i j proc part in
+        let r =
+        raised job y words f limits sizes layout lawful low high f i j proc part (omega arith) in
+        record { low = omega arith; high = (let h = a.high in omega arith); part = a.part };
+    stored = λ p place. next_pair p _ _ place (λ w. late job y words f limits
+        sizes layout lawful low high f p place (let h = phase_high job.rule f in omega arith) w)
+        refl refl (lawful.stored p place);
+    claimed = λ c is. next_claim c _ (λ i v asks. claim_high job y words f limits
+        sizes layout lawful low high f c i v is (omega arith) asks) (lawful.claimed c is);
     done = λ i kind proc h. absurd (none_done i kind proc h);
     named = record { first = λ s e. absurd (omega arith); near = λ s e. absurd (omega arith) };
   }
@@ -203,9 +299,11 @@ module _ (job : JobData) (y : LayoutData) (words : List ℕ) (f : ℕ) (limits :
       none_done i Verify proc h = let l = flat i proc in omega arith
 
 -- words that are lawful for some number of finished steps are lawful for the one they show
-pub settle : (job : JobData) (y : LayoutData) (words : List ℕ) (f : ℕ) → IsJob job → IsLayout y → IsLayoutOf job y → LawfulFor job y f words →
+pub settle : (job : JobData) (y : LayoutData) (words : List ℕ) (f : ℕ) →
+    IsJob job → IsLayout y → IsLayoutOf job y → LawfulFor job y f words →
     3 * f ≤ root y words → root y words ≤ 3 * f + 3 →
-    (root y words ≡ 3 * f + 3 → conflict y words ≡ 0 → (i : ℕ) → i < y.procs → leaf y words i ≤ 3 * f + 3) → Lawful job y words
+    (root y words ≡ 3 * f + 3 → conflict y words ≡ 0 → (i : ℕ) → i < y.procs →
+    leaf y words i ≤ 3 * f + 3) → Lawful job y words
 settle job y words f limits sizes layout lawful low high flat =
     let is = fin (root y words) (conflict y words) in
     let a = is.low in
@@ -213,18 +311,25 @@ settle job y words f limits sizes layout lawful low high flat =
     elim (cases_eq (root y words) (3 * f + 3)) [
       | inr n ↦ elim (cases_eq f (finished y words)) [
         | inl e ↦ subst (λ (g : ℕ). LawfulFor job y g words) e lawful
-        | inr other ↦ absurd (let u = is.full (omega arith) in (lawful.named.first (finished y words) u).1 (lawful.reached (finished y words) (omega arith)))
+        | inr other ↦ absurd (let u = is.full (omega arith) in
+            (lawful.named.first (finished y words) u).1
+            (lawful.reached (finished y words) (omega arith)))
       ]
       | inl e ↦ elim (cases_eq (conflict y words) (suc f)) [
         | inl u ↦ subst (λ (g : ℕ). LawfulFor job y g words) (sym (is.part f e u)) lawful
         | inr other ↦ (
             let none : conflict y words ≡ 0 = no_conflict (conflict y words) refl e other in
-            let more : suc f ≡ finished y words = (elim (cases_eq f (finished y words)) [ inl g ↦ absurd (let u = is.full (omega arith) in omega arith) | inr g ↦ omega arith ]) in
-            subst (λ (g : ℕ). LawfulFor job y g words) more (root_over job y words f limits sizes layout lawful e none (flat e none))
-            )
+            let more : suc f ≡ finished y words = (elim (cases_eq f (finished y words)) [
+              | inl g ↦ absurd (let u = is.full (omega arith) in omega arith)
+              | inr g ↦ omega arith
+            ]) in
+            subst (λ (g : ℕ). LawfulFor job y g words) more
+            (root_over job y words f limits sizes layout lawful e none (flat e none)))
       ]
     ]
   where
-    no_conflict : (u : ℕ) → conflict y words ≡ u → root y words ≡ 3 * f + 3 → conflict y words ≢ suc f → conflict y words ≡ 0
+    no_conflict : (u : ℕ) → conflict y words ≡ u → root y words ≡ 3 * f + 3 →
+        conflict y words ≢ suc f → conflict y words ≡ 0
     no_conflict zero g e other = g
-    no_conflict (suc s) g e other = absurd (elim (lawful.named.near s g) [ inl r ↦ omega arith | inr r ↦ other (omega arith) ])
+    no_conflict (suc s) g e other =
+        absurd (elim (lawful.named.near s g) [ inl r ↦ omega arith | inr r ↦ other (omega arith) ])

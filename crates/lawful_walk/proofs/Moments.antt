@@ -1,7 +1,9 @@
 -- Growth, and records that the words bear out. Nothing here knows the walk.
-use Rattle.std.proofs.Common.{ℕ, zero, suc, ◌≤◌, List, ◌∷◌, refl, sym, subst, ◌∙◌, inl, inr, le_refl, le_trans, lit<, arith}
+use Rattle.std.proofs.Common.{ℕ, zero, suc, ◌≤◌, List, ◌∷◌, refl, sym, subst}
+use Rattle.std.proofs.Common.{◌∙◌, inl, inr, le_refl, le_trans, lit<, arith}
 use Rattle.pram_text.specs.Job.{JobData}
-use Rattle.pram_words.specs.declared.words.Word.TheVariants.{Conflict, Node, Asked, Position, Stored, Claim, Spare}
+use Rattle.pram_words.specs.declared.words.Word.TheVariants.{Conflict, Node, Asked}
+use Rattle.pram_words.specs.declared.words.Word.TheVariants.{Position, Stored, Claim, Spare}
 use Rattle.pram_words.specs.Stamps.{stamp_of}
 use Rattle.pram_words.specs.Words.{LayoutData, IsWord}
 use Rattle.walkx.specs.declared.operation.Op.{Op}
@@ -23,7 +25,8 @@ same y words (Claim c) is = le_refl _
 same y words (Spare k) is = refl
 
 -- no stamp of a place is lower
-pub stamps_rise : (y : LayoutData) (words later : List ℕ) (p k : ℕ) → IsWord y (Stored p k) → Grows y words later → stamp_at y words p k ≤ stamp_at y later p k
+pub stamps_rise : (y : LayoutData) (words later : List ℕ) (p k : ℕ) → IsWord y (Stored p k) →
+    Grows y words later → stamp_at y words p k ≤ stamp_at y later p k
 stamps_rise y words later p zero is up = elim (up (Stored p zero) is) [
   | inl e ↦ subst (λ (a : ℕ). stamp_at y words p 0 ≤ stamp_of a) e (le_refl _)
   | inr more ↦ (let m = more.0 in omega arith)
@@ -34,14 +37,17 @@ stamps_rise y words later p (suc zero) is up = elim (up (Stored p (suc zero)) is
 ]
 stamps_rise y words later p (suc (suc k)) is up = absurd (let h = is.1 in omega arith)
 
-stored_onward : (y : LayoutData) (a b c : List ℕ) (p k : ℕ) → IsWord y (Stored p k) → Grows y a b → Grows y b c →
+stored_onward : (y : LayoutData) (a b c : List ℕ) (p k : ℕ) →
+    IsWord y (Stored p k) → Grows y a b → Grows y b c →
     Up y a (Stored p k) (held y a (Stored p k)) (held y c (Stored p k))
 stored_onward y a b c p k is up on =
     let first : stamp_at y a p 0 ≤ stamp_at y b p 0 = stamps_rise y a b p 0 (is.0, lit< tt) up in
     let second : stamp_at y a p 1 ≤ stamp_at y b p 1 = stamps_rise y a b p 1 (is.0, lit< tt) up in
     elim (on (Stored p k) is) [
-      | inl e ↦ subst (λ (w : ℕ). Up y a (Stored p k) (held y a (Stored p k)) w) e (up (Stored p k) is)
-      | inr more ↦ (let m = more.0 in let n = more.1 in inr (omega arith, omega arith))
+      | inl e ↦
+          subst (λ (w : ℕ). Up y a (Stored p k) (held y a (Stored p k)) w) e (up (Stored p k) is)
+      | inr more ↦ (let m = more.0 in
+          let n = more.1 in inr (omega arith, omega arith))
     ]
 
 pub onward : (y : LayoutData) (a b c : List ℕ) → Grows y a b → Grows y b c → Grows y a c
@@ -56,35 +62,60 @@ onward y a b c up on (Spare k) is = up (Spare k) is ∙ on (Spare k) is
 
 -- ---- records
 
-pub moment_later : (job : JobData) (y : LayoutData) (op : Op) (found : ℕ) (P : List ℕ → Type 0) (words later : List ℕ) → Moment job y op found P words →
+pub moment_later : (job : JobData) (y : LayoutData) (op : Op) (found : ℕ) (P : List ℕ → Type 0)
+    (words later : List ℕ) → Moment job y op found P words →
     Grows y words later → Moment job y op found P later
 moment_later job y op found P words later m up =
-    record { words = m.words; stands = m.stands; heard = m.heard; grew = m.grew; since = onward y (words_after m.words op) words later m.since up; earlier = m.earlier }
+    record {
+      words = m.words;
+      stands = m.stands;
+      heard = m.heard;
+      grew = m.grew;
+      since = onward y (words_after m.words op) words later m.since up;
+      earlier = m.earlier;
+    }
 
-pub backed_later : (job : JobData) (y : LayoutData) (r : Record) (words later : List ℕ) → Backed job y r words → Grows y words later → Backed job y r later
+pub backed_later : (job : JobData) (y : LayoutData) (r : Record) (words later : List ℕ) →
+    Backed job y r words → Grows y words later → Backed job y r later
 backed_later job y empty words later b up = tt
-backed_later job y (after r op found) words later b up = moment_later job y op found (Backed job y r) words later b up
-backed_later job y (both r s) words later b up = (backed_later job y r words later b.0 up, backed_later job y s words later b.1 up)
+backed_later job y (after r op found) words later b up =
+    moment_later job y op found (Backed job y r) words later b up
+backed_later job y (both r s) words later b up =
+    (backed_later job y r words later b.0 up, backed_later job y s words later b.1 up)
 
-pub backs : (job : JobData) (y : LayoutData) (r : Record) (op : Op) (words : List ℕ) → Stands job y words → Backed job y r words → Keeps job y op words →
+pub backs : (job : JobData) (y : LayoutData) (r : Record) (op : Op) (words : List ℕ) →
+    Stands job y words → Backed job y r words → Keeps job y op words →
     Backed job y (after r op (answer words op)) (words_after words op)
-backs job y r op words stands b keeps = record { words = words; stands = stands; heard = refl; grew = keeps.grows; since = same y (words_after words op); earlier = b }
+backs job y r op words stands b keeps = record {
+  words = words;
+  stands = stands;
+  heard = refl;
+  grew = keeps.grows;
+  since = same y (words_after words op);
+  earlier = b;
+}
 
-pub load_keeps : (job : JobData) (y : LayoutData) (k : ℕ) (words : List ℕ) → Stands job y words → Keeps job y (Load k) words
+pub load_keeps : (job : JobData) (y : LayoutData) (k : ℕ) (words : List ℕ) →
+    Stands job y words → Keeps job y (Load k) words
 load_keeps job y k words stands = record { stands = stands; grows = same y words }
 
 -- the moment of a step that stands in a record, and the record before it
-pub record Found (job : JobData) (y : LayoutData) (now : List ℕ) (op : Op) (found : ℕ) (es : List (Op × ℕ)) : Type 0 where
+pub record Found (job : JobData) (y : LayoutData) (now : List ℕ) (op : Op) (found : ℕ)
+    (es : List (Op × ℕ)) : Type 0 where
   pub rest : Record
   pub moment : Moment job y op found (Backed job y rest) now
   pub has : Has rest es
 
-pub find : (job : JobData) (y : LayoutData) (now : List ℕ) (r : Record) (op : Op) (found : ℕ) (es : List (Op × ℕ)) → Backed job y r now →
+pub find : (job : JobData) (y : LayoutData)
+    (now : List ℕ) (r : Record) (op : Op) (found : ℕ) (es : List (Op × ℕ)) → Backed job y r now →
     Has r ((op, found) ∷ es) → Found job y now op found es
 find job y now empty op found es b h = absurd h
 find job y now (after r o f) op found es b h = elim h [
-  | inl t ↦ subst (λ (x : Op × ℕ). Found job y now x.0 x.1 es) (sym t.0) (record { rest = r; moment = b; has = t.1 })
-  | inr t ↦ find job y now r op found es (backed_later job y r b.words now b.earlier (onward y b.words (words_after b.words o) now b.grew b.since)) t
+  | inl t ↦ subst (λ (x : Op × ℕ). Found job y now x.0 x.1 es)
+      (sym t.0) (record { rest = r; moment = b; has = t.1 })
+  | inr t ↦ find job y now r op found es
+      (backed_later job y r b.words now b.earlier
+      (onward y b.words (words_after b.words o) now b.grew b.since)) t
 ]
 find job y now (both r q) op found es b h = elim h [
   | inl t ↦ find job y now r op found es b.0 t

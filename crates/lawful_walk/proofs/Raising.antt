@@ -1,5 +1,6 @@
 -- A node is raised to a phase.
-use Rattle.std.proofs.Common.{◌≡◌, ◌⊎◌, ℕ, suc, ◌+◌, ◌*◌, ◌%◌, ◌<◌, ◌≤◌, List, refl, sym, ap, subst, ◌∙◌, inl, inr, lit<, arith}
+use Rattle.std.proofs.Common.{◌≡◌, ◌⊎◌, ℕ, suc, ◌+◌, ◌*◌, ◌%◌, ◌<◌, ◌≤◌, List}
+use Rattle.std.proofs.Common.{refl, sym, ap, subst, ◌∙◌, inl, inr, lit<, arith}
 use Rattle.std.proofs.lemmas.Bool.{cases_eq, cases_lt, eq-eqb, ne_eqb}
 use Rattle.pram_text.specs.Job.{JobData}
 use Rattle.pram_words.specs.declared.phases.Kind.{Kind}
@@ -12,43 +13,63 @@ use Rattle.walkx.specs.declared.operation.Op.TheVariants.{Max}
 use Rattle.pram_step.specs.History.{last_write}
 use Rattle.pram_step.proofs.Past.{last_most, before_most}
 use Rattle.lawful_walk.specs.Writes.{Floor, Does}
-use Rattle.lawful_walk.specs.Board.{held, root, conflict, leaf, stamp_at, finished, Done, phase_in, IsTree, IsAsked, IsNamed, IsPair, IsClaimed, LawfulFor, Lawful, Stands, Grows}
+use Rattle.lawful_walk.specs.Board.{held, root, conflict, leaf, stamp_at, finished}
+use Rattle.lawful_walk.specs.Board.{Done, phase_in, IsTree, IsAsked, IsNamed, IsPair}
+use Rattle.lawful_walk.specs.Board.{IsClaimed, LawfulFor, Lawful, Stands, Grows}
 use Rattle.lawful_walk.proofs.Values.{WordIs, is_settled, is_before, is_new}
 use Rattle.lawful_walk.proofs.Frames.{Only, only_grows, does_max}
-use Rattle.lawful_walk.proofs.Facts.{facts, procs_fit, word_is, stamp_settled, stamp_before, WordsShow}
+use Rattle.lawful_walk.proofs.Facts.{facts, procs_fit, word_is}
+use Rattle.lawful_walk.proofs.Facts.{stamp_settled, stamp_before, WordsShow}
 use Rattle.lawful_walk.proofs.Keeping.{done_later, pair_up, claimed_up, settle}
 
 pub kind_of : (x q : ℕ) (kind : Kind) → phase_in x kind ≡ q → kind_at q ≡ kind
-kind_of x q Compute e = rw (ne_eqb (q % 3) 0 (λ n. omega arith), eq-eqb (q % 3) 1 (omega arith)) refl
-kind_of x q Apply e = rw (ne_eqb (q % 3) 0 (λ n. omega arith), ne_eqb (q % 3) 1 (λ n. omega arith)) refl
+kind_of x q Compute e =
+    rw (ne_eqb (q % 3) 0 (λ n. omega arith), eq-eqb (q % 3) 1 (omega arith)) refl
+kind_of x q Apply e =
+    rw (ne_eqb (q % 3) 0 (λ n. omega arith), ne_eqb (q % 3) 1 (λ n. omega arith)) refl
 kind_of x q Verify e = rw (eq-eqb (q % 3) 0 (omega arith)) refl
 
 -- no stamp of a place is above the step after the finished ones
-pub stamps_most : (job : JobData) (y : LayoutData) (words : List ℕ) → Stands job y words → (p k : ℕ) → IsWord y (Stored p k) → stamp_at y words p k ≤ suc (finished y words)
-stamps_most job y words stands p k is = most_of (held y words (Stored p k)) refl (word_is job y words (finished y words) stands.limits stands.sizes stands.layout stands.lawful (facts job y words stands).root_low (facts job y words stands).root_high p k is)
+pub stamps_most : (job : JobData) (y : LayoutData) (words : List ℕ) → Stands job y words →
+    (p k : ℕ) → IsWord y (Stored p k) → stamp_at y words p k ≤ suc (finished y words)
+stamps_most job y words stands p k is = most_of (held y words (Stored p k)) refl
+    (word_is job y words (finished y words) stands.limits stands.sizes stands.layout stands.lawful
+    (facts job y words stands).root_low (facts job y words stands).root_high p k is)
   where
-    most_of : (word : ℕ) → word ≡ held y words (Stored p k) → WordIs job (finished y words) (root y words) p word → stamp_of word ≤ suc (finished y words)
-    most_of word here (is_settled e) = let s = ap stamp_of e ∙ stamp_settled job y words (finished y words) stands.limits stands.sizes stands.layout stands.lawful (facts job y words stands).root_low (facts job y words stands).root_high (finished y words) p in let m = last_most job (finished y words) p in omega arith
+    most_of : (word : ℕ) → word ≡ held y words (Stored p k) →
+        WordIs job (finished y words) (root y words) p word → stamp_of word ≤ suc (finished y words)
+    most_of word here (is_settled e) =
+        let s = ap stamp_of e ∙ stamp_settled job y words (finished y words)
+        stands.limits stands.sizes stands.layout stands.lawful (facts job y words stands).root_low
+        (facts job y words stands).root_high (finished y words) p in
+        let m = last_most job (finished y words) p in omega arith
     most_of word here (is_before e) =
-        let s = ap stamp_of e ∙ stamp_before job y words (finished y words) stands.limits stands.sizes stands.layout stands.lawful (facts job y words stands).root_low (facts job y words stands).root_high (finished y words) p in
+        let s = ap stamp_of e ∙ stamp_before job y words (finished y words)
+        stands.limits stands.sizes stands.layout stands.lawful (facts job y words stands).root_low
+        (facts job y words stands).root_high (finished y words) p in
         let m = last_most job (finished y words) p in
         let k = before_most job (last_write job (finished y words) p) p in
         omega arith
     most_of word here (is_new n) = let s = n.stamp in omega arith
 
-module _ (job : JobData) (y : LayoutData) (words : List ℕ) (q x : ℕ) (stands : Stands job y words) (some : 1 ≤ q) (most : q ≤ 3 * job.steps) (step : step_at q ≡ suc x) (floor : Floor job y q x words) where
+module _ (job : JobData) (y : LayoutData) (words : List ℕ) (q x : ℕ) (stands : Stands job y words)
+    (some : 1 ≤ q) (most : q ≤ 3 * job.steps) (step : step_at q ≡ suc x)
+    (floor : Floor job y q x words) where
   shown : WordsShow job y words
   shown = facts job y words stands
 
-  pub behind : x ≤ finished y words
-  behind = let l = floor.root in shown.reached_finished x (omega arith) floor.reached
+  pub finished_before : x ≤ finished y words
+  finished_before = let l = floor.root in shown.reached_finished x (omega arith) floor.reached
 
   pub alive : root y words + 1 ≡ q → finished y words ≡ x
-  alive e = let l = behind in let m = shown.root_low in omega arith
+  alive e = let l = finished_before in let m = shown.root_low in omega arith
 
-  module _ (n : ℕ) (is : IsWord y (Node n)) (children : n < y.leaves → (q ≤ held y words (Node (2 * n))) × (q ≤ held y words (Node (2 * n + 1))))
-      (ready : (i : ℕ) → i < y.procs → n ≡ y.leaves + i → root y words + 1 ≡ q → Done job.rule (kind_at q) job y x words i) where
-    module _ (less : held y words (Node n) < q) (later : List ℕ) (only : Only y (Node n) q words later) where
+  module _ (n : ℕ) (is : IsWord y (Node n)) (children : n < y.leaves →
+      (q ≤ held y words (Node (2 * n))) × (q ≤ held y words (Node (2 * n + 1))))
+      (ready : (i : ℕ) → i < y.procs → n ≡ y.leaves + i → root y words + 1 ≡ q →
+      Done job.rule (kind_at q) job y x words i) where
+    module _ (less : held y words (Node n) < q) (later : List ℕ)
+        (only : Only y (Node n) q words later) where
       live : root y words + 1 ≡ q
       live = let l = floor.root in let d = shown.root_below n is in omega arith
 
@@ -58,7 +79,8 @@ module _ (job : JobData) (y : LayoutData) (words : List ℕ) (q x : ℕ) (stands
       up : Grows y words later
       up = only_grows y (Node n) q words later stands.sizes is (omega arith) only
 
-      node_cases : (m : ℕ) → IsWord y (Node m) → (held y later (Node m) ≡ held y words (Node m)) ⊎ ((m ≡ n) × (held y later (Node m) ≡ q))
+      node_cases : (m : ℕ) → IsWord y (Node m) →
+          (held y later (Node m) ≡ held y words (Node m)) ⊎ ((m ≡ n) × (held y later (Node m) ≡ q))
       node_cases m is_m = elim (cases_eq m n) [
         | inl e ↦ inr (e, subst (λ (k : ℕ). held y later (Node k) ≡ q) (sym e) only.at)
         | inr other ↦ inl (only.rest (Node m) is_m (λ e. other (node_same m n e)))
@@ -73,10 +95,12 @@ module _ (job : JobData) (y : LayoutData) (words : List ℕ) (q x : ℕ) (stands
       root_up : root y words ≤ root y later
       root_up = up (Node 1) root_is
 
-      asked_same : (i j : ℕ) → i < y.procs → j < 3 → held y later (Asked i j) ≡ held y words (Asked i j)
+      asked_same : (i j : ℕ) → i < y.procs → j < 3 →
+          held y later (Asked i j) ≡ held y words (Asked i j)
       asked_same i j proc part = only.rest (Asked i j) (proc, part) (λ e. absurd (cc))
 
-      stored_same : (p k : ℕ) → IsWord y (Stored p k) → held y later (Stored p k) ≡ held y words (Stored p k)
+      stored_same : (p k : ℕ) → IsWord y (Stored p k) →
+          held y later (Stored p k) ≡ held y words (Stored p k)
       stored_same p k is_p = only.rest (Stored p k) is_p (λ e. absurd (cc))
 
       claim_same : (c : ℕ) → IsWord y (Claim c) → held y later (Claim c) ≡ held y words (Claim c)
@@ -88,24 +112,35 @@ module _ (job : JobData) (y : LayoutData) (words : List ℕ) (q x : ℕ) (stands
       tree : IsTree job y later
       tree = record {
         left = λ m low high. elim (node_cases m (low, omega arith)) [
-          | inl e ↦ (let a = stands.lawful.tree.left m low high in let u = up (Node (2 * m)) (omega arith, omega arith) in omega arith)
-          | inr e ↦ (let a = (children (let s = e.0 in omega arith)).0 in let u = up (Node (2 * n)) (let s = e.0 in (omega arith, omega arith)) in let h = e.1 in subst (λ (k : ℕ). held y later (Node m) ≤ held y later (Node (2 * k))) (sym e.0) (omega arith))
+          | inl e ↦ (let a = stands.lawful.tree.left m low high in
+              let u = up (Node (2 * m)) (omega arith, omega arith) in omega arith)
+          | inr e ↦ (let a = (children (let s = e.0 in omega arith)).0 in
+              let u = up (Node (2 * n)) (let s = e.0 in (omega arith, omega arith)) in
+              let h = e.1 in subst (λ (k : ℕ). held y later (Node m) ≤ held y later (Node (2 * k)))
+              (sym e.0) (omega arith))
         ];
         right = λ m low high. elim (node_cases m (low, omega arith)) [
-          | inl e ↦ (let a = stands.lawful.tree.right m low high in let u = up (Node (2 * m + 1)) (omega arith, omega arith) in omega arith)
-          | inr e ↦ (let a = (children (let s = e.0 in omega arith)).1 in let u = up (Node (2 * n + 1)) (let s = e.0 in (omega arith, omega arith)) in let h = e.1 in subst (λ (k : ℕ). held y later (Node m) ≤ held y later (Node (2 * k + 1))) (sym e.0) (omega arith))
+          | inl e ↦ (let a = stands.lawful.tree.right m low high in
+              let u = up (Node (2 * m + 1)) (omega arith, omega arith) in omega arith)
+          | inr e ↦ (let a = (children (let s = e.0 in omega arith)).1 in
+              let u = up (Node (2 * n + 1)) (let s = e.0 in (omega arith, omega arith)) in
+              let h = e.1 in
+              subst (λ (k : ℕ). held y later (Node m) ≤ held y later (Node (2 * k + 1)))
+              (sym e.0) (omega arith))
         ];
-        near = λ m is_m. let r = root_up in let l = live in elim (node_cases m is_m) [
-          | inl e ↦ (let a = stands.lawful.tree.near m is_m in omega arith)
-          | inr e ↦ (let h = e.1 in omega arith)
-        ];
+        near = λ m is_m. let r = root_up in
+            let l = live in elim (node_cases m is_m) [
+              | inl e ↦ (let a = stands.lawful.tree.near m is_m in omega arith)
+              | inr e ↦ (let h = e.1 in omega arith)
+            ];
         most = λ m is_m. elim (node_cases m is_m) [
           | inl e ↦ (let a = stands.lawful.tree.most m is_m in omega arith)
           | inr e ↦ (let h = e.1 in omega arith)
         ];
       }
 
-      stamps : (p : ℕ) → p < places_of y → (stamp_at y later p 0 ≤ suc (finished y words)) × (stamp_at y later p 1 ≤ suc (finished y words))
+      stamps : (p : ℕ) → p < places_of y → (stamp_at y later p 0 ≤ suc (finished y words))
+          × (stamp_at y later p 1 ≤ suc (finished y words))
       stamps p place =
           let e = ap stamp_of (stored_same p 0 (place, lit< tt)) in
           let g = ap stamp_of (stored_same p 1 (place, lit< tt)) in
@@ -113,49 +148,71 @@ module _ (job : JobData) (y : LayoutData) (words : List ℕ) (q x : ℕ) (stands
           let k = stamps_most job y words stands p 1 (place, lit< tt) in
           (omega arith, omega arith)
 
-      done_on : (i : ℕ) (kind : Kind) → i < y.procs → Done job.rule kind job y (finished y words) words i → Done job.rule kind job y (finished y words) later i
-      done_on i kind proc d = done_later job y words later (finished y words) stands.limits stands.sizes stands.layout up stamps kind (λ e c is_c. claim_same c is_c) i proc d
+      done_on : (i : ℕ) (kind : Kind) →
+          i < y.procs → Done job.rule kind job y (finished y words) words i →
+          Done job.rule kind job y (finished y words) later i
+      done_on i kind proc d = done_later job y words later (finished y words) stands.limits
+          stands.sizes stands.layout up stamps kind (λ e c is_c. claim_same c is_c) i proc d
 
       leaf_is : (i : ℕ) → i < y.procs → IsWord y (Node (y.leaves + i))
-      leaf_is i proc = let l = stands.sizes.leaves in let f = procs_fit job y words (finished y words) stands.limits stands.sizes stands.layout stands.lawful shown.root_low shown.root_high in (omega arith, omega arith)
+      leaf_is i proc =
+          let l = stands.sizes.leaves in
+          let f = procs_fit job y words (finished y words) stands.limits stands.sizes stands.layout
+          stands.lawful shown.root_low shown.root_high in (omega arith, omega arith)
 
-      done : (i : ℕ) (kind : Kind) → i < y.procs → phase_in (finished y words) kind ≤ leaf y later i → Done job.rule kind job y (finished y words) later i
+      done : (i : ℕ) (kind : Kind) →
+          i < y.procs → phase_in (finished y words) kind ≤ leaf y later i →
+          Done job.rule kind job y (finished y words) later i
       done i kind proc h = elim (node_cases (y.leaves + i) (leaf_is i proc)) [
         | inl e ↦ done_on i kind proc (stands.lawful.done i kind proc (omega arith))
         | inr e ↦ elim (cases_lt (root y words) (phase_in (finished y words) kind)) [
-          | inr c ↦ done_on i kind proc (stands.lawful.done i kind proc (let l = shown.root_below (y.leaves + i) (leaf_is i proc) in omega arith))
-          | inl c ↦ (
-              let g = e.1 in
+          | inr c ↦ done_on i kind proc
+              (stands.lawful.done i kind proc
+              (let l = shown.root_below (y.leaves + i) (leaf_is i proc) in omega arith))
+          | inl c ↦ (let g = e.1 in
               let l = live in
               let phase : phase_in (finished y words) kind ≡ q = omega arith in
               let d = ready i proc (sym e.0) live in
-              let here : Done job.rule kind job y x words i = subst (λ (k : Kind). Done job.rule k job y x words i) (kind_of (finished y words) q kind phase) d in
-              done_on i kind proc (subst (λ (s : ℕ). Done job.rule kind job y s words i) (sym gone) here)
-              )
+              let here : Done job.rule kind job y x words i = subst (λ (k : Kind).
+              Done job.rule k job y x words i) (kind_of (finished y words) q kind phase) d in
+              done_on i kind proc
+              (subst (λ (s : ℕ). Done job.rule kind job y s words i) (sym gone) here))
         ]
       ]
 
       named : IsNamed job (conflict y later) (root y later)
       named = record {
         first = λ s e. stands.lawful.named.first s (sym conflict_same ∙ e);
-        near = λ s e. let c : conflict y words ≡ suc s = sym conflict_same ∙ e in elim (node_cases 1 root_is) [
-          | inl r ↦ (elim (stands.lawful.named.near s c) [ inl h ↦ inl (omega arith) | inr h ↦ inr (omega arith) ])
-          | inr r ↦ (let g = r.1 in let l = live in elim (stands.lawful.named.near s c) [
-            | inl h ↦ inr (omega arith)
-            | inr h ↦ absurd ((stands.lawful.named.first s c).1 (floor.reached s (omega arith)))
-          ])
-        ];
+        near = λ s e. let c : conflict y words ≡ suc s = sym conflict_same ∙ e in
+            elim (node_cases 1 root_is) [
+              | inl r ↦ (elim (stands.lawful.named.near s c) [
+                | inl h ↦ inl (omega arith)
+                | inr h ↦ inr (omega arith)
+              ])
+              | inr r ↦ (let g = r.1 in let l = live in elim (stands.lawful.named.near s c) [
+                | inl h ↦ inr (omega arith)
+                | inr h ↦ absurd ((stands.lawful.named.first s c).1 (floor.reached s (omega arith)))
+              ])
+            ];
       }
 
       lawful_for : LawfulFor job y (finished y words) later
       lawful_for = record {
         reached = stands.lawful.reached;
         tree = tree;
-        asked = λ i j proc part. subst (IsAsked job (finished y words) i j) (sym (asked_same i j proc part)) (stands.lawful.asked i j proc part);
-        stored = λ p place. pair_up job (finished y words) (root y words) (root y later) p _ _ root_up
-            (subst (λ (w : ℕ). IsPair job (finished y words) (root y words) p w (held y later (Stored p 1))) (sym (stored_same p 0 (place, lit< tt)))
-            (subst (λ (w : ℕ). IsPair job (finished y words) (root y words) p (held y words (Stored p 0)) w) (sym (stored_same p 1 (place, lit< tt))) (stands.lawful.stored p place)));
-        claimed = λ c is_c. claimed_up job (finished y words) (root y words) (root y later) c _ root_up (subst (IsClaimed job (finished y words) (root y words) c) (sym (claim_same c is_c)) (stands.lawful.claimed c is_c));
+        asked = λ i j proc part. subst (IsAsked job (finished y words) i j)
+            (sym (asked_same i j proc part)) (stands.lawful.asked i j proc part);
+        stored =
+            λ p place. pair_up job (finished y words) (root y words) (root y later) p _ _ root_up
+            (subst (λ (w : ℕ). IsPair job (finished y words)
+            (root y words) p w (held y later (Stored p 1))) (sym (stored_same p 0 (place, lit< tt)))
+            (subst (λ (w : ℕ).
+            IsPair job (finished y words) (root y words) p (held y words (Stored p 0)) w)
+            (sym (stored_same p 1 (place, lit< tt))) (stands.lawful.stored p place)));
+        claimed =
+            λ c is_c. claimed_up job (finished y words) (root y words) (root y later) c _ root_up
+            (subst (IsClaimed job (finished y words) (root y words) c)
+            (sym (claim_same c is_c)) (stands.lawful.claimed c is_c));
         done = done;
         named = named;
       }
@@ -166,27 +223,43 @@ module _ (job : JobData) (y : LayoutData) (words : List ℕ) (q x : ℕ) (stands
           let g = gone in
           let r = root_up in
           let low = shown.root_low in
-          settle job y later (finished y words) stands.limits stands.sizes stands.layout lawful_for (omega arith)
-          (elim (node_cases 1 root_is) [ inl e ↦ omega arith | inr e ↦ (let h = e.1 in omega arith) ])
+          settle job y later (finished y words) stands.limits
+          stands.sizes stands.layout lawful_for (omega arith)
+          (elim (node_cases 1 root_is) [
+            | inl e ↦ omega arith
+            | inr e ↦ (let h = e.1 in omega arith)
+          ])
           (λ full none i proc. elim (node_cases (y.leaves + i) (leaf_is i proc)) [
-            | inl e ↦ (let a = stands.lawful.tree.near (y.leaves + i) (leaf_is i proc) in omega arith)
+            | inl e ↦
+                (let a = stands.lawful.tree.near (y.leaves + i) (leaf_is i proc) in omega arith)
             | inr e ↦ (let h = e.1 in omega arith)
           ])
 
     pub node_does : Does job y q (Max (number_of y (Node n)) q) words
-    node_does = does_max job y q (Node n) q words stands is most (λ h. let d = shown.root_below n is in omega arith) (λ less. (omega arith, λ later only. node_lawful less later only))
+    node_does = does_max job y q (Node n) q words stands is most (λ h.
+        let d = shown.root_below n is in omega arith)
+        (λ less. (omega arith, λ later only. node_lawful less later only))
 
   -- an inner node
-  pub inner_does : (n : ℕ) → 1 ≤ n → n < y.leaves → q ≤ held y words (Node (2 * n)) → q ≤ held y words (Node (2 * n + 1)) → Does job y q (Max (number_of y (Node n)) q) words
-  inner_does n low high left right = node_does n (low, omega arith) (λ h. (left, right)) (λ i proc e live. absurd (omega arith))
+  pub inner_does : (n : ℕ) → 1 ≤ n → n < y.leaves → q ≤ held y words (Node (2 * n)) →
+      q ≤ held y words (Node (2 * n + 1)) → Does job y q (Max (number_of y (Node n)) q) words
+  inner_does n low high left right =
+      node_does n (low, omega arith) (λ h. (left, right)) (λ i proc e live. absurd (omega arith))
 
   -- a leaf with no processor
-  pub padded_does : (n : ℕ) → y.leaves + y.procs ≤ n → n < 2 * y.leaves → Does job y q (Max (number_of y (Node n)) q) words
-  padded_does n low high = node_does n (let l = stands.sizes.leaves in omega arith, high) (λ h. absurd (omega arith)) (λ i proc e live. absurd (omega arith))
+  pub padded_does : (n : ℕ) → y.leaves + y.procs ≤ n → n < 2 * y.leaves →
+      Does job y q (Max (number_of y (Node n)) q) words
+  padded_does n low high = node_does n (let l = stands.sizes.leaves in omega arith, high)
+      (λ h. absurd (omega arith)) (λ i proc e live. absurd (omega arith))
 
   -- a leaf whose work is done
-  pub leaf_does : (i : ℕ) → i < y.procs → (root y words + 1 ≡ q → Done job.rule (kind_at q) job y x words i) → Does job y q (Max (number_of y (Node (y.leaves + i))) q) words
+  pub leaf_does : (i : ℕ) → i < y.procs →
+      (root y words + 1 ≡ q → Done job.rule (kind_at q) job y x words i) →
+      Does job y q (Max (number_of y (Node (y.leaves + i))) q) words
   leaf_does i proc ready =
       let l = stands.sizes.leaves in
-      let f = procs_fit job y words (finished y words) stands.limits stands.sizes stands.layout stands.lawful shown.root_low shown.root_high in
-      node_does (y.leaves + i) (omega arith, omega arith) (λ h. absurd (omega arith)) (λ j proc_j e live. subst (λ (k : ℕ). Done job.rule (kind_at q) job y x words k) (omega arith) (ready live))
+      let f = procs_fit job y words (finished y words)
+      stands.limits stands.sizes stands.layout stands.lawful shown.root_low shown.root_high in
+      node_does (y.leaves + i) (omega arith, omega arith) (λ h. absurd (omega arith))
+      (λ j proc_j e live.
+      subst (λ (k : ℕ). Done job.rule (kind_at q) job y x words k) (omega arith) (ready live))

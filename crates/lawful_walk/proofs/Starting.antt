@@ -1,5 +1,6 @@
 -- The words that a board starts with are lawful.
-use Rattle.std.proofs.Common.{◌≡◌, ℕ, ◌+◌, ◌-◌, ◌*◌, ◌<◌, ◌≤◌, List, length, slice_index, refl, sym, ◌∙◌, inl, inr, lit<, arith}
+use Rattle.std.proofs.Common.{◌≡◌, ℕ, ◌+◌, ◌-◌, ◌*◌, ◌<◌, ◌≤◌, List, length}
+use Rattle.std.proofs.Common.{slice_index, refl, sym, ◌∙◌, inl, inr, lit<, arith}
 use Rattle.std.specs.Prelude.{replicate}
 use Rattle.std.proofs.Math.ListN.{get_or-append}
 use Rattle.std.proofs.Math.Seq.{get_or-append_right}
@@ -20,18 +21,24 @@ use Rattle.pram_words.specs.declared.layout.Form.{Form}
 use Rattle.pram_step.specs.History.{last_write}
 use Rattle.pram_step.proofs.Past.{last_most}
 use Rattle.lawful_walk.specs.Steps.{settled}
-use Rattle.lawful_walk.specs.Board.{held, root, leaf, phase_in, LawfulFor, newer_first, claimed_before, Stands}
+use Rattle.lawful_walk.specs.Board.{held, root, leaf, phase_in, LawfulFor}
+use Rattle.lawful_walk.specs.Board.{newer_first, claimed_before, Stands}
 use Rattle.lawful_walk.proofs.Keeping.{settle}
 
 -- what a place holds before all steps
-start_value : (job : JobData) (p : ℕ) → IsJob job → p < place_count job → slice_index (state_after job 0) p ≡ slice_index job.init p
+start_value : (job : JobData) (p : ℕ) → IsJob job → p < place_count job →
+    slice_index (state_after job 0) p ≡ slice_index job.init p
 unfolding state_after
-start_value job p limits below = let len = limits.init_len in elim (cases_lt p (length job.init)) [
-  | inl c ↦ get_or-append job.init (replicate (5 * job.procs) 0) 0 p c
-  | inr c ↦ get_or-append_right job.init (replicate (5 * job.procs) 0) p 0 c ∙ get_or-replicate (5 * job.procs) (p - length job.init) 0 0 (omega arith) ∙ sym (get_or_past job.init p 0 c)
-]
+start_value job p limits below =
+    let len = limits.init_len in elim (cases_lt p (length job.init)) [
+      | inl c ↦ get_or-append job.init (replicate (5 * job.procs) 0) 0 p c
+      | inr c ↦ get_or-append_right job.init (replicate (5 * job.procs) 0) p 0 c
+          ∙ get_or-replicate (5 * job.procs) (p - length job.init) 0 0 (omega arith)
+          ∙ sym (get_or_past job.init p 0 c)
+    ]
 
-module _ (job : JobData) (form : Form) (workers : ℕ) (limits : IsJob job) (some : 1 ≤ workers) (high : workers ≤ 64) where
+module _ (job : JobData) (form : Form) (workers : ℕ) (limits : IsJob job)
+    (some : 1 ≤ workers) (high : workers ≤ 64) where
   y : LayoutData
   y = layout_of job form workers
 
@@ -58,10 +65,16 @@ module _ (job : JobData) (form : Form) (workers : ℕ) (limits : IsJob job) (som
 
   stored_is : (p k : ℕ) → p < places_of y → k < 2 → held y words (Stored p k) ≡ settled job 0 p
   unfolding y last_write
-  stored_is p k place two = let v = start_value job p limits place in value (Stored p k) (place, two) ∙ sym v ∙ omega arith
+  stored_is p k place two =
+      let v = start_value job p limits place in
+      value (Stored p k) (place, two) ∙ sym v ∙ omega arith
 
   leaf_zero : (i : ℕ) → i < y.procs → leaf y words i ≡ 0
-  leaf_zero i proc = node_zero (y.leaves + i) (let l = sizes.leaves in let e = sizes.least in let n = sizes.procs in let f = leaves_least y.procs n.0 (let m = n.1 in omega arith) in (omega arith, omega (arith, f.0)))
+  leaf_zero i proc = node_zero (y.leaves + i) (let l = sizes.leaves in
+      let e = sizes.least in
+      let n = sizes.procs in
+      let f = leaves_least y.procs n.0 (let m = n.1 in omega arith) in
+      (omega arith, omega (arith, f.0)))
 
   none_done : (i : ℕ) (kind : Kind) → i < y.procs → phase_in 0 kind ≤ leaf y words i → ⊥
   none_done i Compute proc h = let z = leaf_zero i proc in omega arith
@@ -77,19 +90,26 @@ module _ (job : JobData) (form : Form) (workers : ℕ) (limits : IsJob job) (som
       near = λ n is. let a = node_zero n is in omega arith;
       most = λ n is. let a = node_zero n is in omega arith;
     };
-    asked = λ i j proc part. let e = value (Asked i j) (proc, part) in record { low = omega arith; high = omega arith; part = λ s h. absurd (omega arith) };
-    stored = λ p place. newer_first (stored_is p 0 place (lit< tt)) (stored_is p 1 place (lit< tt) ∙ unfold last_write in refl);
-    claimed = λ c is. let e = value (Claim c) is in claimed_before (let m = last_most job 0 c in omega arith) (λ s h. absurd (omega arith));
+    asked = λ i j proc part. let e = value (Asked i j) (proc, part) in
+        record { low = omega arith; high = omega arith; part = λ s h. absurd (omega arith) };
+    stored = λ p place. newer_first (stored_is p 0 place (lit< tt))
+        (stored_is p 1 place (lit< tt) ∙ unfold last_write in refl);
+    claimed = λ c is. let e = value (Claim c) is in
+        claimed_before (let m = last_most job 0 c in omega arith) (λ s h. absurd (omega arith));
     done = λ i kind proc h. absurd (none_done i kind proc h);
-    named = (let u = value Conflict tt in record { first = λ s e. absurd (omega arith); near = λ s e. absurd (omega arith) });
+    named = (let u = value Conflict tt in
+        record { first = λ s e. absurd (omega arith); near = λ s e. absurd (omega arith) });
   }
 
-  pub starts_stand : Stands job (layout_of job form workers) (start_words (layout_of job form workers) job)
+  pub starts_stand : Stands job (layout_of job form workers)
+      (start_words (layout_of job form workers) job)
   unfolding y words
   starts_stand = record {
     limits = limits;
     sizes = sizes;
     layout = refl;
     admitted = starts.admitted;
-    lawful = settle job y words 0 limits sizes refl lawful (omega arith) (let z = root_zero in omega arith) (λ e none i proc. absurd (let z = root_zero in omega arith));
+    lawful = settle job y words 0 limits sizes refl lawful
+        (omega arith) (let z = root_zero in omega arith)
+        (λ e none i proc. absurd (let z = root_zero in omega arith));
   }

@@ -1,6 +1,10 @@
--- The third pass of the rules common and crew: what a processor wrote, or its claim, still stands, or a conflict is reported.
-use Rattle.std.proofs.Common.{◌≡◌, ◌≢◌, ℕ, zero, suc, ◌+◌, ◌-◌, ◌*◌, ◌<◌, ◌≤◌, ◌==◌, ◌||◌, nat_lt, if◌then◌else◌, true, false, List, ◌∷◌, slice_index, IsTrue, refl, sym, ap, subst, ◌∙◌, inl, inr, lit<, arith}
-use Rattle.std.proofs.lemmas.Bool.{cond_both, cases_eq, cases_Bool, eq-eqb, ne_eqb, eqb-true, eqb-false, ltb-true, ltb-false, or_parts}
+-- The third pass of the rules common and crew: what a processor wrote, or its claim, still stands,
+-- or a conflict is reported.
+use Rattle.std.proofs.Common.{◌≡◌, ◌≢◌, ℕ, zero, suc, ◌+◌, ◌-◌, ◌*◌, ◌<◌, ◌≤◌, ◌==◌, ◌||◌}
+use Rattle.std.proofs.Common.{nat_lt, if◌then◌else◌, true, false, List, ◌∷◌, slice_index}
+use Rattle.std.proofs.Common.{IsTrue, refl, sym, ap, subst, ◌∙◌, inl, inr, lit<, arith}
+use Rattle.std.proofs.lemmas.Bool.{cond_both, cases_eq, cases_Bool, eq-eqb, ne_eqb}
+use Rattle.std.proofs.lemmas.Bool.{eqb-true, eqb-false, ltb-true, ltb-false, or_parts}
 use Rattle.pram_text.specs.Job.{JobData}
 use Rattle.pram_text.specs.declared.instr.Rule.{Rule}
 use Rattle.pram_text.specs.declared.instr.Rule.TheVariants.{Common, Priority, Crew}
@@ -13,17 +17,20 @@ use Rattle.pram_words.specs.Words.{LayoutData, IsWord, number_of, places_of}
 use Rattle.walkx.specs.declared.operation.Op.{Op}
 use Rattle.walkx.specs.declared.operation.Op.TheVariants.{Load}
 use Rattle.walkx.specs.Scripts.{Script, asks}
-use Rattle.walkx.specs.Tasks.{claim_of, differs, reports, hears_part, loads_both, verify_task, crew_verify_task}
+use Rattle.walkx.specs.Tasks.{claim_of, differs, reports, hears_part}
+use Rattle.walkx.specs.Tasks.{loads_both, verify_task, crew_verify_task}
 use Rattle.walkx.specs.Walk.{Then, IsBoard}
 use Rattle.walkx.proofs.Boards.{same_cells, same_procs}
 use Rattle.pram_step.specs.History.{Asks, Wins, last_write, write_before, part_after}
 use Rattle.pram_step.proofs.Past.{written_value, each_write, asks_fit}
 use Rattle.lawful_walk.specs.Writes.{Floor}
 use Rattle.lawful_walk.specs.Steps.{phase_written, word_of_step}
-use Rattle.lawful_walk.specs.Board.{held, root, conflict, stamp_at, finished, HoldsNew, Stays, ClaimStays, Stands, Grows}
+use Rattle.lawful_walk.specs.Board.{held, root, conflict, stamp_at, finished}
+use Rattle.lawful_walk.specs.Board.{HoldsNew, Stays, ClaimStays, Stands, Grows}
 use Rattle.lawful_walk.specs.Moments.{Moment}
 use Rattle.lawful_walk.proofs.Moments.{onward, stamps_rise}
-use Rattle.lawful_walk.proofs.Values.{stamp_step, payload_step, WordIs, is_settled, is_before, is_new}
+use Rattle.lawful_walk.proofs.Values.{stamp_step, payload_step, WordIs}
+use Rattle.lawful_walk.proofs.Values.{is_settled, is_before, is_new}
 use Rattle.lawful_walk.proofs.Facts.{facts, word_is}
 use Rattle.lawful_walk.proofs.Growths.{growth_shows}
 use Rattle.lawful_walk.proofs.Raising.{stamps_most}
@@ -39,7 +46,8 @@ use Rattle.lawful_walk.proofs.Winning.{claimant}
 differs_is : (t v a : ℕ) → differs t v a ≡ true → (stamp_of a ≡ t) × (payload_of a ≢ v)
 differs_is t v a h = elim (cases_eq (stamp_of a) t) [
   | inl e ↦ elim (cases_eq (payload_of a) v) [
-    | inl g ↦ absurd (let k : false ≡ true = rw (eq-eqb (stamp_of a) t e, eq-eqb (payload_of a) v g) at h in cc)
+    | inl g ↦ absurd
+        (let k : false ≡ true = rw (eq-eqb (stamp_of a) t e, eq-eqb (payload_of a) v g) at h in cc)
     | inr n ↦ (e, n)
   ]
   | inr n ↦ absurd (let k : false ≡ true = rw (ne_eqb (stamp_of a) t n) at h in cc)
@@ -48,90 +56,144 @@ differs_is t v a h = elim (cases_eq (stamp_of a) t) [
 differs_not : (t v a : ℕ) → differs t v a ≡ false → stamp_of a ≡ t → payload_of a ≡ v
 differs_not t v a h e = elim (cases_eq (payload_of a) v) [
   | inl g ↦ g
-  | inr n ↦ absurd (let k : true ≡ false = rw (eq-eqb (stamp_of a) t e, ne_eqb (payload_of a) v n) at h in cc)
+  | inr n ↦ absurd
+      (let k : true ≡ false = rw (eq-eqb (stamp_of a) t e, ne_eqb (payload_of a) v n) at h in cc)
 ]
 
 -- ---- a word that was written in a step that agrees
 
-module _ (job : JobData) (x p i v : ℕ) (y : LayoutData) (board : IsBoard job y) (agrees : AgreesAfter job x) (asked : Asks job x p i v) (wins : (j : ℕ) → Wins job x p j) where
+module _ (job : JobData) (x p i v : ℕ) (y : LayoutData) (board : IsBoard job y)
+    (agrees : AgreesAfter job x) (asked : Asks job x p i v) (wins : (j : ℕ) → Wins job x p j) where
   step_value : slice_index (state_after job (suc x)) p ≡ v
-  step_value = written_value job x p i v board.limits ((asks_fit job x p i v board.limits asked).0) agrees asked (wins i)
+  step_value = written_value job x p i v board.limits
+      ((asks_fit job x p i v board.limits asked).0) agrees asked (wins i)
 
   by_step : (t word : ℕ) → word ≡ word_of_step job t p → stamp_of word ≡ suc x → payload_of word ≡ v
   by_step t word e s =
       let same : t ≡ suc x = sym (stamp_step job t p board.limits) ∙ sym (ap stamp_of e) ∙ s in
-      ap payload_of e ∙ payload_step job t p board.limits ∙ ap (λ (t : ℕ). slice_index (state_after job t) p) same ∙ step_value
+      ap payload_of e ∙ payload_step job t p board.limits
+      ∙ ap (λ (t : ℕ). slice_index (state_after job t) p) same ∙ step_value
 
   by_new : (f word j : ℕ) → f ≡ x → Asks job f p j (payload_of word) → payload_of word ≡ v
   by_new f word j e a =
-      let a_here : Asks job x p j (payload_of word) = subst (λ (s : ℕ). Asks job s p j (payload_of word)) e a in
-      sym (written_value job x p j (payload_of word) board.limits ((asks_fit job x p j (payload_of word) board.limits a_here).0) agrees a_here (wins j)) ∙ step_value
+      let a_here : Asks job x p j (payload_of word) =
+      subst (λ (s : ℕ). Asks job s p j (payload_of word)) e a in
+      sym (written_value job x p j (payload_of word) board.limits
+      ((asks_fit job x p j (payload_of word) board.limits a_here).0) agrees a_here (wins j))
+      ∙ step_value
 
-  agreed : (f root word : ℕ) → WordIs job f root p word → stamp_of word ≡ suc x → payload_of word ≡ v
+  agreed : (f root word : ℕ) → WordIs job f root p word →
+      stamp_of word ≡ suc x → payload_of word ≡ v
   agreed f root word (is_settled e) s = by_step (last_write job f p) word e s
   agreed f root word (is_before e) s = by_step (write_before job (last_write job f p) p) word e s
   agreed f root word (is_new n) s = let is = n.stamp in by_new f word n.writer (omega arith) n.asks
 
-  pub agreed_word : (words : List ℕ) (k : ℕ) → Stands job y words → IsWord y (Stored p k) → stamp_at y words p k ≡ suc x → payload_of (held y words (Stored p k)) ≡ v
+  pub agreed_word : (words : List ℕ) (k : ℕ) → Stands job y words → IsWord y (Stored p k) →
+      stamp_at y words p k ≡ suc x → payload_of (held y words (Stored p k)) ≡ v
   agreed_word words k stands is s =
       let b = facts job y words stands in
-      agreed (finished y words) (root y words) (held y words (Stored p k)) (word_is job y words (finished y words) stands.limits stands.sizes stands.layout stands.lawful b.root_low b.root_high p k is) s
+      agreed (finished y words) (root y words) (held y words (Stored p k))
+      (word_is job y words (finished y words) stands.limits stands.sizes stands.layout stands.lawful
+      b.root_low b.root_high p k is) s
 
-module _ (job : JobData) (y : LayoutData) (w q x i : ℕ) (some : 1 ≤ q) (most : q ≤ 3 * job.steps) (step : step_at q ≡ suc x) (board : IsBoard job y) (proc : i < y.procs) (phase : 3 * x + 3 ≡ q) where
+module _ (job : JobData) (y : LayoutData) (w q x i : ℕ) (some : 1 ≤ q) (most : q ≤ 3 * job.steps)
+    (step : step_at q ≡ suc x) (board : IsBoard job y) (proc : i < y.procs)
+    (phase : 3 * x + 3 ≡ q) where
   -- while the phase is not over, the root and the finished step have been the same
-  live : (words later : List ℕ) → Stands job y words → Stands job y later → Grows y words later → Floor job y q x words → root y later + 1 ≡ q →
+  live : (words later : List ℕ) → Stands job y words →
+      Stands job y later → Grows y words later → Floor job y q x words → root y later + 1 ≡ q →
       (root y words + 1 ≡ q) × (finished y words ≡ x) × (finished y later ≡ x)
-  live words later stands after up floor now = (growth_shows job y words later stands after up).same_phase x q floor.reached (omega arith) (omega arith) floor.root now
+  live words later stands after up floor now =
+      (growth_shows job y words later stands after up).same_phase x q floor.reached
+      (omega arith) (omega arith) floor.root now
 
   -- ---- common
 
   -- a word of the step stays, as long as the step isn't finished
-  stays_so : (p k : ℕ) (words later : List ℕ) → IsWord y (Stored p k) → Stands job y later → Grows y words later → finished y later ≡ x →
-      x < stamp_at y words p k → (held y words (Stored p k) ≡ held y later (Stored p k)) × (stamp_at y words p k ≡ suc x)
+  stays_so : (p k : ℕ) (words later : List ℕ) → IsWord y (Stored p k) →
+      Stands job y later → Grows y words later → finished y later ≡ x →
+      x < stamp_at y words p k →
+      (held y words (Stored p k) ≡ held y later (Stored p k)) × (stamp_at y words p k ≡ suc x)
   stays_so p zero words later is after up gone late =
       let high = stamps_most job y later after p 0 is in
-      let rise = stamps_rise y words later p 0 is up in
-      (elim (up (Stored p zero) is) [ inl e ↦ e | inr more ↦ absurd (let m = more.0 in omega arith) ], omega arith)
+      let rise = stamps_rise y words later p 0 is up in (
+        elim (up (Stored p zero) is) [
+          | inl e ↦ e
+          | inr more ↦ absurd (let m = more.0 in omega arith)
+        ],
+        omega arith,
+      )
   stays_so p (suc zero) words later is after up gone late =
       let high = stamps_most job y later after p 1 is in
-      let rise = stamps_rise y words later p 1 is up in
-      (elim (up (Stored p (suc zero)) is) [ inl e ↦ e | inr more ↦ absurd (let m = more.1 in omega arith) ], omega arith)
+      let rise = stamps_rise y words later p 1 is up in (
+        elim (up (Stored p (suc zero)) is) [
+          | inl e ↦ e
+          | inr more ↦ absurd (let m = more.1 in omega arith)
+        ],
+        omega arith,
+      )
   stays_so p (suc (suc k)) words later is after up gone late = absurd (let h = is.1 in omega arith)
 
   no_data : (words : List ℕ) → part_after job x i 0 ≡ 0 → Stays job y x words i
-  no_data words none = inr (λ p v is. elim (each_write job x p i v is.0) [ inl e ↦ absurd (is.1 e.0) | inr e ↦ absurd (let g = e.0 in omega arith) ])
+  no_data words none = inr (λ p v is. elim (each_write job x p i v is.0) [
+    | inl e ↦ absurd (is.1 e.0)
+    | inr e ↦ absurd (let g = e.0 in omega arith)
+  ])
 
-  all_data : (words : List ℕ) → (part_after job x i 0 == 0) ≡ false → HoldsNew y words (part_after job x i 0 - 1) (suc x) (part_after job x i 1) → Stays job y x words i
+  all_data : (words : List ℕ) → (part_after job x i 0 == 0) ≡ false →
+      HoldsNew y words (part_after job x i 0 - 1) (suc x) (part_after job x i 1) →
+      Stays job y x words i
   all_data words some_data holds = inr (λ p v is. elim (each_write job x p i v is.0) [
     | inl e ↦ absurd (is.1 e.0)
-    | inr e ↦ (let g = e.0 in let f = eqb-false (part_after job x i 0) 0 some_data in let same : part_after job x i 0 - 1 ≡ p = omega arith in subst (λ (v : ℕ). HoldsNew y words p (suc x) v) e.1 (subst (λ (p : ℕ). HoldsNew y words p (suc x) (part_after job x i 1)) same holds))
+    | inr e ↦ (let g = e.0 in
+        let f = eqb-false (part_after job x i 0) 0 some_data in
+        let same : part_after job x i 0 - 1 ≡ p = omega arith in
+        subst (λ (v : ℕ). HoldsNew y words p (suc x) v) e.1
+        (subst (λ (p : ℕ). HoldsNew y words p (suc x) (part_after job x i 1)) same holds))
   ])
 
   Both : ℕ → ℕ → ℕ → List ℕ → Type 0
-  Both p a b = Moment job y (Load (number_of y (Stored p 1))) b (Moment job y (Load (number_of y (Stored p 0))) a (Floor job y q x))
+  Both p a b = Moment job y (Load (number_of y (Stored p 1))) b
+      (Moment job y (Load (number_of y (Stored p 0))) a (Floor job y q x))
 
-  both_floor : (p a b : ℕ) (words : List ℕ) → Stands job y words → Both p a b words → Floor job y q x words
+  both_floor : (p a b : ℕ) (words : List ℕ) → Stands job y words →
+      Both p a b words → Floor job y q x words
   unfolding Both
-  both_floor p a b words stands m = let first = m.earlier in floor_lasts job y q x first.words words first.stands stands (onward y first.words m.words words first.since m.since) first.earlier
+  both_floor p a b words stands m =
+      let first = m.earlier in
+      floor_lasts job y q x first.words words first.stands stands
+      (onward y first.words m.words words first.since m.since) first.earlier
 
   place_in : (p v : ℕ) → Asks job x p i v → p < places_of y
-  place_in p v asked = let a = (asks_fit job x p i v board.limits asked).0 in let b = same_cells job y board in let c = same_procs job y board in omega arith
+  place_in p v asked =
+      let a = (asks_fit job x p i v board.limits asked).0 in
+      let b = same_cells job y board in
+      let c = same_procs job y board in omega arith
 
   -- a word of the step with another value: the step doesn't agree
-  disagrees : (p v a b : ℕ) (words : List ℕ) → job.rule ≡ Common → Asks job x p i v → Both p a b words → (differs (suc x) v a || differs (suc x) v b) ≡ true → AgreesAfter job x → ⊥
+  disagrees : (p v a b : ℕ) (words : List ℕ) → job.rule ≡ Common → Asks job x p i v →
+      Both p a b words → (differs (suc x) v a || differs (suc x) v b) ≡ true → AgreesAfter job x → ⊥
   unfolding Both
   disagrees p v a b words rule asked m h agrees =
       let first = m.earlier in
       let place = place_in p v asked in
-      let wins = λ (j : ℕ). wins_all job x p j (λ e. absurd (let g : Common ≡ Priority = sym rule ∙ e in cc)) in
+      let wins = λ (j : ℕ).
+      wins_all job x p j (λ e. absurd (let g : Common ≡ Priority = sym rule ∙ e in cc)) in
       elim (cases_Bool (differs (suc x) v a)) [
-        | inl e ↦ (let d = differs_is (suc x) v a e in d.1 (ap payload_of first.heard ∙ agreed_word job x p i v y board agrees asked wins first.words 0 first.stands (place, lit< tt) (sym (ap stamp_of first.heard) ∙ d.0)))
-        | inr e ↦ (let g : differs (suc x) v b ≡ true = rw e at h in let d = differs_is (suc x) v b g in d.1 (ap payload_of m.heard ∙ agreed_word job x p i v y board agrees asked wins m.words 1 m.stands (place, lit< tt) (sym (ap stamp_of m.heard) ∙ d.0)))
+        | inl e ↦ (let d = differs_is (suc x) v a e in
+            d.1 (ap payload_of first.heard ∙ agreed_word job x p i v y board agrees asked
+            wins first.words 0 first.stands (place, lit< tt) (sym (ap stamp_of first.heard) ∙ d.0)))
+        | inr e ↦ (let g : differs (suc x) v b ≡ true = rw e at h in
+            let d = differs_is (suc x) v b g in
+            d.1 (ap payload_of m.heard ∙ agreed_word job x p i v y board agrees
+            asked wins m.words 1 m.stands (place, lit< tt) (sym (ap stamp_of m.heard) ∙ d.0)))
       ]
 
   -- neither word differs: the value stands
-  holds_new : (p v a b : ℕ) (words : List ℕ) → job.rule ≡ Common → Asks job x p i v → Stands job y words → Both p a b words →
-      (differs (suc x) v a || differs (suc x) v b) ≡ false → root y words + 1 ≡ q → HoldsNew y words p (suc x) v
+  holds_new : (p v a b : ℕ) (words : List ℕ) →
+      job.rule ≡ Common → Asks job x p i v → Stands job y words → Both p a b words →
+      (differs (suc x) v a || differs (suc x) v b) ≡ false →
+      root y words + 1 ≡ q → HoldsNew y words p (suc x) v
   unfolding Both
   holds_new p v a b words rule asked stands m h now =
       let first = m.earlier in
@@ -141,120 +203,199 @@ module _ (job : JobData) (y : LayoutData) (w q x i : ℕ) (some : 1 ≤ q) (most
       let then_live = live first.words words first.stands stands up first.earlier now in
       let gone : finished y words ≡ x = then_live.2 in
       let before = then_live.0 in
-      let low : phase_written job.rule x ≤ root y first.words = subst (λ (r : Rule). phase_written r x ≤ root y first.words) (sym rule) (omega arith) in
-      elim ((facts job y first.words first.stands).written_late x p place low (record { writer = i; value = v; asks = asked })) [
+      let low : phase_written job.rule x ≤ root y first.words =
+      subst (λ (r : Rule). phase_written r x ≤ root y first.words) (sym rule) (omega arith) in
+      elim ((facts job y first.words first.stands).written_late x p place low
+      (record { writer = i; value = v; asks = asked })) [
         | inl late ↦ (
             let s = stays_so p 0 first.words words (place, lit< tt) stands up gone late in
-            let same : payload_of a ≡ v = differs_not (suc x) v a neither.0 (ap stamp_of first.heard ∙ s.1) in
-            (0, lit< tt, sym (ap stamp_of s.0) ∙ s.1, sym (ap payload_of s.0) ∙ sym (ap payload_of first.heard) ∙ same)
-            )
+            let same : payload_of a ≡ v =
+            differs_not (suc x) v a neither.0 (ap stamp_of first.heard ∙ s.1) in (
+              0,
+              lit< tt,
+              sym (ap stamp_of s.0) ∙ s.1,
+              sym (ap payload_of s.0) ∙ sym (ap payload_of first.heard) ∙ same,
+            ))
         | inr late ↦ (
             let rise = stamps_rise y first.words m.words p 1 (place, lit< tt) first.since in
             let s = stays_so p 1 m.words words (place, lit< tt) stands m.since gone (omega arith) in
-            let same : payload_of b ≡ v = differs_not (suc x) v b neither.1 (ap stamp_of m.heard ∙ s.1) in
-            (1, lit< tt, sym (ap stamp_of s.0) ∙ s.1, sym (ap payload_of s.0) ∙ sym (ap payload_of m.heard) ∙ same)
-            )
+            let same : payload_of b ≡ v =
+            differs_not (suc x) v b neither.1 (ap stamp_of m.heard ∙ s.1) in (
+              1,
+              lit< tt,
+              sym (ap stamp_of s.0) ∙ s.1,
+              sym (ap payload_of s.0) ∙ sym (ap payload_of m.heard) ∙ same,
+            ))
       ]
 
-  pub verify_safe : job.rule ≡ Common → (after : Script Then) → EndSafe job y w q x (λ words. Stays job y x words i) after → (history : List (Op × ℕ)) →
-      Sees job y history (Floor job y q x) → Safe {R = Then} job y w q (verify_task job y (suc x) i after) history
+  pub verify_safe : job.rule ≡ Common → (after : Script Then) →
+      EndSafe job y w q x (λ words. Stays job y x words i) after → (history : List (Op × ℕ)) →
+      Sees job y history (Floor job y q x) →
+      Safe {R = Then} job y w q (verify_task job y (suc x) i after) history
   unfolding verify_task Both
   verify_safe rule after done history sees =
-      let stale : StaleSafe job y w q x after = stale_end job y w q x (λ words. Stays job y x words i) after done in
+      let stale : StaleSafe job y w q x after =
+      stale_end job y w q x (λ words. Stays job y x words i) after done in
       let p = part_after job x i 0 - 1 in
       let v = part_after job x i 1 in
-      let judges = λ (place value a b : ℕ). if differs (suc x) value a || differs (suc x) value b then reports y (suc x) after else after in
-      let compares = λ (place : ℕ). hears_part y (suc x) i 1 after (λ value. loads_both y (place - 1) (judges place value)) in
-      hears job y w q x i some most step board proc 0 (lit< tt) (omega arith) after (λ place. if place == 0 then after else compares place) history stale sees (λ longer more.
-      cond_both (part_after job x i 0 == 0) after (compares (part_after job x i 0)) (λ (s : Script Then). Safe {R = Then} job y w q s longer)
-      (λ e. done longer (so job y longer (Floor job y q x) (λ words. Floor job y q x words × (root y words + 1 ≡ q → Stays job y x words i)) (λ words stands f. (f, λ now. no_data words (eqb-true (part_after job x i 0) 0 e))) more))
+      let judges = λ (place value a b : ℕ). if differs (suc x) value a || differs (suc x) value b
+      then reports y (suc x) after else after in
+      let compares = λ (place : ℕ).
+      hears_part y (suc x) i 1 after (λ value. loads_both y (place - 1) (judges place value)) in
+      hears job y w q x i some most step board proc 0 (lit< tt) (omega arith) after
+      (λ place. if place == 0 then after else compares place) history stale sees (λ longer more.
+      cond_both (part_after job x i 0 == 0) after
+      (compares (part_after job x i 0)) (λ (s : Script Then). Safe {R = Then} job y w q s longer)
+      (λ e. done longer (so job y longer (Floor job y q x)
+      (λ words. Floor job y q x words × (root y words + 1 ≡ q → Stays job y x words i))
+      (λ words stands f. (f, λ now. no_data words (eqb-true (part_after job x i 0) 0 e))) more))
       (λ e.
       let asked = data_asked job y w q x i some most step board proc e in
-      hears job y w q x i some most step board proc 1 (lit< tt) (omega arith) after (λ value. loads_both y p (judges (part_after job x i 0) value)) longer stale more (λ longer more.
-      both_safe {R = Then} job y w q p (judges (part_after job x i 0) v) longer (Floor job y q x) more (λ a b longest known.
-      cond_both (differs (suc x) v a || differs (suc x) v b) (reports y (suc x) after) after (λ (s : Script Then). Safe {R = Then} job y w q s longest)
-      (λ d. safe_known {R = Then} job y w q (reports y (suc x) after) longest (AgreesAfter job x → ⊥) (so job y longest (Both p a b) (λ words. AgreesAfter job x → ⊥) (λ words stands m. disagrees p v a b words rule asked m d) known) (λ not.
-      reports_end job y w q x i some most step board proc phase not after longest (so job y longest (Both p a b) (Floor job y q x) (λ words stands m. both_floor p a b words stands m) known) (λ last reported.
-      done last (so job y last (λ words. Floor job y q x words × (root y words + 1 ≡ q → conflict y words ≡ suc x)) (λ words. Floor job y q x words × (root y words + 1 ≡ q → Stays job y x words i)) (λ words stands h. (h.0, λ now. inl (h.1 now))) reported))))
-      (λ d. done longest (so job y longest (Both p a b) (λ words. Floor job y q x words × (root y words + 1 ≡ q → Stays job y x words i))
-      (λ words stands m. (both_floor p a b words stands m, λ now. all_data words e (holds_new p v a b words rule asked stands m d now))) known))))))
+      hears job y w q x i some most step board proc 1 (lit< tt) (omega arith) after (λ value.
+      loads_both y p (judges (part_after job x i 0) value)) longer stale more (λ longer more.
+      both_safe {R = Then} job y w q p
+      (judges (part_after job x i 0) v) longer (Floor job y q x) more (λ a b longest known.
+      cond_both (differs (suc x) v a || differs (suc x) v b)
+      (reports y (suc x) after) after (λ (s : Script Then). Safe {R = Then} job y w q s longest)
+      (λ d. safe_known {R = Then} job y w q (reports y (suc x) after) longest
+      (AgreesAfter job x → ⊥) (so job y longest (Both p a b) (λ words. AgreesAfter job x → ⊥)
+      (λ words stands m. disagrees p v a b words rule asked m d) known) (λ not.
+      reports_end job y w q x i some most step board proc phase not after longest
+      (so job y longest (Both p a b)
+      (Floor job y q x) (λ words stands m. both_floor p a b words stands m) known) (λ last reported.
+      done last (so job y last (λ words. Floor job y q x words × (root y words + 1 ≡ q →
+      conflict y words ≡ suc x)) (λ words. Floor job y q x words × (root y words + 1 ≡ q →
+      Stays job y x words i)) (λ words stands h. (h.0, λ now. inl (h.1 now))) reported))))
+      (λ d. done longest (so job y longest (Both p a b)
+      (λ words. Floor job y q x words × (root y words + 1 ≡ q → Stays job y x words i))
+      (λ words stands m. (
+        both_floor p a b words stands m,
+        λ now. all_data words e (holds_new p v a b words rule asked stands m d now),
+      )) known))))))
 
   -- ---- crew
 
-  no_claims : (words : List ℕ) → ((c v : ℕ) → Asks job x c i v → c < job.cells → ⊥) → ClaimStays job y x words i
+  no_claims : (words : List ℕ) →
+      ((c v : ℕ) → Asks job x c i v → c < job.cells → ⊥) → ClaimStays job y x words i
   no_claims words none = inr (λ c v asked cell. absurd (none c v asked cell))
 
   -- another claim of the step: the step doesn't agree
-  other_claims : (p v found : ℕ) (words : List ℕ) → job.rule ≡ Crew → IsTrue y.claims → p < job.cells → Asks job x p i v →
-      Moment job y (Load (number_of y (Claim p))) found (Floor job y q x) words → differs (suc x) (claim_of job i) found ≡ true → AgreesAfter job x → ⊥
+  other_claims : (p v found : ℕ) (words : List ℕ) →
+      job.rule ≡ Crew → IsTrue y.claims → p < job.cells → Asks job x p i v →
+      Moment job y (Load (number_of y (Claim p))) found (Floor job y q x) words →
+      differs (suc x) (claim_of job i) found ≡ true → AgreesAfter job x → ⊥
   other_claims p v found words rule has cell asked m h agrees =
       let is : IsWord y (Claim p) = (has, let c = same_cells job y board in omega arith) in
       let d = differs_is (suc x) (claim_of job i) found h in
-      let c = claimant job (finished y m.words) (root y m.words) x p (held y m.words (Claim p)) (m.stands.lawful.claimed p is) (sym (ap stamp_of m.heard) ∙ d.0) in
-      let same : i ≡ c.writer = crew_writer job (requests_after job x) p i c.writer v c.value rule agrees cell asked c.asks in
+      let c = claimant job (finished y m.words) (root y m.words) x p
+      (held y m.words (Claim p)) (m.stands.lawful.claimed p is) (sym (ap stamp_of m.heard) ∙ d.0) in
+      let same : i ≡ c.writer =
+      crew_writer job (requests_after job x) p i c.writer v c.value rule agrees cell asked c.asks in
       d.1 (ap payload_of m.heard ∙ c.is ∙ ap (claim_of job) (sym same))
 
   -- the claim that was heard is the processor's: it still is
-  claim_now : (p v found : ℕ) (words : List ℕ) → IsTrue y.claims → p < job.cells → Asks job x p i v → Stands job y words →
-      Moment job y (Load (number_of y (Claim p))) found (Floor job y q x) words → differs (suc x) (claim_of job i) found ≡ false → root y words + 1 ≡ q →
+  claim_now : (p v found : ℕ) (words : List ℕ) → IsTrue y.claims →
+      p < job.cells → Asks job x p i v → Stands job y words →
+      Moment job y (Load (number_of y (Claim p))) found (Floor job y q x) words →
+      differs (suc x) (claim_of job i) found ≡ false → root y words + 1 ≡ q →
       payload_of (held y words (Claim p)) ≡ claim_of job i
   claim_now p v found words has cell asked stands m h now =
       let is : IsWord y (Claim p) = (has, let c = same_cells job y board in omega arith) in
       let b = facts job y m.words m.stands in
       let then_live = live m.words words m.stands stands m.since m.earlier now in
       let before = then_live.0 in
-      let mine : stamped_word (suc x) (claim_of job i) ≤ held y m.words (Claim p) = b.claims_high x p i v is (omega arith) asked in
+      let mine : stamped_word (suc x) (claim_of job i) ≤ held y m.words (Claim p) =
+      b.claims_high x p i v is (omega arith) asked in
       let here : found ≡ held y m.words (Claim p) = m.heard in
       let up : held y m.words (Claim p) ≤ held y words (Claim p) = m.since (Claim p) is in
-      let stamp_then : stamp_of (held y m.words (Claim p)) ≡ suc x = stamp_is m.words m.stands is (omega arith) (omega arith) in
-      let stamp_now : stamp_of (held y words (Claim p)) ≡ suc x = stamp_is words stands is (omega arith) (omega arith) in
-      let payload : payload_of found ≡ claim_of job i = differs_not (suc x) (claim_of job i) found h (ap stamp_of m.heard ∙ stamp_then) in
-      let c = claimant job (finished y words) (root y words) x p (held y words (Claim p)) (stands.lawful.claimed p is) stamp_now in
+      let stamp_then : stamp_of (held y m.words (Claim p)) ≡ suc x =
+      stamp_is m.words m.stands is (omega arith) (omega arith) in
+      let stamp_now : stamp_of (held y words (Claim p)) ≡ suc x =
+      stamp_is words stands is (omega arith) (omega arith) in
+      let payload : payload_of found ≡ claim_of job i =
+      differs_not (suc x) (claim_of job i) found h (ap stamp_of m.heard ∙ stamp_then) in
+      let c = claimant job (finished y words)
+      (root y words) x p (held y words (Claim p)) (stands.lawful.claimed p is) stamp_now in
       let his = b.claims_high x p c.writer c.value is (omega arith) c.asks in
-      let is_his = c.is in
-      omega arith
+      let is_his = c.is in omega arith
     where
-      stamp_is : (words : List ℕ) → Stands job y words → IsWord y (Claim p) → root y words ≤ 3 * x + 2 → suc x ≤ stamp_of (held y words (Claim p)) →
+      stamp_is : (words : List ℕ) → Stands job y words → IsWord y (Claim p) →
+          root y words ≤ 3 * x + 2 → suc x ≤ stamp_of (held y words (Claim p)) →
           stamp_of (held y words (Claim p)) ≡ suc x
       stamp_is words stands is low more = by_stamp (stamp_of (held y words (Claim p))) refl more
         where
-          by_stamp : (s : ℕ) → stamp_of (held y words (Claim p)) ≡ s → suc x ≤ s → stamp_of (held y words (Claim p)) ≡ suc x
+          by_stamp : (s : ℕ) → stamp_of (held y words (Claim p)) ≡ s → suc x ≤ s →
+              stamp_of (held y words (Claim p)) ≡ suc x
           by_stamp zero e h = absurd (omega arith)
-          by_stamp (suc s) e h = let l = ((facts job y words stands).claim_from s p is e).2 in omega arith
+          by_stamp (suc s) e h =
+              let l = ((facts job y words stands).claim_from s p is e).2 in omega arith
 
-  all_claims : (words : List ℕ) → (part_after job x i 0 == 0) ≡ false → payload_of (held y words (Claim (part_after job x i 0 - 1))) ≡ claim_of job i → ClaimStays job y x words i
+  all_claims : (words : List ℕ) → (part_after job x i 0 == 0) ≡ false →
+      payload_of (held y words (Claim (part_after job x i 0 - 1))) ≡ claim_of job i →
+      ClaimStays job y x words i
   all_claims words some_data here = inr (λ c v asked cell.
       let is = cell_written job x c i v asked cell in
       let f = eqb-false (part_after job x i 0) 0 some_data in
       let same : part_after job x i 0 - 1 ≡ c = omega arith in
       subst (λ (c : ℕ). payload_of (held y words (Claim c)) ≡ claim_of job i) same here)
 
-  pub crew_verify_safe : job.rule ≡ Crew → IsTrue y.claims → (after : Script Then) → EndSafe job y w q x (λ words. ClaimStays job y x words i) after →
-      (history : List (Op × ℕ)) → Sees job y history (Floor job y q x) → Safe {R = Then} job y w q (crew_verify_task job y (suc x) i after) history
+  pub crew_verify_safe : job.rule ≡ Crew → IsTrue y.claims →
+      (after : Script Then) → EndSafe job y w q x (λ words. ClaimStays job y x words i) after →
+      (history : List (Op × ℕ)) → Sees job y history (Floor job y q x) →
+      Safe {R = Then} job y w q (crew_verify_task job y (suc x) i after) history
   unfolding crew_verify_task
   crew_verify_safe rule has after done history sees =
-      let stale : StaleSafe job y w q x after = stale_end job y w q x (λ words. ClaimStays job y x words i) after done in
+      let stale : StaleSafe job y w q x after =
+      stale_end job y w q x (λ words. ClaimStays job y x words i) after done in
       let p = part_after job x i 0 - 1 in
-      let judges = λ (found : ℕ). if differs (suc x) (claim_of job i) found then reports y (suc x) after else after in
-      let owns = λ (place : ℕ). if nat_lt (place - 1) job.cells then asks (Load (number_of y (Claim (place - 1)))) judges else after in
-      hears job y w q x i some most step board proc 0 (lit< tt) (omega arith) after (λ place. if place == 0 then after else owns place) history stale sees (λ longer more.
-      cond_both (part_after job x i 0 == 0) after (owns (part_after job x i 0)) (λ (s : Script Then). Safe {R = Then} job y w q s longer)
-      (λ e. done longer (so job y longer (Floor job y q x) (λ words. Floor job y q x words × (root y words + 1 ≡ q → ClaimStays job y x words i))
-      (λ words stands f. (f, λ now. no_claims words (λ c v asked cell. let is = cell_written job x c i v asked cell in let none = eqb-true (part_after job x i 0) 0 e in omega arith))) more))
-      (λ e.
+      let judges = λ (found : ℕ).
+      if differs (suc x) (claim_of job i) found then reports y (suc x) after else after in
+      let owns = λ (place : ℕ). if nat_lt (place - 1) job.cells
+      then asks (Load (number_of y (Claim (place - 1)))) judges else after in
+      hears job y w q x i some most step board proc 0 (lit< tt) (omega arith) after
+      (λ place. if place == 0 then after else owns place) history stale sees (λ longer more.
+      cond_both (part_after job x i 0 == 0) after
+      (owns (part_after job x i 0)) (λ (s : Script Then). Safe {R = Then} job y w q s longer)
+      (λ e. done longer (so job y longer (Floor job y q x)
+      (λ words. Floor job y q x words × (root y words + 1 ≡ q → ClaimStays job y x words i))
+      (λ words stands f. (
+        f,
+        λ now. no_claims words (λ c v asked cell. let is = cell_written job x c i v asked cell in
+            let none = eqb-true (part_after job x i 0) 0 e in omega arith),
+      )) more)) (λ e.
       let asked = data_asked job y w q x i some most step board proc e in
-      cond_both (nat_lt p job.cells) (asks (Load (number_of y (Claim p))) judges) after (λ (s : Script Then). Safe {R = Then} job y w q s longer)
-      (λ l.
+      cond_both (nat_lt p job.cells) (asks (Load (number_of y (Claim p))) judges) after
+      (λ (s : Script Then). Safe {R = Then} job y w q s longer) (λ l.
       let cell = ltb-true (part_after job x i 0 - 1) job.cells l in
       load_safe {R = Then} job y w q (number_of y (Claim p)) judges longer (λ found ok.
       let longest : List (Op × ℕ) = (Load (number_of y (Claim p)), found) ∷ longer in
-      let now_floor : Sees job y longest (Floor job y q x) = later job y longer (Floor job y q x) (Load (number_of y (Claim p))) found (floor_lasts job y q x) more in
-      let moment : Sees job y longest (Moment job y (Load (number_of y (Claim p))) found (Floor job y q x)) = heard job y longer (Floor job y q x) (Load (number_of y (Claim p))) found more in
-      cond_both (differs (suc x) (claim_of job i) found) (reports y (suc x) after) after (λ (s : Script Then). Safe {R = Then} job y w q s longest)
-      (λ d. safe_known {R = Then} job y w q (reports y (suc x) after) longest (AgreesAfter job x → ⊥) (so job y longest (Moment job y (Load (number_of y (Claim p))) found (Floor job y q x)) (λ words. AgreesAfter job x → ⊥) (λ words stands m. other_claims p (part_after job x i 1) found words rule has cell asked m d) moment) (λ not.
-      reports_end job y w q x i some most step board proc phase not after longest now_floor (λ last reported.
-      done last (so job y last (λ words. Floor job y q x words × (root y words + 1 ≡ q → conflict y words ≡ suc x)) (λ words. Floor job y q x words × (root y words + 1 ≡ q → ClaimStays job y x words i)) (λ words stands h. (h.0, λ now. inl (h.1 now))) reported))))
-      (λ d. done longest (so job y longest (Moment job y (Load (number_of y (Claim p))) found (Floor job y q x)) (λ words. Floor job y q x words × (root y words + 1 ≡ q → ClaimStays job y x words i))
-      (λ words stands m. (floor_lasts job y q x m.words words m.stands stands m.since m.earlier, λ now. all_claims words e (claim_now p (part_after job x i 1) found words has cell asked stands m d now))) moment))))
-      (λ l. done longer (so job y longer (Floor job y q x) (λ words. Floor job y q x words × (root y words + 1 ≡ q → ClaimStays job y x words i))
-      (λ words stands f. (f, λ now. no_claims words (λ c v asked cell. let is = cell_written job x c i v asked cell in let out = ltb-false (part_after job x i 0 - 1) job.cells l in omega arith))) more))))
+      let now_floor : Sees job y longest (Floor job y q x) = later job y longer
+      (Floor job y q x) (Load (number_of y (Claim p))) found (floor_lasts job y q x) more in
+      let moment : Sees job y longest (Moment job y (Load (number_of y (Claim p))) found (Floor job
+      y q x)) = heard job y longer (Floor job y q x) (Load (number_of y (Claim p))) found more in
+      cond_both (differs (suc x) (claim_of job i) found)
+      (reports y (suc x) after) after (λ (s : Script Then). Safe {R = Then} job y w q s longest)
+      (λ d. safe_known {R = Then} job y w q (reports y (suc x) after) longest
+      (AgreesAfter job x → ⊥) (so job y longest (Moment job y (Load (number_of y (Claim p))) found
+      (Floor job y q x)) (λ words. AgreesAfter job x → ⊥) (λ words stands m.
+      other_claims p (part_after job x i 1) found words rule has cell asked m d) moment) (λ not.
+      reports_end job y w q x i some most step board proc phase not after longest now_floor
+      (λ last reported.
+      done last (so job y last (λ words. Floor job y q x words × (root y words + 1 ≡ q →
+      conflict y words ≡ suc x)) (λ words. Floor job y q x words × (root y words + 1 ≡ q →
+      ClaimStays job y x words i)) (λ words stands h. (h.0, λ now. inl (h.1 now))) reported))))
+      (λ d. done longest
+      (so job y longest (Moment job y (Load (number_of y (Claim p))) found (Floor job y q x))
+      (λ words. Floor job y q x words × (root y words + 1 ≡ q → ClaimStays job y x words i))
+      (λ words stands m. (
+        floor_lasts job y q x m.words words m.stands stands m.since m.earlier,
+        λ now. all_claims words e
+            (claim_now p (part_after job x i 1) found words has cell asked stands m d now),
+      )) moment))))
+      (λ l. done longer (so job y longer (Floor job y q x)
+      (λ words. Floor job y q x words × (root y words + 1 ≡ q → ClaimStays job y x words i))
+      (λ words stands f. (
+        f,
+        λ now. no_claims words (λ c v asked cell. let is = cell_written job x c i v asked cell in
+            let out = ltb-false (part_after job x i 0 - 1) job.cells l in omega arith),
+      )) more))))

@@ -20,180 +20,196 @@ use Rattle.lawful_walk.specs.Steps.{phase_written, settled, settled_before}
 
 -- what a word of the board holds
 abbrev pub held : LayoutData → List ℕ → Word → ℕ
-held y words a = slice_index words (number_of y a)
+held layout words word = slice_index words (number_of layout word)
 
 abbrev pub root : LayoutData → List ℕ → ℕ
-root y words = held y words (Node 1)
+root layout words = held layout words (Node 1)
 
 abbrev pub conflict : LayoutData → List ℕ → ℕ
-conflict y words = held y words Conflict
+conflict layout words = held layout words Conflict
 
 abbrev pub leaf : LayoutData → List ℕ → ℕ → ℕ
-leaf y words i = held y words (Node (y.leaves + i))
+leaf layout words i = held layout words (Node (layout.leaves + i))
 
 -- the stamp of a word of a place
 abbrev pub stamp_at : LayoutData → List ℕ → ℕ → ℕ → ℕ
-stamp_at y words p k = stamp_of (held y words (Stored p k))
+stamp_at layout words place which = stamp_of (held layout words (Stored place which))
 
 -- *Fin*: the step that the words show to be finished
 abbrev pub finished : LayoutData → List ℕ → ℕ
-finished y words = step_seen (root y words) (conflict y words)
+finished layout words = step_seen (root layout words) (conflict layout words)
 
--- ---- what is done where a leaf was raised to a phase of the step after s steps
+-- ---- what is done where a leaf was raised to a phase of the step after t steps
 
 -- the place was written in that step or a later one
 abbrev pub IsLate : LayoutData → ℕ → ℕ → List ℕ → Type 0
-IsLate y s p words = (s < stamp_at y words p 0) ⊎ (s < stamp_at y words p 1)
+IsLate layout t place words =
+    (t < stamp_at layout words place 0) ⊎ (t < stamp_at layout words place 1)
 
 -- one of the two words of a place has this stamp and this payload
 abbrev pub HoldsNew : LayoutData → List ℕ → ℕ → ℕ → ℕ → Type 0
-HoldsNew y words p stamp v = (k : ℕ) × (k < 2) × (stamp_at y words p k ≡ stamp)
-    × (payload_of (held y words (Stored p k)) ≡ v)
+HoldsNew layout words place stamp value =
+    (which : ℕ) × (which < 2) × (stamp_at layout words place which ≡ stamp)
+    × (payload_of (held layout words (Stored place which)) ≡ value)
 
 -- i's request words are those of the step
 abbrev pub Raised : JobData → LayoutData → ℕ → List ℕ → ℕ → Type 0
-Raised job y s words i = (j : ℕ) → j < 3 → s < stamp_of (held y words (Asked i j))
+Raised job layout t words i = (j : ℕ) → j < 3 → t < stamp_of (held layout words (Asked i j))
 
 -- all places that i writes are written
 abbrev pub Carried : JobData → LayoutData → ℕ → List ℕ → ℕ → Type 0
-Carried job y s words i = (p v : ℕ) → Asks job s p i v → IsLate y s p words
+Carried job layout t words i =
+    (place value : ℕ) → Asks job t place i value → IsLate layout t place words
 
 -- so are those where i's write wins
 abbrev pub CarriedWon : JobData → LayoutData → ℕ → List ℕ → ℕ → Type 0
-CarriedWon job y s words i = (p v : ℕ) → Asks job s p i v → Wins job s p i → IsLate y s p words
+CarriedWon job layout t words i =
+    (place value : ℕ) → Asks job t place i value → Wins job t place i → IsLate layout t place words
 
 -- the cell that i writes is claimed by it, or more strongly
 abbrev pub Claimed : JobData → LayoutData → ℕ → List ℕ → ℕ → Type 0
-Claimed job y s words i = (c v : ℕ) → Asks job s c i v → c < job.cells →
-    stamped_word (suc s) (claim_of job i) ≤ held y words (Claim c)
+Claimed job layout t words i = (cell value : ℕ) → Asks job t cell i value → cell < job.cells →
+    stamped_word (suc t) (claim_of job i) ≤ held layout words (Claim cell)
 
--- i's data write: p is no counter
+-- i's data write: the place is no counter
 abbrev pub Data : JobData → ℕ → ℕ → ℕ → ℕ → Type 0
-Data job s i p v = Asks job s p i v × (p ≢ counter_place job i)
+Data job t i place value = Asks job t place i value × (place ≢ counter_place job i)
 
 -- the step is known to be a conflict, or what i wrote stands
 abbrev pub Stays : JobData → LayoutData → ℕ → List ℕ → ℕ → Type 0
-Stays job y s words i = (conflict y words ≡ suc s)
-    ⊎ ((p v : ℕ) → Data job s i p v → HoldsNew y words p (suc s) v)
+Stays job layout t words i = (conflict layout words ≡ suc t)
+    ⊎ ((place value : ℕ) → Data job t i place value → HoldsNew layout words place (suc t) value)
 
 -- the step is known to be a conflict, or i's claim stands
 abbrev pub ClaimStays : JobData → LayoutData → ℕ → List ℕ → ℕ → Type 0
-ClaimStays job y s words i = (conflict y words ≡ suc s)
-    ⊎ ((c v : ℕ) → Asks job s c i v → c < job.cells →
-    payload_of (held y words (Claim c)) ≡ claim_of job i)
+ClaimStays job layout t words i = (conflict layout words ≡ suc t)
+    ⊎ ((cell value : ℕ) → Asks job t cell i value → cell < job.cells →
+    payload_of (held layout words (Claim cell)) ≡ claim_of job i)
 
 abbrev pub Done : Rule → Kind → JobData → LayoutData → ℕ → List ℕ → ℕ → Type 0
-Done Common Compute = Raised
-Done Common Apply = Carried
-Done Common Verify = Stays
-Done Priority Compute = Raised
-Done Priority Apply = Claimed
-Done Priority Verify = CarriedWon
-Done Crew Compute = Raised
-Done Crew Apply = λ job y s words i. Carried job y s words i × Claimed job y s words i
-Done Crew Verify = ClaimStays
+Done Common Compute job layout t words i = Raised job layout t words i
+Done Common Apply job layout t words i = Carried job layout t words i
+Done Common Verify job layout t words i = Stays job layout t words i
+Done Priority Compute job layout t words i = Raised job layout t words i
+Done Priority Apply job layout t words i = Claimed job layout t words i
+Done Priority Verify job layout t words i = CarriedWon job layout t words i
+Done Crew Compute job layout t words i = Raised job layout t words i
+Done Crew Apply job layout t words i = Carried job layout t words i × Claimed job layout t words i
+Done Crew Verify job layout t words i = ClaimStays job layout t words i
 
--- the phases of the step after s steps
+-- the phases of the step after t steps
 abbrev pub phase_in : ℕ → Kind → ℕ
-phase_in s Compute = 3 * s + 1
-phase_in s Apply = 3 * s + 2
-phase_in s Verify = 3 * s + 3
+phase_in t Compute = 3 * t + 1
+phase_in t Apply = 3 * t + 2
+phase_in t Verify = 3 * t + 3
 
--- ---- lawful words: the clauses, f being the number of finished steps
+-- ---- lawful words: the clauses, after so many finished steps
 
-pub record IsTree (job : JobData) (y : LayoutData) (words : List ℕ) : Type 0 where
-  pub left : (n : ℕ) → 1 ≤ n → n < y.leaves → held y words (Node n) ≤ held y words (Node (2 * n))
-  pub right : (n : ℕ) → 1 ≤ n → n < y.leaves →
-      held y words (Node n) ≤ held y words (Node (2 * n + 1))
-  pub near : (n : ℕ) → IsWord y (Node n) → held y words (Node n) ≤ root y words + 1
-  pub most : (n : ℕ) → IsWord y (Node n) → held y words (Node n) ≤ 3 * job.steps
+pub record IsTree (job : JobData) (layout : LayoutData) (words : List ℕ) : Type 0 where
+  pub left : (node : ℕ) → 1 ≤ node → node < layout.leaves →
+      held layout words (Node node) ≤ held layout words (Node (2 * node))
+  pub right : (node : ℕ) → 1 ≤ node → node < layout.leaves →
+      held layout words (Node node) ≤ held layout words (Node (2 * node + 1))
+  pub near : (node : ℕ) → IsWord layout (Node node) →
+      held layout words (Node node) ≤ root layout words + 1
+  pub most : (node : ℕ) → IsWord layout (Node node) → held layout words (Node node) ≤ 3 * job.steps
 
 -- a request word of processor i, part j
-pub record IsAsked (job : JobData) (f i j word : ℕ) : Type 0 where
-  pub low : f ≤ stamp_of word
-  pub high : stamp_of word ≤ suc f
-  pub part : (s : ℕ) → stamp_of word ≡ suc s →
-      IsReached job s × (payload_of word ≡ part_after job s i j)
+pub record IsAsked (job : JobData) (steps i j word : ℕ) : Type 0 where
+  pub low : steps ≤ stamp_of word
+  pub high : stamp_of word ≤ suc steps
+  pub part : (t : ℕ) → stamp_of word ≡ suc t →
+      IsReached job t × (payload_of word ≡ part_after job t i j)
 
--- a word that was written in the step after f steps, while that may be
-pub record IsNew (job : JobData) (f root p word : ℕ) : Type 0 where
-  pub stamp : stamp_of word ≡ suc f
+-- a word that was written in the step after these steps, while that may be
+pub record IsNew (job : JobData) (steps root place word : ℕ) : Type 0 where
+  pub stamp : stamp_of word ≡ suc steps
   pub writer : ℕ
-  pub asks : Asks job f p writer (payload_of word)
-  pub wins : Wins job f p writer
-  pub stands : phase_written job.rule f ≤ root + 1
+  pub asks : Asks job steps place writer (payload_of word)
+  pub wins : Wins job steps place writer
+  pub stands : phase_written job.rule steps ≤ root + 1
 
--- The two words of a place, a being the first: the last two settled ones, in either order, or the
+-- The two words of a place: the last two settled ones, in either order, or the
 -- last one and a new one. The second word is written only when the first one was.
-pub data IsPair (job : JobData) (f root p a b : ℕ) : Type 0 where
-  newer_first : a ≡ settled job f p → b ≡ settled_before job f p → IsPair job f root p a b
-  newer_second : b ≡ settled job f p → a ≡ settled_before job f p → 1 ≤ stamp_of a →
-      IsPair job f root p a b
-  new_first : IsNew job f root p a → b ≡ settled job f p → IsPair job f root p a b
-  new_second : IsNew job f root p b → a ≡ settled job f p → 1 ≤ stamp_of a → IsPair job f root p a b
+pub data IsPair (job : JobData) (steps root place first second : ℕ) : Type 0 where
+  newer_first : first ≡ settled job steps place → second ≡ settled_before job steps place →
+      IsPair job steps root place first second
+  newer_second : second ≡ settled job steps place →
+      first ≡ settled_before job steps place → 1 ≤ stamp_of first →
+      IsPair job steps root place first second
+  new_first : IsNew job steps root place first → second ≡ settled job steps place →
+      IsPair job steps root place first second
+  new_second : IsNew job steps root place second → first ≡ settled job steps place →
+      1 ≤ stamp_of first → IsPair job steps root place first second
 
--- in the step after s steps a writer of the cell has this claim
-pub record ClaimsFor (job : JobData) (s c payload : ℕ) : Type 0 where
+-- in the step after t steps a writer of the cell has this claim
+pub record ClaimsFor (job : JobData) (t cell payload : ℕ) : Type 0 where
   pub writer : ℕ
   pub value : ℕ
-  pub asks : Asks job s c writer value
+  pub asks : Asks job t cell writer value
   pub is : payload ≡ claim_of job writer
 
 -- A claim word: the greatest claim of the last step that wrote the cell (none with stamp 0), or one
--- of the step after f steps.
-pub data IsClaimed (job : JobData) (f root c word : ℕ) : Type 0 where
-  claimed_before : stamp_of word ≡ last_write job f c →
-      ((s : ℕ) → stamp_of word ≡ suc s → ClaimsFor job s c (payload_of word)
-      × ((i v : ℕ) → Asks job s c i v → claim_of job i ≤ payload_of word)) →
-      IsClaimed job f root c word
-  claimed_now : stamp_of word ≡ suc f → ClaimsFor job f c (payload_of word) → 3 * f + 1 ≤ root →
-      IsClaimed job f root c word
+-- of the step after these steps.
+pub data IsClaimed (job : JobData) (steps root cell word : ℕ) : Type 0 where
+  claimed_before : stamp_of word ≡ last_write job steps cell →
+      ((t : ℕ) → stamp_of word ≡ suc t → ClaimsFor job t cell (payload_of word)
+      × ((i value : ℕ) → Asks job t cell i value → claim_of job i ≤ payload_of word)) →
+      IsClaimed job steps root cell word
+  claimed_now : stamp_of word ≡ suc steps →
+      ClaimsFor job steps cell (payload_of word) → 3 * steps + 1 ≤ root →
+      IsClaimed job steps root cell word
 
 -- word 0, if it is not 0, names the first conflict
-pub record IsNamed (job : JobData) (u root : ℕ) : Type 0 where
-  pub first : (s : ℕ) → u ≡ suc s → IsReached job s × (AgreesAfter job s → ⊥)
-  pub near : (s : ℕ) → u ≡ suc s → (root ≡ 3 * s + 2) ⊎ (root ≡ 3 * s + 3)
+pub record IsNamed (job : JobData) (found root : ℕ) : Type 0 where
+  pub first : (t : ℕ) → found ≡ suc t → IsReached job t × (AgreesAfter job t → ⊥)
+  pub near : (t : ℕ) → found ≡ suc t → (root ≡ 3 * t + 2) ⊎ (root ≡ 3 * t + 3)
 
--- Words with f finished steps: step f is reached; no node is above its children, nor far above the
--- root; request words, places and claims are of the steps up to f or of the one after it; what the
--- raised leaves stand for is done; word 0 names the first conflict, if any.
-pub record LawfulFor (job : JobData) (y : LayoutData) (f : ℕ) (words : List ℕ) : Type 0 where
-  pub reached : IsReached job f
-  pub tree : IsTree job y words
-  pub asked : (i j : ℕ) → i < y.procs → j < 3 → IsAsked job f i j (held y words (Asked i j))
-  pub stored : (p : ℕ) → p < places_of y →
-      IsPair job f (root y words) p (held y words (Stored p 0)) (held y words (Stored p 1))
-  pub claimed : (c : ℕ) → IsWord y (Claim c) →
-      IsClaimed job f (root y words) c (held y words (Claim c))
-  pub done : (i : ℕ) (kind : Kind) → i < y.procs → phase_in f kind ≤ leaf y words i →
-      Done job.rule kind job y f words i
-  pub named : IsNamed job (conflict y words) (root y words)
+-- Words with so many finished steps: their state is reached; no node is above its children, nor far
+-- above the root; request words, places and claims are of these steps or of the one after them;
+-- what the raised leaves stand for is done; word 0 names the first conflict, if any.
+pub record LawfulFor (job : JobData) (layout : LayoutData) (steps : ℕ)
+    (words : List ℕ) : Type 0 where
+  pub reached : IsReached job steps
+  pub tree : IsTree job layout words
+  pub asked : (i j : ℕ) → i < layout.procs → j < 3 →
+      IsAsked job steps i j (held layout words (Asked i j))
+  pub stored : (place : ℕ) → place < places_of layout →
+      IsPair job steps (root layout words) place (held layout words (Stored place 0))
+      (held layout words (Stored place 1))
+  pub claimed : (cell : ℕ) → IsWord layout (Claim cell) →
+      IsClaimed job steps (root layout words) cell (held layout words (Claim cell))
+  pub done : (i : ℕ) (kind : Kind) → i < layout.procs → phase_in steps kind ≤ leaf layout words i →
+      Done job.rule kind job layout steps words i
+  pub named : IsNamed job (conflict layout words) (root layout words)
 
 -- *lawful* words
 abbrev pub Lawful : JobData → LayoutData → List ℕ → Type 0
-Lawful job y words = LawfulFor job y (finished y words) words
+Lawful job layout words = LawfulFor job layout (finished layout words) words
 
 -- what holds of a board's words between any two steps
-pub record Stands (job : JobData) (y : LayoutData) (words : List ℕ) : Type 0 where
+pub record Stands (job : JobData) (board : LayoutData) (words : List ℕ) : Type 0 where
   pub limits : IsJob job
-  pub sizes : IsLayout y
-  pub layout : IsLayoutOf job y
-  pub admitted : IsAdmitted y job words
-  pub lawful : Lawful job y words
+  pub sizes : IsLayout board
+  pub layout : IsLayoutOf job board
+  pub admitted : IsAdmitted board job words
+  pub lawful : Lawful job board words
 
 -- ---- growth
 
 -- what may have become of a word: of a place, it is the same or has a stamp above both of the place
 -- before
 abbrev pub Up : LayoutData → List ℕ → Word → ℕ → ℕ → Type 0
-Up y words Conflict a b = a ≢ 0 → a ≡ b
-Up y words (Node n) a b = a ≤ b
-Up y words (Asked i j) a b = a ≤ b
-Up y words (Position w) a b = Unit {0}
-Up y words (Stored p k) a b = (a ≡ b)
-    ⊎ ((stamp_at y words p 0 < stamp_of b) × (stamp_at y words p 1 < stamp_of b))
-Up y words (Claim c) a b = a ≤ b
-Up y words (Spare k) a b = a ≡ b
+Up layout words Conflict before later = before ≢ 0 → before ≡ later
+Up layout words (Node node) before later = before ≤ later
+Up layout words (Asked i j) before later = before ≤ later
+Up layout words (Position worker) before later = Unit {0}
+Up layout words (Stored place which) before later = (before ≡ later)
+    ⊎ ((stamp_at layout words place 0 < stamp_of later)
+    × (stamp_at layout words place 1 < stamp_of later))
+Up layout words (Claim cell) before later = before ≤ later
+Up layout words (Spare number) before later = before ≡ later
 
 abbrev pub Grows : LayoutData → List ℕ → List ℕ → Type 0
-Grows y words later = (a : Word) → IsWord y a → Up y words a (held y words a) (held y later a)
+Grows layout words later = (word : Word) → IsWord layout word →
+    Up layout words word (held layout words word) (held layout later word)

@@ -17,70 +17,76 @@ use Rattle.lawful_walk.specs.Seen.{Hears}
 
 -- ---- an answer against the record before it
 
--- What remains of a word's value a where it has b later: nodes, request words, claims and stamps
--- of places never fall; word 0 keeps what is not 0.
+-- What remains of a word's value where it has another one later: nodes, request words, claims and
+-- stamps of places never fall; word 0 keeps what is not 0.
 abbrev pub Remains : Word → ℕ → ℕ → Type 0
-Remains Conflict a b = a ≢ 0 → a ≡ b
-Remains (Node n) a b = a ≤ b
-Remains (Asked i j) a b = a ≤ b
-Remains (Position w) a b = Unit {0}
-Remains (Stored p k) a b = stamp_of a ≤ stamp_of b
-Remains (Claim c) a b = a ≤ b
-Remains (Spare k) a b = Unit {0}
+Remains Conflict old new = old ≢ 0 → old ≡ new
+Remains (Node node) old new = old ≤ new
+Remains (Asked i j) old new = old ≤ new
+Remains (Position worker) old new = Unit {0}
+Remains (Stored place which) old new = stamp_of old ≤ stamp_of new
+Remains (Claim cell) old new = old ≤ new
+Remains (Spare number) old new = Unit {0}
 
 -- what a step with this answer left in its word: raised it, or swapped the old value for the new
 abbrev pub left_by : Op → ℕ → ℕ
-left_by (Load k) found = found
-left_by (Store k value) found = value
-left_by (Max k value) found = max found value
-left_by (Swap k old new) found = either (found == old) new found
+left_by (Load number) found = found
+left_by (Store number value) found = value
+left_by (Max number value) found = max found value
+left_by (Swap number old new) found = either (found == old) new found
 left_by (Over ended) found = found
 
 -- The word has this value after the record: what that heard from it, and left in it, remains.
-pub record IsBehind (y : LayoutData) (r : Record) (word : Word) (value : ℕ) : Type 0 where
-  pub heard : (op : Op) (found : ℕ) → Hears op (number_of y word) → Has r ((op, found) ∷ []) →
+pub record IsAfter (layout : LayoutData) (past : Record) (word : Word) (value : ℕ) : Type 0 where
+  pub heard : (op : Op) (found : ℕ) →
+      Hears op (number_of layout word) → Has past ((op, found) ∷ []) →
       Remains word found value
-  pub left : (op : Op) (found : ℕ) → Hears op (number_of y word) → Has r ((op, found) ∷ []) →
+  pub left : (op : Op) (found : ℕ) →
+      Hears op (number_of layout word) → Has past ((op, found) ∷ []) →
       Remains word (left_by op found) value
 
 -- ---- an answer against the machine
 
--- a request word with stamp s + 1 has its part of the request after s steps
+-- a request word with stamp t + 1 has its part of the request after t steps
 abbrev pub IsPart : JobData → ℕ → ℕ → ℕ → Type 0
-IsPart job i j word = (s : ℕ) → stamp_of word ≡ suc s →
-    IsReached job s × (payload_of word ≡ part_after job s i j)
+IsPart job i j word = (t : ℕ) → stamp_of word ≡ suc t →
+    IsReached job t × (payload_of word ≡ part_after job t i j)
 
--- a writer of the place gives the value in the step after s steps, and its write counts
-pub record IsGiven (job : JobData) (s p value : ℕ) : Type 0 where
-  pub reached : IsReached job s
+-- a writer of the place gives the value in the step after t steps, and its write counts
+pub record IsGiven (job : JobData) (t place value : ℕ) : Type 0 where
+  pub reached : IsReached job t
   pub writer : ℕ
-  pub asks : Asks job s p writer value
-  pub wins : Wins job s p writer
+  pub asks : Asks job t place writer value
+  pub wins : Wins job t place writer
 
--- a word of a place with stamp 0 has the start value, with stamp s + 1 one given after s steps
-pub record IsValue (job : JobData) (p word : ℕ) : Type 0 where
-  pub start : stamp_of word ≡ 0 → payload_of word ≡ slice_index (state_after job 0) p
-  pub given : (s : ℕ) → stamp_of word ≡ suc s → IsGiven job s p (payload_of word)
+-- a word of a place with stamp 0 has the start value, with stamp t + 1 one given after t steps
+pub record IsValue (job : JobData) (place word : ℕ) : Type 0 where
+  pub start : stamp_of word ≡ 0 → payload_of word ≡ slice_index (state_after job 0) place
+  pub given : (t : ℕ) → stamp_of word ≡ suc t → IsGiven job t place (payload_of word)
 
 -- ---- records
 
--- one answer, the record before it being r
-pub record IsFaithful (job : JobData) (y : LayoutData) (r : Record) (op : Op) (found : ℕ) :
+-- one answer, and the record before it
+pub record IsFaithful (job : JobData) (layout : LayoutData) (past : Record) (op : Op) (found : ℕ) :
     Type 0 where
-  pub behind : (word : Word) → IsWord y word → Hears op (number_of y word) →
-      IsBehind y r word found
-  pub asked : (i j : ℕ) → i < y.procs → j < 3 → Hears op (number_of y (Asked i j)) →
+  pub later : (word : Word) → IsWord layout word → Hears op (number_of layout word) →
+      IsAfter layout past word found
+  pub asked : (i j : ℕ) → i < layout.procs → j < 3 → Hears op (number_of layout (Asked i j)) →
       IsPart job i j found
-  pub stored : (p k : ℕ) → IsWord y (Stored p k) → Hears op (number_of y (Stored p k)) →
-      IsValue job p found
+  pub stored : (place which : ℕ) →
+      IsWord layout (Stored place which) → Hears op (number_of layout (Stored place which)) →
+      IsValue job place found
 
 -- each answer against the record before it, part by part
 abbrev pub FaithfulAnswers : JobData → LayoutData → Record → Type 0
-FaithfulAnswers job y empty = Unit {0}
-FaithfulAnswers job y (after r op found) = FaithfulAnswers job y r × IsFaithful job y r op found
-FaithfulAnswers job y (both r s) = FaithfulAnswers job y r × FaithfulAnswers job y s
+FaithfulAnswers job layout empty = Unit {0}
+FaithfulAnswers job layout (after past op found) =
+    FaithfulAnswers job layout past × IsFaithful job layout past op found
+FaithfulAnswers job layout (both past other) =
+    FaithfulAnswers job layout past × FaithfulAnswers job layout other
 
 -- and each word as it now stands against the record
-pub record Faithful (job : JobData) (y : LayoutData) (r : Record) (now : List ℕ) : Type 0 where
-  pub answers : FaithfulAnswers job y r
-  pub words : (word : Word) → IsWord y word → IsBehind y r word (held y now word)
+pub record Faithful (job : JobData) (layout : LayoutData)
+    (past : Record) (now : List ℕ) : Type 0 where
+  pub answers : FaithfulAnswers job layout past
+  pub words : (word : Word) → IsWord layout word → IsAfter layout past word (held layout now word)

@@ -9,38 +9,39 @@ use Rattle.lawful_walk.specs.Board.{Stands, Grows}
 
 -- the moment of a step: words that stood then gave this answer, and have grown to those of now;
 -- Earlier holds of them
-pub record Moment (job : JobData) (y : LayoutData) (op : Op) (found : ℕ) (Earlier : List ℕ →
+pub record Moment (job : JobData) (layout : LayoutData) (op : Op) (found : ℕ) (Earlier : List ℕ →
     Type 0) (now : List ℕ) : Type 0 where
   pub words : List ℕ
-  pub stands : Stands job y words
+  pub stands : Stands job layout words
   pub heard : found ≡ answer words op
-  pub grew : Grows y words (words_after words op)
-  pub since : Grows y (words_after words op) now
+  pub grew : Grows layout words (words_after words op)
+  pub since : Grows layout (words_after words op) now
   pub earlier : Earlier words
 
 abbrev pub Backed : JobData → LayoutData → Record → List ℕ → Type 0
-Backed job y empty now = Unit {0}
-Backed job y (after r op found) now = Moment job y op found (Backed job y r) now
-Backed job y (both r s) now = Backed job y r now × Backed job y s now
+Backed job layout empty now = Unit {0}
+Backed job layout (after past op found) now =
+    Moment job layout op found (Backed job layout past) now
+Backed job layout (both past other) now = Backed job layout past now × Backed job layout other now
 
 -- standing words bear the record out
-pub record WasBacked (job : JobData) (y : LayoutData) (r : Record) : Type 0 where
+pub record WasBacked (job : JobData) (layout : LayoutData) (past : Record) : Type 0 where
   pub words : List ℕ
-  pub stands : Stands job y words
-  pub backed : Backed job y r words
+  pub stands : Stands job layout words
+  pub backed : Backed job layout past words
 
 -- each part of a joined record by itself
 abbrev pub Sound : JobData → LayoutData → Record → Type 0
-Sound job y empty = Unit {0}
-Sound job y (after r op found) = WasBacked job y (after r op found)
-Sound job y (both r s) = Sound job y r × Sound job y s
+Sound job layout empty = Unit {0}
+Sound job layout (after past op found) = WasBacked job layout (after past op found)
+Sound job layout (both past other) = Sound job layout past × Sound job layout other
 
 -- a record lengthened by steps, the newest first
 abbrev pub afters : Record → List (Op × ℕ) → Record
-afters r [] = r
-afters r (e ∷ es) = after (afters r es) e.0 e.1
+afters past [] = past
+afters past (step ∷ steps) = after (afters past steps) step.0 step.1
 
 -- a step that leaves standing words which have grown
-pub record Keeps (job : JobData) (y : LayoutData) (op : Op) (words : List ℕ) : Type 0 where
-  pub stands : Stands job y (words_after words op)
-  pub grows : Grows y words (words_after words op)
+pub record Keeps (job : JobData) (layout : LayoutData) (op : Op) (words : List ℕ) : Type 0 where
+  pub stands : Stands job layout (words_after words op)
+  pub grows : Grows layout words (words_after words op)

@@ -1,4 +1,4 @@
--- The words of a place by the machine's steps. Step s + 1 is the step after s steps.
+-- The words of a place by the machine's steps. Step t + 1 is the step after t steps.
 use Rattle.std.specs.Prelude.{ℕ, ◌+◌, ◌*◌, slice_index}
 use Rattle.pram_text.specs.Job.{JobData}
 use Rattle.pram_text.specs.declared.instr.Rule.{Rule}
@@ -7,22 +7,23 @@ use Rattle.pram_step.specs.History.{last_write, write_before}
 use Rattle.pram_step.specs.Runs.{state_after}
 use Rattle.pram_words.specs.Stamps.{stamped_word}
 
--- the word of a place that was written in step x and has not been written since
+-- the word of a place that was written in step t and has not been written since
 abbrev pub word_of_step : JobData → ℕ → ℕ → ℕ
-word_of_step job x p = stamped_word x (slice_index (state_after job x) p)
+word_of_step job t place = stamped_word t (slice_index (state_after job t) place)
 
 -- the settled word of a place after t steps
 abbrev pub settled : JobData → ℕ → ℕ → ℕ
-settled job t p = word_of_step job (last_write job t p) p
+settled job t place = word_of_step job (last_write job t place) place
 
 -- the word that is settled beside it, of the write before the last one
 abbrev pub settled_before : JobData → ℕ → ℕ → ℕ
-settled_before job t p = word_of_step job (write_before job (last_write job t p) p) p
+settled_before job t place =
+    word_of_step job (write_before job (last_write job t place) place) place
 
 -- ---- what the rule says of a step's writes
 
--- the phase in which the writes of the step after s steps are carried out
+-- the phase in which the writes of the step after t steps are carried out
 abbrev pub phase_written : Rule → ℕ → ℕ
-phase_written Common s = 3 * s + 2
-phase_written Priority s = 3 * s + 3
-phase_written Crew s = 3 * s + 2
+phase_written Common t = 3 * t + 2
+phase_written Priority t = 3 * t + 3
+phase_written Crew t = 3 * t + 2

@@ -30,105 +30,120 @@ use Rattle.lawful_walk.specs.Walks.{ProgressWell, phase_now, steps_of}
 
 abbrev pub WorkersKeepWordsLawful : Type 0
 WorkersKeepWordsLawful =
-    (job : JobData) (y : LayoutData) (r : Record) (w : Walking) (words : List ℕ) →
-    Stands job y words →
-    Fits job y w → Knows job y r w → Backed job y r words → Moves job y r w words
+    (job : JobData) (layout : LayoutData) (past : Record) (worker : Walking) (words : List ℕ) →
+    Stands job layout words → Fits job layout worker → Knows job layout past worker →
+    Backed job layout past words → Moves job layout past worker words
 
 -- its phase is over
 abbrev pub LateWorkersChangeNothing : Type 0
 LateWorkersChangeNothing =
-    (job : JobData) (y : LayoutData) (r : Record) (w : Walking) (words : List ℕ) →
-    Stands job y words →
-    Fits job y w → Knows job y r w → Backed job y r words → phase_now w.now ≤ root y words →
-    (a : Word) → IsWord y a → a ≢ Position w.number →
-    held y (words_after words (ask_of job y w)) a ≡ held y words a
+    (job : JobData) (layout : LayoutData) (past : Record) (worker : Walking) (words : List ℕ) →
+    Stands job layout words → Fits job layout worker → Knows job layout past worker →
+    Backed job layout past words → phase_now worker.now ≤ root layout words →
+    (word : Word) → IsWord layout word → word ≢ Position worker.number →
+    held layout (words_after words (ask_of job layout worker)) word ≡ held layout words word
 
 -- the worker with the answer fits and is known, and what else was known is
 abbrev pub KnownWorkersStayKnown : Type 0
 KnownWorkersStayKnown =
-    (job : JobData) (y : LayoutData) (r : Record) (w : Walking) (words : List ℕ) →
-    Stands job y words → Fits job y w → Knows job y r w →
-    let op = ask_of job y w in let found = answer words op in
-    Fits job y (told job y w found) × Knows job y (after r op found) (told job y w found)
-    × ((other : Walking) → Knows job y r other → Knows job y (after r op found) other)
+    (job : JobData) (layout : LayoutData) (past : Record) (worker : Walking) (words : List ℕ) →
+    Stands job layout words → Fits job layout worker → Knows job layout past worker →
+    let op = ask_of job layout worker in
+    let found = answer words op in
+    Fits job layout (told job layout worker found)
+    × Knows job layout (after past op found) (told job layout worker found)
+    × ((other : Walking) → Knows job layout past other →
+    Knows job layout (after past op found) other)
 
 -- it is still going with these answers, which the record has
 abbrev pub OwnStepsAreBounded : Type 0
 OwnStepsAreBounded =
-    (job : JobData) (y : LayoutData) (r : Record) (w : Walking) (answers : List ℕ) →
-    IsLayoutOf job y → Fits job y w →
-    Sound job y r → Has r (history_of job y w answers) → IsGoing (told_all job y w answers).now →
-    length answers < most_steps job y
+    (job : JobData) (layout : LayoutData) (past : Record) (worker : Walking) (answers : List ℕ) →
+    IsLayoutOf job layout → Fits job layout worker →
+    Sound job layout past → Has past (history_of job layout worker answers) →
+    IsGoing (told_all job layout worker answers).now →
+    length answers < most_steps job layout
 
 -- with these steps the record has them, after what the worker had heard
 abbrev pub HistoriesAreKept : Type 0
-HistoriesAreKept = (job : JobData) (y : LayoutData) (r : Record) (w : Walking) (answers : List ℕ) →
-    Knows job y r w →
-    Has (afters r (steps_of job y w answers)) (history_of job y w answers)
+HistoriesAreKept =
+    (job : JobData) (layout : LayoutData) (past : Record) (worker : Walking) (answers : List ℕ) →
+    Knows job layout past worker →
+    Has (afters past (steps_of job layout worker answers)) (history_of job layout worker answers)
 
 -- it is over
 abbrev pub EndsAreTrue : Type 0
-EndsAreTrue = (job : JobData) (y : LayoutData) (r : Record) (w : Walking) → Sound job y r →
-    Fits job y w → Knows job y r w →
-    (w.now ≡ doing.Over ended.Done → DoneWell job y r)
-    × ((u : ℕ) → w.now ≡ doing.Over (ended.Conflict u) → Heard y r Conflict u × IsConflict job u)
+EndsAreTrue = (job : JobData) (layout : LayoutData) (past : Record) (worker : Walking) →
+    Sound job layout past → Fits job layout worker → Knows job layout past worker →
+    (worker.now ≡ doing.Over ended.Done → DoneWell job layout past)
+    × ((conflict : ℕ) → worker.now ≡ doing.Over (ended.Conflict conflict) →
+    Heard layout past Conflict conflict × IsConflict job conflict)
 
 -- ---- records
 
 abbrev pub RecordsOutliveGrowth : Type 0
-RecordsOutliveGrowth = (job : JobData) (y : LayoutData) (r : Record) (words later : List ℕ) →
-    Backed job y r words → Grows y words later →
-    Backed job y r later × ((other : Record) → Backed job y other later →
-    Backed job y (both r other) later)
+RecordsOutliveGrowth =
+    (job : JobData) (layout : LayoutData) (past : Record) (words later : List ℕ) →
+    Backed job layout past words → Grows layout words later →
+    Backed job layout past later × ((other : Record) → Backed job layout other later →
+    Backed job layout (both past other) later)
 
 abbrev pub LoadsKeepRecords : Type 0
-LoadsKeepRecords = (job : JobData) (y : LayoutData) (r : Record) (k : ℕ) (words : List ℕ) →
-    Stands job y words → Backed job y r words →
-    Backed job y (after r (Load k) (slice_index words k)) words
+LoadsKeepRecords =
+    (job : JobData) (layout : LayoutData) (past : Record) (number : ℕ) (words : List ℕ) →
+    Stands job layout words → Backed job layout past words →
+    Backed job layout (after past (Load number) (slice_index words number)) words
 
 abbrev pub BackedRecordsAreSound : Type 0
-BackedRecordsAreSound = (job : JobData) (y : LayoutData) (r : Record) (words : List ℕ) →
-    Stands job y words → Backed job y r words → Sound job y r
+BackedRecordsAreSound = (job : JobData) (layout : LayoutData) (past : Record) (words : List ℕ) →
+    Stands job layout words → Backed job layout past words → Sound job layout past
 
 abbrev pub KnownStepsAreReached : Type 0
-KnownStepsAreReached = (job : JobData) (y : LayoutData) (r : Record) (t : ℕ) → Sound job y r →
-    KnowsStep y r t → IsReached job t
+KnownStepsAreReached =
+    (job : JobData) (layout : LayoutData) (past : Record) (t : ℕ) → Sound job layout past →
+    KnowsStep layout past t → IsReached job t
 
 -- the step is finished in all later words, and known to all longer records
 abbrev pub KnownStepsLast : Type 0
-KnownStepsLast = (job : JobData) (y : LayoutData) (r : Record) (t : ℕ) (words later : List ℕ) →
-    Stands job y later → Backed job y r words →
-    Grows y words later → KnowsStep y r t →
-    (t ≤ finished y later) × ((op : Op) (found : ℕ) → KnowsStep y (after r op found) t)
+KnownStepsLast =
+    (job : JobData) (layout : LayoutData) (past : Record) (t : ℕ) (words later : List ℕ) →
+    Stands job layout later → Backed job layout past words →
+    Grows layout words later → KnowsStep layout past t →
+    (t ≤ finished layout later) × ((op : Op) (found : ℕ) → KnowsStep layout (after past op found) t)
 
 -- ---- what loads give, after a record
 
 abbrev pub ReadsAreLawful : Type 0
 ReadsAreLawful =
-    (job : JobData) (y : LayoutData) (before : Record) (c step value : ℕ) (answers : List ℕ) →
-    c < y.cells →
-    rest (reader_script y c) answers ≡ ends (At step value) →
-    WasBacked job y (afters before (heard_in (reader_script y c) answers)) →
-    IsLawfulRead job y before (afters before (heard_in (reader_script y c) answers)) c step value
-    × (length (heard_in (reader_script y c) answers) ≤ 5)
+    (job : JobData) (layout : LayoutData)
+    (before : Record) (cell step value : ℕ) (answers : List ℕ) →
+    cell < layout.cells → rest (reader_script layout cell) answers ≡ ends (At step value) →
+    WasBacked job layout (afters before (heard_in (reader_script layout cell) answers)) →
+    IsLawfulRead job layout before
+    (afters before (heard_in (reader_script layout cell) answers)) cell step value
+    × (length (heard_in (reader_script layout cell) answers) ≤ 5)
 
--- the root as a, and then word 0 as u
+-- the root, and then word 0
 abbrev pub ProgressIsTrue : Type 0
-ProgressIsTrue = (job : JobData) (y : LayoutData) (before : Record) (a u : ℕ) → let behind =
-    after (after before (Load (number_of y (Node 1))) a) (Load (number_of y Conflict)) u in
-    WasBacked job y behind → ProgressWell job y before behind (step_seen a u) u
+ProgressIsTrue =
+    (job : JobData) (layout : LayoutData) (before : Record) (root conflict : ℕ) → let later =
+    after (after before (Load (number_of layout (Node 1))) root)
+    (Load (number_of layout Conflict)) conflict in
+    WasBacked job layout later →
+    ProgressWell job layout before later (step_seen root conflict) conflict
 
 -- both words of a place, the last step being known
 abbrev pub FinalValuesAreHeld : Type 0
-FinalValuesAreHeld = (job : JobData) (y : LayoutData) (r : Record) (p a b : ℕ) →
-    KnowsStep y r job.steps → p < places_of y →
-    WasBacked job y (after (after r (Load (number_of y (Stored p 0))) a)
-    (Load (number_of y (Stored p 1))) b) →
-    newer_payload a b ≡ slice_index (state_after job job.steps) p
+FinalValuesAreHeld =
+    (job : JobData) (layout : LayoutData) (past : Record) (place first second : ℕ) →
+    KnowsStep layout past job.steps → place < places_of layout →
+    WasBacked job layout (after (after past (Load (number_of layout (Stored place 0))) first)
+    (Load (number_of layout (Stored place 1))) second) →
+    newer_payload first second ≡ slice_index (state_after job job.steps) place
 
--- a request word, word 0 having been heard as s + 1
+-- a request word, word 0 having been heard as t + 1
 abbrev pub ConflictRequestsAreHeld : Type 0
-ConflictRequestsAreHeld = (job : JobData) (y : LayoutData) (r : Record) (s i j found : ℕ) →
-    Heard y r Conflict (suc s) → i < y.procs → j < 3 →
-    WasBacked job y (after r (Load (number_of y (Asked i j))) found) →
-    (stamp_of found ≡ suc s) × (payload_of found ≡ part_after job s i j)
+ConflictRequestsAreHeld = (job : JobData) (layout : LayoutData) (past : Record) (t i j found : ℕ) →
+    Heard layout past Conflict (suc t) → i < layout.procs → j < 3 →
+    WasBacked job layout (after past (Load (number_of layout (Asked i j))) found) →
+    (stamp_of found ≡ suc t) × (payload_of found ≡ part_after job t i j)

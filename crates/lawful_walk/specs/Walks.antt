@@ -19,46 +19,51 @@ use Rattle.lawful_walk.specs.Seen.{Heard, Shows, KnowsStep, HeardThen}
 
 -- the phase that it is in, or 0, which is over for all words
 abbrev pub phase_now : Doing → ℕ
-phase_now (doing.Turn q) = q
+phase_now (doing.Turn phase) = phase
 phase_now _ = 0
 
--- A step that keeps the words. Where the phase q is over, no word but worker w's position
--- changes: q = 0 for a script of loads.
-pub record Goes (job : JobData) (y : LayoutData) (w q : ℕ) (op : Op) (words : List ℕ) : Type 0 where
-  pub keeps : Keeps job y op words
-  pub stale : q ≤ root y words → (a : Word) → IsWord y a → a ≢ Position w →
-      held y (words_after words op) a ≡ held y words a
+-- A step that keeps the words. Where the phase is over, no word but the worker's position
+-- changes: phase 0 for a script of loads.
+pub record Goes (job : JobData) (layout : LayoutData) (worker phase : ℕ) (op : Op)
+    (words : List ℕ) : Type 0 where
+  pub keeps : Keeps job layout op words
+  pub stale : phase ≤ root layout words →
+      (word : Word) → IsWord layout word → word ≢ Position worker →
+      held layout (words_after words op) word ≡ held layout words word
 
 -- Its next operation goes well, and the words that it leaves bear out the record with it.
-pub record Moves (job : JobData) (y : LayoutData) (r : Record) (w : Walking) (words : List ℕ) :
-    Type 0 where
-  pub goes : Goes job y w.number (phase_now w.now) (ask_of job y w) words
-  pub backed : Backed job y (after r (ask_of job y w) (answer words (ask_of job y w)))
-      (words_after words (ask_of job y w))
+pub record Moves (job : JobData) (layout : LayoutData) (past : Record) (worker : Walking)
+    (words : List ℕ) : Type 0 where
+  pub goes : Goes job layout worker.number (phase_now worker.now) (ask_of job layout worker) words
+  pub backed : Backed job layout
+      (after past (ask_of job layout worker) (answer words (ask_of job layout worker)))
+      (words_after words (ask_of job layout worker))
 
 -- its steps with these answers, the newest first
 abbrev pub steps_of : JobData → LayoutData → Walking → List ℕ → List (Op × ℕ)
-steps_of job y w [] = []
-steps_of job y w (found ∷ earlier) =
-    (ask_of job y (told_all job y w earlier), found) ∷ steps_of job y w earlier
+steps_of job layout worker [] = []
+steps_of job layout worker (found ∷ earlier) =
+    (ask_of job layout (told_all job layout worker earlier), found)
+    ∷ steps_of job layout worker earlier
 
 -- an answer of a read, the record before the read and the one after it being these
-pub record IsLawfulRead (job : JobData) (y : LayoutData) (before behind : Record) (c step value :
-    ℕ) : Type 0 where
+pub record IsLawfulRead (job : JobData) (layout : LayoutData) (before later : Record)
+    (cell step value : ℕ) : Type 0 where
   pub reached : IsReached job step
-  pub holds : value ≡ slice_index (state_after job step) c
-  pub lasts : (t : ℕ) → KnowsStep y before t → t ≤ step
+  pub holds : value ≡ slice_index (state_after job step) cell
+  pub lasts : (t : ℕ) → KnowsStep layout before t → t ≤ step
   -- so is what the loads of this read show of the root and of word 0
-  pub seen : (t : ℕ) → Shows y behind t → t ≤ step
-  pub known : (t : ℕ) × KnowsStep y behind t × (step ≤ t)
-  pub named : (u : ℕ) → u ≢ 0 → Heard y before Conflict u → suc step ≡ u
+  pub seen : (t : ℕ) → Shows layout later t → t ≤ step
+  pub known : (t : ℕ) × KnowsStep layout later t × (step ≤ t)
+  pub named : (conflict : ℕ) → conflict ≢ 0 →
+      Heard layout before Conflict conflict → suc step ≡ conflict
 
 -- ---- what a worker that is over has heard
 
 -- the last step is shown, and word 0 was heard as 0 after the root as 3T
-pub record DoneWell (job : JobData) (y : LayoutData) (r : Record) : Type 0 where
-  pub shows : Shows y r job.steps
-  pub heard : HeardThen y r (Node 1) (3 * job.steps) Conflict 0
+pub record DoneWell (job : JobData) (layout : LayoutData) (past : Record) : Type 0 where
+  pub shows : Shows layout past job.steps
+  pub heard : HeardThen layout past (Node 1) (3 * job.steps) Conflict 0
   pub reached : IsReached job job.steps
 
 -- word 0 was heard as the step of the first conflict, which is one of the job's
@@ -68,11 +73,11 @@ pub record IsConflict (job : JobData) (t : ℕ) : Type 0 where
   pub step : fault.step ≡ t
 
 -- what a load of the root and then one of word 0 say: the step that they show, and a conflict
-pub record ProgressWell (job : JobData) (y : LayoutData) (before behind : Record) (step u : ℕ) :
-    Type 0 where
+pub record ProgressWell (job : JobData) (layout : LayoutData) (before later : Record)
+    (step found : ℕ) : Type 0 where
   pub reached : IsReached job step
-  pub shows : Shows y behind step
-  pub lasts : (t : ℕ) → KnowsStep y before t → t ≤ step
-  pub seen : (t : ℕ) → Shows y behind t → t ≤ step
-  pub named : (v : ℕ) → v ≢ 0 → Heard y before Conflict v → suc step ≡ v
-  pub conflict : u ≢ 0 → IsConflict job u
+  pub shows : Shows layout later step
+  pub lasts : (t : ℕ) → KnowsStep layout before t → t ≤ step
+  pub seen : (t : ℕ) → Shows layout later t → t ≤ step
+  pub named : (value : ℕ) → value ≢ 0 → Heard layout before Conflict value → suc step ≡ value
+  pub conflict : found ≢ 0 → IsConflict job found

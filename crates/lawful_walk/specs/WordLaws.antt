@@ -23,34 +23,35 @@ StartWordsAreLawful = (job : JobData) (form : Form) (workers : ℕ) → IsJob jo
 
 -- what may be written while words stand, in a phase with its floor
 abbrev pub WritesKeepWordsLawful : Type 0
-WritesKeepWordsLawful = (job : JobData) (y : LayoutData) (words : List ℕ) (q x : ℕ) →
-    Stands job y words → 1 ≤ q → q ≤ 3 * job.steps →
-    step_at q ≡ suc x → Floor job y q x words → MayWrite job y words q x
+WritesKeepWordsLawful = (job : JobData) (layout : LayoutData) (words : List ℕ) (phase t : ℕ) →
+    Stands job layout words → 1 ≤ phase → phase ≤ 3 * job.steps →
+    step_at phase ≡ suc t → Floor job layout phase t words → MayWrite job layout words phase t
 
--- Of a place after step x, the newest word that is no newer than x has the value, if there is one.
+-- Of a place after step t, the newest word that is no newer than t has the value, if there is one.
 abbrev pub FinishedStepsAreHeld : Type 0
-FinishedStepsAreHeld = (job : JobData) (y : LayoutData) (words : List ℕ) (x p : ℕ) →
-    Stands job y words → p < places_of y → x ≤ finished y words →
-    (stamp_at y words p 0 ≤ x → x < stamp_at y words p 1 →
-    payload_of (held y words (Stored p 0)) ≡ slice_index (state_after job x) p)
-    × (stamp_at y words p 1 ≤ x → x < stamp_at y words p 0 →
-    payload_of (held y words (Stored p 1)) ≡ slice_index (state_after job x) p)
-    × (stamp_at y words p 0 ≤ x → stamp_at y words p 1 ≤ x →
-    newer_payload (held y words (Stored p 0)) (held y words (Stored p 1))
-    ≡ slice_index (state_after job x) p)
+FinishedStepsAreHeld = (job : JobData) (layout : LayoutData) (words : List ℕ) (t place : ℕ) →
+    Stands job layout words → place < places_of layout → t ≤ finished layout words →
+    (stamp_at layout words place 0 ≤ t → t < stamp_at layout words place 1 →
+    payload_of (held layout words (Stored place 0)) ≡ slice_index (state_after job t) place)
+    × (stamp_at layout words place 1 ≤ t → t < stamp_at layout words place 0 →
+    payload_of (held layout words (Stored place 1)) ≡ slice_index (state_after job t) place)
+    × (stamp_at layout words place 0 ≤ t → stamp_at layout words place 1 ≤ t →
+    newer_payload (held layout words (Stored place 0)) (held layout words (Stored place 1))
+    ≡ slice_index (state_after job t) place)
 
 -- and after the last finished step there is one
 abbrev pub LastFinishedStepIsHeld : Type 0
-LastFinishedStepIsHeld = (job : JobData) (y : LayoutData) (words : List ℕ) (p : ℕ) →
-    Stands job y words → p < places_of y
-    → (stamp_at y words p 0 ≤ finished y words) ⊎ (stamp_at y words p 1 ≤ finished y words)
+LastFinishedStepIsHeld = (job : JobData) (layout : LayoutData) (words : List ℕ) (place : ℕ) →
+    Stands job layout words → place < places_of layout →
+    (stamp_at layout words place 0 ≤ finished layout words)
+    ⊎ (stamp_at layout words place 1 ≤ finished layout words)
 
 -- a record that the words bear out
 abbrev pub BackedIsFaithful : Type 0
-BackedIsFaithful = (job : JobData) (y : LayoutData) (r : Record) (words : List ℕ) →
-    Backed job y r words → Faithful job y r words
+BackedIsFaithful = (job : JobData) (layout : LayoutData) (past : Record) (words : List ℕ) →
+    Backed job layout past words → Faithful job layout past words
 
 -- a sound record, whatever the words have become
 abbrev pub SoundIsFaithful : Type 0
-SoundIsFaithful = (job : JobData) (y : LayoutData) (r : Record) →
-    Sound job y r → FaithfulAnswers job y r
+SoundIsFaithful = (job : JobData) (layout : LayoutData) (past : Record) →
+    Sound job layout past → FaithfulAnswers job layout past

@@ -1,5 +1,7 @@
 -- Lines without a fault are a header, start values, the line `code` and instructions.
-use Rattle.std.proofs.Common.{◌≡◌, ℕ, ◌<◌, ◌≤◌, Bool, true, false, not, ◌==◌, if◌then◌else◌, List, [], ◌∷◌, ◌++◌, length, Option, Some, None, Result, Ok, Err, get_or, refl, sym, ap, subst, ◌∙◌, inl, inr, append_assoc, arith}
+use Rattle.std.proofs.Common.{◌≡◌, ℕ, ◌<◌, ◌≤◌, Bool, true, false, not, ◌==◌, if◌then◌else◌}
+use Rattle.std.proofs.Common.{List, [], ◌∷◌, ◌++◌, length, Option, Some, None, Result, Ok, Err}
+use Rattle.std.proofs.Common.{get_or, refl, sym, ap, subst, ◌∙◌, inl, inr, append_assoc, arith}
 use Rattle.std.specs.List.{list_any}
 use Rattle.std.specs.Result.{result_err}
 use Rattle.std.proofs.lemmas.Bool.{not-false}
@@ -11,16 +13,22 @@ use Rattle.pram_text.specs.declared.instr.Rule.{Rule}
 use Rattle.pram_text.specs.declared.instr.Rule.TheVariants.{Common}
 use Rattle.pram_text.specs.Job.{JobData}
 use Rattle.pram_text.specs.Lines.{Line, is_filled}
-use Rattle.pram_text.specs.Judgement.{version_of, cells_of, procs_of, steps_of, rule_of, is_code, unlabelled, instr_of}
-use Rattle.pram_text.specs.Text.{place_of, code_line, NamesCells, IsLabelled, SpellsHeader, SpellsLines, init_fault, instr_fault, rest_fault, words_fault, names_rule, has_code, body_of, end_fault, label_fault_at}
+use Rattle.pram_text.specs.Judgement.{version_of, cells_of, procs_of, steps_of}
+use Rattle.pram_text.specs.Judgement.{rule_of, is_code, unlabelled, instr_of}
+use Rattle.pram_text.specs.Text.{place_of, code_line, NamesCells, IsLabelled, SpellsHeader}
+use Rattle.pram_text.specs.Text.{SpellsLines, init_fault, instr_fault, rest_fault, words_fault}
+use Rattle.pram_text.specs.Text.{names_rule, has_code, body_of, end_fault, label_fault_at}
 use Rattle.pram_text.proofs.Lists.{NonePasses, none_left, none_at, any_split, grown}
 use Rattle.pram_text.proofs.Said.{said_from_each}
 use Rattle.pram_text.proofs.Inits.{NamesCells-none, NamesCells-more, SpellsInit-from}
 use Rattle.pram_text.proofs.Labels.{IsLabelled-none, IsLabelled-push, instr_fault-none}
-use Rattle.pram_text.proofs.Stages.{version_cases, names_rule_at, code_line_is, rest_fault-inits, rest_fault-body, words_fault-behind, has_code-behind, body_of-body}
+use Rattle.pram_text.proofs.Stages.{version_cases, names_rule_at, code_line_is}
+use Rattle.pram_text.proofs.Stages.{rest_fault-inits, rest_fault-body}
+use Rattle.pram_text.proofs.Stages.{words_fault-after, has_code-after, body_of-body}
 
 abbrev pub EachSplit : List Line → (List Line → Line → Type 0) → Type 0
-EachSplit lines P = (before : List Line) (line : Line) (after : List Line) → lines ≡ before ++ line ∷ after → P before line
+EachSplit lines P = (before : List Line) (line : Line) (after : List Line) →
+    lines ≡ before ++ line ∷ after → P before line
 
 -- each line passes
 abbrev pub Passes : List Line → Type 0
@@ -30,7 +38,8 @@ ok_from_no_err : {A : Type 0} (r : Result A TextKind) → result_err r ≡ None 
 ok_from_no_err (Ok x) e = (x, refl)
 ok_from_no_err (Err kind) e = cc
 
-pub unfaulted : (b : Bool) (kind : TextKind) (o : Option TextKind) → (if b then Some kind else o) ≡ None → (b ≡ false) × (o ≡ None)
+pub unfaulted : (b : Bool) (kind : TextKind) (o : Option TextKind) →
+    (if b then Some kind else o) ≡ None → (b ≡ false) × (o ≡ None)
 unfaulted true kind o e = cc
 unfaulted false kind o e = (refl, e)
 
@@ -68,23 +77,51 @@ has_header (a ∷ b ∷ c ∷ d ∷ lines) passes code =
         header = a ∷ b ∷ c ∷ d ∷ [];
         rest = lines;
         parts = refl;
-        sizes = record { version_line = a; cells_line = b; procs_line = c; steps_line = d; rule_lines = []; parts = refl; version_said = v.1; cells_said = m.1; procs_said = n.1; steps_said = t.1; rule_said = rw one (refl, refl) };
+        sizes = record {
+          version_line = a;
+          cells_line = b;
+          procs_line = c;
+          steps_line = d;
+          rule_lines = [];
+          parts = refl;
+          version_said = v.1;
+          cells_said = m.1;
+          procs_said = n.1;
+          steps_said = t.1;
+          rule_said = rw one (refl, refl);
+        };
       }
-      | inr two ↦ ruled lines (names_rule_at a v.0 v.1 ∙ ap (λ v. v == 2) two) passes code (λ rule first rest said parts. record {
-        version = v.0;
-        cells = m.0;
-        procs = n.0;
-        steps = t.0;
-        rule = rule;
-        header = a ∷ b ∷ c ∷ d ∷ first ∷ [];
-        rest = rest;
-        parts = ap (λ ls. a ∷ b ∷ c ∷ d ∷ ls) parts;
-        sizes = record { version_line = a; cells_line = b; procs_line = c; steps_line = d; rule_lines = first ∷ []; parts = refl; version_said = v.1; cells_said = m.1; procs_said = n.1; steps_said = t.1; rule_said = rw two (first, refl, said) };
-      })
+      | inr two ↦ ruled lines (names_rule_at a v.0 v.1 ∙ ap (λ v. v == 2) two) passes code
+          (λ rule first rest said parts. record {
+            version = v.0;
+            cells = m.0;
+            procs = n.0;
+            steps = t.0;
+            rule = rule;
+            header = a ∷ b ∷ c ∷ d ∷ first ∷ [];
+            rest = rest;
+            parts = ap (λ ls. a ∷ b ∷ c ∷ d ∷ ls) parts;
+            sizes = record {
+              version_line = a;
+              cells_line = b;
+              procs_line = c;
+              steps_line = d;
+              rule_lines = first ∷ [];
+              parts = refl;
+              version_said = v.1;
+              cells_said = m.1;
+              procs_said = n.1;
+              steps_said = t.1;
+              rule_said = rw two (first, refl, said);
+            };
+          })
     ]
   where
-    ruled : (lines : List Line) → names_rule a ≡ true → Passes (a ∷ b ∷ c ∷ d ∷ lines) → list_any is_code lines ≡ true
-        → ((rule : Rule) (first : Line) (rest : List Line) → rule_of first ≡ Ok rule → lines ≡ first ∷ rest → HasHeader (a ∷ b ∷ c ∷ d ∷ lines)) → HasHeader (a ∷ b ∷ c ∷ d ∷ lines)
+    ruled : (lines : List Line) → names_rule a ≡ true →
+        Passes (a ∷ b ∷ c ∷ d ∷ lines) → list_any is_code lines ≡ true →
+        ((rule : Rule) (first : Line) (rest : List Line) →
+        rule_of first ≡ Ok rule → lines ≡ first ∷ rest → HasHeader (a ∷ b ∷ c ∷ d ∷ lines)) →
+        HasHeader (a ∷ b ∷ c ∷ d ∷ lines)
     ruled [] named passes code make = cc
     ruled (first ∷ rest) named passes code make =
         let one = passes (a ∷ b ∷ c ∷ d ∷ []) first rest refl in
@@ -113,16 +150,26 @@ pub record HasParts (lines : List Line) : Type 0 where
 pub has_parts : (lines : List Line) → Passes lines → has_code lines ≡ true → HasParts lines
 has_parts lines passes code =
     let h = has_header lines passes code in
-    let cut = any_split is_code h.rest (sym (ap has_code h.parts ∙ has_code-behind _ _ _ _ _ h.header h.sizes h.rest) ∙ code) in
-    let rest : h.rest ≡ cut.0 ++ code_line ∷ cut.2 = cut.3 ∙ ap (λ l. cut.0 ++ l ∷ cut.2) (code_line_is cut.1 cut.5) in
-    let behind : EachSplit (cut.0 ++ code_line ∷ cut.2) (λ before line. rest_fault h.cells before line ≡ None) = λ before line after e.
-    sym (words_fault-behind _ _ _ _ _ h.header h.sizes before line)
-    ∙ passes (h.header ++ before) line after (h.parts ∙ ap (λ ls. h.header ++ ls) (rest ∙ e) ∙ sym (append_assoc h.header before (line ∷ after))) in
-    let inits : EachSplit cut.0 (λ before line. init_fault h.cells before line ≡ None) = λ before line after e.
+    let cut = any_split is_code h.rest
+    (sym (ap has_code h.parts ∙ has_code-after _ _ _ _ _ h.header h.sizes h.rest) ∙ code) in
+    let rest : h.rest ≡ cut.0 ++ code_line ∷ cut.2 =
+    cut.3 ∙ ap (λ l. cut.0 ++ l ∷ cut.2) (code_line_is cut.1 cut.5) in
+    let later : EachSplit (cut.0 ++ code_line ∷ cut.2)
+    (λ before line. rest_fault h.cells before line ≡ None) = λ before line after e.
+    sym (words_fault-after _ _ _ _ _ h.header h.sizes before line)
+    ∙ passes (h.header ++ before) line after (h.parts ∙ ap (λ ls. h.header ++ ls) (rest ∙ e)
+    ∙ sym (append_assoc h.header before (line ∷ after))) in
+    let inits : EachSplit cut.0 (λ before line. init_fault h.cells before line ≡ None) =
+    λ before line after e.
     let none = subst (NonePasses is_code) e cut.4 in
-    sym (rest_fault-inits h.cells before line (none_left is_code before (line ∷ after) none) ∙ ap (λ b. if b then None else init_fault h.cells before line) (none_at is_code before line after none))
-    ∙ behind before line (after ++ code_line ∷ cut.2) (ap (λ ls. ls ++ code_line ∷ cut.2) e ∙ append_assoc before (line ∷ after) (code_line ∷ cut.2)) in
-    let named = grown (λ ls. (pairs : List (ℕ × ℕ)) × NamesCells h.cells ls pairs) cut.0 ([], NamesCells-none h.cells) (λ before line after e more. NamesCells-more h.cells before line more (inits before line after e)) in
+    sym (rest_fault-inits h.cells before line (none_left is_code before (line ∷ after) none)
+    ∙ ap (λ b. if b then None else init_fault h.cells before line)
+    (none_at is_code before line after none))
+    ∙ later before line (after ++ code_line ∷ cut.2) (ap (λ ls. ls ++ code_line ∷ cut.2) e
+    ∙ append_assoc before (line ∷ after) (code_line ∷ cut.2)) in
+    let named = grown (λ ls. (pairs : List (ℕ × ℕ)) × NamesCells h.cells ls pairs) cut.0
+    ([], NamesCells-none h.cells) (λ before line after e more.
+    NamesCells-more h.cells before line more (inits before line after e)) in
     record {
       version = h.version;
       cells = h.cells;
@@ -137,31 +184,48 @@ has_parts lines passes code =
       pairs = named.0;
       named = named.1;
       passes = λ before line after e. sym (rest_fault-body h.cells cut.0 before line cut.4)
-          ∙ behind (cut.0 ++ code_line ∷ before) line after (ap (λ ls. cut.0 ++ code_line ∷ ls) e ∙ sym (append_assoc cut.0 (code_line ∷ before) (line ∷ after)));
-      is_body = ap body_of (h.parts ∙ ap (λ ls. h.header ++ ls) rest) ∙ body_of-body _ _ _ _ _ h.header h.sizes cut.0 cut.2 cut.4;
+          ∙ later (cut.0 ++ code_line ∷ before) line after (ap (λ ls. cut.0 ++ code_line ∷ ls) e
+          ∙ sym (append_assoc cut.0 (code_line ∷ before) (line ∷ after)));
+      is_body = ap body_of (h.parts ∙ ap (λ ls. h.header ++ ls) rest)
+          ∙ body_of-body _ _ _ _ _ h.header h.sizes cut.0 cut.2 cut.4;
     }
 
 -- ---- where all labels are known, too
 
-pub ends : (lines : List Line) → end_fault lines ≡ None → (has_code lines ≡ true) × (is_filled (body_of lines) ≡ true)
+pub ends : (lines : List Line) → end_fault lines ≡ None →
+    (has_code lines ≡ true) × (is_filled (body_of lines) ≡ true)
 unfolding end_fault
 ends lines e =
-    let parts = unfaulted (not (has_code lines)) BadHeader (if is_filled (body_of lines) then None else Some NoCode) e in
+    let parts = unfaulted (not (has_code lines)) BadHeader
+    (if is_filled (body_of lines) then None else Some NoCode) e in
     (not-false (has_code lines) parts.0, filled (is_filled (body_of lines)) parts.1)
   where
     filled : (b : Bool) → (if b then None else Some NoCode) ≡ None → b ≡ true
     filled true f = refl
     filled false f = cc
 
-pub lines_spell : (lines : List Line) → Passes lines → end_fault lines ≡ None → ((k : ℕ) → k < length (body_of lines) → label_fault_at (body_of lines) k ≡ None) → (job : JobData) × SpellsLines job lines
+pub lines_spell : (lines : List Line) → Passes lines → end_fault lines ≡ None →
+    ((k : ℕ) → k < length (body_of lines) → label_fault_at (body_of lines) k ≡ None) →
+    (job : JobData) × SpellsLines job lines
 lines_spell lines passes e known =
     let end = ends lines e in
     let p = has_parts lines passes end.0 in
-    let says : Line → Result Instr TextKind = λ line. instr_of (place_of p.body) (unlabelled line) in
-    let known' : (k : ℕ) → k < length p.body → label_fault_at p.body k ≡ None = subst (λ ls. (k : ℕ) → k < length ls → label_fault_at ls k ≡ None) p.is_body known in
-    let code = said_from_each says p.body (λ k d lt. subst (λ line. (i : Instr) × (says line ≡ Ok i)) (get_or_default p.body k [] d lt) (ok_from_no_err (says (get_or p.body k [])) (known' k lt))) in
+    let says : Line → Result Instr TextKind =
+    λ line. instr_of (place_of p.body) (unlabelled line) in
+    let known' : (k : ℕ) → k < length p.body → label_fault_at p.body k ≡ None =
+    subst (λ ls. (k : ℕ) → k < length ls → label_fault_at ls k ≡ None) p.is_body known in
+    let code =
+    said_from_each says p.body (λ k d lt. subst (λ line. (i : Instr) × (says line ≡ Ok i))
+    (get_or_default p.body k [] d lt) (ok_from_no_err (says (get_or p.body k [])) (known' k lt))) in
     let init = SpellsInit-from p.cells p.inits p.pairs p.named in (
-      record { rule = p.rule; cells = p.cells; procs = p.procs; steps = p.steps; init = _; code = code.0 },
+      record {
+        rule = p.rule;
+        cells = p.cells;
+        procs = p.procs;
+        steps = p.steps;
+        init = _;
+        code = code.0;
+      },
       record {
         version = p.version;
         header = p.header;
@@ -172,7 +236,9 @@ lines_spell lines passes e known =
         init = init;
         code = record {
           some = some p.body (subst (λ ls. is_filled ls ≡ true) p.is_body end.1);
-          labelled = grown IsLabelled p.body IsLabelled-none (λ before line after f h. let fine = instr_fault-none before line (p.passes before line after f) in IsLabelled-push before line h fine.0 fine.1);
+          labelled = grown IsLabelled p.body IsLabelled-none (λ before line after f h.
+              let fine = instr_fault-none before line (p.passes before line after f) in
+              IsLabelled-push before line h fine.0 fine.1);
           said = code.1;
         };
       },

@@ -1,5 +1,8 @@
 -- A text that spells a job bears no fault: its lines by themselves.
-use Rattle.std.proofs.Common.{◌≡◌, ◌≢◌, ◌⊎◌, ℕ, ◌<◌, Bool, true, false, not, ◌==◌, if◌then◌else◌, List, [], ◌∷◌, ◌++◌, length, map, codes, bytes_eq, All, AllPairs, IsTrue, IfSome, Option, Some, None, Result, Ok, Err, ok_or, refl, sym, ap, subst, ◌∙◌, inl, inr, append-nil, arith}
+use Rattle.std.proofs.Common.{◌≡◌, ◌≢◌, ◌⊎◌, ℕ, ◌<◌, Bool, true, false, not, ◌==◌, if◌then◌else◌}
+use Rattle.std.proofs.Common.{List, [], ◌∷◌, ◌++◌, length, map, codes, bytes_eq, All, AllPairs}
+use Rattle.std.proofs.Common.{IsTrue, IfSome, Option, Some, None, Result, Ok, Err, ok_or, refl}
+use Rattle.std.proofs.Common.{sym, ap, subst, ◌∙◌, inl, inr, append-nil, arith}
 use Rattle.std.specs.List.{AllByRecursion, list_any}
 use Rattle.std.specs.Result.{result_err}
 use Rattle.std.proofs.lemmas.Bool.{cond-false, false_from_ne_true, ne_eqb}
@@ -7,128 +10,177 @@ use Rattle.std.proofs.lemmas.List.{length-append}
 use Rattle.std.proofs.lemmas.List.Elements.{recursion_from_All}
 use Rattle.std.proofs.lemmas.Slice.Eq.{bytes_eq-Decides}
 use Rattle.pram_text.specs.declared.fault.TextKind.{TextKind}
-use Rattle.pram_text.specs.declared.fault.TextKind.TheVariants.{BadHeader, UnknownInstruction, DuplicateLabel, UnknownLabel}
+use Rattle.pram_text.specs.declared.fault.TextKind.TheVariants.{BadHeader, UnknownInstruction}
+use Rattle.pram_text.specs.declared.fault.TextKind.TheVariants.{DuplicateLabel, UnknownLabel}
 use Rattle.pram_text.specs.declared.instr.Instr.{Instr}
-use Rattle.pram_text.specs.Instructions.{Form, bare, target, target_number, target_one, target_two, pair, one_place, at_place, table}
+use Rattle.pram_text.specs.Instructions.{Form, bare, target, target_number, target_one}
+use Rattle.pram_text.specs.Instructions.{target_two, pair, one_place, at_place, table}
 use Rattle.pram_text.specs.declared.instr.Rule.{Rule}
 use Rattle.pram_text.specs.declared.limits.TheConstants.{MAX_CODE}
 use Rattle.pram_text.specs.Job.{JobData}
 use Rattle.pram_text.specs.Lines.{Word, Line}
-use Rattle.pram_text.specs.Judgement.{◌>>=◌, version_of, cells_of, procs_of, steps_of, rule_of, init_of, is_code, label_of, unlabelled, is_name, register_of, no_operand, one_register, two_registers, three_registers, register_number, one_label, register_label, place_in, instr_of, instr_by, made_of}
-use Rattle.pram_text.specs.Text.{is_named, new_label_fault, defines, place_of, code_line, NamesCells, SpellsInit, SpellsCode, SpellsRule, SpellsHeader, SpellsLines, names_rule, init_fault, label_fault, instr_fault, rest_fault, words_fault}
-use Rattle.pram_text.proofs.Lists.{split_of_append, NonePasses, none_left, none_at, any_none, all_at, pairs_at, pairs_before}
+use Rattle.pram_text.specs.Judgement.{◌>>=◌, version_of, cells_of, procs_of, steps_of, rule_of}
+use Rattle.pram_text.specs.Judgement.{init_of, is_code, label_of, unlabelled, is_name}
+use Rattle.pram_text.specs.Judgement.{register_of, no_operand, one_register, two_registers}
+use Rattle.pram_text.specs.Judgement.{three_registers, register_number, one_label}
+use Rattle.pram_text.specs.Judgement.{register_label, place_in, instr_of, instr_by, made_of}
+use Rattle.pram_text.specs.Text.{is_named, new_label_fault, defines, place_of, code_line}
+use Rattle.pram_text.specs.Text.{NamesCells, SpellsInit, SpellsCode, SpellsRule}
+use Rattle.pram_text.specs.Text.{SpellsHeader, SpellsLines, names_rule, init_fault}
+use Rattle.pram_text.specs.Text.{label_fault, instr_fault, rest_fault, words_fault}
+use Rattle.pram_text.proofs.Lists.{split_of_append, NonePasses, none_left, none_at}
+use Rattle.pram_text.proofs.Lists.{any_none, all_at, pairs_at, pairs_before}
 use Rattle.pram_text.proofs.Said.{said_around}
 use Rattle.pram_text.proofs.Inits.{init_fault-ok}
 use Rattle.pram_text.proofs.Labels.{instr_fault-rest}
-use Rattle.pram_text.proofs.Stages.{version_cases, names_rule_at, none_named, code_line_is_code, rest_fault-inits, rest_fault-body, words_fault-behind}
+use Rattle.pram_text.proofs.Stages.{version_cases, names_rule_at, none_named, code_line_is_code}
+use Rattle.pram_text.proofs.Stages.{rest_fault-inits, rest_fault-body, words_fault-after}
 
 -- ---- start values
 
-unnamed : (n : ℕ) (pairs : List (ℕ × ℕ)) → AllByRecursion (λ p. p.0 ≢ n) pairs → NonePasses (λ c. c == n) (map (λ p. p.0) pairs)
+unnamed : (n : ℕ) (pairs : List (ℕ × ℕ)) → AllByRecursion (λ p. p.0 ≢ n) pairs →
+    NonePasses (λ c. c == n) (map (λ p. p.0) pairs)
 unnamed n [] h = tt
 unnamed n (p ∷ pairs) h = (ne_eqb p.0 n h.0, unnamed n pairs h.1)
 
-init_passes : (cells : ℕ) (before : List Line) (line : Line) (after : List Line) (init : List ℕ) → SpellsInit cells (before ++ line ∷ after) init → init_fault cells before line ≡ None
+init_passes : (cells : ℕ) (before : List Line) (line : Line) (after : List Line) (init : List ℕ) →
+    SpellsInit cells (before ++ line ∷ after) init → init_fault cells before line ≡ None
 init_passes cells before line after init s =
     let a = said_around (init_of cells) before line after s.pairs s.named.said in
     let R : ℕ × ℕ → ℕ × ℕ → Type 0 = λ p q. p.0 ≢ q.0 in
     let pairs = subst (AllPairs R) a.parts s.named.once in
-    let new = any_none (λ c. c == a.value.0) (map (λ p. p.0) a.front) (unnamed a.value.0 a.front (recursion_from_All (λ (p : ℕ × ℕ). p.0 ≢ a.value.0) a.front (pairs_at R a.front a.value a.back pairs))) in
-    let named : NamesCells cells before a.front = record { said = a.said_front; once = pairs_before R a.front (a.value ∷ a.back) pairs } in
-    init_fault-ok cells before a.front line a.value named a.said_value ∙ ap (λ b. if b then Some BadHeader else None) new
+    let new = any_none (λ c. c == a.value.0) (map (λ p. p.0) a.front) (unnamed a.value.0 a.front
+    (recursion_from_All (λ (p : ℕ × ℕ). p.0 ≢ a.value.0) a.front
+    (pairs_at R a.front a.value a.back pairs))) in
+    let named : NamesCells cells before a.front =
+    record { said = a.said_front; once = pairs_before R a.front (a.value ∷ a.back) pairs } in
+    init_fault-ok cells before a.front line a.value named a.said_value
+    ∙ ap (λ b. if b then Some BadHeader else None) new
 
 -- ---- instructions
 
 -- They have one fault, or the first has that of an unknown label and the second none.
 pub record Follows (r s : Result Instr TextKind) : Type 0 where
-  pub same : (result_err r ≡ result_err s) ⊎ ((result_err r ≡ Some UnknownLabel) × (result_err s ≡ None))
+  pub same : (result_err r ≡ result_err s)
+      ⊎ ((result_err r ≡ Some UnknownLabel) × (result_err s ≡ None))
 
 follows_same : (r : Result Instr TextKind) → Follows r r
 follows_same r = record { same = inl refl }
 
-either : (b : Bool) (x y x' y' : Result Instr TextKind) → Follows x x' → Follows y y' → Follows (if b then x else y) (if b then x' else y')
+either : (b : Bool) (x y x' y' : Result Instr TextKind) → Follows x x' → Follows y y' →
+    Follows (if b then x else y) (if b then x' else y')
 either true x y x' y' p q = p
 either false x y x' y' p q = q
 
-place_follows : (o : Option ℕ) (make : ℕ → Instr) → Follows (ok_or o UnknownLabel >>= λ place. Ok (make place)) (Ok (make 0))
+place_follows : (o : Option ℕ) (make : ℕ → Instr) →
+    Follows (ok_or o UnknownLabel >>= λ place. Ok (make place)) (Ok (make 0))
 place_follows None make = record { same = inr (refl, refl) }
 place_follows (Some place) make = record { same = inl refl }
 
-label_follows : (find : Word → Option ℕ) (make : ℕ → Instr) (operands : Line) → Follows (one_label find make operands) (one_label (λ label. Some 0) make operands)
+label_follows : (find : Word → Option ℕ) (make : ℕ → Instr) (operands : Line) →
+    Follows (one_label find make operands) (one_label (λ label. Some 0) make operands)
 label_follows find make (label ∷ []) = place_follows (find label) make
 label_follows find make _ = follows_same _
 
-jump_follows : (find : Word → Option ℕ) (make : ℕ → ℕ → Instr) (operands : Line) → Follows (register_label find make operands) (register_label (λ label. Some 0) make operands)
+jump_follows : (find : Word → Option ℕ) (make : ℕ → ℕ → Instr) (operands : Line) →
+    Follows (register_label find make operands) (register_label (λ label. Some 0) make operands)
 jump_follows find make (r ∷ label ∷ []) = go (register_of r)
   where
-    go : (o : Result ℕ TextKind) → Follows (o >>= λ r'. place_in find label >>= λ place. Ok (make r' place)) (o >>= λ r'. place_in (λ label. Some 0) label >>= λ place. Ok (make r' place))
+    go : (o : Result ℕ TextKind) →
+        Follows (o >>= λ r'. place_in find label >>= λ place. Ok (make r' place))
+        (o >>= λ r'. place_in (λ label. Some 0) label >>= λ place. Ok (make r' place))
     go (Ok r') = place_follows (find label) (make r')
     go (Err kind) = follows_same (Err kind)
 jump_follows find make _ = follows_same _
 
-form_follows : (find : Word → Option ℕ) (form : Form) (operands : Line) → Follows (made_of find form operands) (made_of (λ label. Some 0) form operands)
+form_follows : (find : Word → Option ℕ) (form : Form) (operands : Line) →
+    Follows (made_of find form operands) (made_of (λ label. Some 0) form operands)
 form_follows find (one_place make) operands = jump_follows find make operands
 form_follows find (at_place make) operands = label_follows find make operands
 form_follows find _ operands = follows_same _
 
-rows_follow : (find : Word → Option ℕ) (rows : List (Word × Form)) (name : Word) (operands : Line) → Follows (instr_by rows find name operands) (instr_by rows (λ label. Some 0) name operands)
+rows_follow : (find : Word → Option ℕ) (rows : List (Word × Form)) (name : Word) (operands : Line) →
+    Follows (instr_by rows find name operands) (instr_by rows (λ label. Some 0) name operands)
 rows_follow find [] name operands = follows_same _
-rows_follow find (row ∷ rows) name operands = either (bytes_eq name row.0) _ _ _ _ (form_follows find row.1 operands) (rows_follow find rows name operands)
+rows_follow find (row ∷ rows) name operands = either (bytes_eq name row.0) _ _ _ _
+    (form_follows find row.1 operands) (rows_follow find rows name operands)
 
-pub instr_follows : (find : Word → Option ℕ) (line : Line) → Follows (instr_of find line) (instr_of (λ label. Some 0) line)
+pub instr_follows : (find : Word → Option ℕ) (line : Line) →
+    Follows (instr_of find line) (instr_of (λ label. Some 0) line)
 unfolding instr_of
 instr_follows find [] = follows_same _
 instr_follows find (name ∷ operands) = rows_follow find table name operands
 
 -- what is an instruction with these places has no fault with any
-known_passes : (find : Word → Option ℕ) (line : Line) (instr : Instr) → instr_of find line ≡ Ok instr → result_err (instr_of (λ label. Some 0) line) ≡ None
+known_passes : (find : Word → Option ℕ) (line : Line) (instr : Instr) →
+    instr_of find line ≡ Ok instr → result_err (instr_of (λ label. Some 0) line) ≡ None
 known_passes find line instr e = elim (instr_follows find line).same [
   | inl same ↦ sym same ∙ ap result_err e
   | inr unknown ↦ let none = ap result_err e in let some = unknown.0 in cc
 ]
 
-undefined : (name : Word) (line : Line) → (label_of line ≡ Some name → ⊥) → defines name line ≡ false
+undefined : (name : Word) (line : Line) →
+    (label_of line ≡ Some name → ⊥) → defines name line ≡ false
 undefined name line h = go (label_of line) h
   where
     go : (o : Option Word) → (o ≡ Some name → ⊥) → is_named o name ≡ false
     go None h = refl
-    go (Some label) h = false_from_ne_true (bytes_eq label name) (λ e. h (ap (λ l. Some l) ((bytes_eq-Decides label name).0 e)))
+    go (Some label) h = false_from_ne_true (bytes_eq label name)
+        (λ e. h (ap (λ l. Some l) ((bytes_eq-Decides label name).0 e)))
 
-undefined_all : (name : Word) (body : List Line) → AllByRecursion (λ line. label_of line ≡ Some name → ⊥) body → NonePasses (defines name) body
+undefined_all : (name : Word) (body : List Line) →
+    AllByRecursion (λ line. label_of line ≡ Some name → ⊥) body → NonePasses (defines name) body
 undefined_all name [] h = tt
 undefined_all name (line ∷ body) h = (undefined name line h.0, undefined_all name body h.1)
 
-label_passes : (before : List Line) (line : Line) (after : List Line) (code : List Instr) → SpellsCode (before ++ line ∷ after) code → label_fault before line ≡ None
+label_passes : (before : List Line) (line : Line) (after : List Line) (code : List Instr) →
+    SpellsCode (before ++ line ∷ after) code → label_fault before line ≡ None
 unfolding label_fault
 label_passes before line after code s = go (label_of line) refl
   where
     named : IfSome (label_of line) (λ label. IsTrue (is_name label))
-    named = all_at (λ line. IfSome (label_of line) (λ label. IsTrue (is_name label))) before line after s.labelled.names
+    named = all_at (λ line. IfSome (label_of line) (λ label. IsTrue (is_name label)))
+        before line after s.labelled.names
 
     once : All (λ a. (label : Word) → label_of a ≡ Some label → label_of line ≢ Some label) before
-    once = pairs_at (λ a b. (label : Word) → label_of a ≡ Some label → label_of b ≢ Some label) before line after s.labelled.once
+    once = pairs_at (λ a b. (label : Word) → label_of a ≡ Some label → label_of b ≢ Some label)
+        before line after s.labelled.once
 
-    go : (o : Option Word) → label_of line ≡ o → new_label_fault (λ label. list_any (defines label) before) o ≡ None
+    go : (o : Option Word) → label_of line ≡ o →
+        new_label_fault (λ label. list_any (defines label) before) o ≡ None
     go None e = refl
     go (Some label) e =
-        let good : IsTrue (is_name label) = subst (λ o. IfSome o (λ label. IsTrue (is_name label))) e named in
-        let other = recursion_from_All (λ a. label_of a ≡ Some label → ⊥) before (λ k d lt f. once k d lt label f e) in
-        ap (λ b. if not b then Some UnknownInstruction else (if list_any (defines label) before then Some DuplicateLabel else None)) good
-        ∙ cond-false _ (Some DuplicateLabel) None (any_none (defines label) before (undefined_all label before other))
+        let good : IsTrue (is_name label) =
+        subst (λ o. IfSome o (λ label. IsTrue (is_name label))) e named in
+        let other = recursion_from_All (λ a. label_of a ≡ Some label → ⊥) before
+        (λ k d lt f. once k d lt label f e) in
+        ap (λ b. if not b then Some UnknownInstruction
+        else (if list_any (defines label) before then Some DuplicateLabel else None)) good
+        ∙ cond-false _ (Some DuplicateLabel) None
+        (any_none (defines label) before (undefined_all label before other))
 
-instr_passes : (before : List Line) (line : Line) (after : List Line) (code : List Instr) → SpellsCode (before ++ line ∷ after) code → instr_fault before line ≡ None
+instr_passes : (before : List Line) (line : Line) (after : List Line) (code : List Instr) →
+    SpellsCode (before ++ line ∷ after) code → instr_fault before line ≡ None
 instr_passes before line after code s =
-    let a = said_around (λ (l : Line). instr_of (place_of (before ++ line ∷ after)) (unlabelled l)) before line after code s.said in
-    let few : length before < MAX_CODE = omega (arith, s.labelled.few, length-append before (line ∷ after)) in
-    instr_fault-rest before line few (label_passes before line after code s) ∙ known_passes (place_of (before ++ line ∷ after)) (unlabelled line) a.value a.said_value
+    let a = said_around (λ (l : Line). instr_of (place_of (before ++ line ∷ after)) (unlabelled l))
+    before line after code s.said in
+    let few : length before < MAX_CODE =
+    omega (arith, s.labelled.few, length-append before (line ∷ after)) in
+    instr_fault-rest before line few (label_passes before line after code s)
+    ∙ known_passes (place_of (before ++ line ∷ after)) (unlabelled line) a.value a.said_value
 
 -- ---- all lines with words
 
-header_passes : (version cells procs steps : ℕ) (rule : Rule) (header before : List Line) (line : Line) (after : List Line) → SpellsHeader version cells procs steps rule header → header ≡ before ++ line ∷ after → words_fault before line ≡ None
+header_passes : (version cells procs steps : ℕ) (rule : Rule) (header before : List Line)
+    (line : Line) (after : List Line) → SpellsHeader version cells procs steps rule header →
+    header ≡ before ++ line ∷ after → words_fault before line ≡ None
 unfolding words_fault
-header_passes version cells procs steps rule header before line after h e = go before (sym h.parts ∙ e)
+header_passes version cells procs steps rule header before line after h e =
+    go before (sym h.parts ∙ e)
   where
-    go : (before : List Line) → h.version_line ∷ h.cells_line ∷ h.procs_line ∷ h.steps_line ∷ h.rule_lines ≡ before ++ line ∷ after → words_fault before line ≡ None
+    go : (before : List Line) →
+        h.version_line ∷ h.cells_line ∷ h.procs_line ∷ h.steps_line ∷ h.rule_lines
+        ≡ before ++ line ∷ after → words_fault before line ≡ None
     go [] f =
         let same : line ≡ h.version_line = cc in
         ap (λ l. result_err (version_of l)) same ∙ ap result_err h.version_said
@@ -145,48 +197,67 @@ header_passes version cells procs steps rule header before line after h e = go b
         let first : h.version_line ≡ a = cc in
         let ruled : h.rule_lines ≡ before ++ line ∷ after = cc in
         elim (version_cases h.version_line version h.version_said) [
-          | inl one ↦ no_line before (sym (subst (λ v. SpellsRule v rule h.rule_lines) one h.rule_said).0 ∙ ruled)
+          | inl one ↦ no_line before
+              (sym (subst (λ v. SpellsRule v rule h.rule_lines) one h.rule_said).0 ∙ ruled)
           | inr two ↦
               let some = subst (λ v. SpellsRule v rule h.rule_lines) two h.rule_said in
-              let named : names_rule a ≡ true = names_rule_at a version (ap version_of (sym first) ∙ h.version_said) ∙ ap (λ v. v == 2) two in
+              let named : names_rule a ≡ true = names_rule_at a version
+              (ap version_of (sym first) ∙ h.version_said) ∙ ap (λ v. v == 2) two in
               one_line before (sym some.1 ∙ ruled) some.2 named
         ]
       where
-        no_line : (before : List Line) → [] ≡ before ++ line ∷ after → words_fault (a ∷ b ∷ c ∷ d ∷ before) line ≡ None
+        no_line : (before : List Line) → [] ≡ before ++ line ∷ after →
+            words_fault (a ∷ b ∷ c ∷ d ∷ before) line ≡ None
         no_line [] g = cc
         no_line (x ∷ before) g = cc
 
-        one_line : (before : List Line) {first : Line} → first ∷ [] ≡ before ++ line ∷ after → rule_of first ≡ Ok rule → names_rule a ≡ true → words_fault (a ∷ b ∷ c ∷ d ∷ before) line ≡ None
+        one_line : (before : List Line) {first : Line} →
+            first ∷ [] ≡ before ++ line ∷ after → rule_of first ≡ Ok rule → names_rule a ≡ true →
+            words_fault (a ∷ b ∷ c ∷ d ∷ before) line ≡ None
         one_line [] {first} g said named =
             let same : line ≡ first = cc in
             rw (named, same, said) refl
         one_line (x ∷ []) g said named = cc
         one_line (x ∷ y ∷ before) g said named = cc
 
-rest_passes : (job : JobData) (lines : List Line) (s : SpellsLines job lines) (before : List Line) (line : Line) (after : List Line) → s.inits ++ code_line ∷ s.body ≡ before ++ line ∷ after → rest_fault job.cells before line ≡ None
-rest_passes job lines s before line after e = elim (split_of_append s.inits (code_line ∷ s.body) before line after e) [
-  | inl start ↦
-      let none' = subst (NonePasses is_code) start.1 none in
-      rest_fault-inits job.cells before line (none_left is_code before (line ∷ start.0) none')
-      ∙ ap (λ b. if b then None else init_fault job.cells before line) (none_at is_code before line start.0 none')
-      ∙ init_passes job.cells before line start.0 job.init (subst (λ l. SpellsInit job.cells l job.init) start.1 s.init)
-  | inr later ↦ ap (λ ls. rest_fault job.cells ls line) later.1 ∙ go later.0 later.2
-]
+rest_passes : (job : JobData) (lines : List Line) (s : SpellsLines job lines) (before : List Line)
+    (line : Line) (after : List Line) → s.inits ++ code_line ∷ s.body ≡ before ++ line ∷ after →
+    rest_fault job.cells before line ≡ None
+rest_passes job lines s before line after e =
+    elim (split_of_append s.inits (code_line ∷ s.body) before line after e) [
+      | inl start ↦
+          let none' = subst (NonePasses is_code) start.1 none in
+          rest_fault-inits job.cells before line (none_left is_code before (line ∷ start.0) none')
+          ∙ ap (λ b. if b then None else init_fault job.cells before line)
+          (none_at is_code before line start.0 none')
+          ∙ init_passes job.cells before line start.0 job.init
+          (subst (λ l. SpellsInit job.cells l job.init) start.1 s.init)
+      | inr later ↦ ap (λ ls. rest_fault job.cells ls line) later.1 ∙ go later.0 later.2
+    ]
   where
     none : NonePasses is_code s.inits
     none = none_named job.cells s.inits s.init.pairs s.init.named
 
-    go : (more : List Line) → code_line ∷ s.body ≡ more ++ line ∷ after → rest_fault job.cells (s.inits ++ more) line ≡ None
+    go : (more : List Line) → code_line ∷ s.body ≡ more ++ line ∷ after →
+        rest_fault job.cells (s.inits ++ more) line ≡ None
     go [] f =
         let same : line ≡ code_line = cc in
-        ap (λ ls. rest_fault job.cells ls line) (append-nil s.inits) ∙ rest_fault-inits job.cells s.inits line none ∙ ap (λ b. if b then None else init_fault job.cells s.inits line) (ap is_code same ∙ code_line_is_code)
+        ap (λ ls. rest_fault job.cells ls line) (append-nil s.inits) ∙ rest_fault-inits job.cells
+        s.inits line none ∙ ap (λ b. if b then None else init_fault job.cells s.inits line)
+        (ap is_code same ∙ code_line_is_code)
     go (c ∷ more) f =
         let same : c ≡ code_line = cc in
         let body : s.body ≡ more ++ line ∷ after = cc in
-        ap (λ l. rest_fault job.cells (s.inits ++ l ∷ more) line) same ∙ rest_fault-body job.cells s.inits more line none ∙ instr_passes more line after job.code (subst (λ l. SpellsCode l job.code) body s.code)
+        ap (λ l. rest_fault job.cells (s.inits ++ l ∷ more) line) same
+        ∙ rest_fault-body job.cells s.inits more line none
+        ∙ instr_passes more line after job.code (subst (λ l. SpellsCode l job.code) body s.code)
 
-pub words_pass : (job : JobData) (lines before : List Line) (line : Line) (after : List Line) → SpellsLines job lines → lines ≡ before ++ line ∷ after → words_fault before line ≡ None
-words_pass job lines before line after s e = elim (split_of_append s.header (s.inits ++ code_line ∷ s.body) before line after (sym s.parts ∙ e)) [
-  | inl front ↦ header_passes s.version job.cells job.procs job.steps job.rule s.header before line front.0 s.sizes front.1
-  | inr later ↦ ap (λ ls. words_fault ls line) later.1 ∙ words_fault-behind _ _ _ _ _ s.header s.sizes later.0 line ∙ rest_passes job lines s later.0 line after later.2
-]
+pub words_pass : (job : JobData) (lines before : List Line) (line : Line) (after : List Line) →
+    SpellsLines job lines → lines ≡ before ++ line ∷ after → words_fault before line ≡ None
+words_pass job lines before line after s e = elim (split_of_append s.header
+    (s.inits ++ code_line ∷ s.body) before line after (sym s.parts ∙ e)) [
+      | inl front ↦ header_passes s.version job.cells job.procs job.steps job.rule
+          s.header before line front.0 s.sizes front.1
+      | inr later ↦ ap (λ ls. words_fault ls line) later.1 ∙ words_fault-after _
+          _ _ _ _ s.header s.sizes later.0 line ∙ rest_passes job lines s later.0 line after later.2
+    ]

@@ -23,5 +23,7 @@ IsRow name (at_place make) = (p : ℕ) → row_of (make p) ≡ (name, o.Place p)
 pub table_is : AllByRecursion (λ (row : Word × Form). IsRow row.0 row.1) table
 table_is = search
 
-pub is_instr : (len : ℕ) (name : Word) (instr : Instr) (operands : Operands) → row_of instr ≡ (name, operands) → AreOperands len operands → IsInstr len instr
-is_instr len name instr operands is are = subst (λ (row : Word × Operands). AreOperands len row.1) (sym is) are
+pub is_instr : (len : ℕ) (name : Word) (instr : Instr) (operands : Operands) →
+    row_of instr ≡ (name, operands) → AreOperands len operands → IsInstr len instr
+is_instr len name instr operands is are =
+    subst (λ (row : Word × Operands). AreOperands len row.1) (sym is) are

@@ -1,26 +1,35 @@
 -- A reader, one line with words more.
-use Rattle.std.proofs.Common.{◌≡◌, ◌≢◌, ℕ, List, [], ◌∷◌, ◌++◌, Result, Ok, Err, Some, None, refl, ap, ap₂, sym, ◌∙◌, subst, Bool, true, false, ◌&&◌, cond, if◌then◌else◌, append_assoc, append-nil, OnOk, Option, slice_index_or}
+use Rattle.std.proofs.Common.{◌≡◌, ◌≢◌, ℕ, List, [], ◌∷◌, ◌++◌, Result, Ok, Err, Some, None, refl}
+use Rattle.std.proofs.Common.{ap, ap₂, sym, ◌∙◌, subst, Bool, true, false, ◌&&◌, cond}
+use Rattle.std.proofs.Common.{if◌then◌else◌, append_assoc, append-nil, OnOk, Option, slice_index_or}
 use Rattle.std.specs.List.{list_all}
 use Rattle.std.proofs.lemmas.Bool.{and_right}
 use Rattle.pram_text.specs.declared.fault.TextKind.{TextKind}
 use Rattle.pram_text.specs.declared.fault.TextKind.TheVariants.{NotAscii}
 use Rattle.pram_text.specs.declared.head.Head.{Head}
 use Rattle.pram_text.specs.declared.head.Next.{Next}
-use Rattle.pram_text.specs.declared.head.Next.TheVariants.{Version, Cells, Procs, Steps, Rules, Start, Code}
+use Rattle.pram_text.specs.declared.head.Next.TheVariants.{Version, Cells, Procs}
+use Rattle.pram_text.specs.declared.head.Next.TheVariants.{Steps, Rules, Start, Code}
 use Rattle.pram_text.specs.declared.program.Program.{Program}
 use Rattle.pram_text.specs.declared.reader.Reader.{Reader}
 use Rattle.pram_text.specs.Lines.{Line, is_allowed, is_filled, words_of, worded}
 use Rattle.pram_text.specs.Judgement.{is_code}
 use Rattle.std.specs.Global.{Vec}
-use Rattle.pram_text.specs.Inner.Reading.{HoldsHead, HoldsAt, Holds, HoldsStart, HoldsCode, TakesHead, TakesStart, TakesCode, TakesWords, TakesLine, numbers_of, number_if}
-use Rattle.pram_text.specs.Text.{words_fault, init_fault, instr_fault, line_fault, has_code, body_of, code_line}
+use Rattle.pram_text.specs.Inner.Reading.{HoldsHead, HoldsAt, Holds, HoldsStart}
+use Rattle.pram_text.specs.Inner.Reading.{HoldsCode, TakesHead, TakesStart, TakesCode}
+use Rattle.pram_text.specs.Inner.Reading.{TakesWords, TakesLine, numbers_of, number_if}
+use Rattle.pram_text.specs.Text.{words_fault, init_fault, instr_fault}
+use Rattle.pram_text.specs.Text.{line_fault, has_code, body_of, code_line}
 use Rattle.pram_text.proofs.Inits.{NamesCells-none}
-use Rattle.pram_text.proofs.Stages.{none_named, has_code-header, has_code-body, body_of-body, words_fault-behind, rest_fault-inits, rest_fault-body, code_line_is}
+use Rattle.pram_text.proofs.Stages.{none_named, has_code-header, has_code-body}
+use Rattle.pram_text.proofs.Stages.{body_of-body, words_fault-after}
+use Rattle.pram_text.proofs.Stages.{rest_fault-inits, rest_fault-body, code_line_is}
 
 -- ---- the header
 
 -- in the header no line says `code`
-pub has_code-front : (next : Next) (before : List Line) (head : Head) → next ≢ Start → next ≢ Code → HoldsHead next before head → has_code before ≡ false
+pub has_code-front : (next : Next) (before : List Line) (head : Head) → next ≢ Start → next ≢ Code →
+    HoldsHead next before head → has_code before ≡ false
 has_code-front Version before head a b h = ap has_code h.0
 has_code-front Cells before head a b h = ap has_code h.1
 has_code-front Procs before head a b h = ap has_code h.2
@@ -29,7 +38,9 @@ has_code-front Rules before head a b h = ap has_code h.4
 has_code-front Start before head a b h = absurd (a refl)
 has_code-front Code before head a b h = absurd (b refl)
 
-pub HoldsAt-front : (next : Next) (before : List Line) (reader : Reader) → next ≢ Start → next ≢ Code → HoldsAt next before reader → HoldsHead next before reader.head × (reader.start.items ≡ []) × HoldsCode [] reader.program
+pub HoldsAt-front : (next : Next) (before : List Line) (reader : Reader) → next ≢ Start →
+    next ≢ Code → HoldsAt next before reader →
+    HoldsHead next before reader.head × (reader.start.items ≡ []) × HoldsCode [] reader.program
 HoldsAt-front Version before reader a b h = h
 HoldsAt-front Cells before reader a b h = h
 HoldsAt-front Procs before reader a b h = h
@@ -39,91 +50,156 @@ HoldsAt-front Start before reader a b h = absurd (a refl)
 HoldsAt-front Code before reader a b h = absurd (b refl)
 
 pub HoldsStart-none : (cells : ℕ) (start : List (Option ℕ)) → start ≡ [] → HoldsStart cells [] start
-HoldsStart-none cells start e = record { pairs = []; named = NamesCells-none cells; found = λ c. ap (λ xs. slice_index_or xs c None) e }
+HoldsStart-none cells start e = record {
+  pairs = [];
+  named = NamesCells-none cells;
+  found = λ c. ap (λ xs. slice_index_or xs c None) e;
+}
 
-HoldsAt-from_head : (next : Next) (before : List Line) (reader : Reader) → next ≢ Code → HoldsHead next before reader.head → reader.start.items ≡ [] → HoldsCode [] reader.program → HoldsAt next before reader
+HoldsAt-from_head : (next : Next) (before : List Line) (reader : Reader) → next ≢ Code →
+    HoldsHead next before reader.head → reader.start.items ≡ [] →
+    HoldsCode [] reader.program → HoldsAt next before reader
 HoldsAt-from_head Version before reader b h e code = (h, e, code)
 HoldsAt-from_head Cells before reader b h e code = (h, e, code)
 HoldsAt-from_head Procs before reader b h e code = (h, e, code)
 HoldsAt-from_head Steps before reader b h e code = (h, e, code)
 HoldsAt-from_head Rules before reader b h e code = (h, e, code)
-HoldsAt-from_head Start before reader b h e code = (before, [], sym (append-nil before), h, HoldsStart-none reader.head.cells reader.start.items e, code)
+HoldsAt-from_head Start before reader b h e code = (
+  before,
+  [],
+  sym (append-nil before),
+  h,
+  HoldsStart-none reader.head.cells reader.start.items e,
+  code,
+)
 HoldsAt-from_head Code before reader b h e code = absurd (b refl)
 
-pub TakesWords-front : (before : List Line) (w : Line) (old : Reader) (number : ℕ) (head : Head) → old.head.next ≢ Start → old.head.next ≢ Code → Holds before old → TakesHead before w (Ok head)
-    → (words_fault before w ≡ None) × Holds (before ++ w ∷ []) (record old { head = head }) × (numbers_of old.program ≡ numbers_of old.program ++ number_if (has_code before) number)
+pub TakesWords-front : (before : List Line) (w : Line) (old : Reader) (number : ℕ) (head : Head) →
+    old.head.next ≢ Start → old.head.next ≢ Code → Holds before old → TakesHead before w (Ok head) →
+    (words_fault before w ≡ None) × Holds (before ++ w ∷ []) (record old { head = head })
+    × (numbers_of old.program ≡ numbers_of old.program ++ number_if (has_code before) number)
 TakesWords-front before w old number head a b h t =
     let parts = HoldsAt-front old.head.next before old a b h in (
       t.0,
-      HoldsAt-from_head head.next (before ++ w ∷ []) (record old { head = head }) t.2 t.1 parts.1 parts.2,
-      sym (ap (λ b. numbers_of old.program ++ number_if b number) (has_code-front old.head.next before old.head a b parts.0) ∙ append-nil (numbers_of old.program)),
+      HoldsAt-from_head head.next (before ++ w ∷ [])
+          (record old { head = head }) t.2 t.1 parts.1 parts.2,
+      sym (ap (λ b. numbers_of old.program ++ number_if b number) (has_code-front old.head.next
+          before old.head a b parts.0) ∙ append-nil (numbers_of old.program)),
     )
 
 -- ---- start values
 
 module _ (before : List Line) (reader : Reader) (h : HoldsAt Start before reader) where
   pub has_code-held_start : has_code before ≡ false
-  has_code-held_start = ap has_code h.2 ∙ has_code-header _ _ _ _ _ h.0 h.3 h.1 [] (none_named _ h.1 h.4.pairs h.4.named)
+  has_code-held_start = ap has_code h.2
+      ∙ has_code-header _ _ _ _ _ h.0 h.3 h.1 [] (none_named _ h.1 h.4.pairs h.4.named)
 
-  words_fault-held_start : (w : Line) → words_fault before w ≡ (if is_code w then None else init_fault reader.head.cells h.1 w)
+  words_fault-held_start : (w : Line) →
+      words_fault before w ≡ (if is_code w then None else init_fault reader.head.cells h.1 w)
   words_fault-held_start w =
-      ap (λ ls. words_fault ls w) h.2 ∙ words_fault-behind _ _ _ _ _ h.0 h.3 h.1 w ∙ rest_fault-inits reader.head.cells h.1 w (none_named _ h.1 h.4.pairs h.4.named)
+      ap (λ ls. words_fault ls w) h.2 ∙ words_fault-after _ _ _ _ _ h.0 h.3 h.1 w
+      ∙ rest_fault-inits reader.head.cells h.1 w (none_named _ h.1 h.4.pairs h.4.named)
 
-pub TakesWords-code_line : (before : List Line) (w : Line) (old : Reader) (number : ℕ) → HoldsAt Start before old → is_code w ≡ true
-    → (words_fault before w ≡ None) × HoldsAt Code (before ++ w ∷ []) (record old { head = record old.head { next = Code } }) × (numbers_of old.program ≡ numbers_of old.program ++ number_if (has_code before) number)
+pub TakesWords-code_line : (before : List Line) (w : Line) (old : Reader) (number : ℕ) →
+    HoldsAt Start before old → is_code w ≡ true → (words_fault before w ≡ None)
+    × HoldsAt Code (before ++ w ∷ []) (record old { head = record old.head { next = Code } })
+    × (numbers_of old.program ≡ numbers_of old.program ++ number_if (has_code before) number)
 TakesWords-code_line before w old number h code = (
-  words_fault-held_start before old h w ∙ ap (λ b. cond b None (init_fault old.head.cells h.1 w)) code,
-  (h.0, h.1, [], ap₂ (λ ls l. ls ++ l ∷ []) h.2 (code_line_is w code) ∙ append_assoc h.0 h.1 (code_line ∷ []), h.3, h.4, h.5),
-  sym (ap (λ b. numbers_of old.program ++ number_if b number) (has_code-held_start before old h) ∙ append-nil (numbers_of old.program)),
+  words_fault-held_start before old h w
+      ∙ ap (λ b. cond b None (init_fault old.head.cells h.1 w)) code,
+  (
+    h.0,
+    h.1,
+    [],
+    ap₂ (λ ls l. ls ++ l ∷ []) h.2 (code_line_is w code) ∙ append_assoc h.0 h.1 (code_line ∷ []),
+    h.3,
+    h.4,
+    h.5,
+  ),
+  sym (ap (λ b. numbers_of old.program ++ number_if b number) (has_code-held_start before old h)
+      ∙ append-nil (numbers_of old.program)),
 )
 
-pub TakesWords-start : (before : List Line) (w : Line) (old : Reader) (number : ℕ) (r : Result (Unit {0}) TextKind) (start : Vec (Option ℕ)) → HoldsAt Start before old → old.head.next ≡ Start → is_code w ≡ false
-    → ((inits : List Line) → HoldsStart old.head.cells inits old.start.items → TakesStart old.head.cells inits w r start.items) → TakesWords before w old number r (record old { start = start })
+pub TakesWords-start : (before : List Line) (w : Line)
+    (old : Reader) (number : ℕ) (r : Result (Unit {0}) TextKind) (start : Vec (Option ℕ)) →
+    HoldsAt Start before old → old.head.next ≡ Start → is_code w ≡ false →
+    ((inits : List Line) → HoldsStart old.head.cells inits old.start.items →
+    TakesStart old.head.cells inits w r start.items) →
+    TakesWords before w old number r (record old { start = start })
 TakesWords-start before w old number (Ok u) start h next other told =
     let t = told h.1 h.4 in (
-      words_fault-held_start before old h w ∙ ap (λ b. cond b None (init_fault old.head.cells h.1 w)) other ∙ t.0,
-      subst (λ n. HoldsAt n (before ++ w ∷ []) (record old { start = start })) (sym next) (h.0, h.1 ++ w ∷ [], ap (λ ls. ls ++ w ∷ []) h.2 ∙ append_assoc h.0 h.1 (w ∷ []), h.3, t.1, h.5),
-      sym (ap (λ b. numbers_of old.program ++ number_if b number) (has_code-held_start before old h) ∙ append-nil (numbers_of old.program)),
+      words_fault-held_start before old h w
+          ∙ ap (λ b. cond b None (init_fault old.head.cells h.1 w)) other ∙ t.0,
+      subst (λ n. HoldsAt n (before ++ w ∷ []) (record old { start = start })) (sym next) (
+        h.0,
+        h.1 ++ w ∷ [],
+        ap (λ ls. ls ++ w ∷ []) h.2 ∙ append_assoc h.0 h.1 (w ∷ []),
+        h.3,
+        t.1,
+        h.5,
+      ),
+      sym (ap (λ b. numbers_of old.program ++ number_if b number) (has_code-held_start before old h)
+          ∙ append-nil (numbers_of old.program)),
     )
 TakesWords-start before w old number (Err kind) start h next other told = λ memory.
-    words_fault-held_start before old h w ∙ ap (λ b. cond b None (init_fault old.head.cells h.1 w)) other ∙ told h.1 h.4 memory
+    words_fault-held_start before old h w
+    ∙ ap (λ b. cond b None (init_fault old.head.cells h.1 w)) other ∙ told h.1 h.4 memory
 
 -- ---- instructions
 
 module _ (before : List Line) (reader : Reader) (h : HoldsAt Code before reader) where
   pub has_code-held : has_code before ≡ true
-  has_code-held = ap has_code h.3 ∙ has_code-body _ _ _ _ _ h.0 h.4 h.1 h.2 (none_named _ h.1 h.5.pairs h.5.named)
+  has_code-held = ap has_code h.3
+      ∙ has_code-body _ _ _ _ _ h.0 h.4 h.1 h.2 (none_named _ h.1 h.5.pairs h.5.named)
 
   pub body_of-held : body_of before ≡ h.2
-  body_of-held = ap body_of h.3 ∙ body_of-body _ _ _ _ _ h.0 h.4 h.1 h.2 (none_named _ h.1 h.5.pairs h.5.named)
+  body_of-held =
+      ap body_of h.3 ∙ body_of-body _ _ _ _ _ h.0 h.4 h.1 h.2 (none_named _ h.1 h.5.pairs h.5.named)
 
   words_fault-held : (w : Line) → words_fault before w ≡ instr_fault h.2 w
   words_fault-held w =
-      ap (λ ls. words_fault ls w) h.3 ∙ words_fault-behind _ _ _ _ _ h.0 h.4 (h.1 ++ code_line ∷ h.2) w ∙ rest_fault-body reader.head.cells h.1 h.2 w (none_named _ h.1 h.5.pairs h.5.named)
+      ap (λ ls. words_fault ls w) h.3
+      ∙ words_fault-after _ _ _ _ _ h.0 h.4 (h.1 ++ code_line ∷ h.2) w
+      ∙ rest_fault-body reader.head.cells h.1 h.2 w (none_named _ h.1 h.5.pairs h.5.named)
 
-pub TakesWords-code : (before : List Line) (w : Line) (old : Reader) (number : ℕ) (r : Result (Unit {0}) TextKind) (program : Program) → HoldsAt Code before old → old.head.next ≡ Code
-    → ((body : List Line) → HoldsCode body old.program → TakesCode body w r program) → OnOk r (numbers_of program ≡ numbers_of old.program ++ number ∷ []) → TakesWords before w old number r (record old { program = program })
-TakesWords-code before w old number (Ok u) program h next told numbers =
-    let t = told h.2 h.6 in (
-      words_fault-held before old h w ∙ t.0,
-      subst (λ n. HoldsAt n (before ++ w ∷ []) (record old { program = program })) (sym next)
-          (h.0, h.1, h.2 ++ w ∷ [], ap (λ ls. ls ++ w ∷ []) h.3 ∙ append_assoc h.0 (h.1 ++ code_line ∷ h.2) (w ∷ []) ∙ ap (λ ls. h.0 ++ ls) (append_assoc h.1 (code_line ∷ h.2) (w ∷ [])), h.4, h.5, t.1),
-      numbers ∙ sym (ap (λ b. numbers_of old.program ++ number_if b number) (has_code-held before old h)),
-    )
+pub TakesWords-code : (before : List Line) (w : Line)
+    (old : Reader) (number : ℕ) (r : Result (Unit {0}) TextKind) (program : Program) →
+    HoldsAt Code before old → old.head.next ≡ Code →
+    ((body : List Line) → HoldsCode body old.program → TakesCode body w r program) →
+    OnOk r (numbers_of program ≡ numbers_of old.program ++ number ∷ []) →
+    TakesWords before w old number r (record old { program = program })
+TakesWords-code before w old number (Ok u) program h next told numbers = let t = told h.2 h.6 in (
+  words_fault-held before old h w ∙ t.0,
+  subst (λ n. HoldsAt n (before ++ w ∷ []) (record old { program = program })) (sym next) (
+    h.0,
+    h.1,
+    h.2 ++ w ∷ [],
+    ap (λ ls. ls ++ w ∷ []) h.3 ∙ append_assoc h.0 (h.1 ++ code_line ∷ h.2) (w ∷ [])
+        ∙ ap (λ ls. h.0 ++ ls) (append_assoc h.1 (code_line ∷ h.2) (w ∷ [])),
+    h.4,
+    h.5,
+    t.1,
+  ),
+  numbers
+      ∙ sym (ap (λ b. numbers_of old.program ++ number_if b number) (has_code-held before old h)),
+)
 TakesWords-code before w old number (Err kind) program h next told numbers = λ memory.
     words_fault-held before old h w ∙ told h.2 h.6 memory
 
 -- ---- any line
 
-pub line_fault-unlawful : (before : List Line) (line : List ℕ) → list_all is_allowed line ≡ false → line_fault before line ≡ Some NotAscii
+pub line_fault-unlawful : (before : List Line) (line : List ℕ) → list_all is_allowed line ≡ false →
+    line_fault before line ≡ Some NotAscii
 unfolding line_fault
 line_fault-unlawful before line unlawful = rw unlawful refl
 
-line_fault-words : (before : List Line) (line : List ℕ) → list_all is_allowed line ≡ true → is_filled (words_of line) ≡ true → line_fault before line ≡ words_fault before (words_of line)
+line_fault-words : (before : List Line) (line : List ℕ) → list_all is_allowed line ≡ true →
+    is_filled (words_of line) ≡ true → line_fault before line ≡ words_fault before (words_of line)
 unfolding line_fault
 line_fault-words before line lawful some = rw (lawful, some) refl
 
-line_fault-blank : (before : List Line) (line : List ℕ) → list_all is_allowed line ≡ true → is_filled (words_of line) ≡ false → line_fault before line ≡ None
+line_fault-blank : (before : List Line) (line : List ℕ) → list_all is_allowed line ≡ true →
+    is_filled (words_of line) ≡ false → line_fault before line ≡ None
 unfolding line_fault
 line_fault-blank before line lawful none = rw (lawful, none) refl
 
@@ -131,21 +207,32 @@ and-true : (b : Bool) → (b && true) ≡ b
 and-true true = refl
 and-true false = refl
 
-worded-one : (line : List ℕ) (b : Bool) → is_filled (words_of line) ≡ b → worded (line ∷ []) ≡ cond b (words_of line ∷ []) []
+worded-one : (line : List ℕ) (b : Bool) → is_filled (words_of line) ≡ b →
+    worded (line ∷ []) ≡ cond b (words_of line ∷ []) []
 worded-one line b e = ap (λ b. cond b (words_of line ∷ []) []) e
 
-pub TakesLine-words : (before : List Line) (line : List ℕ) (old : Reader) (number : ℕ) (r : Result (Unit {0}) TextKind) (new : Reader) → list_all is_allowed line ≡ true → is_filled (words_of line) ≡ true → TakesWords before (words_of line) old number r new → TakesLine before line old number r new
+pub TakesLine-words : (before : List Line) (line : List ℕ) (old : Reader)
+    (number : ℕ) (r : Result (Unit {0}) TextKind) (new : Reader) → list_all is_allowed line ≡ true →
+    is_filled (words_of line) ≡ true → TakesWords before (words_of line) old number r new →
+    TakesLine before line old number r new
 TakesLine-words before line old number (Ok u) new lawful some t = (
   line_fault-words before line lawful some ∙ t.0,
   subst (λ ls. Holds (before ++ ls) new) (sym (worded-one line true some)) t.1,
-  t.2 ∙ ap (λ b. numbers_of old.program ++ number_if b number) (sym (ap (λ b. has_code before && b) some ∙ and-true (has_code before))),
+  t.2 ∙ ap (λ b. numbers_of old.program ++ number_if b number)
+      (sym (ap (λ b. has_code before && b) some ∙ and-true (has_code before))),
 )
-TakesLine-words before line old number (Err kind) new lawful some t = λ memory. line_fault-words before line lawful some ∙ t memory
+TakesLine-words before line old number (Err kind) new lawful some t =
+    λ memory. line_fault-words before line lawful some ∙ t memory
 
-pub TakesLine-blank : (before : List Line) (line : List ℕ) (reader : Reader) (number : ℕ) → list_all is_allowed line ≡ true → is_filled (words_of line) ≡ false → Holds before reader
-    → (line_fault before line ≡ None) × Holds (before ++ worded (line ∷ [])) reader × (numbers_of reader.program ≡ numbers_of reader.program ++ number_if (has_code before && is_filled (words_of line)) number)
+pub TakesLine-blank : (before : List Line) (line : List ℕ) (reader : Reader) (number : ℕ) →
+    list_all is_allowed line ≡ true → is_filled (words_of line) ≡ false → Holds before reader →
+    (line_fault before line ≡ None)
+    × Holds (before ++ worded (line ∷ [])) reader × (numbers_of reader.program
+    ≡ numbers_of reader.program ++ number_if (has_code before && is_filled (words_of line)) number)
 TakesLine-blank before line reader number lawful none h = (
   line_fault-blank before line lawful none,
-  subst (λ ls. Holds ls reader) (sym (ap (λ ls. before ++ ls) (worded-one line false none) ∙ append-nil before)) h,
-  sym (ap (λ b. numbers_of reader.program ++ number_if b number) (and_right (has_code before) (is_filled (words_of line)) none) ∙ append-nil (numbers_of reader.program)),
+  subst (λ ls. Holds ls reader)
+      (sym (ap (λ ls. before ++ ls) (worded-one line false none) ∙ append-nil before)) h,
+  sym (ap (λ b. numbers_of reader.program ++ number_if b number) (and_right (has_code before)
+      (is_filled (words_of line)) none) ∙ append-nil (numbers_of reader.program)),
 )

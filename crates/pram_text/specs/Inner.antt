@@ -2,4 +2,4 @@
 pub mod Words
 pub mod Statement
 pub mod Reading
-pub mod Behind
+pub mod LinesAfter

@@ -14,6 +14,16 @@ pub record JobData : Type 0 where
   pub init : List ℕ
   pub code : List Instr
 
+abbrev pub job_data : Rule → ℕ → ℕ → ℕ → List ℕ → List Instr → JobData
+job_data rule cells procs steps init code = record {
+  rule = rule;
+  cells = cells;
+  procs = procs;
+  steps = steps;
+  init = init;
+  code = code;
+}
+
 -- what a processor of a code of this length may do
 abbrev pub IsInstr : ℕ → Instr → Type 0
 IsInstr len instr = AreOperands len (row_of instr).1

@@ -1,6 +1,6 @@
 //! Jobs.
 ghost use Rattle.std.specs.Prelude.{◌≡◌, ℕ, ◌+◌, ◌<◌, IfOk};
-ghost use Rattle.pram_text.specs.Job.{JobData, IsJob};
+ghost use Rattle.pram_text.specs.Job.{JobData, IsJob, job_data};
 ghost use Rattle.pram_text.specs.Places.{register_at, counters_at};
 ghost use Rattle.pram_text.specs.Inner.Reading.{job_of};
 
@@ -24,23 +24,10 @@ pub struct Job {
 impl Model for Job {
     ghost Value = { JobData };
 
-    ghost view = { λ j. record {
-      rule = j.rule;
-      cells = j.cells;
-      procs = j.procs;
-      steps = j.steps;
-      init = j.init.items;
-      code = j.code.items;
-    } };
+    ghost view = { λ j. job_data j.rule j.cells j.procs j.steps j.init.items j.code.items };
 
-    ghost invariant = { λ j. IsJob (record {
-      rule = j.rule;
-      cells = j.cells;
-      procs = j.procs;
-      steps = j.steps;
-      init = j.init.items;
-      code = j.code.items;
-    }) };
+    ghost invariant = { λ j. IsJob
+        (job_data j.rule j.cells j.procs j.steps j.init.items j.code.items) };
 }
 
 impl Job {
@@ -68,6 +55,15 @@ impl Job {
             code: self.code.clone()?,
             ..*self
         })
+    }
+
+    /// Says to a proof that the job is within its limits. It does nothing.
+    #[inline(always)]
+    pub fn limits_hold(&self)
+        ensures { IsJob self.now }
+    {
+        // The limits of a type are known where one of its fields is read.
+        let _ = &self.rule;
     }
 
     /// The rule of writing.

@@ -2,7 +2,7 @@
 ghost use Rattle.std.specs.Prelude.{◌≡◌, ◌≢◌, ◌≤◌, ◌<◌, ℕ, [], ◌∷◌, List};
 ghost use Rattle.std.specs.Prelude.{IfOk, IfErr, IfSome, length, vec_len};
 ghost use Rattle.pram_text.specs.Lines.{Line, lines_of, words_of};
-ghost use Rattle.pram_text.specs.Inner.Behind.{lines_behind};
+ghost use Rattle.pram_text.specs.Inner.LinesAfter.{lines_after};
 ghost use Rattle.pram_text.specs.Inner.Reading.{Finishes, Holds, HoldsAt};
 ghost use Rattle.pram_text.specs.Inner.Reading.{TakesLine, TakesWords, numbers_of};
 ghost use Rattle.pram_text.specs.Text.{IsRefusal, Spells};
@@ -29,19 +29,19 @@ pub fn read_job(alloc: Global, text: &[u8]) -> Result<Job, TextFault>
     let mut number = 0;
     let mut rest = Some(text);
     while let Some(below) = rest {
-        let (line, behind) = first_line(below);
+        let (line, after) = first_line(below);
         number += 1;
         if let Err(kind) = reader.take(number, line) {
             return Err(refusal(number, kind));
         }
-        rest = behind;
+        rest = after;
     }
     reader.finish(number)
 }
 
 // The first line, and what is after its line feed, if it has one.
 fn first_line(text: &[u8]) -> (&[u8], Option<&[u8]>)
-    ensures lines { lines_of text.now ≡ result.0.now ∷ lines_behind result.1 }
+    ensures lines { lines_of text.now ≡ result.0.now ∷ lines_after result.1 }
     ensures shorter { IfSome result.1 (λ rest. length rest.now < length text.now) }
 {
     match memchr(b'\n', text) {

@@ -1,5 +1,6 @@
 -- Numbers of digits, leaves and depths.
-use Rattle.std.proofs.Common.{◌≡◌, ℕ, ◌==◌, ◌+◌, ◌-◌, ◌*◌, ◌%◌, ◌^◌, ◌<◌, ◌≤◌, inl, inr, refl, sym, ap, ◌∙◌, arith}
+use Rattle.std.proofs.Common.{◌≡◌, ℕ, ◌==◌, ◌+◌, ◌-◌, ◌*◌, ◌%◌, ◌^◌, ◌<◌}
+use Rattle.std.proofs.Common.{◌≤◌, inl, inr, refl, sym, ap, ◌∙◌, arith}
 use Rattle.std.proofs.lemmas.Nat.{leading_length, pow_pos, pow_below, pow-add, and_mask}
 use Rattle.std.proofs.lemmas.Nat.Bits.{bit_at_and, bit_at_ones}
 use Rattle.std.proofs.Math.Nat.{pow-le-pow_right}
@@ -19,7 +20,8 @@ exponents j k h = elim (cases_order j k) [
 ]
 
 -- a number with its number of digits
-pub digits : (n : ℕ) → n < 2 ^ 32 → (n < 2 ^ digits_of n) × (2 ^ digits_of n ≤ 2 * n + 1) × (digits_of n ≤ 32)
+pub digits : (n : ℕ) → n < 2 ^ 32 →
+    (n < 2 ^ digits_of n) × (2 ^ digits_of n ≤ 2 * n + 1) × (digits_of n ≤ 32)
 unfolding digits_of
 digits n h =
     let found = leading_length 32 n h in
@@ -39,10 +41,12 @@ leaves_from_next n p h next =
     let k : ℕ = next.0.0 in
     let e : p ≡ 2 ^ k = next.0.1 in
     let pos = pow_pos k in
-    let m : k ≡ digits_of (n - 1) = digits_unique (n - 1) k (omega arith) (omega (arith, next.1)) (omega (arith, next.2)) in
+    let m : k ≡ digits_of (n - 1) =
+    digits_unique (n - 1) k (omega arith) (omega (arith, next.1)) (omega (arith, next.2)) in
     e ∙ ap (λ x. 2 ^ x) m
 
-pub leaves_least : (n : ℕ) → 1 ≤ n → n ≤ 2 ^ 31 → (n ≤ leaves_of n) × (leaves_of n < 2 * n) × IsPowerOfTwo (leaves_of n)
+pub leaves_least : (n : ℕ) → 1 ≤ n → n ≤ 2 ^ 31 →
+    (n ≤ leaves_of n) × (leaves_of n < 2 * n) × IsPowerOfTwo (leaves_of n)
 unfolding leaves_of
 leaves_least n some most =
     let d = digits (n - 1) (omega arith) in
@@ -55,7 +59,8 @@ leaves_most n some most =
     let k : ℕ = l.2.0 in
     let e : leaves_of n ≡ 2 ^ k = l.2.1 in
     let small : k < 11 = exponents k 11 (omega arith) in
-    let most : 2 ^ k ≤ 1024 = pow-le-pow_right {n = 2} (omega arith) {i = k} {j = 10} (omega arith) in
+    let most : 2 ^ k ≤ 1024 =
+    pow-le-pow_right {n = 2} (omega arith) {i = k} {j = 10} (omega arith) in
     (omega arith, omega arith)
 
 pub depth_unique : (n d : ℕ) → n < 2 ^ 32 → 2 ^ d ≤ n → n < 2 * 2 ^ d → d ≡ depth_of n
@@ -72,7 +77,10 @@ power_unique l d power low high =
     let below : k < d + 1 = exponents k (d + 1) (omega (arith, double d)) in
     elim (cases_order k d) [
       | inl same ↦ e ∙ ap (λ x. 2 ^ x) same
-      | inr c ↦ elim c [ inl less ↦ absurd (let f = pow_below k d less in omega arith) | inr more ↦ absurd (omega arith) ]
+      | inr c ↦ elim c [
+        | inl less ↦ absurd (let f = pow_below k d less in omega arith)
+        | inr more ↦ absurd (omega arith)
+      ]
     ]
 
 -- an inner node lies above the leaves
@@ -82,14 +90,20 @@ depth_below l n h d e inner low = exponents d h (omega arith)
 -- `turns_right` is the bit that it is meant to be
 pub turn : (l worker n : ℕ) → l < 2 ^ 32 → n < 2 ^ 32 → IsTurn l worker n (turns_right l worker n)
 turn l worker n l_fits n_fits = λ h d e low high.
-    let height : h ≡ depth_of l = depth_unique l h l_fits (omega arith) (let pos = pow_pos h in omega arith) in
+    let height : h ≡ depth_of l =
+    depth_unique l h l_fits (omega arith) (let pos = pow_pos h in omega arith) in
     let depth : d ≡ depth_of n = depth_unique n d n_fits low (omega (arith, double d)) in
-    rw (height, depth) (eqb-true (bit_at (worker % l) (depth_of l - 1 - depth_of n)) 1, eq-eqb (bit_at (worker % l) (depth_of l - 1 - depth_of n)) 1)
+    rw (height, depth) (
+      eqb-true (bit_at (worker % l) (depth_of l - 1 - depth_of n)) 1,
+      eq-eqb (bit_at (worker % l) (depth_of l - 1 - depth_of n)) 1,
+    )
 
 -- a bit below l is the same in w and in w mod l
-pub turn_bit : (l worker n h : ℕ) → l ≡ 2 ^ h → h ≡ depth_of l → depth_of n < h → turns_right l worker n ≡ (bit_at worker (h - 1 - depth_of n) == 1)
+pub turn_bit : (l worker n h : ℕ) → l ≡ 2 ^ h → h ≡ depth_of l → depth_of n < h →
+    turns_right l worker n ≡ (bit_at worker (h - 1 - depth_of n) == 1)
 turn_bit l worker n h e height inner =
     let one = bit_at_ones h (h - 1 - depth_of n) (omega arith) in
-    let same : bit_at (worker % 2 ^ h) (h - 1 - depth_of n) ≡ bit_at worker (h - 1 - depth_of n)
-    = ap (λ x. bit_at x (h - 1 - depth_of n)) (sym (and_mask worker h)) ∙ bit_at_and worker (2 ^ h - 1) (h - 1 - depth_of n) ∙ omega arith in
+    let same : bit_at (worker % 2 ^ h) (h - 1 - depth_of n) ≡ bit_at worker (h - 1 - depth_of n) =
+    ap (λ x. bit_at x (h - 1 - depth_of n)) (sym (and_mask worker h))
+    ∙ bit_at_and worker (2 ^ h - 1) (h - 1 - depth_of n) ∙ omega arith in
     rw (← height, e, same) refl

@@ -1,41 +1,52 @@
 -- Each word has a number of its own.
-use Rattle.std.proofs.Common.{◌≡◌, ℕ, cond, ◌+◌, ◌-◌, ◌*◌, ◌/◌, ◌%◌, ◌<◌, ◌≤◌, ◌^◌, ◌↔◌, ◌⊎◌, inl, inr, refl, sym, ap, subst, ◌∙◌, arith, zero, suc}
+use Rattle.std.proofs.Common.{◌≡◌, ℕ, cond, ◌+◌, ◌-◌, ◌*◌, ◌/◌, ◌%◌, ◌<◌, ◌≤◌, ◌^◌, ◌↔◌}
+use Rattle.std.proofs.Common.{◌⊎◌, inl, inr, refl, sym, ap, subst, ◌∙◌, arith, zero, suc}
 use Rattle.std.proofs.lemmas.Bool.{cases_lt, cases_eq, cases_Bool, cond-true, cond-false}
 use Rattle.std.proofs.lemmas.Bool.Decides.{nat_tests}
 use Rattle.pram_text.specs.Job.{JobData}
 use Rattle.pram_words.specs.declared.layout.Form.{Form}
 use Rattle.pram_words.specs.declared.layout.Form.TheVariants.{Compact, Wide}
 use Rattle.pram_words.specs.declared.words.Word.{Word}
-use Rattle.pram_words.specs.declared.words.Word.TheVariants.{Conflict, Node, Asked, Position, Stored, Claim, Spare}
-use Rattle.pram_words.specs.Words.{LayoutData, IsLayout, IsNeeded, IsWord, IsInRange, IsNumbering, HasRanges, Admits, counters_of, requests_at, positions_at, places_at, claims_at, compact_number, compact_word, block_at, cells_at, wide_claims_at, wide_number, wide_word, by_form, number_of, length_of, word_at}
+use Rattle.pram_words.specs.declared.words.Word.TheVariants.{Conflict, Node, Asked}
+use Rattle.pram_words.specs.declared.words.Word.TheVariants.{Position, Stored, Claim, Spare}
+use Rattle.pram_words.specs.Words.{LayoutData, IsLayout, IsNeeded, IsWord, IsInRange}
+use Rattle.pram_words.specs.Words.{IsNumbering, HasRanges, Admits, counters_of, requests_at}
+use Rattle.pram_words.specs.Words.{positions_at, places_at, claims_at, compact_number}
+use Rattle.pram_words.specs.Words.{compact_word, block_at, cells_at, wide_claims_at, wide_number}
+use Rattle.pram_words.specs.Words.{wide_word, by_form, number_of, length_of, word_at}
 use Rattle.pram_words.proofs.Halvings.{leaves_least}
 
 pub cases_form : (f : Form) → (f ≡ Compact) ⊎ (f ≡ Wide)
 cases_form Compact = inl refl
 cases_form Wide = inr refl
 
-pub form_compact : {A : Type 0} (f : Form) (compact wide : A) → f ≡ Compact → by_form f compact wide ≡ compact
+pub form_compact : {A : Type 0} (f : Form) (compact wide : A) → f ≡ Compact →
+    by_form f compact wide ≡ compact
 form_compact f compact wide e = rw e refl
 
-pub form_wide : {A : Type 0} (f : Form) (compact wide : A) → f ≡ Wide → by_form f compact wide ≡ wide
+pub form_wide : {A : Type 0} (f : Form) (compact wide : A) →
+    f ≡ Wide → by_form f compact wide ≡ wide
 form_wide f compact wide e = rw e refl
 
 -- there is a leaf for each processor
 pub procs_leaves : (y : LayoutData) → IsLayout y → y.procs ≤ y.leaves
-procs_leaves y limits = rw limits.least ((leaves_least y.procs limits.procs.0 (omega (arith, limits.procs))).0)
+procs_leaves y limits =
+    rw limits.least ((leaves_least y.procs limits.procs.0 (omega (arith, limits.procs))).0)
 
 -- what a word has for its number k, under a numbering
 record Found (y : LayoutData) (number_in : Word → ℕ) (k : ℕ) (a : Word) : Type 0 where
   is : IsNeeded y a
   number : number_in a ≡ k
 
-found_at : (y : LayoutData) (f : Word → ℕ) (k : ℕ) (a b : Word) → b ≡ a → Found y f k a → Found y f k b
+found_at : (y : LayoutData) (f : Word → ℕ) (k : ℕ) (a b : Word) →
+    b ≡ a → Found y f k a → Found y f k b
 found_at y f k a b e found = rw e found
 
 -- ---- the compact form
 
 -- the word of a word's number is that word
-compact_back : (y : LayoutData) → 1 ≤ y.leaves → (a : Word) → IsNeeded y a → compact_word y (compact_number y a) ≡ a
+compact_back : (y : LayoutData) → 1 ≤ y.leaves → (a : Word) → IsNeeded y a →
+    compact_word y (compact_number y a) ≡ a
 compact_back y some Conflict is = refl
 compact_back y some (Node n) is = grind (arith, nat_tests)
 compact_back y some (Asked i j) is = grind (arith, nat_tests)
@@ -44,7 +55,8 @@ compact_back y some (Stored p k) is = grind (arith, nat_tests)
 compact_back y some (Claim c) is = grind (arith, nat_tests)
 compact_back y some (Spare k) is = absurd is
 
-compact_below : (y : LayoutData) → 1 ≤ y.leaves → (a : Word) → IsNeeded y a → compact_number y a < claims_at y + cond y.claims y.cells 0
+compact_below : (y : LayoutData) → 1 ≤ y.leaves → (a : Word) → IsNeeded y a →
+    compact_number y a < claims_at y + cond y.claims y.cells 0
 compact_below y some Conflict is = omega arith
 compact_below y some (Node n) is = omega arith
 compact_below y some (Asked i j) is = omega arith
@@ -54,23 +66,33 @@ compact_below y some (Claim c) is = let e = cond-true y.claims y.cells 0 is.0 in
 compact_below y some (Spare k) is = absurd is
 
 -- each number has its word
-claim_found : (y : LayoutData) (f : Word → ℕ) (at k : ℕ) → ((c : ℕ) → f (Claim c) ≡ at + c) → at ≤ k → k < at + cond y.claims y.cells 0 → Found y f k (Claim (k - at))
+claim_found : (y : LayoutData) (f : Word → ℕ) (at k : ℕ) → ((c : ℕ) → f (Claim c) ≡ at + c) →
+    at ≤ k → k < at + cond y.claims y.cells 0 → Found y f k (Claim (k - at))
 claim_found y f at k number a b = elim (cases_Bool y.claims) [
-  | inl e ↦ (let g = cond-true y.claims y.cells 0 e in record { is = (e, omega arith); number = omega (arith, number (k - at)) })
+  | inl e ↦ (let g = cond-true y.claims y.cells 0 e in
+      record { is = (e, omega arith); number = omega (arith, number (k - at)) })
   | inr e ↦ absurd (let g = cond-false y.claims y.cells 0 e in omega arith)
 ]
 
-compact_found : (y : LayoutData) (k : ℕ) → 1 ≤ y.leaves → k < claims_at y + cond y.claims y.cells 0 → Found y (compact_number y) k (compact_word y k)
+compact_found : (y : LayoutData) (k : ℕ) → 1 ≤ y.leaves →
+    k < claims_at y + cond y.claims y.cells 0 → Found y (compact_number y) k (compact_word y k)
 compact_found y zero some b = record { is = tt; number = refl }
 compact_found y (suc n) some b = let k = suc n in elim (cases_lt k (requests_at y)) [
-  | inl c ↦ found_at y _ k (Node k) _ (grind (arith, nat_tests)) (record { is = (omega arith, c); number = refl })
+  | inl c ↦ found_at y _ k (Node k) _
+      (grind (arith, nat_tests)) (record { is = (omega arith, c); number = refl })
   | inr c ↦ elim (cases_lt k (positions_at y)) [
-    | inl d ↦ found_at y _ k (Asked ((k - requests_at y) / 3) ((k - requests_at y) % 3)) _ (grind (arith, nat_tests)) (record { is = (omega arith, omega arith); number = omega arith })
+    | inl d ↦ found_at y _ k (Asked ((k - requests_at y) / 3) ((k - requests_at y) % 3)) _
+        (grind (arith, nat_tests))
+        (record { is = (omega arith, omega arith); number = omega arith })
     | inr d ↦ elim (cases_lt k (places_at y)) [
-      | inl e ↦ found_at y _ k (Position (k - positions_at y)) _ (grind (arith, nat_tests)) (record { is = omega arith; number = omega arith })
+      | inl e ↦ found_at y _ k (Position (k - positions_at y)) _
+          (grind (arith, nat_tests)) (record { is = omega arith; number = omega arith })
       | inr e ↦ elim (cases_lt k (claims_at y)) [
-        | inl f ↦ found_at y _ k (Stored ((k - places_at y) / 2) ((k - places_at y) % 2)) _ (grind (arith, nat_tests)) (record { is = (omega arith, omega arith); number = omega arith })
-        | inr f ↦ found_at y _ k (Claim (k - claims_at y)) _ (grind (arith, nat_tests)) (claim_found y (compact_number y) (claims_at y) k (λ c. refl) f b)
+        | inl f ↦ found_at y _ k (Stored ((k - places_at y) / 2) ((k - places_at y) % 2)) _
+            (grind (arith, nat_tests))
+            (record { is = (omega arith, omega arith); number = omega arith })
+        | inr f ↦ found_at y _ k (Claim (k - claims_at y)) _ (grind (arith, nat_tests))
+            (claim_found y (compact_number y) (claims_at y) k (λ c. refl) f b)
       ]
     ]
   ]
@@ -78,7 +100,8 @@ compact_found y (suc n) some b = let k = suc n in elim (cases_lt k (requests_at 
 
 -- ---- the wide form
 
-wide_back : (y : LayoutData) → 1 ≤ y.leaves → y.procs ≤ y.leaves → (a : Word) → IsNeeded y a → wide_word y (wide_number y a) ≡ a
+wide_back : (y : LayoutData) → 1 ≤ y.leaves → y.procs ≤ y.leaves → (a : Word) → IsNeeded y a →
+    wide_word y (wide_number y a) ≡ a
 wide_back y some padded Conflict is = grind (arith, nat_tests)
 wide_back y some padded (Node n) is = grind (arith, nat_tests)
 wide_back y some padded (Asked i j) is = grind (arith, nat_tests)
@@ -87,7 +110,8 @@ wide_back y some padded (Stored p k) is = grind (arith, nat_tests)
 wide_back y some padded (Claim c) is = grind (arith, nat_tests)
 wide_back y some padded (Spare k) is = absurd is
 
-wide_below : (y : LayoutData) → 1 ≤ y.leaves → y.procs ≤ y.leaves → (a : Word) → IsNeeded y a → wide_number y a < wide_claims_at y + cond y.claims y.cells 0
+wide_below : (y : LayoutData) → 1 ≤ y.leaves → y.procs ≤ y.leaves → (a : Word) → IsNeeded y a →
+    wide_number y a < wide_claims_at y + cond y.claims y.cells 0
 wide_below y some padded Conflict is = omega arith
 wide_below y some padded (Node n) is = grind (arith, nat_tests)
 wide_below y some padded (Asked i j) is = omega arith
@@ -103,25 +127,37 @@ IsFoundWide y k = Found y (wide_number y) k (wide_word y k) ⊎ (wide_word y k �
 line_found : (y : LayoutData) (k : ℕ) → 1 ≤ y.leaves → k < block_at y 0 → IsFoundWide y k
 line_found y k some below = elim (cases_eq (k % 8) 0) [
   | inl e ↦ inl (elim (cases_eq (k / 8) 0) [
-    | inl z ↦ found_at y _ k Conflict _ (grind (arith, nat_tests)) (record { is = tt; number = omega arith })
+    | inl z ↦ found_at y _ k Conflict _
+        (grind (arith, nat_tests)) (record { is = tt; number = omega arith })
     | inr z ↦ elim (cases_lt (k / 8) y.leaves) [
-      | inl c ↦ found_at y _ k (Node (k / 8)) _ (grind (arith, nat_tests)) (record { is = (omega arith, omega arith); number = grind (arith, nat_tests) })
-      | inr c ↦ found_at y _ k (Position (k / 8 - y.leaves)) _ (grind (arith, nat_tests)) (record { is = omega arith; number = omega arith })
+      | inl c ↦ found_at y _ k (Node (k / 8)) _ (grind (arith, nat_tests))
+          (record { is = (omega arith, omega arith); number = grind (arith, nat_tests) })
+      | inr c ↦ found_at y _ k (Position (k / 8 - y.leaves)) _
+          (grind (arith, nat_tests)) (record { is = omega arith; number = omega arith })
     ]
   ])
   | inr e ↦ inr (grind (arith, nat_tests))
 ]
 
-block_found : (y : LayoutData) (k i s : ℕ) → i < y.leaves → s < 16 → k ≡ block_at y i + s → IsFoundWide y k
+block_found : (y : LayoutData) (k i s : ℕ) → i < y.leaves → s < 16 →
+    k ≡ block_at y i + s → IsFoundWide y k
 block_found y k i s leaf place e = elim (cases_eq s 0) [
-  | inl z ↦ inl (found_at y _ k (Node (y.leaves + i)) _ (grind (arith, nat_tests)) (record { is = (omega arith, omega arith); number = grind (arith, nat_tests) }))
+  | inl z ↦ inl (found_at y _ k (Node (y.leaves + i)) _ (grind (arith, nat_tests)) (record {
+    is = (omega arith, omega arith);
+    number = grind (arith, nat_tests);
+  }))
   | inr z ↦ elim (cases_lt i y.procs) [
     | inl p ↦ elim (cases_lt s 4) [
-      | inl c ↦ inl (found_at y _ k (Asked i (s - 1)) _ (grind (arith, nat_tests)) (record { is = (p, omega arith); number = omega arith }))
+      | inl c ↦ inl (found_at y _ k (Asked i (s - 1)) _
+          (grind (arith, nat_tests)) (record { is = (p, omega arith); number = omega arith }))
       | inr c ↦ elim (cases_lt s 6) [
-        | inl d ↦ inl (found_at y _ k (Stored (counters_of y + i) (s - 4)) _ (grind (arith, nat_tests)) (record { is = (omega arith, omega arith); number = grind (arith, nat_tests) }))
+        | inl d ↦
+            inl (found_at y _ k (Stored (counters_of y + i) (s - 4)) _ (grind (arith, nat_tests))
+            (record { is = (omega arith, omega arith); number = grind (arith, nat_tests) }))
         | inr d ↦ elim (cases_lt s 14) [
-          | inl f ↦ inl (found_at y _ k (Stored (y.cells + 4 * i + (s - 6) / 2) (s % 2)) _ (grind (arith, nat_tests)) (record { is = (omega arith, omega arith); number = grind (arith, nat_tests) }))
+          | inl f ↦ inl (found_at y _ k
+              (Stored (y.cells + 4 * i + (s - 6) / 2) (s % 2)) _ (grind (arith, nat_tests))
+              (record { is = (omega arith, omega arith); number = grind (arith, nat_tests) }))
           | inr f ↦ inr (grind (arith, nat_tests))
         ]
       ]
@@ -130,46 +166,60 @@ block_found y k i s leaf place e = elim (cases_eq s 0) [
   ]
 ]
 
-wide_found : (y : LayoutData) (k : ℕ) → 1 ≤ y.leaves → k < wide_claims_at y + cond y.claims y.cells 0 → IsFoundWide y k
+wide_found : (y : LayoutData) (k : ℕ) → 1 ≤ y.leaves →
+    k < wide_claims_at y + cond y.claims y.cells 0 → IsFoundWide y k
 wide_found y k some b = elim (cases_lt k (block_at y 0)) [
   | inl c ↦ line_found y k some c
   | inr c ↦ elim (cases_lt k (cells_at y)) [
-    | inl d ↦ block_found y k ((k - block_at y 0) / 16) ((k - block_at y 0) % 16) (omega arith) (omega arith) (omega arith)
+    | inl d ↦ block_found y k ((k - block_at y 0) / 16)
+        ((k - block_at y 0) % 16) (omega arith) (omega arith) (omega arith)
     | inr d ↦ inl (elim (cases_lt k (wide_claims_at y)) [
-      | inl e ↦ found_at y _ k (Stored ((k - cells_at y) / 2) (k % 2)) _ (grind (arith, nat_tests)) (record { is = (omega arith, omega arith); number = grind (arith, nat_tests) })
-      | inr e ↦ found_at y _ k (Claim (k - wide_claims_at y)) _ (grind (arith, nat_tests)) (claim_found y (wide_number y) (wide_claims_at y) k (λ c. refl) e b)
+      | inl e ↦ found_at y _ k (Stored ((k - cells_at y) / 2) (k % 2)) _ (grind (arith, nat_tests))
+          (record { is = (omega arith, omega arith); number = grind (arith, nat_tests) })
+      | inr e ↦ found_at y _ k (Claim (k - wide_claims_at y)) _ (grind (arith, nat_tests))
+          (claim_found y (wide_number y) (wide_claims_at y) k (λ c. refl) e b)
     ])
   ]
 ]
 
 -- ---- both forms
 
-needed_back : (y : LayoutData) → IsLayout y → (a : Word) → IsNeeded y a → word_at y (number_of y a) ≡ a
+needed_back : (y : LayoutData) → IsLayout y → (a : Word) →
+    IsNeeded y a → word_at y (number_of y a) ≡ a
 unfolding number_of word_at
 needed_back y limits a is = elim (cases_form y.form) [
   | inl e ↦ rw e (compact_back y limits.leaves.0 a is)
   | inr e ↦ rw e (wide_back y limits.leaves.0 (procs_leaves y limits) a is)
 ]
 
-needed_below : (y : LayoutData) → IsLayout y → (a : Word) → IsNeeded y a → number_of y a < length_of y
+needed_below : (y : LayoutData) → IsLayout y → (a : Word) →
+    IsNeeded y a → number_of y a < length_of y
 unfolding number_of length_of
 needed_below y limits a is = elim (cases_form y.form) [
   | inl e ↦ rw e (compact_below y limits.leaves.0 a is)
   | inr e ↦ rw e (wide_below y limits.leaves.0 (procs_leaves y limits) a is)
 ]
 
-found : (y : LayoutData) (k : ℕ) → IsLayout y → k < length_of y → Found y (number_of y) k (word_at y k) ⊎ (word_at y k ≡ Spare k)
+found : (y : LayoutData) (k : ℕ) → IsLayout y → k < length_of y →
+    Found y (number_of y) k (word_at y k) ⊎ (word_at y k ≡ Spare k)
 unfolding number_of word_at length_of
 found y k limits b = elim (cases_form y.form) [
-  | inl e ↦ inl (
-      let below : k < claims_at y + cond y.claims y.cells 0 = rw e at b in
+  | inl e ↦ inl (let below : k < claims_at y + cond y.claims y.cells 0 = rw e at b in
       let f = compact_found y k limits.leaves.0 below in
       rw (form_compact y.form (compact_word y k) (wide_word y k) e)
-      (record { is = f.is; number = form_compact y.form (compact_number y (compact_word y k)) (wide_number y (compact_word y k)) e ∙ f.number }))
-  | inr e ↦ (
-      let below : k < wide_claims_at y + cond y.claims y.cells 0 = rw e at b in
-      rw (form_wide y.form (compact_word y k) (wide_word y k) e) (elim (wide_found y k limits.leaves.0 below) [
-        | inl f ↦ inl (record { is = f.is; number = form_wide y.form (compact_number y (wide_word y k)) (wide_number y (wide_word y k)) e ∙ f.number })
+      (record {
+        is = f.is;
+        number = form_compact y.form (compact_number y (compact_word y k))
+            (wide_number y (compact_word y k)) e ∙ f.number;
+      }))
+  | inr e ↦ (let below : k < wide_claims_at y + cond y.claims y.cells 0 = rw e at b in
+      rw (form_wide y.form (compact_word y k) (wide_word y k) e)
+      (elim (wide_found y k limits.leaves.0 below) [
+        | inl f ↦ inl (record {
+          is = f.is;
+          number = form_wide y.form (compact_number y (wide_word y k))
+              (wide_number y (wide_word y k)) e ∙ f.number;
+        })
         | inr f ↦ inr f
       ]))
 ]
@@ -185,26 +235,35 @@ needed_is y (Claim c) is = is
 needed_is y (Spare k) is = absurd is
 
 -- a number at which a spare word is found is that of no other
-spare_is : (y : LayoutData) (k : ℕ) → IsLayout y → k < length_of y → word_at y k ≡ Spare k → IsWord y (Spare k)
-spare_is y k limits below e =
-    (below, λ a is same. subst (IsNeeded y) (sym (needed_back y limits a is) ∙ ap (word_at y) same ∙ e) is)
+spare_is : (y : LayoutData) (k : ℕ) → IsLayout y → k < length_of y →
+    word_at y k ≡ Spare k → IsWord y (Spare k)
+spare_is y k limits below e = (
+  below,
+  λ a is same. subst (IsNeeded y) (sym (needed_back y limits a is) ∙ ap (word_at y) same ∙ e) is,
+)
 
 spare_number : (y : LayoutData) (k : ℕ) → number_of y (Spare k) ≡ k
 unfolding number_of
 spare_number y k = elim (cases_form y.form) [ inl e ↦ rw e refl | inr e ↦ rw e refl ]
 
-word_found : (y : LayoutData) (k : ℕ) → IsLayout y → k < length_of y → IsWord y (word_at y k) × (number_of y (word_at y k) ≡ k)
+word_found : (y : LayoutData) (k : ℕ) → IsLayout y → k < length_of y →
+    IsWord y (word_at y k) × (number_of y (word_at y k) ≡ k)
 word_found y k limits below = elim (found y k limits below) [
   | inl f ↦ (needed_is y (word_at y k) f.is, f.number)
-  | inr e ↦ (subst (IsWord y) (sym e) (spare_is y k limits below e), ap (number_of y) e ∙ spare_number y k)
+  | inr e ↦ (
+    subst (IsWord y) (sym e) (spare_is y k limits below e),
+    ap (number_of y) e ∙ spare_number y k,
+  )
 ]
 
 -- the word of a word's number is that word
-pub word_at-number_of : (y : LayoutData) → IsLayout y → (a : Word) → IsWord y a → word_at y (number_of y a) ≡ a
-word_at-number_of y limits (Spare k) is = ap (word_at y) (spare_number y k) ∙ elim (found y k limits is.0) [
-  | inl f ↦ absurd (is.1 (word_at y k) f.is f.number)
-  | inr e ↦ e
-]
+pub word_at-number_of : (y : LayoutData) → IsLayout y → (a : Word) →
+    IsWord y a → word_at y (number_of y a) ≡ a
+word_at-number_of y limits (Spare k) is =
+    ap (word_at y) (spare_number y k) ∙ elim (found y k limits is.0) [
+      | inl f ↦ absurd (is.1 (word_at y k) f.is f.number)
+      | inr e ↦ e
+    ]
 word_at-number_of y limits Conflict is = needed_back y limits Conflict is
 word_at-number_of y limits (Node n) is = needed_back y limits (Node n) is
 word_at-number_of y limits (Asked i j) is = needed_back y limits (Asked i j) is
@@ -213,7 +272,8 @@ word_at-number_of y limits (Stored p k) is = needed_back y limits (Stored p k) i
 word_at-number_of y limits (Claim c) is = needed_back y limits (Claim c) is
 
 -- a word's number is below the length
-pub number_of_below : (y : LayoutData) → IsLayout y → (a : Word) → IsWord y a → number_of y a < length_of y
+pub number_of_below : (y : LayoutData) → IsLayout y → (a : Word) →
+    IsWord y a → number_of y a < length_of y
 number_of_below y limits (Spare k) is = omega (arith, spare_number y k, is.0)
 number_of_below y limits Conflict is = needed_below y limits Conflict is
 number_of_below y limits (Node n) is = needed_below y limits (Node n) is
@@ -228,7 +288,8 @@ conflict_first y = elim (cases_form y.form) [ inl e ↦ rw e refl | inr e ↦ rw
 
 second_follows : (y : LayoutData) (p : ℕ) → number_of y (Stored p 1) ≡ number_of y (Stored p 0) + 1
 unfolding number_of
-second_follows y p = elim (cases_form y.form) [ inl e ↦ rw e (omega arith) | inr e ↦ rw e (omega arith) ]
+second_follows y p =
+    elim (cases_form y.form) [ inl e ↦ rw e (omega arith) | inr e ↦ rw e (omega arith) ]
 
 pub numbering : (y : LayoutData) → IsLayout y → IsNumbering y
 numbering y limits =
@@ -236,18 +297,23 @@ numbering y limits =
       conflict = conflict_first y;
       node = λ e n. unfold number_of in rw e refl;
       second = second_follows y;
-      apart = λ a b is_a is_b e. sym (word_at-number_of y limits a is_a) ∙ ap (word_at y) e ∙ word_at-number_of y limits b is_b;
+      apart = λ a b is_a is_b e. sym (word_at-number_of y limits a is_a)
+          ∙ ap (word_at y) e ∙ word_at-number_of y limits b is_b;
       below = number_of_below y limits;
       word = λ k b. word_found y k limits b;
     }
 
 -- a word's range is what is admitted at its number
-admitted : (y : LayoutData) (job : JobData) → IsLayout y → (a : Word) (v : ℕ) → IsWord y a → IsInRange y job a v ↔ Admits y job (number_of y a) v
+admitted : (y : LayoutData) (job : JobData) → IsLayout y → (a : Word) (v : ℕ) → IsWord y a →
+    IsInRange y job a v ↔ Admits y job (number_of y a) v
 admitted y job limits a v is =
-    let same = word_at-number_of y limits a is in
-    (λ h. (number_of_below y limits a is, subst (λ (b : Word). IsInRange y job b v) (sym same) h), λ h. subst (λ (b : Word). IsInRange y job b v) same h.1)
+    let same = word_at-number_of y limits a is in (
+      λ h. (number_of_below y limits a is, subst (λ (b : Word). IsInRange y job b v) (sym same) h),
+      λ h. subst (λ (b : Word). IsInRange y job b v) same h.1,
+    )
 
-fits : (y : LayoutData) (job : JobData) → IsLayout y → job.steps < 2 ^ 32 → (a : Word) (v : ℕ) → IsInRange y job a v → v < 2 ^ 64
+fits : (y : LayoutData) (job : JobData) → IsLayout y → job.steps < 2 ^ 32 → (a : Word) (v : ℕ) →
+    IsInRange y job a v → v < 2 ^ 64
 fits y job limits steps Conflict v h = omega arith
 fits y job limits steps (Node n) v h = omega arith
 fits y job limits steps (Asked i j) v h = let up = h.0 in omega arith
@@ -257,4 +323,5 @@ fits y job limits steps (Claim c) v h = let up = h.0 in omega arith
 fits y job limits steps (Spare k) v h = omega arith
 
 pub ranges : (y : LayoutData) (job : JobData) → IsLayout y → job.steps < 2 ^ 32 → HasRanges y job
-ranges y job limits steps = record { admitted = admitted y job limits; fits = fits y job limits steps }
+ranges y job limits steps =
+    record { admitted = admitted y job limits; fits = fits y job limits steps }

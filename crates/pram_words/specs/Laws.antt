@@ -26,12 +26,12 @@ PhasesUndo =
 
 -- no two things share a word, and the words have the numbers from 0 up to the length
 abbrev pub WordsKeepApart : Type 0
-WordsKeepApart = (y : LayoutData) → IsLayout y → IsNumbering y
+WordsKeepApart = (layout : LayoutData) → IsLayout layout → IsNumbering layout
 
 -- the values that a word may have are those that the board admits at its number
 abbrev pub WordsHaveRanges : Type 0
-WordsHaveRanges = (y : LayoutData) (job : JobData) → IsLayout y → job.steps < 2 ^ 32 →
-    HasRanges y job
+WordsHaveRanges = (layout : LayoutData) (job : JobData) → IsLayout layout → job.steps < 2 ^ 32 →
+    HasRanges layout job
 
 -- the words of a board start in their ranges, each as its kind says
 abbrev pub WordsStartAdmitted : Type 0
@@ -40,6 +40,7 @@ WordsStartAdmitted = (job : JobData) (form : Form) (workers : ℕ) → IsJob job
 
 -- a worker begins at the leaf where its turns lead from the root
 abbrev pub WorkersBeginAtLeaves : Type 0
-WorkersBeginAtLeaves = (y : LayoutData) (worker : ℕ) → IsLayout y
-    → (y.leaves ≤ first_leaf_in y worker) × (first_leaf_in y worker < 2 * y.leaves)
-    × (first_leaf_in y worker ≡ way_of y worker (depth_of y.leaves))
+WorkersBeginAtLeaves = (layout : LayoutData) (worker : ℕ) → IsLayout layout →
+    (layout.leaves ≤ first_leaf_in layout worker)
+    × (first_leaf_in layout worker < 2 * layout.leaves)
+    × (first_leaf_in layout worker ≡ way_of layout worker (depth_of layout.leaves))

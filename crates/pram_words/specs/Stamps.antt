@@ -14,15 +14,15 @@ payload_of word = word % 2 ^ 32
 
 -- The older one has the lesser stamp; of equal stamps it is the first one.
 abbrev pub first_is_older : ℕ → ℕ → Bool
-first_is_older a b = nat_le (stamp_of a) (stamp_of b)
+first_is_older first second = nat_le (stamp_of first) (stamp_of second)
 
 -- the older one's number and itself
 abbrev pub older : ℕ → ℕ → ℕ
-older a b = if first_is_older a b then 0 else 1
+older first second = if first_is_older first second then 0 else 1
 
 abbrev pub older_word : ℕ → ℕ → ℕ
-older_word a b = if first_is_older a b then a else b
+older_word first second = if first_is_older first second then first else second
 
 -- the payload of the newer one
 abbrev pub newer_payload : ℕ → ℕ → ℕ
-newer_payload a b = payload_of (if first_is_older a b then b else a)
+newer_payload first second = payload_of (if first_is_older first second then second else first)

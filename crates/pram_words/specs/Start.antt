@@ -11,19 +11,20 @@ use Rattle.pram_words.specs.Ways.{first_leaf_in}
 -- what a word starts with: a cell's words have stamp 0 and its start value, a register's and a
 -- counter's 0
 abbrev pub start_of : LayoutData → JobData → Word → ℕ
-start_of y job Conflict = 0
-start_of y job (Node n) = 0
-start_of y job (Asked i j) = 0
-start_of y job (Position w) = first_leaf_in y w
-start_of y job (Stored p k) = slice_index job.init p
-start_of y job (Claim c) = 0
-start_of y job (Spare k) = 0
+start_of layout job Conflict = 0
+start_of layout job (Node node) = 0
+start_of layout job (Asked i j) = 0
+start_of layout job (Position worker) = first_leaf_in layout worker
+start_of layout job (Stored place which) = slice_index job.init place
+start_of layout job (Claim cell) = 0
+start_of layout job (Spare number) = 0
 
 unfoldable pub start_words : LayoutData → JobData → List ℕ
-start_words y job = map (λ k. start_of y job (word_at y k)) (range_with_len 0 (length_of y))
+start_words layout job = map (λ number. start_of layout job (word_at layout number))
+    (range_with_len 0 (length_of layout))
 
 -- a board's first words: each has its start value, and may have it
-pub record StartsAdmitted (y : LayoutData) (job : JobData) : Type 0 where
-  pub values : (a : Word) → IsWord y a →
-      slice_index (start_words y job) (number_of y a) ≡ start_of y job a
-  pub admitted : IsAdmitted y job (start_words y job)
+pub record StartsAdmitted (layout : LayoutData) (job : JobData) : Type 0 where
+  pub values : (word : Word) → IsWord layout word →
+      slice_index (start_words layout job) (number_of layout word) ≡ start_of layout job word
+  pub admitted : IsAdmitted layout job (start_words layout job)

@@ -4,28 +4,28 @@ use Rattle.std.specs.Int.{leading_zeros, bit_at, w32}
 
 -- how many binary digits a number below 2^32 has; 0 has none
 unfoldable pub digits_of : ℕ → ℕ
-digits_of n = 32 - leading_zeros w32 n
+digits_of number = 32 - leading_zeros w32 number
 
--- the least power of two that is at least n
+-- the least power of two that is at least the number
 unfoldable pub leaves_of : ℕ → ℕ
-leaves_of n = 2 ^ digits_of (n - 1)
+leaves_of number = 2 ^ digits_of (number - 1)
 
--- how far a node lies below the root; the first leaf of a tree of l leaves is the node l, so the
--- tree has the height `depth_of l`
+-- how far a node lies below the root; the first leaf of a tree is the node of the number of its
+-- leaves, so the tree has the height `depth_of leaves`
 unfoldable pub depth_of : ℕ → ℕ
-depth_of n = digits_of n - 1
+depth_of node = digits_of node - 1
 
 -- the leaf where a worker begins
 abbrev pub first_leaf_of : ℕ → ℕ → ℕ
-first_leaf_of l worker = l + worker % l
+first_leaf_of leaves worker = leaves + worker % leaves
 
 -- a worker's way from an inner node of which both children are unfinished
 abbrev pub turns_right : ℕ → ℕ → ℕ → Bool
-turns_right l worker n = bit_at (worker % l) (depth_of l - 1 - depth_of n) == 1
+turns_right leaves worker node = bit_at (worker % leaves) (depth_of leaves - 1 - depth_of node) == 1
 
--- the same in words: at depth d of a tree of height h, the bit h - 1 - d of the worker's number mod
--- l is 1
+-- the same in words: at this depth of a tree of this height, the bit `height - 1 - depth` of the
+-- worker's number modulo the leaves is 1
 abbrev pub IsTurn : ℕ → ℕ → ℕ → Bool → Type 0
-IsTurn l worker n right =
-    (h d : ℕ) → l ≡ 2 ^ h → 2 ^ d ≤ n → n < 2 ^ (d + 1) →
-    (IsTrue right) ↔ (bit_at (worker % l) (h - 1 - d) ≡ 1)
+IsTurn leaves worker node right =
+    (height depth : ℕ) → leaves ≡ 2 ^ height → 2 ^ depth ≤ node → node < 2 ^ (depth + 1) →
+    (IsTrue right) ↔ (bit_at (worker % leaves) (height - 1 - depth) ≡ 1)

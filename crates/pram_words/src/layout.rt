@@ -8,7 +8,8 @@ ghost use Rattle.pram_words.specs.Start.{start_of, start_words};
 ghost use Rattle.pram_words.specs.Tree.{depth_of, leaves_of};
 ghost use Rattle.pram_words.specs.Ways.{IsTurnOf, first_leaf_in, turns_right_in, way_of};
 ghost use Rattle.pram_words.specs.Words.{Admits, IsInRange, IsLayout, IsStamped, LayoutData};
-ghost use Rattle.pram_words.specs.Words.{has_claims, layout_of, length_of, most_length};
+ghost use Rattle.pram_words.specs.Words.{has_claims, layout_data, layout_of};
+ghost use Rattle.pram_words.specs.Words.{length_of, most_length};
 ghost use Rattle.pram_words.specs.Words.{number_of, places_of, word_at};
 ghost use Rattle.pram_words.specs.Words.{claims_at, compact_word, places_at, positions_at};
 ghost use Rattle.pram_words.specs.Words.{block_at, block_word, cells_at, line_word};
@@ -51,23 +52,10 @@ pub struct Layout {
 impl Model for Layout {
     ghost Value = { LayoutData };
 
-    ghost view = { λ y. record {
-      form = y.form;
-      leaves = y.leaves;
-      cells = y.cells;
-      procs = y.procs;
-      workers = y.workers;
-      claims = y.claims;
-    } };
+    ghost view = { λ y. layout_data y.form y.leaves y.cells y.procs y.workers y.claims };
 
-    ghost invariant = { λ y. IsLayout (record {
-      form = y.form;
-      leaves = y.leaves;
-      cells = y.cells;
-      procs = y.procs;
-      workers = y.workers;
-      claims = y.claims;
-    }) };
+    ghost invariant = { λ y. IsLayout
+        (layout_data y.form y.leaves y.cells y.procs y.workers y.claims) };
 
     ghost inverse = { λ y. record {
       form = y.form;
@@ -105,14 +93,8 @@ impl Layout {
         requires cells { (1 ≤ cells) × (cells ≤ MAX_CELLS) }
         requires procs { (1 ≤ procs) × (procs ≤ MAX_PROCS) }
         requires workers { (1 ≤ workers) × (workers ≤ 64) }
-        ensures value { result ≡ record {
-          form = form;
-          leaves = leaves_of procs;
-          cells = cells;
-          procs = procs;
-          workers = workers;
-          claims = has_claims rule;
-        } }
+        ensures value { result ≡ layout_data form (leaves_of procs) cells procs workers
+            (has_claims rule) }
         ensures limits { IsLayout result }
     {
         let claims = match rule {
@@ -127,6 +109,15 @@ impl Layout {
             workers,
             claims,
         }
+    }
+
+    /// Says to a proof that the layout is within its limits. It does nothing.
+    #[inline(always)]
+    pub fn limits_hold(&self)
+        ensures { IsLayout self.now }
+    {
+        // The limits of a type are known where one of its fields is read.
+        let _ = &self.form;
     }
 
     /// The form of the board.
@@ -174,8 +165,7 @@ impl Layout {
         ensures value { result ≡ number_of self.now Conflict }
         ensures below { result < length_of self.now }
     {
-        // The limits of a layout are known where one of its fields is read.
-        let _ = &self.form;
+        self.limits_hold();
         0
     }
 

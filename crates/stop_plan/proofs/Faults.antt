@@ -1,5 +1,7 @@
 -- What a record is to the records before it.
-use Rattle.std.proofs.Common.{◌≡◌, ◌≢◌, ◌∙◌, ℕ, ◌+◌, ◌<◌, ◌≤◌, true, false, List, [], ◌∷◌, ◌++◌, Some, None, Ok, length, refl, arith, append_assoc, below_more, inl, inr}
+use Rattle.std.proofs.Common.{◌≡◌, ◌≢◌, ◌∙◌, ℕ, ◌+◌, ◌<◌, ◌≤◌, true, false}
+use Rattle.std.proofs.Common.{List, [], ◌∷◌, ◌++◌, Some, None, Ok, length}
+use Rattle.std.proofs.Common.{refl, arith, append_assoc, below_more, inl, inr}
 use Rattle.std.proofs.lemmas.List.{length_push, take_at}
 use Rattle.std.proofs.lemmas.Option.{slice_get_past}
 use Rattle.std.proofs.lemmas.Bool.{cases_lt}
@@ -7,32 +9,37 @@ use Rattle.std.specs.List.{slice_get}
 use Rattle.std.specs.Result.{result_ok}
 use Rattle.std.proofs.lemmas.List.Elements.{filter_map-append}
 use Rattle.stop_plan.specs.Plan.{stops}
-use Rattle.stop_plan.specs.Records.{FirstFault, Record, SpellsPlan, fault_at, fault_below, fault_of, is_header, row_of, rows_of}
+use Rattle.stop_plan.specs.Records.{FirstFault, Record, SpellsPlan, fault_at}
+use Rattle.stop_plan.specs.Records.{fault_below, fault_of, is_header, row_of, rows_of}
 use Rattle.stop_plan.specs.declared.plan.PlanKind.{PlanKind}
 use Rattle.stop_plan.specs.declared.plan.PlanKind.TheVariants.{BadRow}
 use Rattle.stop_plan.specs.declared.plan.Row.{Row}
 
-pub header_taken : (workers row : ℕ) (given : List Record) (fields : Record) (draft : List Row) → row ≡ 1 → length given + 1 ≡ row → is_header fields ≡ true
-    → draft ≡ rows_of workers given → (fault_of workers given fields ≡ None) × (draft ≡ rows_of workers (given ++ fields ∷ []))
+pub header_taken : (workers row : ℕ) (given : List Record) (fields : Record) (draft : List Row) →
+    row ≡ 1 → length given + 1 ≡ row → is_header fields ≡ true → draft ≡ rows_of workers given →
+    (fault_of workers given fields ≡ None) × (draft ≡ rows_of workers (given ++ fields ∷ []))
 unfolding fault_of rows_of
 header_taken workers row [] fields draft one first header rows = (rw header refl, rows)
 header_taken workers row (g ∷ gs) fields draft one first header rows = absurd (omega arith)
 
-pub header_refused : (workers row : ℕ) (given : List Record) (fields : Record) → row ≡ 1 → length given + 1 ≡ row → is_header fields ≡ false
-    → fault_of workers given fields ≡ Some BadRow
+pub header_refused : (workers row : ℕ) (given : List Record) (fields : Record) → row ≡ 1 →
+    length given + 1 ≡ row → is_header fields ≡ false → fault_of workers given fields ≡ Some BadRow
 unfolding fault_of
 header_refused workers row [] fields one first other = rw other refl
 header_refused workers row (g ∷ gs) fields one first other = absurd (omega arith)
 
-pub fault_later : (workers row : ℕ) (given : List Record) (fields : Record) (draft : List Row) → row ≢ 1 → length given + 1 ≡ row
-    → draft ≡ rows_of workers given → fault_of workers given fields ≡ fault_below (row_of workers fields) draft
+pub fault_later : (workers row : ℕ) (given : List Record) (fields : Record) (draft : List Row) →
+    row ≢ 1 → length given + 1 ≡ row → draft ≡ rows_of workers given →
+    fault_of workers given fields ≡ fault_below (row_of workers fields) draft
 unfolding fault_of
 fault_later workers row [] fields draft more place rows = absurd (more (omega arith))
 fault_later workers row (g ∷ gs) fields draft more place rows = rw rows refl
 
-pub row_taken : (workers row : ℕ) (given : List Record) (fields : Record) (draft : List Row) (next : Row) → row ≢ 1 → length given + 1 ≡ row
-    → draft ≡ rows_of workers given → row_of workers fields ≡ Ok next → stops draft next.worker ≡ false
-    → (fault_of workers given fields ≡ None) × (draft ++ next ∷ [] ≡ rows_of workers (given ++ fields ∷ []))
+pub row_taken : (workers row : ℕ) (given : List Record) (fields : Record) (draft : List Row)
+    (next : Row) → row ≢ 1 → length given + 1 ≡ row → draft ≡ rows_of workers given →
+    row_of workers fields ≡ Ok next → stops draft next.worker ≡ false →
+    (fault_of workers given fields ≡ None)
+    × (draft ++ next ∷ [] ≡ rows_of workers (given ++ fields ∷ []))
 unfolding rows_of
 row_taken workers row [] fields draft next more place rows is free = absurd (more (omega arith))
 row_taken workers row (g ∷ gs) fields draft next more place rows is free = (
@@ -40,17 +47,20 @@ row_taken workers row (g ∷ gs) fields draft next more place rows is free = (
   rw (rows, filter_map-append (λ r. result_ok (row_of workers r)) gs (fields ∷ []), is) refl,
 )
 
-slice_get_at : (given rest : List Record) (fields : Record) → slice_get (given ++ fields ∷ rest) (length given) ≡ Some fields
+slice_get_at : (given rest : List Record) (fields : Record) →
+    slice_get (given ++ fields ∷ rest) (length given) ≡ Some fields
 slice_get_at [] rest fields = refl
 slice_get_at (g ∷ gs) rest fields = slice_get_at gs rest fields
 
 -- the next record, and what it is to those before it
-fault_here : (workers : ℕ) (all given rest : List Record) (fields : Record) → all ≡ (given ++ fields ∷ []) ++ rest
-    → fault_at workers all (length given) ≡ fault_of workers given fields
+fault_here : (workers : ℕ) (all given rest : List Record) (fields : Record) →
+    all ≡ (given ++ fields ∷ []) ++ rest →
+    fault_at workers all (length given) ≡ fault_of workers given fields
 unfolding fault_at
 fault_here workers all given rest fields e =
     let split : all ≡ given ++ (fields ∷ rest) = e ∙ append_assoc given (fields ∷ []) rest in
-    rw (split, slice_get_at given rest fields, take_at given (fields ∷ rest) (length given) refl) refl
+    rw (split, slice_get_at given rest fields, take_at given (fields ∷ rest) (length given) refl)
+    refl
 
 pub fresh_rows : (workers : ℕ) → rows_of workers [] ≡ []
 unfolding rows_of
@@ -62,19 +72,24 @@ pub record Judged (workers row : ℕ) (all given : List Record) (draft : List Ro
   pub rows : draft ≡ rows_of workers given
   pub fine : (place : ℕ) → place < length given → fault_at workers all place ≡ None
 
-pub judged_more : (workers row : ℕ) (all given rest : List Record) (fields : Record) (draft next : List Row) → all ≡ (given ++ fields ∷ []) ++ rest
-    → Judged workers row all given draft → (fault_of workers given fields ≡ None) × (next ≡ rows_of workers (given ++ fields ∷ []))
-    → Judged workers (row + 1) all (given ++ fields ∷ []) next
+pub judged_more : (workers row : ℕ) (all given rest : List Record)
+    (fields : Record) (draft next : List Row) →
+    all ≡ (given ++ fields ∷ []) ++ rest → Judged workers row all given draft →
+    (fault_of workers given fields ≡ None) × (next ≡ rows_of workers (given ++ fields ∷ [])) →
+    Judged workers (row + 1) all (given ++ fields ∷ []) next
 judged_more workers row all given rest fields draft next e h taken =
-    let here : fault_at workers all (length given) ≡ None = fault_here workers all given rest fields e ∙ taken.0 in
+    let here : fault_at workers all (length given) ≡ None =
+    fault_here workers all given rest fields e ∙ taken.0 in
     record {
       count = length_push given fields ∙ omega (arith, h.count);
       rows = taken.1;
       fine = rw (length_push given fields) (below_more _ _ h.fine here);
     }
 
-pub first_fault : (workers row : ℕ) (all given rest : List Record) (fields : Record) (draft : List Row) (kind : PlanKind) → all ≡ (given ++ fields ∷ []) ++ rest
-    → Judged workers row all given draft → fault_of workers given fields ≡ Some kind → FirstFault workers all (row + 1) kind
+pub first_fault : (workers row : ℕ) (all given rest : List Record)
+    (fields : Record) (draft : List Row) (kind : PlanKind) → all ≡ (given ++ fields ∷ []) ++ rest →
+    Judged workers row all given draft → fault_of workers given fields ≡ Some kind →
+    FirstFault workers all (row + 1) kind
 first_fault workers row all given rest fields draft kind e h bad = record {
   place = length given;
   number = omega (arith, h.count);
@@ -82,12 +97,14 @@ first_fault workers row all given rest fields draft kind e h bad = record {
   first = h.fine;
 }
 
-pub fault_past : (workers : ℕ) (all : List Record) (place : ℕ) → length all ≤ place → fault_at workers all place ≡ None
+pub fault_past : (workers : ℕ) (all : List Record) (place : ℕ) → length all ≤ place →
+    fault_at workers all place ≡ None
 unfolding fault_at
 fault_past workers all place past = rw (slice_get_past all place past) refl
 
-pub spells : (workers row : ℕ) (all given : List Record) (draft : List Row) → all ≡ given → Judged workers row all given draft
-    → SpellsPlan workers all (record { workers = workers; rows = draft })
+pub spells : (workers row : ℕ) (all given : List Record) (draft : List Row) →
+    all ≡ given → Judged workers row all given draft →
+    SpellsPlan workers all (record { workers = workers; rows = draft })
 spells workers row all given draft e h = record {
   faultless = λ place. elim (cases_lt place (length all)) [
     | inl within ↦ h.fine place (rw (← e) within)

@@ -11,8 +11,8 @@ within [] i short none = absurd (omega arith)
 within (f ∷ fs) zero short none = cc none
 within (f ∷ fs) (suc i) short none = within fs i (omega arith) none
 
-pub three_are : (fields : Record) (a b c : Field) → length fields ≡ 3 → field_at fields 0 ≡ Some a → field_at fields 1 ≡ Some b → field_at fields 2 ≡ Some c
-    → fields ≡ a ∷ b ∷ c ∷ []
+pub three_are : (fields : Record) (a b c : Field) → length fields ≡ 3 → field_at fields 0 ≡ Some a →
+    field_at fields 1 ≡ Some b → field_at fields 2 ≡ Some c → fields ≡ a ∷ b ∷ c ∷ []
 unfolding field_at
 three_are (x ∷ y ∷ z ∷ []) a b c three first second third = cc
 three_are [] a b c three first second third = absurd (omega arith)
@@ -20,7 +20,8 @@ three_are (x ∷ []) a b c three first second third = absurd (omega arith)
 three_are (x ∷ y ∷ []) a b c three first second third = absurd (omega arith)
 three_are (x ∷ y ∷ z ∷ w ∷ rest) a b c three first second third = absurd (omega arith)
 
-pub other_row : (workers : ℕ) (fields : Record) → length fields ≢ 3 → row_of workers fields ≡ Err BadRow
+pub other_row : (workers : ℕ) (fields : Record) → length fields ≢ 3 →
+    row_of workers fields ≡ Err BadRow
 unfolding row_of
 other_row workers [] other = refl
 other_row workers (x ∷ []) other = refl

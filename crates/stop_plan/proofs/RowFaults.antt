@@ -1,5 +1,7 @@
 -- What a row is to the rows before it.
-use Rattle.std.proofs.Common.{true, Option, option_and_then, Ok, zero, suc, add-one, ◌≡◌, ◌∙◌, ℕ, ◌+◌, ◌<◌, ◌≤◌, List, [], ◌∷◌, ◌++◌, Some, None, length, get_or, take, refl, sym, ap, arith, below_more, inl, inr}
+use Rattle.std.proofs.Common.{true, Option, option_and_then, Ok, zero, suc, add-one, ◌≡◌}
+use Rattle.std.proofs.Common.{◌∙◌, ℕ, ◌+◌, ◌<◌, ◌≤◌, List, [], ◌∷◌, ◌++◌, Some, None, length}
+use Rattle.std.proofs.Common.{get_or, take, refl, sym, ap, arith, below_more, inl, inr}
 use Rattle.std.specs.Prelude.{map, nat_lt}
 use Rattle.std.specs.List.{slice_get}
 use Rattle.std.specs.Option.{option_map}
@@ -11,16 +13,19 @@ use Rattle.std.proofs.lemmas.Option.{slice_get-get_or, slice_get-map, slice_get_
 use Rattle.stop_plan.proofs.Faults.{fault_past}
 use Rattle.stop_plan.specs.Laws.{RowsAsTexts}
 use Rattle.stop_plan.specs.Plan.{PlanData}
-use Rattle.stop_plan.specs.Records.{Record, SpellsPlan, fault_at, fault_of, is_header, row_of, rows_of, ticks_end}
+use Rattle.stop_plan.specs.Records.{Record, SpellsPlan, fault_at, fault_of}
+use Rattle.stop_plan.specs.Records.{is_header, row_of, rows_of, ticks_end}
 use Rattle.stop_plan.specs.Rows.{FirstBadRow, IsPlanOf, fault_after, judged_row, row_fault_at}
 use Rattle.stop_plan.specs.declared.plan.Act.TheVariants.{Go}
 use Rattle.stop_plan.specs.declared.plan.PlanKind.{PlanKind}
 use Rattle.stop_plan.specs.declared.plan.Row.{Row}
 
-row_here : (workers : ℕ) (rows draft : List Row) (place : ℕ) (d : Row) → place < length rows → draft ≡ take place rows
-    → row_fault_at workers rows place ≡ fault_after workers draft (get_or rows place d)
+row_here : (workers : ℕ) (rows draft : List Row) (place : ℕ) (d : Row) →
+    place < length rows → draft ≡ take place rows →
+    row_fault_at workers rows place ≡ fault_after workers draft (get_or rows place d)
 unfolding row_fault_at
-row_here workers rows draft place d within before = rw (slice_get-get_or rows place d within, before) refl
+row_here workers rows draft place d within before =
+    rw (slice_get-get_or rows place d within, before) refl
 
 -- the rows before this place have no fault, and are the draft's
 pub record RowsJudged (workers number place : ℕ) (rows draft : List Row) : Type 0 where
@@ -28,17 +33,22 @@ pub record RowsJudged (workers number place : ℕ) (rows draft : List Row) : Typ
   pub taken : draft ≡ take place rows
   pub fine : (earlier : ℕ) → earlier < place → row_fault_at workers rows earlier ≡ None
 
-pub one_more : (workers number place : ℕ) (rows draft next : List Row) (d : Row) → place < length rows → RowsJudged workers number place rows draft
-    → (fault_after workers draft (get_or rows place d) ≡ None) × (next ≡ draft ++ get_or rows place d ∷ [])
-    → RowsJudged workers (number + 1) (place + 1) rows next
+pub one_more : (workers number place : ℕ) (rows draft next : List Row) (d : Row) →
+    place < length rows → RowsJudged workers number place rows draft →
+    (fault_after workers draft (get_or rows place d) ≡ None)
+    × (next ≡ draft ++ get_or rows place d ∷ []) →
+    RowsJudged workers (number + 1) (place + 1) rows next
 one_more workers number place rows draft next d within h good = record {
   count = omega (arith, h.count);
-  taken = good.1 ∙ ap (λ t. t ++ get_or rows place d ∷ []) h.taken ∙ sym (take_more rows place d within);
+  taken = good.1 ∙ ap (λ t. t ++ get_or rows place d ∷ []) h.taken
+      ∙ sym (take_more rows place d within);
   fine = below_more _ _ h.fine (row_here workers rows draft place d within h.taken ∙ good.0);
 }
 
-pub first_bad : (workers number place : ℕ) (rows draft : List Row) (d : Row) (kind : PlanKind) → place < length rows → RowsJudged workers number place rows draft
-    → fault_after workers draft (get_or rows place d) ≡ Some kind → FirstBadRow workers rows (number + 1) kind
+pub first_bad : (workers number place : ℕ) (rows draft : List Row) (d : Row) (kind : PlanKind) →
+    place < length rows → RowsJudged workers number place rows draft →
+    fault_after workers draft (get_or rows place d) ≡ Some kind →
+    FirstBadRow workers rows (number + 1) kind
 first_bad workers number place rows draft d kind within h bad = record {
   place = place;
   number = omega (arith, h.count);
@@ -46,12 +56,14 @@ first_bad workers number place rows draft d kind within h bad = record {
   first = h.fine;
 }
 
-pub row_fault_past : (workers : ℕ) (rows : List Row) (place : ℕ) → length rows ≤ place → row_fault_at workers rows place ≡ None
+pub row_fault_past : (workers : ℕ) (rows : List Row) (place : ℕ) → length rows ≤ place →
+    row_fault_at workers rows place ≡ None
 unfolding row_fault_at
 row_fault_past workers rows place past = rw (slice_get_past rows place past) refl
 
-pub all_judged : (workers number place : ℕ) (rows draft : List Row) → length rows ≤ place → RowsJudged workers number place rows draft
-    → IsPlanOf workers rows (record { workers = workers; rows = draft })
+pub all_judged : (workers number place : ℕ) (rows draft : List Row) →
+    length rows ≤ place → RowsJudged workers number place rows draft →
+    IsPlanOf workers rows (record { workers = workers; rows = draft })
 all_judged workers number place rows draft past h = record {
   faultless = λ at. elim (cases_lt at (length rows)) [
     | inl within ↦ h.fine at (omega (arith, within, past))
@@ -61,7 +73,8 @@ all_judged workers number place rows draft past h = record {
 }
 
 -- a row without a fault is good by itself
-judged_good : (workers : ℕ) (before : List Row) (row : Row) → fault_after workers before row ≡ None → judged_row workers row ≡ Ok row
+judged_good : (workers : ℕ) (before : List Row) (row : Row) →
+    fault_after workers before row ≡ None → judged_row workers row ≡ Ok row
 judged_good workers before row fine = elim (cases_Bool (nat_lt row.worker workers)) [
   | inl named ↦ elim (cases_Bool (nat_lt row.ticks (ticks_end row.act))) [
     | inl short ↦ rw (named, short) refl
@@ -71,13 +84,16 @@ judged_good workers before row fine = elim (cases_Bool (nat_lt row.worker worker
 ]
 
 -- records below a header that say rows
-record SayRows (workers : ℕ) (header : Record) (below : List Record) (rows : List Row) : Type 0 where
+record SayRows (workers : ℕ) (header : Record) (below : List Record)
+    (rows : List Row) : Type 0 where
   header_read : is_header header ≡ true
   said : map (row_of workers) below ≡ map (judged_row workers) rows
 
-same_option : (workers : ℕ) (given : List Record) (header : Record) (before : List Row) (fields : Option Record) (row : Option Row) → rows_of workers (header ∷ given) ≡ before
-    → option_map (row_of workers) fields ≡ option_map (judged_row workers) row
-    → option_and_then (fault_of workers (header ∷ given)) fields ≡ option_and_then (fault_after workers before) row
+same_option : (workers : ℕ) (given : List Record) (header : Record) (before : List Row)
+    (fields : Option Record) (row : Option Row) → rows_of workers (header ∷ given) ≡ before →
+    option_map (row_of workers) fields ≡ option_map (judged_row workers) row →
+    option_and_then (fault_of workers (header ∷ given)) fields
+    ≡ option_and_then (fault_after workers before) row
 unfolding fault_of
 same_option workers given header before None None rows same = refl
 same_option workers given header before None (Some r) rows same = cc same
@@ -86,68 +102,95 @@ same_option workers given header before (Some f) (Some r) rows same =
     let one : row_of workers f ≡ judged_row workers r = cc same in
     rw (one, rows) refl
 
-same_said : (workers : ℕ) (header : Record) (below : List Record) (rows : List Row) (place : ℕ) → SayRows workers header below rows
-    → option_map (row_of workers) (slice_get below place) ≡ option_map (judged_row workers) (slice_get rows place)
+same_said : (workers : ℕ) (header : Record) (below : List Record) (rows : List Row) (place : ℕ) →
+    SayRows workers header below rows → option_map (row_of workers) (slice_get below place)
+    ≡ option_map (judged_row workers) (slice_get rows place)
 same_said workers header below rows place h =
-    sym (slice_get-map (row_of workers) below place) ∙ ap (λ l. slice_get l place) h.said ∙ slice_get-map (judged_row workers) rows place
+    sym (slice_get-map (row_of workers) below place) ∙ ap (λ l. slice_get l place) h.said
+    ∙ slice_get-map (judged_row workers) rows place
 
-same_fault : (workers : ℕ) (header : Record) (below : List Record) (rows : List Row) (place : ℕ) → SayRows workers header below rows
-    → rows_of workers (header ∷ take place below) ≡ take place rows → fault_at workers (header ∷ below) (suc place) ≡ row_fault_at workers rows place
+same_fault : (workers : ℕ) (header : Record) (below : List Record) (rows : List Row) (place : ℕ) →
+    SayRows workers header below rows →
+    rows_of workers (header ∷ take place below) ≡ take place rows →
+    fault_at workers (header ∷ below) (suc place) ≡ row_fault_at workers rows place
 unfolding fault_at row_fault_at
 same_fault workers header below rows place h before =
-    same_option workers (take place below) header (take place rows) (slice_get below place) (slice_get rows place) before (same_said workers header below rows place h)
+    same_option workers (take place below) header (take place rows) (slice_get below place)
+    (slice_get rows place) before (same_said workers header below rows place h)
 
 -- the records and the rows before a place, where none of the records is bad
-record Alike (workers : ℕ) (header : Record) (below : List Record) (rows : List Row) (place : ℕ) : Type 0 where
+record Alike (workers : ℕ) (header : Record) (below : List Record)
+    (rows : List Row) (place : ℕ) : Type 0 where
   before : rows_of workers (header ∷ take place below) ≡ take place rows
   fine : (earlier : ℕ) → earlier < place → row_fault_at workers rows earlier ≡ None
 
-row_said : (workers : ℕ) (header : Record) (below : List Record) (rows : List Row) (place : ℕ) (d : Row) → SayRows workers header below rows → place < length rows
-    → place < length below → row_of workers (get_or below place []) ≡ judged_row workers (get_or rows place d)
+row_said : (workers : ℕ) (header : Record) (below : List Record) (rows : List Row) (place : ℕ)
+    (d : Row) → SayRows workers header below rows → place < length rows → place < length below →
+    row_of workers (get_or below place []) ≡ judged_row workers (get_or rows place d)
 row_said workers header below rows place d h within inside =
-    let same = rw (slice_get-get_or below place [] inside, slice_get-get_or rows place d within) at (same_said workers header below rows place h) in
-    cc same
+    let same = rw (
+      slice_get-get_or below place [] inside,
+      slice_get-get_or rows place d within,
+    ) at (same_said workers header below rows place h) in cc same
 
-rows_more : (workers : ℕ) (header : Record) (below : List Record) (rows : List Row) (place : ℕ) (d : Row) → place < length rows → place < length below
-    → row_of workers (get_or below place []) ≡ Ok (get_or rows place d) → rows_of workers (header ∷ take place below) ≡ take place rows
-    → rows_of workers (header ∷ take (place + 1) below) ≡ take (place + 1) rows
+rows_more : (workers : ℕ) (header : Record) (below : List Record)
+    (rows : List Row) (place : ℕ) (d : Row) → place < length rows → place < length below →
+    row_of workers (get_or below place []) ≡ Ok (get_or rows place d) →
+    rows_of workers (header ∷ take place below) ≡ take place rows →
+    rows_of workers (header ∷ take (place + 1) below) ≡ take (place + 1) rows
 unfolding rows_of
 rows_more workers header below rows place d within inside is before =
     rw (
       take_more below place [] inside,
       take_more rows place d within,
-      filter_map-append (λ r. result_ok (row_of workers r)) (take place below) (get_or below place [] ∷ []),
+      filter_map-append (λ r. result_ok (row_of workers r))
+          (take place below) (get_or below place [] ∷ []),
       before,
       is,
     ) refl
 
-same_length : (workers : ℕ) (header : Record) (below : List Record) (rows : List Row) → SayRows workers header below rows → length below ≡ length rows
-same_length workers header below rows h = sym (length-map below (row_of workers)) ∙ ap length h.said ∙ length-map rows (judged_row workers)
+same_length : (workers : ℕ) (header : Record) (below : List Record) (rows : List Row) →
+    SayRows workers header below rows → length below ≡ length rows
+same_length workers header below rows h = sym (length-map below (row_of workers)) ∙ ap length h.said
+    ∙ length-map rows (judged_row workers)
 
-alike_to : (workers : ℕ) (header : Record) (below : List Record) (rows : List Row) (place : ℕ) (d : Row) → SayRows workers header below rows → place ≤ length rows
-    → ((earlier : ℕ) → earlier < place → fault_at workers (header ∷ below) (suc earlier) ≡ None) → Alike workers header below rows place
+alike_to : (workers : ℕ) (header : Record) (below : List Record) (rows : List Row)
+    (place : ℕ) (d : Row) → SayRows workers header below rows → place ≤ length rows →
+    ((earlier : ℕ) → earlier < place → fault_at workers (header ∷ below) (suc earlier) ≡ None) →
+    Alike workers header below rows place
 unfolding rows_of
-alike_to workers header below rows zero d h within none = record { before = refl; fine = λ earlier below. absurd (omega arith) }
+alike_to workers header below rows zero d h within none =
+    record { before = refl; fine = λ earlier below. absurd (omega arith) }
 alike_to workers header below rows (suc place) d h within none =
-    let sofar = alike_to workers header below rows place d h (omega arith) (λ earlier under. none earlier (omega arith)) in
-    let here : row_fault_at workers rows place ≡ None = sym (same_fault workers header below rows place h sofar.before) ∙ none place (omega arith) in
+    let sofar = alike_to workers header below rows place d h
+    (omega arith) (λ earlier under. none earlier (omega arith)) in
+    let here : row_fault_at workers rows place ≡ None =
+    sym (same_fault workers header below rows place h sofar.before) ∙ none place (omega arith) in
     let inside : place < length below = omega (arith, same_length workers header below rows h) in
-    let fine_here = sym (row_here workers rows (take place rows) place d (omega arith) refl) ∙ here in
-    let is = row_said workers header below rows place d h (omega arith) inside ∙ judged_good workers (take place rows) (get_or rows place d) fine_here in
+    let fine_here =
+    sym (row_here workers rows (take place rows) place d (omega arith) refl) ∙ here in
+    let is = row_said workers header below rows place d h (omega arith) inside
+    ∙ judged_good workers (take place rows) (get_or rows place d) fine_here in
     record {
-      before = rw (← add-one) (rows_more workers header below rows place d (omega arith) inside is sofar.before);
+      before = rw (← add-one)
+          (rows_more workers header below rows place d (omega arith) inside is sofar.before);
       fine = rw (← add-one) (below_more _ _ sofar.fine here);
     }
 
 any_row : Row
 any_row = record { worker = 0; act = Go; ticks = 0 }
 
-plan_same : (workers : ℕ) (header : Record) (below : List Record) (rows : List Row) (plan : PlanData) → SayRows workers header below rows
-    → SpellsPlan workers (header ∷ below) plan → IsPlanOf workers rows plan
+plan_same : (workers : ℕ) (header : Record) (below : List Record)
+    (rows : List Row) (plan : PlanData) → SayRows workers header below rows →
+    SpellsPlan workers (header ∷ below) plan → IsPlanOf workers rows plan
 plan_same workers header below rows plan said h =
-    let alike = alike_to workers header below rows (length rows) any_row said (omega arith) (λ earlier under. h.faultless (suc earlier)) in
+    let alike = alike_to workers header below rows
+    (length rows) any_row said (omega arith) (λ earlier under. h.faultless (suc earlier)) in
     let lengths = same_length workers header below rows said in
-    let kept = rw (take_all (length rows) below (omega (arith, lengths)), take_all (length rows) rows (omega arith)) at alike.before in
+    let kept = rw (
+      take_all (length rows) below (omega (arith, lengths)),
+      take_all (length rows) rows (omega arith),
+    ) at alike.before in
     record {
       faultless = λ place. elim (cases_lt place (length rows)) [
         | inl within ↦ alike.fine place within
@@ -156,29 +199,39 @@ plan_same workers header below rows plan said h =
       rows_kept = h.rows ∙ rw kept refl;
     }
 
-header_good : (workers : ℕ) (header : Record) (below : List Record) → is_header header ≡ true → fault_at workers (header ∷ below) 0 ≡ None
+header_good : (workers : ℕ) (header : Record) (below : List Record) → is_header header ≡ true →
+    fault_at workers (header ∷ below) 0 ≡ None
 unfolding fault_at fault_of
 header_good workers header below e = rw e refl
 
-fault_same : (workers : ℕ) (header : Record) (below : List Record) (rows : List Row) (row place : ℕ) (kind : PlanKind) → SayRows workers header below rows
-    → row ≡ place + 1 → fault_at workers (header ∷ below) place ≡ Some kind → ((earlier : ℕ) → earlier < place → fault_at workers (header ∷ below) earlier ≡ None)
-    → FirstBadRow workers rows row kind
-fault_same workers header below rows row zero kind said number fault first = cc (fault, header_good workers header below said.header_read)
-fault_same workers header below rows row (suc place) kind said number fault first = elim (cases_lt place (length rows)) [
-  | inl within ↦
-      let alike = alike_to workers header below rows place any_row said (omega arith) (λ earlier under. first (suc earlier) (omega arith)) in
-      record {
-        place = place;
-        number = omega (arith, number);
-        fault = sym (same_fault workers header below rows place said alike.before) ∙ fault;
-        first = alike.fine;
-      }
-  | inr past ↦
-      let lengths = same_length workers header below rows said in
-      cc (fault, fault_past workers (header ∷ below) (suc place) (omega (arith, lengths, past)))
-]
+fault_same : (workers : ℕ) (header : Record) (below : List Record)
+    (rows : List Row) (row place : ℕ) (kind : PlanKind) → SayRows workers header below rows →
+    row ≡ place + 1 → fault_at workers (header ∷ below) place ≡ Some kind →
+    ((earlier : ℕ) → earlier < place → fault_at workers (header ∷ below) earlier ≡ None) →
+    FirstBadRow workers rows row kind
+fault_same workers header below rows row zero kind said number fault first =
+    cc (fault, header_good workers header below said.header_read)
+fault_same workers header below rows row (suc place) kind said number fault first =
+    elim (cases_lt place (length rows)) [
+      | inl within ↦
+          let alike = alike_to workers header below rows place any_row said
+          (omega arith) (λ earlier under. first (suc earlier) (omega arith)) in
+          record {
+            place = place;
+            number = omega (arith, number);
+            fault = sym (same_fault workers header below rows place said alike.before) ∙ fault;
+            first = alike.fine;
+          }
+      | inr past ↦
+          let lengths = same_length workers header below rows said in
+          cc (fault, fault_past workers (header ∷ below) (suc place) (omega (arith, lengths, past)))
+    ]
 
 pub rows_as_texts : RowsAsTexts
 rows_as_texts workers header below rows is_header said =
-    let all : SayRows workers header below rows = record { header_read = is_header; said = said } in
-    (λ plan h. plan_same workers header below rows plan all h, λ row kind k. fault_same workers header below rows row k.place kind all k.number k.fault k.first)
+    let all : SayRows workers header below rows =
+    record { header_read = is_header; said = said } in (
+      λ plan h. plan_same workers header below rows plan all h,
+      λ row kind k.
+          fault_same workers header below rows row k.place kind all k.number k.fault k.first,
+    )

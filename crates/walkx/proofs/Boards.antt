@@ -1,5 +1,6 @@
 -- A job's board: words and what they may have.
-use Rattle.std.proofs.Common.{◌≡◌, ℕ, ◌+◌, ◌*◌, ◌^◌, ◌<◌, ◌≤◌, Bool, true, false, if◌then◌else◌, Option, Some, None, ap, refl, inl, inr, arith}
+use Rattle.std.proofs.Common.{◌≡◌, ℕ, ◌+◌, ◌*◌, ◌^◌, ◌<◌, ◌≤◌, Bool, true, false}
+use Rattle.std.proofs.Common.{if◌then◌else◌, Option, Some, None, ap, refl, inl, inr, arith}
 use Rattle.pram_text.specs.Job.{JobData}
 use Rattle.pram_step.specs.declared.requests.Request.{Request}
 use Rattle.pram_step.specs.Instructions.{HasShape, place_part}
@@ -9,37 +10,51 @@ use Rattle.pram_words.specs.declared.words.Word.{Word}
 use Rattle.pram_words.specs.declared.words.Word.TheVariants.{Conflict, Node, Asked, Position}
 use Rattle.pram_words.specs.Phases.{step_at}
 use Rattle.pram_words.specs.Stamps.{stamped_word, payload_of}
-use Rattle.pram_words.specs.Words.{LayoutData, IsLayout, IsWord, IsInRange, IsStamped, Admits, number_of, length_of, claims_at, wide_claims_at, most_asked}
+use Rattle.pram_words.specs.Words.{LayoutData, IsLayout, IsWord, IsInRange, IsStamped, Admits}
+use Rattle.pram_words.specs.Words.{number_of, length_of, claims_at, wide_claims_at, most_asked}
 use Rattle.walkx.specs.Walk.{IsBoard}
 
 -- what is admitted at a word's number the word may have
-pub in_range : (job : JobData) (y : LayoutData) (a : Word) (v : ℕ) → IsBoard job y → IsWord y a → Admits y job (number_of y a) v → IsInRange y job a v
-in_range job y a v board is admitted = ((ranges y job board.layout board.limits.steps).admitted a v is).1 admitted
+pub in_range : (job : JobData) (y : LayoutData) (a : Word) (v : ℕ) → IsBoard job y → IsWord y a →
+    Admits y job (number_of y a) v → IsInRange y job a v
+in_range job y a v board is admitted =
+    ((ranges y job board.layout board.limits.steps).admitted a v is).1 admitted
 
 -- what a word of the board may have is admitted at its number
-pub admits : (job : JobData) (y : LayoutData) (a : Word) (v : ℕ) → IsBoard job y → IsWord y a → IsInRange y job a v → Admits y job (number_of y a) v
-admits job y a v board is range = ((ranges y job board.layout board.limits.steps).admitted a v is).0 range
+pub admits : (job : JobData) (y : LayoutData) (a : Word) (v : ℕ) → IsBoard job y → IsWord y a →
+    IsInRange y job a v → Admits y job (number_of y a) v
+admits job y a v board is range =
+    ((ranges y job board.layout board.limits.steps).admitted a v is).0 range
 
 -- a word's number is below the length
-pub is_below : (job : JobData) (y : LayoutData) (a : Word) → IsBoard job y → IsWord y a → number_of y a < length_of y
+pub is_below : (job : JobData) (y : LayoutData) (a : Word) → IsBoard job y →
+    IsWord y a → number_of y a < length_of y
 is_below job y a board is = (numbering y board.layout).below a is
 
-pub root_most : (job : JobData) (y : LayoutData) (root : ℕ) → IsBoard job y → Admits y job (number_of y (Node 1)) root → root ≤ 3 * job.steps
-root_most job y root board admitted = in_range job y (Node 1) root board (omega arith, omega (arith, board.layout.leaves)) admitted
+pub root_most : (job : JobData) (y : LayoutData) (root : ℕ) → IsBoard job y →
+    Admits y job (number_of y (Node 1)) root → root ≤ 3 * job.steps
+root_most job y root board admitted =
+    in_range job y (Node 1) root board (omega arith, omega (arith, board.layout.leaves)) admitted
 
-pub conflict_most : (job : JobData) (y : LayoutData) (u : ℕ) → IsBoard job y → Admits y job (number_of y Conflict) u → u ≤ job.steps
+pub conflict_most : (job : JobData) (y : LayoutData) (u : ℕ) → IsBoard job y →
+    Admits y job (number_of y Conflict) u → u ≤ job.steps
 conflict_most job y u board admitted = in_range job y Conflict u board tt admitted
 
 -- a position that was loaded is a node
-pub position_most : (job : JobData) (y : LayoutData) (w n : ℕ) → IsBoard job y → w < y.workers → Admits y job (number_of y (Position w)) n → n < 2 * y.leaves
-position_most job y w n board worker admitted = (in_range job y (Position w) n board worker admitted).1
+pub position_most : (job : JobData) (y : LayoutData) (w n : ℕ) → IsBoard job y → w < y.workers →
+    Admits y job (number_of y (Position w)) n → n < 2 * y.leaves
+position_most job y w n board worker admitted =
+    (in_range job y (Position w) n board worker admitted).1
 
 -- what a request word holds
-pub asked_part : (job : JobData) (y : LayoutData) (i j a : ℕ) → IsBoard job y → i < y.procs → j < 3 → Admits y job (number_of y (Asked i j)) a → payload_of a ≤ most_asked y job j
-asked_part job y i j a board processor part admitted = (in_range job y (Asked i j) a board (processor, part) admitted).1
+pub asked_part : (job : JobData) (y : LayoutData) (i j a : ℕ) → IsBoard job y → i < y.procs →
+    j < 3 → Admits y job (number_of y (Asked i j)) a → payload_of a ≤ most_asked y job j
+asked_part job y i j a board processor part admitted =
+    (in_range job y (Asked i j) a board (processor, part) admitted).1
 
 -- a stamped word
-pub stamps : (steps most t v : ℕ) → t ≤ steps → v ≤ most → v < 2 ^ 32 → IsStamped steps most (stamped_word t v)
+pub stamps : (steps most t v : ℕ) → t ≤ steps → v ≤ most → v < 2 ^ 32 →
+    IsStamped steps most (stamped_word t v)
 stamps steps most t v a b c = (omega arith, omega arith)
 
 -- the step of a phase of the job
@@ -57,8 +72,10 @@ same_procs job y board = ap (λ (z : LayoutData). z.procs) board.is
 pub length_small : (y : LayoutData) → IsLayout y → length_of y < 2 ^ 32
 unfolding length_of
 length_small y limits = elim (cases_form y.form) [
-  | inl e ↦ rw e (by_claims y.claims (claims_at y) (omega (arith, limits.leaves, limits.cells, limits.procs, limits.workers)))
-  | inr e ↦ rw (form_wide y.form (claims_at y) (wide_claims_at y) e) (by_claims y.claims (wide_claims_at y) (omega (arith, limits.leaves, limits.cells, limits.procs, limits.workers)))
+  | inl e ↦ rw e (by_claims y.claims (claims_at y)
+      (omega (arith, limits.leaves, limits.cells, limits.procs, limits.workers)))
+  | inr e ↦ rw (form_wide y.form (claims_at y) (wide_claims_at y) e) (by_claims y.claims
+      (wide_claims_at y) (omega (arith, limits.leaves, limits.cells, limits.procs, limits.workers)))
 ]
   where
     by_claims : (b : Bool) (n : ℕ) → n ≤ 1000000 → n + (if b then y.cells else 0) < 2 ^ 32
@@ -66,9 +83,13 @@ length_small y limits = elim (cases_form y.form) [
     by_claims false n few = omega arith
 
 -- where a request's data goes, plus 1
-pub place_shape : (job : JobData) (i : ℕ) (r : Request) → i < job.procs → HasShape job i r → place_part r ≤ job.cells + 4 * job.procs
+pub place_shape : (job : JobData) (i : ℕ) (r : Request) → i < job.procs → HasShape job i r →
+    place_part r ≤ job.cells + 4 * job.procs
 place_shape job i r proc has = by_put r.put has.data_place
   where
-    by_put : (put : Option (ℕ × ℕ)) → ((place value : ℕ) → put ≡ Some (place, value) → IsDataPlace job i place) → elim put [ None ↦ 0 | Some w ↦ w.0 + 1 ] ≤ job.cells + 4 * job.procs
+    by_put : (put : Option (ℕ × ℕ)) →
+        ((place value : ℕ) → put ≡ Some (place, value) → IsDataPlace job i place) →
+        elim put [ None ↦ 0 | Some w ↦ w.0 + 1 ] ≤ job.cells + 4 * job.procs
     by_put None well = omega arith
-    by_put (Some w) well = elim (well w.0 w.1 refl) [ inl cell ↦ omega arith | inr own ↦ omega (arith, own.1) ]
+    by_put (Some w) well =
+        elim (well w.0 w.1 refl) [ inl cell ↦ omega arith | inr own ↦ omega (arith, own.1) ]

@@ -1,5 +1,6 @@
 -- What each script of a worker leads to, and that its operations are few.
-use Rattle.std.proofs.Common.{◌≡◌, ℕ, ◌+◌, ◌-◌, ◌*◌, ◌%◌, ◌<◌, ◌≤◌, ◌==◌, List, ◌∷◌, refl, inl, inr, add-mul, mul-le-mul_right, arith}
+use Rattle.std.proofs.Common.{◌≡◌, ℕ, ◌+◌, ◌-◌, ◌*◌, ◌%◌, ◌<◌, ◌≤◌, ◌==◌, List, ◌∷◌}
+use Rattle.std.proofs.Common.{refl, inl, inr, add-mul, mul-le-mul_right, arith}
 use Rattle.std.proofs.lemmas.Bool.{cases_lt, cond_both, eq-eqb, eqb-false}
 use Rattle.pram_text.specs.Job.{JobData}
 use Rattle.pram_words.specs.Words.{LayoutData, number_of}
@@ -14,40 +15,56 @@ use Rattle.walkx.proofs.BoundWeight.{low_of, phases_weight, later_weight}
 use Rattle.walkx.proofs.BoundTurns.{Grown, turns_most}
 use Rattle.walkx.proofs.BoundTasks.{IsWithin}
 
--- A script with at most so many operations leads, after each history that may be heard, to what is said of its end.
-abbrev pub Leads : JobData → LayoutData → ℕ → (Then → List (Op × ℕ) → Type 0) → Script Then → ℕ → List (Op × ℕ) → Type 0
-Leads job y w to (asks op next) k history = (1 ≤ k) × ((found : ℕ) → MayHear job y w history op found → Leads job y w to (next found) (k - 1) ((op, found) ∷ history))
+-- A script with at most so many operations leads, after each history that may be heard, to what is
+-- said of its end.
+abbrev pub Leads : JobData → LayoutData → ℕ → (Then → List (Op × ℕ) → Type 0) →
+    Script Then → ℕ → List (Op × ℕ) → Type 0
+Leads job y w to (asks op next) k history = (1 ≤ k) × ((found : ℕ) → MayHear job y w history op
+    found → Leads job y w to (next found) (k - 1) ((op, found) ∷ history))
 Leads job y w to (ends r) k history = to r history
 
-pub leads_more : (job : JobData) (y : LayoutData) (w : ℕ) (to : Then → List (Op × ℕ) → Type 0) (script : Script Then) (j k : ℕ) (history : List (Op × ℕ)) → k ≤ j →
+pub leads_more : (job : JobData) (y : LayoutData) (w : ℕ) (to : Then → List (Op × ℕ) → Type 0)
+    (script : Script Then) (j k : ℕ) (history : List (Op × ℕ)) → k ≤ j →
     Leads job y w to script k history → Leads job y w to script j history
-leads_more job y w to (asks op next) j k history h leads =
-    (omega (arith, leads.0), λ found may. leads_more job y w to (next found) (j - 1) (k - 1) ((op, found) ∷ history) (omega arith) (leads.1 found may))
+leads_more job y w to (asks op next) j k history h leads = (
+  omega (arith, leads.0),
+  λ found may. leads_more job y w to
+      (next found) (j - 1) (k - 1) ((op, found) ∷ history) (omega arith) (leads.1 found may),
+)
 leads_more job y w to (ends r) j k history h leads = leads
 
 -- ---- a script that leads so after each longer history
 
-abbrev pub LeadsOn : JobData → LayoutData → ℕ → (Then → List (Op × ℕ) → Type 0) → List (Op × ℕ) → ℕ → Script Then → Type 0
-LeadsOn job y w to before k script = (history : List (Op × ℕ)) → Grown before history → Leads job y w to script k history
+abbrev pub LeadsOn : JobData → LayoutData → ℕ → (Then → List (Op × ℕ) → Type 0) →
+    List (Op × ℕ) → ℕ → Script Then → Type 0
+LeadsOn job y w to before k script =
+    (history : List (Op × ℕ)) → Grown before history → Leads job y w to script k history
 
-pub grown_more : (before history : List (Op × ℕ)) (op : Op) (found : ℕ) → Grown before history → Grown before ((op, found) ∷ history)
+pub grown_more : (before history : List (Op × ℕ)) (op : Op) (found : ℕ) → Grown before history →
+    Grown before ((op, found) ∷ history)
 grown_more before history op found grown = λ k. let h = grown k in omega arith
 
-pub leads_on_within : (job : JobData) (y : LayoutData) (w : ℕ) (to : Then → List (Op × ℕ) → Type 0) (before : List (Op × ℕ)) → IsWithin (LeadsOn job y w to before)
+pub leads_on_within : (job : JobData) (y : LayoutData) (w : ℕ) (to : Then → List (Op × ℕ) → Type 0)
+    (before : List (Op × ℕ)) → IsWithin (LeadsOn job y w to before)
 leads_on_within job y w to before = record {
   step = λ j k op next h each history grown. (
     omega arith,
     λ found may.
-        leads_more job y w to (next found) (j - 1) k ((op, found) ∷ history) (omega arith) (each found ((op, found) ∷ history) (grown_more before history op found grown)),
+        leads_more job y w to (next found) (j - 1) k ((op, found) ∷ history) (omega arith)
+        (each found ((op, found) ∷ history) (grown_more before history op found grown)),
   );
-  more = λ j k script h leads history grown. leads_more job y w to script j k history h (leads history grown);
+  more = λ j k script h leads history grown.
+      leads_more job y w to script j k history h (leads history grown);
 }
 
--- ---- what a script leads to: a worker on a node of the tree in a phase of the job, with no more weight than this
+-- ---- what a script leads to: a worker on a node of the tree in a phase of the job, with no more
+-- weight than this
 
 abbrev pub To : JobData → LayoutData → ℕ → Then → List (Op × ℕ) → Type 0
-To job y most (begins n) history = (1 ≤ n) × (n < 2 * y.leaves) × (later_weight job y history n doing.Begin + 2 ≤ most)
-To job y most (turns n q) history = (1 ≤ n) × (n < 2 * y.leaves) × (1 ≤ q) × (q ≤ 3 * job.steps) × (later_weight job y history n (doing.Turn q) + 16 ≤ most)
+To job y most (begins n) history =
+    (1 ≤ n) × (n < 2 * y.leaves) × (later_weight job y history n doing.Begin + 2 ≤ most)
+To job y most (turns n q) history = (1 ≤ n) × (n < 2 * y.leaves) × (1 ≤ q) × (q ≤ 3 * job.steps)
+    × (later_weight job y history n (doing.Turn q) + 16 ≤ most)
 To job y most (stops e) history = Unit {0}
 
 -- ---- weights of phases
@@ -56,7 +73,8 @@ pub phases_fewer : (y : LayoutData) (a b : ℕ) → a ≤ b → phases_weight y 
 phases_fewer y a b h = mul-le-mul_right (96 * y.leaves) h
 
 -- A phase that begins weighs less than the phases from it on.
-pub phase_enters : (job : JobData) (y : LayoutData) (history : List (Op × ℕ)) (n q a : ℕ) → 1 ≤ y.leaves → 3 * job.steps - q + 1 ≤ a →
+pub phase_enters : (job : JobData) (y : LayoutData) (history : List (Op × ℕ)) (n q a : ℕ) →
+    1 ≤ y.leaves → 3 * job.steps - q + 1 ≤ a →
     later_weight job y history n (doing.Turn q) + 17 ≤ phases_weight y a
 unfolding later_weight
 phase_enters job y history n q a some h =
@@ -69,7 +87,8 @@ phase_enters job y history n q a some h =
 pub low_loaded : (before : List (Op × ℕ)) (n found : ℕ) → found ≤ low ((Load n, found) ∷ before) n
 low_loaded before n found = rw (eq-eqb n n refl) (omega arith)
 
-pub low_raised : (before : List (Op × ℕ)) (n value found : ℕ) → value ≤ low ((Max n value, found) ∷ before) n
+pub low_raised : (before : List (Op × ℕ)) (n value found : ℕ) →
+    value ≤ low ((Max n value, found) ∷ before) n
 low_raised before n value found = rw (eq-eqb n n refl) (omega arith)
 
 pub grown_self : (before : List (Op × ℕ)) → Grown before before
@@ -89,13 +108,16 @@ unfolding later_weight
 back_leads job y w n before = (
   omega arith,
   λ found may.
-      let fewer = phases_fewer y (3 * job.steps - low_of y ((Load (number_of y (Position w)), found) ∷ before) 1) (3 * job.steps) (omega arith) in
+      let fewer = phases_fewer y (3 * job.steps - low_of y
+      ((Load (number_of y (Position w)), found) ∷ before) 1) (3 * job.steps) (omega arith) in
       let at = may.position refl in
       (omega arith, omega arith, omega arith),
 )
 
-pub begin_leads : (job : JobData) (y : LayoutData) (w n : ℕ) (before : List (Op × ℕ)) → 1 ≤ y.leaves → 1 ≤ n → n < 2 * y.leaves →
-    Leads job y w (To job y (later_weight job y before n doing.Begin)) (begin_script job y n) 2 before
+pub begin_leads : (job : JobData) (y : LayoutData) (w n : ℕ) (before : List (Op × ℕ)) →
+    1 ≤ y.leaves → 1 ≤ n → n < 2 * y.leaves →
+    Leads job y w (To job y (later_weight job y before n doing.Begin))
+    (begin_script job y n) 2 before
 unfolding begin_script
 begin_leads job y w n before leaves some inside = (
   omega arith,
@@ -103,21 +125,30 @@ begin_leads job y w n before leaves some inside = (
       let rises : low_of y before 1 ≤ root = may.rises 1 (omega arith) (omega arith) refl in
       let most : root ≤ 3 * job.steps = may.root refl in
       let to = To job y (later_weight job y before n doing.Begin) in
-      let turn = λ (history : List (Op × ℕ)) (h : root < 3 * job.steps). enters history root rises h in
-      cond_both (root % 3 == 0) _ _ (λ script. Leads job y w to script 1 ((Load (number_of y (Node 1)), root) ∷ before))
+      let turn =
+      λ (history : List (Op × ℕ)) (h : root < 3 * job.steps). enters history root rises h in
+      cond_both (root % 3 == 0) _ _
+      (λ script. Leads job y w to script 1 ((Load (number_of y (Node 1)), root) ∷ before))
       (λ e. (
         omega arith,
-        λ u told.
-            cond_both (u == 0) _ _ (λ script. Leads job y w to script 0 ((Load (number_of y Conflict), u) ∷ (Load (number_of y (Node 1)), root) ∷ before))
-            (λ none. cond_both (root == 3 * job.steps) _ _ (λ script. Leads job y w to script 0 ((Load (number_of y Conflict), u) ∷ (Load (number_of y (Node 1)), root) ∷ before))
+        λ u told. cond_both (u == 0) _ _ (λ script. Leads job y w to script 0
+            ((Load (number_of y Conflict), u) ∷ (Load (number_of y (Node 1)), root) ∷ before))
+            (λ none. cond_both (root == 3 * job.steps) _ _ (λ script. Leads job y w to script 0
+            ((Load (number_of y Conflict), u) ∷ (Load (number_of y (Node 1)), root) ∷ before))
             (λ last. tt)
-            (λ more. let ne = eqb-false root (3 * job.steps) more in turn ((Load (number_of y Conflict), u) ∷ (Load (number_of y (Node 1)), root) ∷ before) (less_than root (3 * job.steps) most ne)))
+            (λ more. let ne = eqb-false root (3 * job.steps) more in
+            turn ((Load (number_of y Conflict), u) ∷ (Load (number_of y (Node 1)), root) ∷ before)
+            (less_than root (3 * job.steps) most ne)))
             (λ some. tt),
       ))
-      (λ e. let ne = eqb-false (root % 3) 0 e in turn ((Load (number_of y (Node 1)), root) ∷ before) (less_than root (3 * job.steps) most (λ same. ne (thirds root job.steps same)))),
+      (λ e. let ne = eqb-false (root % 3) 0 e in turn ((Load (number_of y (Node 1)), root) ∷ before)
+      (less_than root (3 * job.steps) most (λ same. ne (thirds root job.steps same)))),
 )
   where
-    enters : (history : List (Op × ℕ)) (root : ℕ) → low_of y before 1 ≤ root → root < 3 * job.steps → To job y (later_weight job y before n doing.Begin) (turns n (root + 1)) history
+    enters : (history : List (Op × ℕ)) (root : ℕ) →
+        low_of y before 1 ≤ root → root < 3 * job.steps →
+        To job y (later_weight job y before n doing.Begin) (turns n (root + 1)) history
     enters history root rises h =
-        let phase = phase_enters job y history n (root + 1) (3 * job.steps - low_of y before 1) leaves (omega arith) in
+        let phase = phase_enters job y history n
+        (root + 1) (3 * job.steps - low_of y before 1) leaves (omega arith) in
         (some, inside, omega arith, omega arith, unfold later_weight in omega arith)

@@ -1,6 +1,9 @@
 -- A turn has at most sixteen operations and leaves less of the phase, or goes on to the next one.
-use Rattle.std.proofs.Common.{◌≡◌, ℕ, ◌+◌, ◌-◌, ◌*◌, ◌/◌, ◌<◌, ◌≤◌, ◌⊎◌, true≢false, le_trans, true, false, ◌==◌, ◌&&◌, nat_le, if◌then◌else◌, List, ◌∷◌, refl, sym, ◌∙◌, inl, inr, arith}
-use Rattle.std.proofs.lemmas.Bool.{cases_lt, cond_both, le-leb, lt-leb, eqb-true, eqb-false, leb-true, leb-false}
+use Rattle.std.proofs.Common.{◌≡◌, ℕ, ◌+◌, ◌-◌, ◌*◌, ◌/◌, ◌<◌, ◌≤◌, ◌⊎◌, true≢false}
+use Rattle.std.proofs.Common.{le_trans, true, false, ◌==◌, ◌&&◌, nat_le, if◌then◌else◌}
+use Rattle.std.proofs.Common.{List, ◌∷◌, refl, sym, ◌∙◌, inl, inr, arith}
+use Rattle.std.proofs.lemmas.Bool.{cases_lt, cond_both, le-leb, lt-leb}
+use Rattle.std.proofs.lemmas.Bool.{eqb-true, eqb-false, leb-true, leb-false}
 use Rattle.pram_text.specs.Job.{JobData}
 use Rattle.pram_words.specs.Phases.{step_at, kind_at}
 use Rattle.pram_words.specs.Ways.{turns_right_in}
@@ -14,7 +17,8 @@ use Rattle.walkx.specs.Walk.{begins, turns, turn_script, leaf_script, marks, sta
 use Rattle.walkx.proofs.BoundWeight.{low_of, turns_left, later_weight}
 use Rattle.walkx.proofs.BoundTurns.{Grown, marked_less, up_less, down_less}
 use Rattle.walkx.proofs.BoundTasks.{task_within}
-use Rattle.walkx.proofs.BoundScripts.{Leads, LeadsOn, leads_more, leads_on_within, grown_more, grown_self, low_loaded, low_raised, phases_fewer, To}
+use Rattle.walkx.proofs.BoundScripts.{Leads, LeadsOn, leads_more, leads_on_within, grown_more}
+use Rattle.walkx.proofs.BoundScripts.{grown_self, low_loaded, low_raised, phases_fewer, To}
 
 -- ---- what a turn leads to
 
@@ -23,34 +27,43 @@ turn_weight : JobData → LayoutData → List (Op × ℕ) → ℕ → ℕ → �
 turn_weight job y before n q = later_weight job y before n (doing.Turn q)
 
 -- the next turn, at node m
-turn_to : (job : JobData) (y : LayoutData) (before history : List (Op × ℕ)) (n m q : ℕ) → 1 ≤ m → m < 2 * y.leaves → 1 ≤ q → q ≤ 3 * job.steps →
-    turns_left y history q m < turns_left y before q n → To job y (turn_weight job y before n q) (turns m q) history
+turn_to : (job : JobData) (y : LayoutData) (before history : List (Op × ℕ)) (n m q : ℕ) →
+    1 ≤ m → m < 2 * y.leaves → 1 ≤ q → q ≤ 3 * job.steps →
+    turns_left y history q m < turns_left y before q n →
+    To job y (turn_weight job y before n q) (turns m q) history
 unfolding turn_weight later_weight
-turn_to job y before history n m q some inside first last less = (some, inside, first, last, omega arith)
+turn_to job y before history n m q some inside first last less =
+    (some, inside, first, last, omega arith)
 
 -- the next phase, which begins at the root
-next_to : (job : JobData) (y : LayoutData) (before history : List (Op × ℕ)) (n q : ℕ) → 1 ≤ y.leaves → q ≤ low_of y history 1 →
+next_to : (job : JobData) (y : LayoutData) (before history : List (Op × ℕ)) (n q : ℕ) →
+    1 ≤ y.leaves → q ≤ low_of y history 1 →
     To job y (turn_weight job y before n q) (begins 1) history
 unfolding turn_weight later_weight
 next_to job y before history n q leaves done =
-    let fewer = phases_fewer y (3 * job.steps - low_of y history 1) (3 * job.steps - q) (omega arith) in
+    let fewer =
+    phases_fewer y (3 * job.steps - low_of y history 1) (3 * job.steps - q) (omega arith) in
     (omega arith, omega arith, omega arith)
 
 -- ---- a node is marked
 
-marks_leads : (job : JobData) (y : LayoutData) (w : ℕ) (before : List (Op × ℕ)) (n q : ℕ) → 1 ≤ n → n < 2 * y.leaves → 1 ≤ q → q ≤ 3 * job.steps → low_of y before n < q →
+marks_leads : (job : JobData) (y : LayoutData) (w : ℕ) (before : List (Op × ℕ)) (n q : ℕ) →
+    1 ≤ n → n < 2 * y.leaves → 1 ≤ q → q ≤ 3 * job.steps → low_of y before n < q →
     LeadsOn job y w (To job y (turn_weight job y before n q)) before 1 (marks y n q)
 marks_leads job y w before n q some inside first last unmarked = λ history grown. (
   omega arith,
   λ found may.
       let longer = grown_more before history (Max (number_of y (Node n)) q) found grown in
-      let less = marked_less y before ((Max (number_of y (Node n)) q, found) ∷ history) q n longer some inside unmarked (low_raised history (number_of y (Node n)) q found) in
-      turn_to job y before ((Max (number_of y (Node n)) q, found) ∷ history) n n q some inside first last less,
+      let less = marked_less y before ((Max (number_of y (Node n)) q, found) ∷ history) q
+      n longer some inside unmarked (low_raised history (number_of y (Node n)) q found) in
+      turn_to job y before ((Max (number_of y (Node n)) q, found) ∷ history)
+      n n q some inside first last less,
 )
 
 -- ---- a leaf
 
-leaf_leads : (job : JobData) (y : LayoutData) (w : ℕ) (before : List (Op × ℕ)) (n q : ℕ) → 1 ≤ n → n < 2 * y.leaves → 1 ≤ q → q ≤ 3 * job.steps → low_of y before n < q →
+leaf_leads : (job : JobData) (y : LayoutData) (w : ℕ) (before : List (Op × ℕ)) (n q : ℕ) →
+    1 ≤ n → n < 2 * y.leaves → 1 ≤ q → q ≤ 3 * job.steps → low_of y before n < q →
     LeadsOn job y w (To job y (turn_weight job y before n q)) before 12 (leaf_script job y n q)
 leaf_leads job y w before n q some inside first last unmarked =
     let to = To job y (turn_weight job y before n q) in
@@ -58,41 +71,55 @@ leaf_leads job y w before n q some inside first last unmarked =
     let marked = marks_leads job y w before n q some inside first last unmarked in
     cond_both (nat_le (y.leaves + job.procs) n) _ _ (λ script. LeadsOn job y w to before 12 script)
     (λ e. is.more 12 1 (marks y n q) (omega arith) marked)
-    (λ e. task_within (LeadsOn job y w to before) is 1 job.rule (kind_at q) job y (step_at q) (n - y.leaves) (marks y n q) marked)
+    (λ e. task_within (LeadsOn job y w to before) is 1 job.rule (kind_at q) job y (step_at q)
+    (n - y.leaves) (marks y n q) marked)
 
 -- ---- another node is stood at
 
-stands_leads : (job : JobData) (y : LayoutData) (w : ℕ) (before history : List (Op × ℕ)) (n m q k : ℕ) → 1 ≤ k →
-    ((op : Op) (found : ℕ) → To job y (turn_weight job y before n q) (turns m q) ((op, found) ∷ history)) →
+stands_leads : (job : JobData) (y : LayoutData) (w : ℕ)
+    (before history : List (Op × ℕ)) (n m q k : ℕ) → 1 ≤ k →
+    ((op : Op) (found : ℕ) →
+    To job y (turn_weight job y before n q) (turns m q) ((op, found) ∷ history)) →
     Leads job y w (To job y (turn_weight job y before n q)) (stands_at y w m q) k history
-stands_leads job y w before history n m q k h to = (h, λ found may. to (Store (number_of y (Position w)) m) found)
+stands_leads job y w before history n m q k h to =
+    (h, λ found may. to (Store (number_of y (Position w)) m) found)
 
-up_leads : (job : JobData) (y : LayoutData) (w : ℕ) (before history : List (Op × ℕ)) (n q k : ℕ) → Grown before history → 1 < n → n < 2 * y.leaves → 1 ≤ q → q ≤ 3 * job.steps → q ≤ low_of y history n → 1 ≤ k →
+up_leads : (job : JobData) (y : LayoutData) (w : ℕ) (before history : List (Op × ℕ)) (n q k : ℕ) →
+    Grown before history → 1 < n →
+    n < 2 * y.leaves → 1 ≤ q → q ≤ 3 * job.steps → q ≤ low_of y history n → 1 ≤ k →
     Leads job y w (To job y (turn_weight job y before n q)) (stands_at y w (n / 2) q) k history
 up_leads job y w before history n q k grown some inside first last done h =
     stands_leads job y w before history n (n / 2) q k h (λ op found.
     turn_to job y before ((op, found) ∷ history) n (n / 2) q (omega arith) (omega arith) first last
-    (up_less y before ((op, found) ∷ history) q n (grown_more before history op found grown) some inside (omega arith)))
+    (up_less y before ((op, found) ∷ history) q n
+    (grown_more before history op found grown) some inside (omega arith)))
 
 -- the child that is entered is an unfinished one
 IsWayDown : ℕ → ℕ → ℕ → ℕ → ℕ → Type 0
 IsWayDown n q l r child = ((child ≡ 2 * n) × (l < q)) ⊎ ((child ≡ 2 * n + 1) × (r < q))
 
-way_down_is : (y : LayoutData) (w n q l r : ℕ) → (nat_le q l && nat_le q r) ≡ false → IsWayDown n q l r (way_down y w n q l r)
+way_down_is : (y : LayoutData) (w n q l r : ℕ) → (nat_le q l && nat_le q r) ≡ false →
+    IsWayDown n q l r (way_down y w n q l r)
 unfolding IsWayDown
 way_down_is y w n q l r some = elim (cases_lt l q) [
   | inl a ↦ elim (cases_lt r q) [
-    | inl b ↦ rw (lt-leb q l a, lt-leb q r b) (cond_both (turns_right_in y w n) (2 * n + 1) (2 * n) (λ c. ((c ≡ 2 * n) × (l < q)) ⊎ ((c ≡ 2 * n + 1) × (r < q))) (λ e. inr (refl, b)) (λ e. inl (refl, a)))
+    | inl b ↦ rw (lt-leb q l a, lt-leb q r b) (cond_both (turns_right_in y w n)
+        (2 * n + 1) (2 * n) (λ c. ((c ≡ 2 * n) × (l < q)) ⊎ ((c ≡ 2 * n + 1) × (r < q)))
+        (λ e. inr (refl, b)) (λ e. inl (refl, a)))
     | inr b ↦ rw (lt-leb q l a, le-leb q r b) (inl (refl, a))
   ]
   | inr a ↦ elim (cases_lt r q) [
     | inl b ↦ rw (le-leb q l a) (inr (refl, b))
-    | inr b ↦ absurd (let both : (nat_le q l && nat_le q r) ≡ true = rw (le-leb q l a, le-leb q r b) refl in true≢false (sym both ∙ some))
+    | inr b ↦ absurd (let both : (nat_le q l && nat_le q r) ≡ true =
+        rw (le-leb q l a, le-leb q r b) refl in true≢false (sym both ∙ some))
   ]
 ]
 
-down_leads : (job : JobData) (y : LayoutData) (w : ℕ) (before history : List (Op × ℕ)) (n q l r child k : ℕ) → Grown before history → 1 ≤ n → n < y.leaves → 1 ≤ q → q ≤ 3 * job.steps →
-    low_of y before (2 * n) ≤ l → low_of y before (2 * n + 1) ≤ r → IsWayDown n q l r child → 1 ≤ k →
+down_leads : (job : JobData) (y : LayoutData)
+    (w : ℕ) (before history : List (Op × ℕ)) (n q l r child k : ℕ) →
+    Grown before history → 1 ≤ n → n < y.leaves → 1 ≤ q → q ≤ 3 * job.steps →
+    low_of y before (2 * n) ≤ l → low_of y before (2 * n + 1) ≤ r →
+    IsWayDown n q l r child → 1 ≤ k →
     Leads job y w (To job y (turn_weight job y before n q)) (stands_at y w child q) k history
 unfolding IsWayDown
 down_leads job y w before history n q l r child k grown some inner first last left right way h =
@@ -101,33 +128,46 @@ down_leads job y w before history n q l r child k grown some inner first last le
       | inr c ↦ to op found child (omega arith) (omega arith) (rw c.0 (omega arith))
     ])
   where
-    to : (op : Op) (found m : ℕ) → m / 2 ≡ n → m < 2 * y.leaves → low_of y before m < q → To job y (turn_weight job y before n q) (turns m q) ((op, found) ∷ history)
+    to : (op : Op) (found m : ℕ) → m / 2 ≡ n → m < 2 * y.leaves → low_of y before m < q →
+        To job y (turn_weight job y before n q) (turns m q) ((op, found) ∷ history)
     to op found m parent inside unmarked =
         turn_to job y before ((op, found) ∷ history) n m q (omega arith) inside first last
-        (down_less y before ((op, found) ∷ history) q n m (grown_more before history op found grown) some parent inside unmarked)
+        (down_less y before ((op, found) ∷ history) q n m
+        (grown_more before history op found grown) some parent inside unmarked)
 
 -- ---- the turn
 
 -- what an inner node's children lead to, having been heard
-inner_leads : (job : JobData) (y : LayoutData) (w : ℕ) (before history : List (Op × ℕ)) (n q l r : ℕ) → Grown before history → 1 ≤ n → n < y.leaves → 1 ≤ q → q ≤ 3 * job.steps → low_of y before n < q →
+inner_leads : (job : JobData) (y : LayoutData) (w : ℕ)
+    (before history : List (Op × ℕ)) (n q l r : ℕ) → Grown before history →
+    1 ≤ n → n < y.leaves → 1 ≤ q → q ≤ 3 * job.steps → low_of y before n < q →
     low_of y before (2 * n) ≤ l → low_of y before (2 * n + 1) ≤ r →
-    Leads job y w (To job y (turn_weight job y before n q)) (if nat_le q l && nat_le q r then marks y n q else stands_at y w (way_down y w n q l r) q) 13 history
+    Leads job y w (To job y (turn_weight job y before n q))
+    (if nat_le q l && nat_le q r then marks y n q else stands_at y w (way_down y w n q l r) q)
+    13 history
 inner_leads job y w before history n q l r grown some inner first last unmarked left right =
     let to = To job y (turn_weight job y before n q) in
     cond_both (nat_le q l && nat_le q r) _ _ (λ script. Leads job y w to script 13 history)
-    (λ e. leads_more job y w to (marks y n q) 13 1 history (omega arith) (marks_leads job y w before n q some (omega arith) first last unmarked history grown))
-    (λ e. down_leads job y w before history n q l r (way_down y w n q l r) 13 grown some inner first last left right (way_down_is y w n q l r e) (omega arith))
+    (λ e. leads_more job y w to (marks y n q) 13 1 history (omega arith)
+    (marks_leads job y w before n q some (omega arith) first last unmarked history grown))
+    (λ e. down_leads job y w before history n q l r (way_down y w n q l r) 13 grown some inner first
+    last left right (way_down_is y w n q l r e) (omega arith))
 
 -- what an unfinished node leads to
-unfinished_leads : (job : JobData) (y : LayoutData) (w : ℕ) (before history : List (Op × ℕ)) (n q : ℕ) → Grown before history → 1 ≤ n → n < 2 * y.leaves → 1 ≤ q → q ≤ 3 * job.steps → low_of y before n < q →
+unfinished_leads : (job : JobData) (y : LayoutData)
+    (w : ℕ) (before history : List (Op × ℕ)) (n q : ℕ) → Grown before history →
+    1 ≤ n → n < 2 * y.leaves → 1 ≤ q → q ≤ 3 * job.steps → low_of y before n < q →
     Leads job y w (To job y (turn_weight job y before n q))
     (if nat_le y.leaves n then leaf_script job y n q
-    else asks (Load (number_of y (Node (2 * n)))) (λ l. asks (Load (number_of y (Node (2 * n + 1)))) (λ r.
-    if nat_le q l && nat_le q r then marks y n q else stands_at y w (way_down y w n q l r) q))) 15 history
+    else asks (Load (number_of y (Node (2 * n))))
+    (λ l. asks (Load (number_of y (Node (2 * n + 1)))) (λ r.
+    if nat_le q l && nat_le q r then marks y n q else stands_at y w (way_down y w n q l r) q)))
+    15 history
 unfinished_leads job y w before history n q grown some inside first last unmarked =
     let to = To job y (turn_weight job y before n q) in
     cond_both (nat_le y.leaves n) _ _ (λ script. Leads job y w to script 15 history)
-    (λ e. leads_more job y w to (leaf_script job y n q) 15 12 history (omega arith) (leaf_leads job y w before n q some inside first last unmarked history grown))
+    (λ e. leads_more job y w to (leaf_script job y n q) 15 12 history
+    (omega arith) (leaf_leads job y w before n q some inside first last unmarked history grown))
     (λ e. let inner = leb-false y.leaves n e in (
       omega arith,
       λ l may.
@@ -138,14 +178,20 @@ unfinished_leads job y w before history n q grown some inside first last unmarke
                 let right = told.rises (2 * n + 1) (omega arith) (omega arith) refl in
                 let one = grown (number_of y (Node (2 * n))) in
                 let other = more (number_of y (Node (2 * n + 1))) in
-                inner_leads job y w before ((Load (number_of y (Node (2 * n + 1))), r) ∷ (Load (number_of y (Node (2 * n))), l) ∷ history) n q l r
-                (grown_more before ((Load (number_of y (Node (2 * n))), l) ∷ history) (Load (number_of y (Node (2 * n + 1)))) r more) some inner first last unmarked (omega arith) (omega arith),
+                inner_leads job y w before ((Load (number_of y (Node (2 * n + 1))), r)
+                ∷ (Load (number_of y (Node (2 * n))), l) ∷ history) n q l r
+                (grown_more before ((Load (number_of y (Node (2 * n))), l) ∷ history)
+                (Load (number_of y (Node (2 * n + 1)))) r more)
+                some inner first last unmarked (omega arith) (omega arith),
           ),
     ))
 
 -- what a finished node leads to
-finished_leads : (job : JobData) (y : LayoutData) (w : ℕ) (before history : List (Op × ℕ)) (n q : ℕ) → Grown before history → 1 ≤ n → n < 2 * y.leaves → 1 ≤ q → q ≤ 3 * job.steps → q ≤ low_of y history n →
-    Leads job y w (To job y (turn_weight job y before n q)) (if n == 1 then ends (begins 1) else stands_at y w (n / 2) q) 15 history
+finished_leads : (job : JobData) (y : LayoutData)
+    (w : ℕ) (before history : List (Op × ℕ)) (n q : ℕ) → Grown before history →
+    1 ≤ n → n < 2 * y.leaves → 1 ≤ q → q ≤ 3 * job.steps → q ≤ low_of y history n →
+    Leads job y w (To job y (turn_weight job y before n q))
+    (if n == 1 then ends (begins 1) else stands_at y w (n / 2) q) 15 history
 finished_leads job y w before history n q grown some inside first last done =
     let to = To job y (turn_weight job y before n q) in
     cond_both (n == 1) _ _ (λ script. Leads job y w to script 15 history)
@@ -154,18 +200,23 @@ finished_leads job y w before history n q grown some inside first last done =
     (λ e. let other = eqb-false n 1 e in
     up_leads job y w before history n q 15 grown (omega arith) inside first last done (omega arith))
 
-pub turn_leads : (job : JobData) (y : LayoutData) (w n q : ℕ) (before : List (Op × ℕ)) → 1 ≤ n → n < 2 * y.leaves → 1 ≤ q → q ≤ 3 * job.steps →
-    Leads job y w (To job y (later_weight job y before n (doing.Turn q))) (turn_script job y w n q) 16 before
+pub turn_leads : (job : JobData) (y : LayoutData) (w n q : ℕ) (before : List (Op × ℕ)) →
+    1 ≤ n → n < 2 * y.leaves → 1 ≤ q → q ≤ 3 * job.steps →
+    Leads job y w (To job y (later_weight job y before n (doing.Turn q)))
+    (turn_script job y w n q) 16 before
 unfolding turn_script turn_weight
 turn_leads job y w n q before some inside first last = (
   omega arith,
   λ found may.
       let to = To job y (turn_weight job y before n q) in
       let history : List (Op × ℕ) = (Load (number_of y (Node n)), found) ∷ before in
-      let grown : Grown before history = grown_more before before (Load (number_of y (Node n))) found (grown_self before) in
+      let grown : Grown before history =
+      grown_more before before (Load (number_of y (Node n))) found (grown_self before) in
       let rises = may.rises n some inside refl in
       let shows = low_loaded before (number_of y (Node n)) found in
       cond_both (nat_le q found) _ _ (λ script. Leads job y w to script 15 history)
-      (λ e. let done = leb-true q found e in finished_leads job y w before history n q grown some inside first last (le_trans done shows))
-      (λ e. let short = leb-false q found e in unfinished_leads job y w before history n q grown some inside first last (omega arith)),
+      (λ e. let done = leb-true q found e in
+      finished_leads job y w before history n q grown some inside first last (le_trans done shows))
+      (λ e. let short = leb-false q found e in
+      unfinished_leads job y w before history n q grown some inside first last (omega arith)),
 )

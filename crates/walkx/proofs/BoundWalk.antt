@@ -1,12 +1,14 @@
 -- A worker that is going makes its weight less with each operation.
-use Rattle.std.proofs.Common.{◌≡◌, ℕ, suc, ◌+◌, ◌-◌, ◌<◌, ◌≤◌, List, [], ◌∷◌, length, drop, Some, refl, sym, ap, ◌∙◌, subst, arith}
+use Rattle.std.proofs.Common.{◌≡◌, ℕ, suc, ◌+◌, ◌-◌, ◌<◌, ◌≤◌, List, [], ◌∷◌}
+use Rattle.std.proofs.Common.{length, drop, Some, refl, sym, ap, ◌∙◌, subst, arith}
 use Rattle.pram_text.specs.Job.{JobData}
 use Rattle.pram_words.specs.Words.{LayoutData}
 use Rattle.walkx.specs.declared.operation.Ended.{Ended}
 use Rattle.walkx.specs.declared.operation.Op.{Op}
 use Rattle.walkx.specs.Doing as doing
-use Rattle.walkx.specs.Scripts.{Script, asks, ends, behind, first_op}
-use Rattle.walkx.specs.Walk.{Then, begins, turns, stops, Walking, node_of, rest_of, ask_of, IsGoing, goes_on, told, begin_script, turn_script}
+use Rattle.walkx.specs.Scripts.{Script, asks, ends, rest_after, first_op}
+use Rattle.walkx.specs.Walk.{Then, begins, turns, stops, Walking, node_of, rest_of}
+use Rattle.walkx.specs.Walk.{ask_of, IsGoing, goes_on, told, begin_script, turn_script}
 use Rattle.walkx.specs.Bound.{MayHear}
 use Rattle.walkx.proofs.BoundWeight.{longest, later_weight, weight}
 use Rattle.walkx.proofs.Going.{Asks, next_of, told_going}
@@ -17,11 +19,14 @@ use Rattle.walkx.proofs.BoundTurn.{turn_leads}
 
 -- the weight of what follows its script
 unfoldable pub after_weight : JobData → LayoutData → List (Op × ℕ) → Walking → ℕ
-after_weight job y history w = later_weight job y (drop (length w.heard) history) (node_of y w) w.now
+after_weight job y history w =
+    later_weight job y (drop (length w.heard) history) (node_of y w) w.now
 
 -- the rest of its script leads to no more weight, and is not empty
-pub record Going (job : JobData) (y : LayoutData) (history : List (Op × ℕ)) (w : Walking) : Type 0 where
-  pub leads : Leads job y w.number (To job y (after_weight job y history w)) (rest_of job y w) (longest w.now - length w.heard) history
+pub record Going (job : JobData) (y : LayoutData)
+    (history : List (Op × ℕ)) (w : Walking) : Type 0 where
+  pub leads : Leads job y w.number (To job y (after_weight job y history w)) (rest_of job y w)
+      (longest w.now - length w.heard) history
   pub asking : Asks (rest_of job y w)
 
 abbrev pub Sound : JobData → LayoutData → List (Op × ℕ) → Walking → Type 0
@@ -30,23 +35,34 @@ Sound job y history w = IsGoing w.now → Going job y history w
 -- ---- one answer more
 
 -- The worker with a longer history is sound and weighs less.
-pub record Less (job : JobData) (y : LayoutData) (history : List (Op × ℕ)) (w : Walking) (most : ℕ) : Type 0 where
+pub record Less (job : JobData) (y : LayoutData) (history : List (Op × ℕ))
+    (w : Walking) (most : ℕ) : Type 0 where
   pub sound : Sound job y history w
   pub less : weight job y history w < most
 
-begins_less : (job : JobData) (y : LayoutData) (history : List (Op × ℕ)) (number n most k : ℕ) → 1 ≤ y.leaves → To job y most (begins n) history → 1 ≤ k →
-    Less job y history (record { number = number; node = Some n; now = doing.Begin; heard = [] }) (most + k)
+begins_less : (job : JobData) (y : LayoutData) (history : List (Op × ℕ)) (number n most k : ℕ) →
+    1 ≤ y.leaves → To job y most (begins n) history → 1 ≤ k →
+    Less job y history
+    (record { number = number; node = Some n; now = doing.Begin; heard = [] }) (most + k)
 unfolding after_weight weight begin_script
 begins_less job y history number n most k leaves to some = record {
-  sound = λ going. record { leads = begin_leads job y number n history leaves to.0 to.1; asking = record { op = _; first = refl } };
+  sound = λ going. record {
+    leads = begin_leads job y number n history leaves to.0 to.1;
+    asking = record { op = _; first = refl };
+  };
   less = omega (arith, to.2);
 }
 
-turns_less : (job : JobData) (y : LayoutData) (history : List (Op × ℕ)) (number n q most k : ℕ) → To job y most (turns n q) history → 1 ≤ k →
-    Less job y history (record { number = number; node = Some n; now = doing.Turn q; heard = [] }) (most + k)
+turns_less : (job : JobData) (y : LayoutData) (history : List (Op × ℕ)) (number n q most k : ℕ) →
+    To job y most (turns n q) history → 1 ≤ k →
+    Less job y history
+    (record { number = number; node = Some n; now = doing.Turn q; heard = [] }) (most + k)
 unfolding after_weight weight turn_script
 turns_less job y history number n q most k to some = record {
-  sound = λ going. record { leads = turn_leads job y number n q history to.0 to.1 to.2 to.3; asking = record { op = _; first = refl } };
+  sound = λ going. record {
+    leads = turn_leads job y number n q history to.0 to.1 to.2 to.3;
+    asking = record { op = _; first = refl };
+  };
   less = omega (arith, to.4);
 }
 
@@ -54,23 +70,33 @@ longer : Walking → ℕ → Walking
 longer w found = record w { heard = found ∷ w.heard }
 
 -- what follows the script is the same in the midst of it
-after_weight-longer : (job : JobData) (y : LayoutData) (history : List (Op × ℕ)) (w : Walking) (op : Op) (found : ℕ) → after_weight job y ((op, found) ∷ history) (longer w found) ≡ after_weight job y history w
+after_weight-longer :
+    (job : JobData) (y : LayoutData) (history : List (Op × ℕ)) (w : Walking) (op : Op) (found : ℕ) →
+    after_weight job y ((op, found) ∷ history) (longer w found) ≡ after_weight job y history w
 unfolding after_weight longer
 after_weight-longer job y history w op found = refl
 
-longer_less : (job : JobData) (y : LayoutData) (history : List (Op × ℕ)) (w : Walking) (op other : Op) (found k : ℕ) (t : Script Then) → longest w.now - length w.heard ≡ k → 1 ≤ k →
-    behind (rest_of job y w) found ≡ t → first_op t ≡ Some other → Leads job y w.number (To job y (after_weight job y history w)) t (k - 1) ((op, found) ∷ history) →
+longer_less : (job : JobData) (y : LayoutData) (history : List (Op × ℕ)) (w : Walking)
+    (op other : Op) (found k : ℕ) (t : Script Then) → longest w.now - length w.heard ≡ k → 1 ≤ k →
+    rest_after (rest_of job y w) found ≡ t → first_op t ≡ Some other → Leads job y w.number
+    (To job y (after_weight job y history w)) t (k - 1) ((op, found) ∷ history) →
     Less job y ((op, found) ∷ history) (longer w found) (after_weight job y history w + k)
 unfolding longer weight
 longer_less job y history w op other found k t is some e first leads =
     let same = after_weight-longer job y history w op found in
     let h : List (Op × ℕ) = (op, found) ∷ history in
-    let now : Leads job y w.number (To job y (after_weight job y history w)) t (longest w.now - suc (length w.heard)) h =
-    leads_more job y w.number (To job y (after_weight job y history w)) t (longest w.now - suc (length w.heard)) (k - 1) h (omega arith) leads in
+    let now : Leads job y w.number
+    (To job y (after_weight job y history w)) t (longest w.now - suc (length w.heard)) h =
+    leads_more job y w.number (To job y (after_weight job y history w)) t
+    (longest w.now - suc (length w.heard)) (k - 1) h (omega arith) leads in
     record {
       sound = λ going. record {
-        leads = subst (λ (a : ℕ). Leads job y w.number (To job y a) (behind (rest_of job y w) found) (longest w.now - suc (length w.heard)) h) (sym same)
-            (subst (λ (script : Script Then). Leads job y w.number (To job y (after_weight job y history w)) script (longest w.now - suc (length w.heard)) h) (sym e) now);
+        leads =
+            subst (λ (a : ℕ). Leads job y w.number (To job y a) (rest_after (rest_of job y w) found)
+            (longest w.now - suc (length w.heard)) h) (sym same)
+            (subst (λ (script : Script Then).
+            Leads job y w.number (To job y (after_weight job y history w)) script
+            (longest w.now - suc (length w.heard)) h) (sym e) now);
         asking = record { op = other; first = ap first_op e ∙ first };
       };
       less = less;
@@ -79,38 +105,60 @@ longer_less job y history w op other found k t is some e first leads =
     less : weight job y ((op, found) ∷ history) (longer w found) < after_weight job y history w + k
     less = unfold after_weight in omega arith
 
-stops_less : (job : JobData) (y : LayoutData) (history : List (Op × ℕ)) (w : Walking) (e : Ended) (k : ℕ) → 1 ≤ k → Less job y history (record w { now = doing.Over e }) k
+stops_less : (job : JobData) (y : LayoutData) (history : List (Op × ℕ)) (w : Walking) (e : Ended)
+    (k : ℕ) → 1 ≤ k → Less job y history (record w { now = doing.Over e }) k
 unfolding weight later_weight
 stops_less job y history w e k some = record { sound = λ going. absurd going; less = omega arith }
 
-goes_less : (job : JobData) (y : LayoutData) (history : List (Op × ℕ)) (w : Walking) (op : Op) (found k : ℕ) (t : Script Then) → 1 ≤ y.leaves → longest w.now - length w.heard ≡ k → 1 ≤ k →
-    behind (rest_of job y w) found ≡ t → Leads job y w.number (To job y (after_weight job y history w)) t (k - 1) ((op, found) ∷ history) →
+goes_less : (job : JobData) (y : LayoutData) (history : List (Op × ℕ)) (w : Walking) (op : Op)
+    (found k : ℕ) (t : Script Then) → 1 ≤ y.leaves → longest w.now - length w.heard ≡ k → 1 ≤ k →
+    rest_after (rest_of job y w) found ≡ t → Leads job y w.number
+    (To job y (after_weight job y history w)) t (k - 1) ((op, found) ∷ history) →
     Less job y ((op, found) ∷ history) (goes_on w found t) (after_weight job y history w + k)
-goes_less job y history w op found k (asks other next) leaves is some e leads = unfold longer in longer_less job y history w op other found k (asks other next) is some e refl leads
-goes_less job y history w op found k (ends (begins n)) leaves is some e leads = begins_less job y ((op, found) ∷ history) w.number n (after_weight job y history w) k leaves leads some
-goes_less job y history w op found k (ends (turns n q)) leaves is some e leads = turns_less job y ((op, found) ∷ history) w.number n q (after_weight job y history w) k leads some
+goes_less job y history w op found k (asks other next) leaves is some e leads = unfold longer in
+    longer_less job y history w op other found k (asks other next) is some e refl leads
+goes_less job y history w op found k (ends (begins n)) leaves is some e leads =
+    begins_less job y ((op, found) ∷ history) w.number n
+    (after_weight job y history w) k leaves leads some
+goes_less job y history w op found k (ends (turns n q)) leaves is some e leads =
+    turns_less job y ((op, found) ∷ history) w.number n q
+    (after_weight job y history w) k leads some
 goes_less job y history w op found k (ends (stops over)) leaves is some e leads =
-    stops_less job y ((op, found) ∷ history) (record w { heard = found ∷ w.heard }) over (after_weight job y history w + k) (omega arith)
+    stops_less job y ((op, found) ∷ history) (record w { heard = found ∷ w.heard }) over
+    (after_weight job y history w + k) (omega arith)
 
 -- ---- the step
 
-step_by : (job : JobData) (y : LayoutData) (history : List (Op × ℕ)) (w : Walking) (found k : ℕ) (s : Script Then) (op : Op) → 1 ≤ y.leaves → longest w.now - length w.heard ≡ k →
-    rest_of job y w ≡ s → first_op s ≡ Some op → Leads job y w.number (To job y (after_weight job y history w)) s k history → MayHear job y w.number history op found →
-    Less job y ((op, found) ∷ history) (goes_on w found (behind s found)) (after_weight job y history w + k)
+step_by : (job : JobData) (y : LayoutData) (history : List (Op × ℕ)) (w : Walking)
+    (found k : ℕ) (s : Script Then) (op : Op) → 1 ≤ y.leaves → longest w.now - length w.heard ≡ k →
+    rest_of job y w ≡ s → first_op s ≡ Some op →
+    Leads job y w.number (To job y (after_weight job y history w)) s k history →
+    MayHear job y w.number history op found →
+    Less job y ((op, found) ∷ history) (goes_on w found (rest_after s found))
+    (after_weight job y history w + k)
 step_by job y history w found k (ends r) op leaves is e first leads may = absurd (cc)
 step_by job y history w found k (asks other next) op leaves is e first leads may =
     let same : other ≡ op = cc in
-    subst (λ (o : Op). Less job y ((o, found) ∷ history) (goes_on w found (next found)) (after_weight job y history w + k)) same
-    (goes_less job y history w other found k (next found) leaves is leads.0 (ap (λ s. behind s found) e)
+    subst (λ (o : Op). Less job y ((o, found) ∷ history)
+    (goes_on w found (next found)) (after_weight job y history w + k)) same
+    (goes_less job y history w other found k
+    (next found) leaves is leads.0 (ap (λ s. rest_after s found) e)
     (leads.1 found (subst (λ (o : Op). MayHear job y w.number history o found) (sym same) may)))
 
-pub step : (job : JobData) (y : LayoutData) (history : List (Op × ℕ)) (w : Walking) (found : ℕ) → 1 ≤ y.leaves → IsGoing w.now → Sound job y history w → MayHear job y w.number history (ask_of job y w) found →
+pub step : (job : JobData) (y : LayoutData) (history : List (Op × ℕ)) (w : Walking) (found : ℕ) →
+    1 ≤ y.leaves → IsGoing w.now →
+    Sound job y history w → MayHear job y w.number history (ask_of job y w) found →
     Less job y ((ask_of job y w, found) ∷ history) (told job y w found) (weight job y history w)
 unfolding weight after_weight
 step job y history w found leaves going sound may =
     let known = sound going in
-    let asked : ask_of job y w ≡ known.asking.op = next_of w.now (rest_of job y w) known.asking.op going known.asking.first in
-    subst (λ (o : Op). Less job y ((o, found) ∷ history) (told job y w found) (weight job y history w)) (sym asked)
-    (subst (λ (v : Walking). Less job y ((known.asking.op, found) ∷ history) v (weight job y history w)) (sym (told_going w.now w found (behind (rest_of job y w) found) going))
-    (step_by job y history w found (longest w.now - length w.heard) (rest_of job y w) known.asking.op leaves refl refl known.asking.first known.leads
+    let asked : ask_of job y w ≡ known.asking.op =
+    next_of w.now (rest_of job y w) known.asking.op going known.asking.first in
+    subst (λ (o : Op).
+    Less job y ((o, found) ∷ history) (told job y w found) (weight job y history w)) (sym asked)
+    (subst
+    (λ (v : Walking). Less job y ((known.asking.op, found) ∷ history) v (weight job y history w))
+    (sym (told_going w.now w found (rest_after (rest_of job y w) found) going))
+    (step_by job y history w found (longest w.now - length w.heard)
+    (rest_of job y w) known.asking.op leaves refl refl known.asking.first known.leads
     (subst (λ (o : Op). MayHear job y w.number history o found) asked may)))

@@ -1,5 +1,6 @@
 -- A weight of what a worker has still to do, which falls with each operation.
-use Rattle.std.specs.Prelude.{ℕ, zero, suc, ◌+◌, ◌-◌, ◌*◌, ◌/◌, Bool, false, ◌||◌, ◌==◌, nat_le, if◌then◌else◌, List, length, drop}
+use Rattle.std.specs.Prelude.{ℕ, zero, suc, ◌+◌, ◌-◌, ◌*◌, ◌/◌, Bool, false, ◌||◌}
+use Rattle.std.specs.Prelude.{◌==◌, nat_le, if◌then◌else◌, List, length, drop}
 use Rattle.std.specs.List.{range_with_len, sum_by}
 use Rattle.pram_text.specs.Job.{JobData}
 use Rattle.pram_words.specs.Words.{LayoutData, number_of}
@@ -19,8 +20,8 @@ unfoldable pub lies_on_way : ℕ → ℕ → ℕ → Bool
 lies_on_way zero m n = false
 lies_on_way (suc more) m n = (m == n) || lies_on_way more m (n / 2)
 
--- Node m while the worker stands at node n in phase q: a turn marks it, one leaves it upward, and one enters it where it is not yet
--- on the way to the root.
+-- Node m while the worker stands at node n in phase q: a turn marks it, one leaves it upward, and
+-- one enters it where it is not yet on the way to the root.
 unfoldable pub turns_at : LayoutData → List (Op × ℕ) → ℕ → ℕ → ℕ → ℕ
 turns_at y history q n m =
     if nat_le q (low_of y history m) then (if lies_on_way n m n then 1 else 0)
@@ -45,9 +46,11 @@ phases_weight y phases = phases * (96 * y.leaves)
 unfoldable pub later_weight : JobData → LayoutData → List (Op × ℕ) → ℕ → Doing → ℕ
 later_weight job y before n doing.Back = 2 + phases_weight y (3 * job.steps)
 later_weight job y before n doing.Begin = phases_weight y (3 * job.steps - low_of y before 1)
-later_weight job y before n (doing.Turn q) = 2 + phases_weight y (3 * job.steps - q) + 16 * turns_left y before q n
+later_weight job y before n (doing.Turn q) =
+    2 + phases_weight y (3 * job.steps - q) + 16 * turns_left y before q n
 later_weight job y before n (doing.Over e) = 0
 
 -- at least as many operations as the worker has still to make
 unfoldable pub weight : JobData → LayoutData → List (Op × ℕ) → Walking → ℕ
-weight job y history w = later_weight job y (drop (length w.heard) history) (node_of y w) w.now + (longest w.now - length w.heard)
+weight job y history w = later_weight job y (drop (length w.heard) history) (node_of y w) w.now
+    + (longest w.now - length w.heard)

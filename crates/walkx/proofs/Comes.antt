@@ -16,14 +16,19 @@ abbrev pub Came : {A : Type 0} → Script Then → (A → Then) → Op → Resul
 Came s to asked (Ok a) = s ≡ ends (to a)
 Came s to asked (Err why) = first_op s ≡ Some asked
 
-module _ {A : Type 0} (at : PostData) (s : Script Then) (d : Playback) (to : A → Then) (none : d.played ≡ 0) (admitted : AllAdmitted at.job at.layout (heard_in s (newest (length d.heard.now) d.heard.now))) where
+module _ {A : Type 0} (at : PostData) (s : Script Then)
+    (d : Playback) (to : A → Then) (none : d.played ≡ 0) (admitted : AllAdmitted at.job at.layout
+    (heard_in s (newest (length d.heard.now) d.heard.now))) where
   pub starts_back : Played at (d, s) d s
-  starts_back = record { same = refl; within = omega arith; here = rw none refl; admitted = admitted }
+  starts_back =
+      record { same = refl; within = omega arith; here = rw none refl; admitted = admitted }
 
-  pub came_back : (e : Playback) (r : Result A Stopped) → Reaches (stands_back at) d s to e r → Came (rest s (newest (length d.heard.now) d.heard.now)) to e.asked r
+  pub came_back : (e : Playback) (r : Result A Stopped) → Reaches (stands_back at) d s to e r →
+      Came (rest s (newest (length d.heard.now) d.heard.now)) to e.asked r
   came_back e (Ok a) reaches =
       let p : Played at (d, s) e (ends (to a)) = reaches.on (d, s) starts_back in
-      let all : rest s (newest (length e.heard.now) e.heard.now) ≡ ends (to a) = ended_stays s (to a) e.heard.now e.played (length e.heard.now) p.within p.here in
+      let all : rest s (newest (length e.heard.now) e.heard.now) ≡ ends (to a) =
+      ended_stays s (to a) e.heard.now e.played (length e.heard.now) p.within p.here in
       rw p.same at all
   came_back e (Err why) reaches =
       let a : Asks (d, s) e = reaches.on (d, s) starts_back in

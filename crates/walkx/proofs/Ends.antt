@@ -1,5 +1,6 @@
 -- What the scripts end with, and what was heard in them.
-use Rattle.std.proofs.Common.{◌≡◌, ◌≢◌, ℕ, ◌+◌, ◌-◌, ◌*◌, ◌%◌, ◌<◌, ◌≤◌, ◌==◌, ◌&&◌, nat_le, List, [], ◌∷◌, ◌++◌, refl, sym, ap, subst, arith}
+use Rattle.std.proofs.Common.{◌≡◌, ◌≢◌, ℕ, ◌+◌, ◌-◌, ◌*◌, ◌%◌, ◌<◌, ◌≤◌, ◌==◌, ◌&&◌}
+use Rattle.std.proofs.Common.{nat_le, List, [], ◌∷◌, ◌++◌, refl, sym, ap, subst, arith}
 use Rattle.std.proofs.lemmas.Bool.{cond_both, eqb-true, eqb-false, leb-false, eq-eqb, ne_eqb}
 use Rattle.pram_text.specs.Job.{JobData}
 use Rattle.pram_words.specs.Words.{LayoutData, number_of}
@@ -11,8 +12,10 @@ use Rattle.walkx.specs.declared.operation.Op.{Op}
 use Rattle.walkx.specs.declared.operation.Op.TheVariants.{Load}
 use Rattle.walkx.specs.Doing.{Doing}
 use Rattle.walkx.specs.Doing as doing
-use Rattle.walkx.specs.Scripts.{Script, asks, ends, behind, rest, op_with, heard_in}
-use Rattle.walkx.specs.Walk.{Then, begins, turns, stops, Walking, HearsAdmitted, AllAdmitted, script_by, script_of, rest_of, node_of, phase_begun, heard_of, turn_script, begin_script, marks, way_down}
+use Rattle.walkx.specs.Scripts.{Script, asks, ends, rest_after, rest, op_with, heard_in}
+use Rattle.walkx.specs.Walk.{Then, begins, turns, stops, Walking, HearsAdmitted, AllAdmitted}
+use Rattle.walkx.specs.Walk.{script_by, script_of, rest_of, node_of, phase_begun, heard_of}
+use Rattle.walkx.specs.Walk.{turn_script, begin_script, marks, way_down}
 use Rattle.walkx.proofs.BoundTasks.{IsWithin, task_within}
 
 -- whatever is heard, this holds of what comes of the script and of its steps, the newest first
@@ -20,13 +23,18 @@ abbrev pub AllEnds : {R : Type 0} → (R → List (Op × ℕ) → Type 0) → Sc
 AllEnds Q (asks op next) history = (found : ℕ) → AllEnds Q (next found) ((op, found) ∷ history)
 AllEnds Q (ends r) history = Q r history
 
-ends_next : {R : Type 0} (Q : R → List (Op × ℕ) → Type 0) (script : Script R) (found : ℕ) (heard history : List (Op × ℕ)) → AllEnds Q script (heard ++ history) → AllEnds Q (behind script found) ((op_with script found ++ heard) ++ history)
+ends_next : {R : Type 0} (Q : R → List (Op × ℕ) → Type 0) (script : Script R)
+    (found : ℕ) (heard history : List (Op × ℕ)) → AllEnds Q script (heard ++ history) →
+    AllEnds Q (rest_after script found) ((op_with script found ++ heard) ++ history)
 ends_next Q (asks op next) found heard history each = each found
 ends_next Q (ends r) found heard history each = each
 
-pub ends_behind : {R : Type 0} (Q : R → List (Op × ℕ) → Type 0) (script : Script R) (history : List (Op × ℕ)) (answers : List ℕ) → AllEnds Q script history → AllEnds Q (rest script answers) (heard_in script answers ++ history)
-ends_behind Q script history [] each = each
-ends_behind Q script history (found ∷ earlier) each = ends_next Q (rest script earlier) found (heard_in script earlier) history (ends_behind Q script history earlier each)
+pub ends_after : {R : Type 0} (Q : R → List (Op × ℕ) → Type 0) (script : Script R)
+    (history : List (Op × ℕ)) (answers : List ℕ) → AllEnds Q script history →
+    AllEnds Q (rest script answers) (heard_in script answers ++ history)
+ends_after Q script history [] each = each
+ends_after Q script history (found ∷ earlier) each = ends_next Q (rest script earlier) found
+    (heard_in script earlier) history (ends_after Q script history earlier each)
 
 -- the root was heard, and word 0 after it
 abbrev pub heard_root : LayoutData → ℕ → List (Op × ℕ)
@@ -36,7 +44,8 @@ abbrev pub heard_both : LayoutData → ℕ → ℕ → List (Op × ℕ)
 heard_both y root u = (Load (number_of y Conflict), u) ∷ heard_root y root
 
 -- a begin ends so at node n
-pub record BeginsTurn (job : JobData) (y : LayoutData) (n m q : ℕ) (history : List (Op × ℕ)) : Type 0 where
+pub record BeginsTurn (job : JobData) (y : LayoutData) (n m q : ℕ)
+    (history : List (Op × ℕ)) : Type 0 where
   pub node : m ≡ n
   pub root : ℕ
   pub phase : q ≡ root + 1
@@ -48,31 +57,40 @@ abbrev pub BeginEnds : JobData → LayoutData → ℕ → Then → List (Op × �
 BeginEnds job y n (begins m) history = ⊥
 BeginEnds job y n (turns m q) history = BeginsTurn job y n m q history
 BeginEnds job y n (stops ended.Done) history = history ≡ heard_both y (3 * job.steps) 0
-BeginEnds job y n (stops (ended.Conflict u)) history = (u ≢ 0) × ((root : ℕ) × (history ≡ heard_both y root u))
+BeginEnds job y n (stops (ended.Conflict u)) history =
+    (u ≢ 0) × ((root : ℕ) × (history ≡ heard_both y root u))
 
-begun_none : (y : LayoutData) (root : ℕ) → root % 3 ≡ 0 → heard_both y root 0 ≡ phase_begun y (doing.Turn (root + 1))
+begun_none : (y : LayoutData) (root : ℕ) → root % 3 ≡ 0 →
+    heard_both y root 0 ≡ phase_begun y (doing.Turn (root + 1))
 begun_none y root e =
     let same : root + 1 - 1 ≡ root = omega arith in
     rw (same, eq-eqb (root % 3) 0 e) refl
 
-begun_some : (y : LayoutData) (root : ℕ) → root % 3 ≢ 0 → heard_root y root ≡ phase_begun y (doing.Turn (root + 1))
+begun_some : (y : LayoutData) (root : ℕ) → root % 3 ≢ 0 →
+    heard_root y root ≡ phase_begun y (doing.Turn (root + 1))
 begun_some y root n =
     let same : root + 1 - 1 ≡ root = omega arith in
     rw (same, ne_eqb (root % 3) 0 n) refl
 
-pub begin_ends : (job : JobData) (y : LayoutData) (n : ℕ) → AllEnds (BeginEnds job y n) (begin_script job y n) []
+pub begin_ends : (job : JobData) (y : LayoutData) (n : ℕ) →
+    AllEnds (BeginEnds job y n) (begin_script job y n) []
 unfolding begin_script
-begin_ends job y n = λ root. cond_both (root % 3 == 0) _ _ (λ (s : Script Then). AllEnds (BeginEnds job y n) s (heard_root y root))
-    (λ third u. cond_both (u == 0) _ _ (λ (s : Script Then). AllEnds (BeginEnds job y n) s (heard_both y root u))
-    (λ none. cond_both (root == 3 * job.steps) _ _ (λ (s : Script Then). AllEnds (BeginEnds job y n) s (heard_both y root u))
-    (λ full. let a = eqb-true u 0 none in let b = eqb-true root (3 * job.steps) full in
+begin_ends job y n = λ root. cond_both (root % 3 == 0) _ _
+    (λ (s : Script Then). AllEnds (BeginEnds job y n) s (heard_root y root))
+    (λ third u. cond_both (u == 0) _ _
+    (λ (s : Script Then). AllEnds (BeginEnds job y n) s (heard_both y root u))
+    (λ none. cond_both (root == 3 * job.steps) _ _
+    (λ (s : Script Then). AllEnds (BeginEnds job y n) s (heard_both y root u))
+    (λ full. let a = eqb-true u 0 none in
+    let b = eqb-true root (3 * job.steps) full in
     subst (λ (v : ℕ). heard_both y root v ≡ heard_both y (3 * job.steps) 0) (sym a)
     (ap (λ (v : ℕ). heard_both y v 0) b))
     (λ part. record {
       node = refl;
       root = root;
       phase = refl;
-      is = subst (λ (v : ℕ). heard_both y root v ≡ phase_begun y (doing.Turn (root + 1))) (sym (eqb-true u 0 none)) (begun_none y root (eqb-true (root % 3) 0 third));
+      is = subst (λ (v : ℕ). heard_both y root v ≡ phase_begun y (doing.Turn (root + 1)))
+          (sym (eqb-true u 0 none)) (begun_none y root (eqb-true (root % 3) 0 third));
       less = eqb-false root (3 * job.steps) part;
       admitted = λ all. all.1.0;
     }))
@@ -93,33 +111,54 @@ InTurn y n q (turns m p) = (p ≡ q) × (1 ≤ n → n < 2 * y.leaves → (1 ≤
 InTurn y n q (stops e) = ⊥
 
 -- the lemma on tasks of the own-step bound serves for this too
-ends_within : (Q : Then → List (Op × ℕ) → Type 0) → IsWithin (λ k script. (history : List (Op × ℕ)) → AllEnds Q script history)
-ends_within Q = record { step = λ j k op next h each history found. each found ((op, found) ∷ history); more = λ j k script h all. all }
+ends_within : (Q : Then → List (Op × ℕ) → Type 0) →
+    IsWithin (λ k script. (history : List (Op × ℕ)) → AllEnds Q script history)
+ends_within Q = record {
+  step = λ j k op next h each history found. each found ((op, found) ∷ history);
+  more = λ j k script h all. all;
+}
 
 -- the child that is gone to is a node
-pub way_inside : (y : LayoutData) (w n q l r : ℕ) → 1 ≤ n → n < y.leaves → (1 ≤ way_down y w n q l r) × (way_down y w n q l r < 2 * y.leaves)
+pub way_inside : (y : LayoutData) (w n q l r : ℕ) → 1 ≤ n → n < y.leaves →
+    (1 ≤ way_down y w n q l r) × (way_down y w n q l r < 2 * y.leaves)
 way_inside y w n q l r low high =
     let Inside : ℕ → Type 0 = λ m. (1 ≤ m) × (m < 2 * y.leaves) in
     cond_both (nat_le q l) (2 * n + 1) _ Inside (λ e. (omega arith, omega arith))
-    (λ e. cond_both (nat_le q r) (2 * n) _ Inside (λ e. (omega arith, omega arith)) (λ e. cond_both (turns_right_in y w n) (2 * n + 1) (2 * n) Inside (λ e. (omega arith, omega arith)) (λ e. (omega arith, omega arith))))
+    (λ e. cond_both (nat_le q r) (2 * n) _ Inside (λ e. (omega arith, omega arith)) (λ e.
+    cond_both (turns_right_in y w n) (2 * n + 1) (2 * n) Inside (λ e. (omega arith, omega arith))
+    (λ e. (omega arith, omega arith))))
 
 abbrev pub TurnEnds : LayoutData → ℕ → ℕ → List (Op × ℕ) → Script Then → Type 0
 TurnEnds y n q history script = AllEnds (λ r h. InTurn y n q r) script history
 
-pub turn_ends : (job : JobData) (y : LayoutData) (w n q : ℕ) (history : List (Op × ℕ)) → TurnEnds y n q history (turn_script job y w n q)
+pub turn_ends : (job : JobData) (y : LayoutData) (w n q : ℕ) (history : List (Op × ℕ)) →
+    TurnEnds y n q history (turn_script job y w n q)
 unfolding turn_script
-turn_ends job y w n q history = λ found. cond_both (nat_le q found) _ _ (TurnEnds y n q ((Load (number_of y (Node n)), found) ∷ history))
-    (λ e. cond_both (n == 1) _ _ (TurnEnds y n q ((Load (number_of y (Node n)), found) ∷ history)) (λ e. refl) (λ e. λ stored. (refl, λ low high. let h = eqb-false n 1 e in (omega arith, omega arith))))
-    (λ e. cond_both (nat_le y.leaves n) _ _ (TurnEnds y n q ((Load (number_of y (Node n)), found) ∷ history))
-    (λ e. cond_both (nat_le (y.leaves + job.procs) n) _ _ (TurnEnds y n q ((Load (number_of y (Node n)), found) ∷ history)) (λ e. λ f. (refl, λ low high. (low, high)))
-    (λ e. task_within (λ k script. (longer : List (Op × ℕ)) → TurnEnds y n q longer script) (ends_within (λ r h. InTurn y n q r)) 0 job.rule (kind_at q) job y (step_at q) (n - y.leaves) (marks y n q) (λ longer f. (refl, λ low high. (low, high))) ((Load (number_of y (Node n)), found) ∷ history)))
-    (λ e. λ l r. cond_both (nat_le q l && nat_le q r) _ _ (TurnEnds y n q ((Load (number_of y (Node (2 * n + 1))), r) ∷ (Load (number_of y (Node (2 * n))), l) ∷ (Load (number_of y (Node n)), found) ∷ history)) (λ g. λ f. (refl, λ low high. (low, high)))
+turn_ends job y w n q history = λ found.
+    cond_both (nat_le q found) _ _ (TurnEnds y n q ((Load (number_of y (Node n)), found) ∷ history))
+    (λ e. cond_both (n == 1) _ _
+    (TurnEnds y n q ((Load (number_of y (Node n)), found) ∷ history)) (λ e. refl)
+    (λ e. λ stored. (refl, λ low high. let h = eqb-false n 1 e in (omega arith, omega arith))))
+    (λ e. cond_both (nat_le y.leaves n) _ _
+    (TurnEnds y n q ((Load (number_of y (Node n)), found) ∷ history))
+    (λ e. cond_both (nat_le (y.leaves + job.procs) n) _ _ (TurnEnds y n q
+    ((Load (number_of y (Node n)), found) ∷ history)) (λ e. λ f. (refl, λ low high. (low, high)))
+    (λ e. task_within (λ k script. (longer : List (Op × ℕ)) → TurnEnds y n q longer script)
+    (ends_within (λ r h. InTurn y n q r)) 0 job.rule
+    (kind_at q) job y (step_at q) (n - y.leaves) (marks y n q)
+    (λ longer f. (refl, λ low high. (low, high))) ((Load (number_of y (Node n)), found) ∷ history)))
+    (λ e. λ l r. cond_both (nat_le q l && nat_le q r) _ _ (TurnEnds y n q ((
+      Load (number_of y (Node (2 * n + 1))),
+      r,
+    ) ∷ (Load (number_of y (Node (2 * n))), l) ∷ (Load (number_of y (Node n)), found) ∷ history))
+    (λ g. λ f. (refl, λ low high. (low, high)))
     (λ g. λ f. (refl, λ low high. way_inside y w n q l r low (leb-false y.leaves n e)))))
 
 -- ---- the script of any worker
 
 abbrev pub BackEnds : JobData → LayoutData → ℕ → Then → List (Op × ℕ) → Type 0
-BackEnds job y number (begins m) history = AllAdmitted job y history → HearsAdmitted job y (Load (number_of y (Position number))) m
+BackEnds job y number (begins m) history =
+    AllAdmitted job y history → HearsAdmitted job y (Load (number_of y (Position number))) m
 BackEnds job y number _ history = ⊥
 
 abbrev pub Brings : JobData → LayoutData → ℕ → ℕ → Doing → Then → List (Op × ℕ) → Type 0
@@ -128,11 +167,15 @@ Brings job y number n doing.Begin r history = BeginEnds job y n r history
 Brings job y number n (doing.Turn q) r history = InTurn y n q r
 Brings job y number n (doing.Over e) r history = BeginEnds job y n r history
 
-pub script_ends : (job : JobData) (y : LayoutData) (number n : ℕ) (d : Doing) → AllEnds (Brings job y number n d) (script_by job y number n d) (phase_begun y d)
+pub script_ends : (job : JobData) (y : LayoutData) (number n : ℕ) (d : Doing) →
+    AllEnds (Brings job y number n d) (script_by job y number n d) (phase_begun y d)
 script_ends job y number n doing.Back = λ found all. all.0
 script_ends job y number n doing.Begin = begin_ends job y n
-script_ends job y number n (doing.Turn q) = turn_ends job y number n q (phase_begun y (doing.Turn q))
+script_ends job y number n (doing.Turn q) =
+    turn_ends job y number n q (phase_begun y (doing.Turn q))
 script_ends job y number n (doing.Over e) = begin_ends job y n
 
-pub worker_ends : (job : JobData) (y : LayoutData) (w : Walking) → AllEnds (Brings job y w.number (node_of y w) w.now) (rest_of job y w) (heard_of job y w)
-worker_ends job y w = ends_behind (Brings job y w.number (node_of y w) w.now) (script_of job y w) (phase_begun y w.now) w.heard (script_ends job y w.number (node_of y w) w.now)
+pub worker_ends : (job : JobData) (y : LayoutData) (w : Walking) →
+    AllEnds (Brings job y w.number (node_of y w) w.now) (rest_of job y w) (heard_of job y w)
+worker_ends job y w = ends_after (Brings job y w.number (node_of y w) w.now) (script_of job y w)
+    (phase_begun y w.now) w.heard (script_ends job y w.number (node_of y w) w.now)

@@ -1,5 +1,7 @@
 -- A worker that fits still fits with each admitted answer.
-use Rattle.std.proofs.Common.{◌≡◌, ◌≢◌, ℕ, zero, suc, ◌+◌, ◌-◌, ◌*◌, ◌^◌, ◌<◌, ◌≤◌, List, [], ◌∷◌, ◌++◌, Option, Some, None, IfSome, unwrap_or, lit<, refl, sym, ap, subst, ◌∙◌, inl, inr, arith}
+use Rattle.std.proofs.Common.{◌≡◌, ◌≢◌, ℕ, zero, suc, ◌+◌, ◌-◌, ◌*◌, ◌^◌, ◌<◌, ◌≤◌, List}
+use Rattle.std.proofs.Common.{[], ◌∷◌, ◌++◌, Option, Some, None, IfSome, unwrap_or, lit<}
+use Rattle.std.proofs.Common.{refl, sym, ap, subst, ◌∙◌, inl, inr, arith}
 use Rattle.std.proofs.Math.Nat.{pow-le-pow_right}
 use Rattle.std.proofs.lemmas.Nat.{mod_below, pow_pos}
 use Rattle.std.proofs.lemmas.Bool.{cases_lt}
@@ -17,115 +19,176 @@ use Rattle.walkx.specs.Doing.{Doing}
 use Rattle.walkx.specs.Doing as doing
 use Rattle.walkx.specs.Playing.{hearing}
 use Rattle.walkx.specs.Laws.{NewWorkersFit, AnswersKeepFit}
-use Rattle.walkx.specs.Scripts.{Script, asks, ends, behind, rest, heard_in}
-use Rattle.walkx.specs.Walk.{Then, begins, turns, stops, Walking, Fits, IsBoard, IsGoing, IsPhase, Matches, AllAdmitted, script_by, script_of, rest_of, node_of, ask_of, goes_on, phase_begun, heard_of, turn_script, begin_script}
+use Rattle.walkx.specs.Scripts.{Script, asks, ends, rest_after, rest, heard_in}
+use Rattle.walkx.specs.Walk.{Then, begins, turns, stops, Walking, Fits, IsBoard, IsGoing, IsPhase}
+use Rattle.walkx.specs.Walk.{Matches, AllAdmitted, script_by, script_of, rest_of, node_of, ask_of}
+use Rattle.walkx.specs.Walk.{goes_on, phase_begun, heard_of, turn_script, begin_script}
 use Rattle.walkx.proofs.Boards.{in_range}
 use Rattle.walkx.proofs.Ends.{AllEnds, Brings, worker_ends}
-use Rattle.walkx.proofs.Going.{asks_of, going_or_over, matches_of, next_of, op_with_first, told_going, told_over}
+use Rattle.walkx.proofs.Going.{asks_of, going_or_over, matches_of, next_of}
+use Rattle.walkx.proofs.Going.{op_with_first, told_going, told_over}
 
-pub heard_more : (job : JobData) (y : LayoutData) (w : Walking) (found : ℕ) → IsGoing w.now → Matches w.now (rest_of job y w) → heard_of job y (hearing w found) ≡ (ask_of job y w, found) ∷ heard_of job y w
+pub heard_more : (job : JobData) (y : LayoutData) (w : Walking) (found : ℕ) →
+    IsGoing w.now → Matches w.now (rest_of job y w) →
+    heard_of job y (hearing w found) ≡ (ask_of job y w, found) ∷ heard_of job y w
 heard_more job y w found going goes =
     let a = asks_of w.now (rest_of job y w) going goes in
-    ap (λ (es : List (Op × ℕ)). (es ++ heard_in (script_of job y w) w.heard) ++ phase_begun y w.now) (op_with_first (rest_of job y w) a.op found a.first)
-    ∙ ap (λ (op : Op). (op, found) ∷ heard_of job y w) (sym (next_of w.now (rest_of job y w) a.op going a.first))
+    ap (λ (es : List (Op × ℕ)). (es ++ heard_in (script_of job y w) w.heard) ++ phase_begun y w.now)
+    (op_with_first (rest_of job y w) a.op found a.first)
+    ∙ ap (λ (op : Op). (op, found) ∷ heard_of job y w)
+    (sym (next_of w.now (rest_of job y w) a.op going a.first))
 
 -- only a begin ends the work
-pub stops_begin : (job : JobData) (y : LayoutData) (number n : ℕ) (d : Doing) (e : Ended) (history : List (Op × ℕ)) → IsGoing d → Brings job y number n d (stops e) history → d ≡ doing.Begin
+pub stops_begin : (job : JobData) (y : LayoutData)
+    (number n : ℕ) (d : Doing) (e : Ended) (history : List (Op × ℕ)) → IsGoing d →
+    Brings job y number n d (stops e) history → d ≡ doing.Begin
 stops_begin job y number n doing.Back e history going b = absurd b
 stops_begin job y number n doing.Begin e history going b = refl
 stops_begin job y number n (doing.Turn q) e history going b = absurd b
 stops_begin job y number n (doing.Over x) e history going b = absurd going
 
-all_behind : (job : JobData) (y : LayoutData) (xs ys : List (Op × ℕ)) → AllAdmitted job y (xs ++ ys) → AllAdmitted job y ys
-all_behind job y [] ys all = all
-all_behind job y (x ∷ xs) ys all = all_behind job y xs ys all.1
+all_after : (job : JobData) (y : LayoutData) (xs ys : List (Op × ℕ)) →
+    AllAdmitted job y (xs ++ ys) → AllAdmitted job y ys
+all_after job y [] ys all = all
+all_after job y (x ∷ xs) ys all = all_after job y xs ys all.1
 
 -- a number has at least its depth's power
 depth_low : (n : ℕ) → 1 ≤ n → 2 ^ depth_of n ≤ n
 unfolding depth_of
 depth_low n some = elim (cases_lt n (2 ^ 32)) [
   | inl small ↦ (let d = digits n small in by_digits (digits_of n) d.0 d.1)
-  | inr large ↦ (let most : 2 ^ (digits_of n - 1) ≤ 2 ^ 31 = pow-le-pow_right {n = 2} (omega arith) {i = digits_of n - 1} {j = 31} (few n) in omega arith)
+  | inr large ↦ (let most : 2 ^ (digits_of n - 1) ≤ 2 ^ 31 =
+      pow-le-pow_right {n = 2} (omega arith) {i = digits_of n - 1} {j = 31} (few n) in omega arith)
 ]
   where
     by_digits : (d : ℕ) → n < 2 ^ d → 2 ^ d ≤ 2 * n + 1 → 2 ^ (d - 1) ≤ n
     by_digits zero below above = omega arith
-    by_digits (suc d) below above = let e = double d in let f : suc d - 1 ≡ d = omega arith in rw f (omega arith)
+    by_digits (suc d) below above =
+        let e = double d in
+        let f : suc d - 1 ≡ d = omega arith in rw f (omega arith)
 
     few : (m : ℕ) → digits_of m - 1 ≤ 31
     few m = unfold digits_of in omega arith
 
 -- the first leaf is a node in each tree
-first_node : (y : LayoutData) (worker : ℕ) → 1 ≤ y.leaves → (1 ≤ first_leaf_in y worker) × (first_leaf_in y worker < 2 * y.leaves)
+first_node : (y : LayoutData) (worker : ℕ) → 1 ≤ y.leaves →
+    (1 ≤ first_leaf_in y worker) × (first_leaf_in y worker < 2 * y.leaves)
 unfolding first_leaf_in
 first_node y worker some = elim (cases_form y.form) [
   | inl e ↦ rw e (let below = mod_below worker y.leaves some in (omega arith, omega arith))
-  | inr e ↦ rw (form_wide y.form (first_leaf_of y.leaves worker) (way_of y worker (depth_of y.leaves)) e)
+  | inr e ↦
+      rw (form_wide y.form (first_leaf_of y.leaves worker) (way_of y worker (depth_of y.leaves)) e)
       (let way = way_depth y worker (depth_of y.leaves) in
       let low = depth_low y.leaves some in
-      let pos = pow_pos (depth_of y.leaves) in
-      (omega arith, omega arith))
+      let pos = pow_pos (depth_of y.leaves) in (omega arith, omega arith))
 ]
 
-pub node_range : (job : JobData) (y : LayoutData) (w : Walking) → 1 ≤ y.leaves → Fits job y w → (1 ≤ node_of y w) × (node_of y w < 2 * y.leaves)
+pub node_range : (job : JobData) (y : LayoutData) (w : Walking) → 1 ≤ y.leaves → Fits job y w →
+    (1 ≤ node_of y w) × (node_of y w < 2 * y.leaves)
 node_range job y w some fits = by_node w.node fits.node
   where
-    by_node : (o : Option ℕ) → IfSome o (λ n. (1 ≤ n) × (n < 2 * y.leaves)) → (1 ≤ unwrap_or o (first_leaf_in y w.number)) × (unwrap_or o (first_leaf_in y w.number) < 2 * y.leaves)
+    by_node : (o : Option ℕ) → IfSome o (λ n. (1 ≤ n) × (n < 2 * y.leaves)) →
+        (1 ≤ unwrap_or o (first_leaf_in y w.number))
+        × (unwrap_or o (first_leaf_in y w.number) < 2 * y.leaves)
     by_node None h = first_node y w.number some
     by_node (Some n) h = h
 
-begun_fits : (job : JobData) (y : LayoutData) (number n m q : ℕ) (d : Doing) (xs : List (Op × ℕ)) → IsBoard job y → IsGoing d → IsPhase job d → 1 ≤ n → n < 2 * y.leaves → Brings job y number n d (turns m q) (xs ++ phase_begun y d) → AllAdmitted job y (xs ++ phase_begun y d) →
-    ((1 ≤ m) × (m < 2 * y.leaves)) × ((1 ≤ q) × (q ≤ 3 * job.steps)) × AllAdmitted job y (phase_begun y (doing.Turn q))
+begun_fits : (job : JobData) (y : LayoutData) (number n m q : ℕ) (d : Doing) (xs : List (Op × ℕ)) →
+    IsBoard job y → IsGoing d → IsPhase job d →
+    1 ≤ n → n < 2 * y.leaves → Brings job y number n d (turns m q) (xs ++ phase_begun y d) →
+    AllAdmitted job y (xs ++ phase_begun y d) →
+    ((1 ≤ m) × (m < 2 * y.leaves)) × ((1 ≤ q) × (q ≤ 3 * job.steps))
+    × AllAdmitted job y (phase_begun y (doing.Turn q))
 begun_fits job y number n m q doing.Back xs board going phase low high b all = absurd b
 begun_fits job y number n m q doing.Begin xs board going phase low high b all =
     let leaves = board.layout.leaves in
-    let range : b.root ≤ 3 * job.steps = in_range job y (Node 1) b.root board (lit< tt, omega arith) (b.admitted all) in
+    let range : b.root ≤ 3 * job.steps =
+    in_range job y (Node 1) b.root board (lit< tt, omega arith) (b.admitted all) in
     let other = b.less in
     let node = b.node in
-    let next = b.phase in
-    ((omega arith, omega arith), (omega arith, below b.root q other range next), subst (AllAdmitted job y) b.is all)
+    let next = b.phase in (
+      (omega arith, omega arith),
+      (omega arith, below b.root q other range next),
+      subst (AllAdmitted job y) b.is all,
+    )
   where
-    below : (root q : ℕ) → root ≢ 3 * job.steps → root ≤ 3 * job.steps → q ≡ root + 1 → q ≤ 3 * job.steps
-    below root q other range next = elim (cases_lt root (3 * job.steps)) [ inl c ↦ omega arith | inr c ↦ absurd (other (omega arith)) ]
-begun_fits job y number n m q (doing.Turn p) xs board going phase low high b all =
-    (b.1 low high, subst (λ (t : ℕ). (1 ≤ t) × (t ≤ 3 * job.steps)) (sym b.0) phase, subst (λ (t : ℕ). AllAdmitted job y (phase_begun y (doing.Turn t))) (sym b.0) (all_behind job y xs (phase_begun y (doing.Turn p)) all))
+    below : (root q : ℕ) → root ≢ 3 * job.steps → root ≤ 3 * job.steps →
+        q ≡ root + 1 → q ≤ 3 * job.steps
+    below root q other range next = elim (cases_lt root (3 * job.steps)) [
+      | inl c ↦ omega arith
+      | inr c ↦ absurd (other (omega arith))
+    ]
+begun_fits job y number n m q (doing.Turn p) xs board going phase low high b all = (
+  b.1 low high,
+  subst (λ (t : ℕ). (1 ≤ t) × (t ≤ 3 * job.steps)) (sym b.0) phase,
+  subst (λ (t : ℕ). AllAdmitted job y (phase_begun y (doing.Turn t)))
+      (sym b.0) (all_after job y xs (phase_begun y (doing.Turn p)) all),
+)
 begun_fits job y number n m q (doing.Over e) xs board going phase low high b all = absurd going
 
-begins_fits : (job : JobData) (y : LayoutData) (number n m : ℕ) (d : Doing) (history : List (Op × ℕ)) → IsBoard job y → number < y.workers → IsGoing d → Brings job y number n d (begins m) history → AllAdmitted job y history → (1 ≤ m) × (m < 2 * y.leaves)
-begins_fits job y number n m doing.Back history board worker going b all = in_range job y (Position number) m board worker (b all)
+begins_fits : (job : JobData) (y : LayoutData)
+    (number n m : ℕ) (d : Doing) (history : List (Op × ℕ)) →
+    IsBoard job y → number < y.workers → IsGoing d → Brings job y number n d (begins m) history →
+    AllAdmitted job y history → (1 ≤ m) × (m < 2 * y.leaves)
+begins_fits job y number n m doing.Back history board worker going b all =
+    in_range job y (Position number) m board worker (b all)
 begins_fits job y number n m doing.Begin history board worker going b all = absurd b
-begins_fits job y number n m (doing.Turn p) history board worker going b all = let leaves = board.layout.leaves in (omega arith, omega arith)
+begins_fits job y number n m (doing.Turn p) history board worker going b all =
+    let leaves = board.layout.leaves in (omega arith, omega arith)
 begins_fits job y number n m (doing.Over e) history board worker going b all = absurd going
 
-fits_on : (job : JobData) (y : LayoutData) (w : Walking) (found : ℕ) (t : Script Then) → IsBoard job y → IsGoing w.now → Fits job y w → behind (rest_of job y w) found ≡ t → AllEnds (Brings job y w.number (node_of y w) w.now) t (heard_of job y (hearing w found)) → AllAdmitted job y (heard_of job y (hearing w found)) → Fits job y (goes_on w found t)
+fits_on : (job : JobData) (y : LayoutData) (w : Walking) (found : ℕ) (t : Script Then) →
+    IsBoard job y → IsGoing w.now → Fits job y w → rest_after (rest_of job y w) found ≡ t →
+    AllEnds (Brings job y w.number (node_of y w) w.now) t (heard_of job y (hearing w found)) →
+    AllAdmitted job y (heard_of job y (hearing w found)) → Fits job y (goes_on w found t)
 unfolding begin_script turn_script
-fits_on job y w found (asks op next) board going fits is each all =
-    record { number = fits.number; node = fits.node; phase = fits.phase; admitted = all; matches = subst (Matches w.now) (sym is) (matches_of w.now (asks op next) going (record { op = op; first = refl })) }
+fits_on job y w found (asks op next) board going fits is each all = record {
+  number = fits.number;
+  node = fits.node;
+  phase = fits.phase;
+  admitted = all;
+  matches = subst (Matches w.now)
+      (sym is) (matches_of w.now (asks op next) going (record { op = op; first = refl }));
+}
 fits_on job y w found (ends (begins m)) board going fits is each all =
-    record { number = fits.number; node = begins_fits job y w.number (node_of y w) m w.now (heard_of job y (hearing w found)) board fits.number going each all; phase = tt; admitted = tt; matches = (_, refl) }
+    record {
+      number = fits.number;
+      node = begins_fits job y w.number
+          (node_of y w) m w.now (heard_of job y (hearing w found)) board fits.number going each all;
+      phase = tt;
+      admitted = tt;
+      matches = (_, refl);
+    }
 fits_on job y w found (ends (turns m q)) board going fits is each all =
     let leaves = board.layout.leaves in
     let at = node_range job y w leaves.0 fits in
-    let b = begun_fits job y w.number (node_of y w) m q w.now (heard_in (script_of job y w) (found ∷ w.heard)) board going fits.phase at.0 at.1 each all in
+    let b = begun_fits job y w.number (node_of y w) m q w.now
+    (heard_in (script_of job y w) (found ∷ w.heard)) board going fits.phase at.0 at.1 each all in
     record { number = fits.number; node = b.0; phase = b.1; admitted = b.2; matches = (_, refl) }
 fits_on job y w found (ends (stops e)) board going fits is each all =
-    let from = stops_begin job y w.number (node_of y w) w.now e (heard_of job y (hearing w found)) going each in
+    let from = stops_begin job y w.number (node_of y w) w.now e
+    (heard_of job y (hearing w found)) going each in
     record {
       number = fits.number;
       node = fits.node;
       phase = tt;
-      admitted = subst (λ (d : Doing). AllAdmitted job y (heard_in (script_by job y w.number (node_of y w) d) (found ∷ w.heard) ++ phase_begun y d)) from all;
-      matches = subst (λ (d : Doing). behind (rest (script_by job y w.number (node_of y w) d) w.heard) found ≡ ends (stops e)) from is;
+      admitted = subst (λ (d : Doing). AllAdmitted job y (heard_in (script_by job y w.number
+          (node_of y w) d) (found ∷ w.heard) ++ phase_begun y d)) from all;
+      matches = subst (λ (d : Doing).
+          rest_after (rest (script_by job y w.number (node_of y w) d) w.heard) found
+          ≡ ends (stops e)) from is;
     }
 
 pub fits_told : AnswersKeepFit
 fits_told job y w found board fits admitted = elim (going_or_over w.now) [
   | inl going ↦ (
-      let all : AllAdmitted job y (heard_of job y (hearing w found)) = subst (AllAdmitted job y) (sym (heard_more job y w found going fits.matches)) (admitted, fits.admitted) in
-      subst (Fits job y) (sym (told_going w.now w found (behind (rest_of job y w) found) going))
-      (fits_on job y w found (behind (rest_of job y w) found) board going fits refl (worker_ends job y (hearing w found)) all)
-      )
-  | inr over ↦ subst (Fits job y) (sym (told_over w found (behind (rest_of job y w) found) w.now over.0 over.1)) fits
+      let all : AllAdmitted job y (heard_of job y (hearing w found)) = subst (AllAdmitted job y)
+      (sym (heard_more job y w found going fits.matches)) (admitted, fits.admitted) in
+      subst (Fits job y) (sym (told_going w.now w found (rest_after (rest_of job y w) found) going))
+      (fits_on job y w found (rest_after (rest_of job y w) found) board going fits refl
+      (worker_ends job y (hearing w found)) all))
+  | inr over ↦ subst (Fits job y)
+      (sym (told_over w found (rest_after (rest_of job y w) found) w.now over.0 over.1)) fits
 ]
 
 -- ---- a worker newly started, and one that comes back

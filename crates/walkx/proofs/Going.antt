@@ -1,4 +1,5 @@
--- A worker that is going, and one that is over: its next operation, and what it becomes with an answer.
+-- A worker that is going, and one that is over: its next operation, and what it becomes with an
+-- answer.
 use Rattle.std.proofs.Common.{◌≡◌, ◌⊎◌, ℕ, [], ◌∷◌, Some, refl, sym, ap, subst, inl, inr}
 use Rattle.walkx.specs.declared.operation.Ended.{Ended}
 use Rattle.walkx.specs.declared.operation.Op.{Op}
@@ -30,21 +31,26 @@ matches_of doing.Begin s going a = (a.op, a.first)
 matches_of (doing.Turn q) s going a = (a.op, a.first)
 matches_of (doing.Over e) s going a = absurd going
 
-pub next_of : (d : Doing) (s : Script Then) (op : Op) → IsGoing d → first_op s ≡ Some op → next_op d s ≡ op
+pub next_of : (d : Doing) (s : Script Then) (op : Op) → IsGoing d →
+    first_op s ≡ Some op → next_op d s ≡ op
 next_of doing.Back s op going e = rw e
 next_of doing.Begin s op going e = rw e
 next_of (doing.Turn q) s op going e = rw e
 next_of (doing.Over e') s op going e = absurd going
 
-pub told_going : (d : Doing) (w : Walking) (found : ℕ) (s : Script Then) → IsGoing d → told_by d w found s ≡ goes_on w found s
+pub told_going : (d : Doing) (w : Walking) (found : ℕ) (s : Script Then) → IsGoing d →
+    told_by d w found s ≡ goes_on w found s
 told_going doing.Back w found s going = refl
 told_going doing.Begin w found s going = refl
 told_going (doing.Turn q) w found s going = refl
 told_going (doing.Over e) w found s going = absurd going
 
-pub told_over : (w : Walking) (found : ℕ) (s : Script Then) (d : Doing) (e : Ended) → d ≡ doing.Over e → told_by d w found s ≡ w
+pub told_over : (w : Walking) (found : ℕ) (s : Script Then) (d : Doing) (e : Ended) →
+    d ≡ doing.Over e → told_by d w found s ≡ w
 told_over w found s d e is = subst (λ (x : Doing). told_by x w found s ≡ w) (sym is) refl
 
-pub op_with_first : (s : Script Then) (op : Op) (found : ℕ) → first_op s ≡ Some op → op_with s found ≡ (op, found) ∷ []
-op_with_first (asks o next) op found e = let same : o ≡ op = cc in ap (λ (x : Op). (x, found) ∷ []) same
+pub op_with_first : (s : Script Then) (op : Op) (found : ℕ) → first_op s ≡ Some op →
+    op_with s found ≡ (op, found) ∷ []
+op_with_first (asks o next) op found e =
+    let same : o ≡ op = cc in ap (λ (x : Op). (x, found) ∷ []) same
 op_with_first (ends r) op found e = absurd (cc)

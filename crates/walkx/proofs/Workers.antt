@@ -1,5 +1,6 @@
 -- A worker whose script is played back.
-use Rattle.std.proofs.Common.{◌≡◌, ℕ, ◌*◌, ◌<◌, ◌≤◌, List, length, Option, Some, None, Result, Ok, Err, refl, sym, ap, subst, ◌∙◌, arith}
+use Rattle.std.proofs.Common.{◌≡◌, ℕ, ◌*◌, ◌<◌, ◌≤◌, List, length, Option, Some, None}
+use Rattle.std.proofs.Common.{Result, Ok, Err, refl, sym, ap, subst, ◌∙◌, arith}
 use lib.ListN.{take}
 use Rattle.pram_text.specs.Job.{JobData}
 use Rattle.pram_words.specs.Words.{LayoutData}
@@ -14,13 +15,16 @@ use Rattle.walkx.specs.Doing as doing
 use Rattle.walkx.specs.Inner.Posts.{PostData}
 use Rattle.walkx.specs.Inner.Heard.{newest}
 use Rattle.walkx.specs.Inner.Workers.{WorkerData, doing_in, worker_data}
-use Rattle.walkx.specs.Playing.{ComesTo, IsPlayable, asked_after, come_to, hearing, phase_of, stand_of}
+use Rattle.walkx.specs.Playing.{ComesTo, IsPlayable, asked_after}
+use Rattle.walkx.specs.Playing.{come_to, hearing, phase_of, stand_of}
 use Rattle.walkx.specs.Serving.{IsHeldAt, Serves}
 use Rattle.walkx.specs.Activities.{activity_of}
 use Rattle.walkx.specs.Turns.{beginning}
 use Rattle.walkx.specs.Rests.{script_in, then_of}
-use Rattle.walkx.specs.Scripts.{Script, asks, ends, behind, rest, first_op, heard_in}
-use Rattle.walkx.specs.Walk.{Then, Walking, Fits, AllAdmitted, HearsAdmitted, IsBoard, IsGoing, IsPhase, ask_of, end_of, begin_script, goes_on, heard_of, node_of, phase_begun, rest_of, script_of, told, started, come_back}
+use Rattle.walkx.specs.Scripts.{Script, asks, ends, rest_after, rest, first_op, heard_in}
+use Rattle.walkx.specs.Walk.{Then, Walking, Fits, AllAdmitted, HearsAdmitted, IsBoard, IsGoing}
+use Rattle.walkx.specs.Walk.{IsPhase, ask_of, end_of, begin_script, goes_on, heard_of, node_of}
+use Rattle.walkx.specs.Walk.{phase_begun, rest_of, script_of, told, started, come_back}
 use Rattle.walkx.proofs.Asking.{all_left}
 use Rattle.walkx.proofs.Fitting.{fits_told, heard_more, new_workers_fit, node_range}
 use Rattle.walkx.proofs.Heard.{newest_all}
@@ -29,8 +33,10 @@ use Rattle.walkx.proofs.Short.{few_heard, script_short}
 
 -- ---- the script by the fields of the code
 
-pub script_is : (job : JobData) (y : LayoutData) (number : ℕ) (n : Option ℕ) (now : Activity) (asked : Option Op) (heard : List ℕ)
-    → script_of job y (worker_data number n now asked heard).walking ≡ script_in (stand_of job y (worker_data number n now asked heard).walking) now
+pub script_is : (job : JobData) (y : LayoutData)
+    (number : ℕ) (n : Option ℕ) (now : Activity) (asked : Option Op) (heard : List ℕ) →
+    script_of job y (worker_data number n now asked heard).walking
+    ≡ script_in (stand_of job y (worker_data number n now asked heard).walking) now
 script_is job y number n activity.Back asked heard = refl
 script_is job y number n activity.Begin asked heard = refl
 script_is job y number n (activity.Turn q) asked heard = refl
@@ -44,18 +50,37 @@ phase_small job doing.Begin h = omega arith
 phase_small job (doing.Turn q) h = h.1
 phase_small job (doing.Over e) h = omega arith
 
-pub playable : (job : JobData) (y : LayoutData) (w : Walking) → IsBoard job y → Fits job y w → IsPlayable job y w
-playable job y w board fits = record { number = fits.number; node = node_range job y w board.layout.leaves.0 fits; phase = phase_small job w.now fits.phase; admitted = all_left job y _ (phase_begun y w.now) fits.admitted }
+pub playable : (job : JobData) (y : LayoutData) (w : Walking) → IsBoard job y →
+    Fits job y w → IsPlayable job y w
+playable job y w board fits = record {
+  number = fits.number;
+  node = node_range job y w board.layout.leaves.0 fits;
+  phase = phase_small job w.now fits.phase;
+  admitted = all_left job y _ (phase_begun y w.now) fits.admitted;
+}
 
-pub playable_more : (job : JobData) (y : LayoutData) (w : Walking) (found : ℕ) → IsBoard job y → Fits job y w → IsGoing w.now → HearsAdmitted job y (ask_of job y w) found → IsPlayable job y (hearing w found)
+pub playable_more : (job : JobData) (y : LayoutData) (w : Walking) (found : ℕ) →
+    IsBoard job y → Fits job y w → IsGoing w.now → HearsAdmitted job y (ask_of job y w) found →
+    IsPlayable job y (hearing w found)
 playable_more job y w found board fits going admitted =
-    let all : AllAdmitted job y (heard_of job y (hearing w found)) = subst (AllAdmitted job y) (sym (heard_more job y w found going fits.matches)) (admitted, fits.admitted) in
-    record { number = fits.number; node = node_range job y w board.layout.leaves.0 fits; phase = phase_small job w.now fits.phase; admitted = all_left job y _ (phase_begun y w.now) all }
+    let all : AllAdmitted job y (heard_of job y (hearing w found)) = subst (AllAdmitted job y)
+    (sym (heard_more job y w found going fits.matches)) (admitted, fits.admitted) in
+    record {
+      number = fits.number;
+      node = node_range job y w board.layout.leaves.0 fits;
+      phase = phase_small job w.now fits.phase;
+      admitted = all_left job y _ (phase_begun y w.now) all;
+    }
 
-pub room : (job : JobData) (y : LayoutData) (w : Walking) → Fits job y w → IsGoing w.now → length w.heard < 15
+pub room : (job : JobData) (y : LayoutData) (w : Walking) → Fits job y w →
+    IsGoing w.now → length w.heard < 15
 room job y w fits going =
     let a = asks_of w.now (rest_of job y w) going fits.matches in
-    omega (arith, few_heard (script_of job y w) 13 w.heard a.op (script_short job y w.number (node_of y w) w.now) a.first)
+    omega (
+      arith,
+      few_heard (script_of job y w) 13 w.heard a.op
+          (script_short job y w.number (node_of y w) w.now) a.first,
+    )
 
 pub is_going : (d : Doing) → end_of d ≡ None → IsGoing d
 is_going doing.Back none = tt
@@ -65,20 +90,29 @@ is_going (doing.Over e) none = absurd (cc)
 
 -- ---- what comes of an answer
 
-goes_on_asks : (w : Walking) (found : ℕ) (s : Script Then) (op : Op) → first_op s ≡ Some op → goes_on w found s ≡ hearing w found
+goes_on_asks : (w : Walking) (found : ℕ) (s : Script Then) (op : Op) → first_op s ≡ Some op →
+    goes_on w found s ≡ hearing w found
 goes_on_asks w found (asks o next) op is = refl
 goes_on_asks w found (ends then) op is = absurd (cc)
 
-goes_on_ends : (w : Walking) (found : ℕ) (n : Next) → goes_on w found (ends (then_of n)) ≡ come_to (hearing w found) n
+goes_on_ends : (w : Walking) (found : ℕ) (n : Next) →
+    goes_on w found (ends (then_of n)) ≡ come_to (hearing w found) n
 goes_on_ends w found (next.Begins n) = refl
 goes_on_ends w found (next.Turns n q) = refl
 goes_on_ends w found (next.Stops e) = refl
 
-pub told_ends : (job : JobData) (y : LayoutData) (w : Walking) (found : ℕ) (n : Next) → IsGoing w.now → rest_of job y (hearing w found) ≡ ends (then_of n) → told job y w found ≡ come_to (hearing w found) n
-told_ends job y w found n going is = told_going w.now w found (behind (rest_of job y w) found) going ∙ ap (goes_on w found) is ∙ goes_on_ends w found n
+pub told_ends : (job : JobData) (y : LayoutData) (w : Walking) (found : ℕ) (n : Next) →
+    IsGoing w.now → rest_of job y (hearing w found) ≡ ends (then_of n) →
+    told job y w found ≡ come_to (hearing w found) n
+told_ends job y w found n going is =
+    told_going w.now w found (rest_after (rest_of job y w) found) going
+    ∙ ap (goes_on w found) is ∙ goes_on_ends w found n
 
-pub told_asks : (job : JobData) (y : LayoutData) (w : Walking) (found : ℕ) (op : Op) → IsGoing w.now → first_op (rest_of job y (hearing w found)) ≡ Some op → told job y w found ≡ hearing w found
-told_asks job y w found op going is = told_going w.now w found (behind (rest_of job y w) found) going ∙ goes_on_asks w found (behind (rest_of job y w) found) op is
+pub told_asks : (job : JobData) (y : LayoutData) (w : Walking) (found : ℕ) (op : Op) →
+    IsGoing w.now → first_op (rest_of job y (hearing w found)) ≡ Some op →
+    told job y w found ≡ hearing w found
+told_asks job y w found op going is = told_going w.now w found (rest_after (rest_of job y w) found)
+    going ∙ goes_on_asks w found (rest_after (rest_of job y w) found) op is
 
 some_over : (d : Doing) (e : Ended) → end_of d ≡ Some e → d ≡ doing.Over e
 some_over doing.Back e is = absurd (cc)
@@ -86,92 +120,135 @@ some_over doing.Begin e is = absurd (cc)
 some_over (doing.Turn q) e is = absurd (cc)
 some_over (doing.Over f) e is = cc
 
-pub told_ended : (job : JobData) (y : LayoutData) (w : Walking) (found : ℕ) (e : Ended) → end_of w.now ≡ Some e → told job y w found ≡ w
-told_ended job y w found e is = told_over w found (behind (rest_of job y w) found) w.now e (some_over w.now e is)
+pub told_ended : (job : JobData) (y : LayoutData) (w : Walking) (found : ℕ) (e : Ended) →
+    end_of w.now ≡ Some e → told job y w found ≡ w
+told_ended job y w found e is =
+    told_over w found (rest_after (rest_of job y w) found) w.now e (some_over w.now e is)
 
-pub held_at : (job : JobData) (y : LayoutData) (w : Walking) (op : Op) → IsGoing w.now → first_op (rest_of job y w) ≡ Some op → op ≡ ask_of job y w
+pub held_at : (job : JobData) (y : LayoutData) (w : Walking) (op : Op) → IsGoing w.now →
+    first_op (rest_of job y w) ≡ Some op → op ≡ ask_of job y w
 held_at job y w op going is = sym (next_of w.now (rest_of job y w) op going is)
 
 -- ---- by the fields of the code: k is the worker, at where it stands
 
-module _ (job : JobData) (y : LayoutData) (number : ℕ) (node : Option ℕ) (now : Activity) (asked : Option Op) (count : ℕ) (heard d : List ℕ) (k : WorkerData) (at : PostData) (within : count ≤ length heard) (is : d ≡ take count heard) (view : worker_data number node now asked (newest count heard) ≡ k) (stands : at ≡ stand_of job y k.walking) where
+module _ (job : JobData) (y : LayoutData) (number : ℕ)
+    (node : Option ℕ) (now : Activity) (asked : Option Op)
+    (count : ℕ) (heard d : List ℕ) (k : WorkerData) (at : PostData) (within : count ≤ length heard)
+    (is : d ≡ take count heard) (view : worker_data number node now asked (newest count heard) ≡ k)
+    (stands : at ≡ stand_of job y k.walking) where
   same_heard : newest (length d) d ≡ k.walking.heard
-  same_heard = subst (λ (xs : List ℕ). newest (length xs) xs ≡ newest count heard) (sym is) (newest_all count heard within) ∙ ap (λ (p : WorkerData). p.walking.heard) view
+  same_heard = subst (λ (xs : List ℕ). newest (length xs) xs ≡ newest count heard) (sym is)
+      (newest_all count heard within) ∙ ap (λ (p : WorkerData). p.walking.heard) view
 
   same_script : script_in at now ≡ script_of job y k.walking
-  same_script = ap (λ (a : PostData). script_in a now) (stands ∙ ap (λ (p : WorkerData). stand_of job y p.walking) (sym view)) ∙ sym (script_is job y number node now asked (newest count heard)) ∙ ap (λ (p : WorkerData). script_of job y p.walking) view
+  same_script = ap (λ (a : PostData). script_in a now)
+      (stands ∙ ap (λ (p : WorkerData). stand_of job y p.walking) (sym view))
+      ∙ sym (script_is job y number node now asked (newest count heard))
+      ∙ ap (λ (p : WorkerData). script_of job y p.walking) view
 
-  pub admitted_here : IsPlayable job y k.walking → AllAdmitted at.job at.layout (heard_in (script_in at now) (newest (length d) d))
+  pub admitted_here : IsPlayable job y k.walking →
+      AllAdmitted at.job at.layout (heard_in (script_in at now) (newest (length d) d))
   admitted_here p =
-      let one : AllAdmitted job y (heard_in (script_of job y k.walking) (newest (length d) d)) = subst (λ (xs : List ℕ). AllAdmitted job y (heard_in (script_of job y k.walking) xs)) (sym same_heard) p.admitted in
-      let two : AllAdmitted job y (heard_in (script_in at now) (newest (length d) d)) = subst (λ (s : Script Then). AllAdmitted job y (heard_in s (newest (length d) d))) (sym same_script) one in
-      let three : AllAdmitted at.job y (heard_in (script_in at now) (newest (length d) d)) = subst (λ (j : JobData). AllAdmitted j y (heard_in (script_in at now) (newest (length d) d))) (sym (ap (λ (a : PostData). a.job) stands)) two in
-      subst (λ (l : LayoutData). AllAdmitted at.job l (heard_in (script_in at now) (newest (length d) d))) (sym (ap (λ (a : PostData). a.layout) stands)) three
+      let one : AllAdmitted job y (heard_in (script_of job y k.walking) (newest (length d) d)) =
+      subst (λ (xs : List ℕ). AllAdmitted job y (heard_in (script_of job y k.walking) xs))
+      (sym same_heard) p.admitted in
+      let two : AllAdmitted job y (heard_in (script_in at now) (newest (length d) d)) =
+      subst (λ (s : Script Then). AllAdmitted job y (heard_in s (newest (length d) d)))
+      (sym same_script) one in
+      let three : AllAdmitted at.job y (heard_in (script_in at now) (newest (length d) d)) =
+      subst (λ (j : JobData). AllAdmitted j y (heard_in (script_in at now) (newest (length d) d)))
+      (sym (ap (λ (a : PostData). a.job) stands)) two in
+      subst
+      (λ (l : LayoutData). AllAdmitted at.job l (heard_in (script_in at now) (newest (length d) d)))
+      (sym (ap (λ (a : PostData). a.layout) stands)) three
 
-  pub comes_here : (r : Result Next Op) → ComesTo (rest (script_in at now) (newest (length d) d)) r → ComesTo (rest_of job y k.walking) r
+  pub comes_here : (r : Result Next Op) →
+      ComesTo (rest (script_in at now) (newest (length d) d)) r →
+      ComesTo (rest_of job y k.walking) r
   comes_here r c =
       subst (λ (xs : List ℕ). ComesTo (rest (script_of job y k.walking) xs) r) same_heard
       (subst (λ (s : Script Then). ComesTo (rest s (newest (length d) d)) r) same_script c)
 
 -- ---- a worker that was told
 
-pub comes_ok : (s : Script Then) (r : Result Next Op) (n : Next) → r ≡ Ok n → ComesTo s r → s ≡ ends (then_of n)
+pub comes_ok : (s : Script Then) (r : Result Next Op) (n : Next) → r ≡ Ok n →
+    ComesTo s r → s ≡ ends (then_of n)
 comes_ok s r n is c = subst (ComesTo s) is c
 
-pub comes_err : (s : Script Then) (r : Result Next Op) (op : Op) → r ≡ Err op → ComesTo s r → first_op s ≡ Some op
+pub comes_err : (s : Script Then) (r : Result Next Op) (op : Op) → r ≡ Err op →
+    ComesTo s r → first_op s ≡ Some op
 comes_err s r op is c = subst (ComesTo s) is c
 
-pub record Heard (job : JobData) (y : LayoutData) (w : Walking) (found : ℕ) (new : WorkerData) : Type 0 where
+pub record Heard (job : JobData) (y : LayoutData) (w : Walking) (found : ℕ)
+    (new : WorkerData) : Type 0 where
   pub told : new.walking ≡ told job y w found
   pub serves : Serves job y new
 
-held_after : (job : JobData) (y : LayoutData) (w : Walking) (n : Next) → IsHeldAt job y (come_to w n) (asked_after n)
+held_after : (job : JobData) (y : LayoutData) (w : Walking) (n : Next) →
+    IsHeldAt job y (come_to w n) (asked_after n)
 held_after job y w (next.Begins n) = (tt, refl)
 held_after job y w (next.Turns n q) = (tt, refl)
 held_after job y w (next.Stops e) = refl
 
-module _ (job : JobData) (y : LayoutData) (w : Walking) (found : ℕ) (v : Walking) (r : Result Next Op) (new : WorkerData) (board : IsBoard job y) (fits : Fits job y w) (none : end_of w.now ≡ None) (admitted : HearsAdmitted job y (ask_of job y w) found) (is : v ≡ hearing w found) (comes : ComesTo (rest_of job y v) r) where
+module _ (job : JobData) (y : LayoutData) (w : Walking) (found : ℕ) (v : Walking)
+    (r : Result Next Op) (new : WorkerData) (board : IsBoard job y) (fits : Fits job y w)
+    (none : end_of w.now ≡ None) (admitted : HearsAdmitted job y (ask_of job y w) found)
+    (is : v ≡ hearing w found) (comes : ComesTo (rest_of job y v) r) where
   going : IsGoing w.now
   going = is_going w.now none
 
   comes_heard : ComesTo (rest_of job y (hearing w found)) r
   comes_heard = subst (λ (u : Walking). ComesTo (rest_of job y u) r) is comes
 
-  pub heard_ends : (n : Next) → r ≡ Ok n → new.walking ≡ come_to v n → new.asked ≡ asked_after n → Heard job y w found new
+  pub heard_ends : (n : Next) → r ≡ Ok n → new.walking ≡ come_to v n →
+      new.asked ≡ asked_after n → Heard job y w found new
   heard_ends n ok came asked =
-      let t : new.walking ≡ told job y w found = came ∙ ap (λ (u : Walking). come_to u n) is ∙ sym (told_ends job y w found n going (comes_ok (rest_of job y (hearing w found)) r n ok comes_heard)) in
+      let t : new.walking ≡ told job y w found =
+      came ∙ ap (λ (u : Walking). come_to u n) is ∙ sym (told_ends job y w found n going
+      (comes_ok (rest_of job y (hearing w found)) r n ok comes_heard)) in
       record {
         told = t;
         serves = record {
           fits = subst (Fits job y) (sym t) (fits_told job y w found board fits admitted);
-          held = subst (IsHeldAt job y new.walking) (sym asked) (subst (λ (u : Walking). IsHeldAt job y u (asked_after n)) (sym came) (held_after job y v n));
+          held = subst (IsHeldAt job y new.walking) (sym asked)
+              (subst (λ (u : Walking). IsHeldAt job y u (asked_after n))
+              (sym came) (held_after job y v n));
         };
       }
 
-  pub heard_asks : (op : Op) → r ≡ Err op → new.walking ≡ v → new.asked ≡ Some op → Heard job y w found new
+  pub heard_asks : (op : Op) → r ≡ Err op → new.walking ≡ v →
+      new.asked ≡ Some op → Heard job y w found new
   heard_asks op err same asked =
-      let first : first_op (rest_of job y (hearing w found)) ≡ Some op = comes_err (rest_of job y (hearing w found)) r op err comes_heard in
+      let first : first_op (rest_of job y (hearing w found)) ≡ Some op =
+      comes_err (rest_of job y (hearing w found)) r op err comes_heard in
       let now : new.walking ≡ (hearing w found) = same ∙ is in
-      let t : new.walking ≡ told job y w found = now ∙ sym (told_asks job y w found op going first) in
+      let t : new.walking ≡ told job y w found =
+      now ∙ sym (told_asks job y w found op going first) in
       record {
         told = t;
         serves = record {
           fits = subst (Fits job y) (sym t) (fits_told job y w found board fits admitted);
-          held = subst (IsHeldAt job y new.walking) (sym asked) (subst (λ (u : Walking). op ≡ ask_of job y u) (sym now) (held_at job y (hearing w found) op going first));
+          held = subst (IsHeldAt job y new.walking) (sym asked)
+              (subst (λ (u : Walking). op ≡ ask_of job y u) (sym now)
+              (held_at job y (hearing w found) op going first));
         };
       }
 
 -- ---- what a worker is held at
 
 -- a worker that is held in the midst of a script
-pub asks_held : (job : JobData) (y : LayoutData) (k : WorkerData) (op : Op) → Serves job y k → k.asked ≡ Some op → op ≡ ask_of job y k.walking
+pub asks_held : (job : JobData) (y : LayoutData) (k : WorkerData) (op : Op) → Serves job y k →
+    k.asked ≡ Some op → op ≡ ask_of job y k.walking
 asks_held job y k op serves is = subst (IsHeldAt job y k.walking) is serves.held
 
 -- a worker at the start of one
-pub asks_first : (job : JobData) (y : LayoutData) (k : WorkerData) (op : Op) → Serves job y k → k.asked ≡ None → first_op (script_of job y k.walking) ≡ Some op → op ≡ ask_of job y k.walking
+pub asks_first : (job : JobData) (y : LayoutData) (k : WorkerData) (op : Op) → Serves job y k →
+    k.asked ≡ None → first_op (script_of job y k.walking) ≡ Some op → op ≡ ask_of job y k.walking
 asks_first job y k op serves none first =
     let held : IsHeldAt job y k.walking None = subst (IsHeldAt job y k.walking) none serves.held in
-    held_at job y k.walking op held.0 (subst (λ (xs : List ℕ). first_op (rest (script_of job y k.walking) xs) ≡ Some op) (sym held.1) first)
+    held_at job y k.walking op held.0
+    (subst (λ (xs : List ℕ). first_op (rest (script_of job y k.walking) xs) ≡ Some op)
+    (sym held.1) first)
 
 pub same_activity : (a : Activity) → a ≡ activity_of (doing_in a)
 same_activity activity.Back = refl
@@ -181,16 +258,23 @@ same_activity (activity.Over e) = refl
 
 -- ---- a new worker
 
-pub starts : (job : JobData) (y : LayoutData) (w : ℕ) → w < y.workers → Serves job y (record { walking = started w; asked = None })
+pub starts : (job : JobData) (y : LayoutData) (w : ℕ) → w < y.workers →
+    Serves job y (record { walking = started w; asked = None })
 starts job y w worker = record { fits = (new_workers_fit job y w worker).0; held = (tt, refl) }
 
-pub comes_anew : (job : JobData) (y : LayoutData) (w : ℕ) → w < y.workers → Serves job y (record { walking = come_back w; asked = None })
+pub comes_anew : (job : JobData) (y : LayoutData) (w : ℕ) → w < y.workers →
+    Serves job y (record { walking = come_back w; asked = None })
 comes_anew job y w worker = record { fits = (new_workers_fit job y w worker).1; held = (tt, refl) }
 
 -- a worker that begins anew at a node
-fits_anew : (job : JobData) (y : LayoutData) (number start : ℕ) → number < y.workers → 1 ≤ start → start < 2 * y.leaves → Fits job y (beginning number start)
+fits_anew : (job : JobData) (y : LayoutData) (number start : ℕ) → number < y.workers → 1 ≤ start →
+    start < 2 * y.leaves → Fits job y (beginning number start)
 unfolding begin_script
-fits_anew job y number start worker low high = record { number = worker; node = (low, high); phase = tt; admitted = tt; matches = (_, refl) }
+fits_anew job y number start worker low high =
+    record { number = worker; node = (low, high); phase = tt; admitted = tt; matches = (_, refl) }
 
-pub begins_anew : (job : JobData) (y : LayoutData) (number start : ℕ) → number < y.workers → 1 ≤ start → start < 2 * y.leaves → Serves job y (record { walking = beginning number start; asked = None })
-begins_anew job y number start worker low high = record { fits = fits_anew job y number start worker low high; held = (tt, refl) }
+pub begins_anew : (job : JobData) (y : LayoutData) (number start : ℕ) →
+    number < y.workers → 1 ≤ start → start < 2 * y.leaves →
+    Serves job y (record { walking = beginning number start; asked = None })
+begins_anew job y number start worker low high =
+    record { fits = fits_anew job y number start worker low high; held = (tt, refl) }

@@ -7,5 +7,5 @@ use Rattle.walkx.specs.Doing as doing
 abbrev pub activity_of : Doing → Activity
 activity_of doing.Back = activity.Back
 activity_of doing.Begin = activity.Begin
-activity_of (doing.Turn q) = activity.Turn q
-activity_of (doing.Over e) = activity.Over e
+activity_of (doing.Turn phase) = activity.Turn phase
+activity_of (doing.Over end) = activity.Over end

@@ -12,48 +12,53 @@ use Rattle.walkx.specs.Walk.{Walking, heard_of, ask_of, told}
 
 -- the worker after these answers
 abbrev pub told_all : JobData → LayoutData → Walking → List ℕ → Walking
-told_all job y w [] = w
-told_all job y w (found ∷ earlier) = told job y (told_all job y w earlier) found
+told_all job layout worker [] = worker
+told_all job layout worker (found ∷ earlier) =
+    told job layout (told_all job layout worker earlier) found
 
 -- its operations with these answers, the newest first; the oldest are those that brought it where
 -- it stood
 abbrev pub history_of : JobData → LayoutData → Walking → List ℕ → List (Op × ℕ)
-history_of job y w [] = heard_of job y w
-history_of job y w (found ∷ earlier) =
-    (ask_of job y (told_all job y w earlier), found) ∷ history_of job y w earlier
+history_of job layout worker [] = heard_of job layout worker
+history_of job layout worker (found ∷ earlier) =
+    (ask_of job layout (told_all job layout worker earlier), found)
+    ∷ history_of job layout worker earlier
 
 -- ---- what a worker may hear
 
--- what an operation with its answer shows of word k: what was loaded from it, or what it was raised
+-- what an operation with its answer shows of a word: what was loaded from it, or what it was raised
 -- to
 abbrev pub shown : Op → ℕ → ℕ → ℕ
-shown (Load j) found k = if j == k then found else 0
-shown (Max j value) found k = if j == k then value else 0
-shown _ found k = 0
+shown (Load number) found word = if number == word then found else 0
+shown (Max number value) found word = if number == word then value else 0
+shown _ found word = 0
 
--- the greatest that a history shows of word k
+-- the greatest that a history shows of a word
 abbrev pub low : List (Op × ℕ) → ℕ → ℕ
-low [] k = 0
-low (e ∷ earlier) k = max (shown e.0 e.1 k) (low earlier k)
+low [] word = 0
+low (step ∷ earlier) word = max (shown step.0 step.1 word) (low earlier word)
 
--- What worker w may load from word k after a history: of a node nothing below what the history
+-- What a worker may load from a word after a history: of a node nothing below what the history
 -- shows, of the root nothing above the last phase, and as its position a node.
-pub record MayLoad (job : JobData) (y : LayoutData) (w : ℕ) (earlier : List (Op
-    × ℕ)) (k found : ℕ) : Type 0 where
-  pub rises : (n : ℕ) → 1 ≤ n → n < 2 * y.leaves → k ≡ number_of y (Node n) → low earlier k ≤ found
-  pub root : k ≡ number_of y (Node 1) → found ≤ 3 * job.steps
-  pub position : k ≡ number_of y (Position w) → (1 ≤ found) × (found < 2 * y.leaves)
+pub record MayLoad (job : JobData) (layout : LayoutData) (worker : ℕ) (earlier : List (Op
+    × ℕ)) (word found : ℕ) : Type 0 where
+  pub rises : (node : ℕ) → 1 ≤ node → node < 2 * layout.leaves →
+      word ≡ number_of layout (Node node) → low earlier word ≤ found
+  pub root : word ≡ number_of layout (Node 1) → found ≤ 3 * job.steps
+  pub position : word ≡ number_of layout (Position worker) →
+      (1 ≤ found) × (found < 2 * layout.leaves)
 
 abbrev pub MayHear : JobData → LayoutData → ℕ → List (Op × ℕ) → Op → ℕ → Type 0
-MayHear job y w earlier (Load k) found = MayLoad job y w earlier k found
-MayHear job y w earlier _ found = Unit {0}
+MayHear job layout worker earlier (Load word) found = MayLoad job layout worker earlier word found
+MayHear job layout worker earlier _ found = Unit {0}
 
 -- each answer of a history may be heard after those before it
 abbrev pub IsHeard : JobData → LayoutData → ℕ → List (Op × ℕ) → Type 0
-IsHeard job y w [] = Unit {0}
-IsHeard job y w (e ∷ earlier) = MayHear job y w earlier e.0 e.1 × IsHeard job y w earlier
+IsHeard job layout worker [] = Unit {0}
+IsHeard job layout worker (step ∷ earlier) =
+    MayHear job layout worker earlier step.0 step.1 × IsHeard job layout worker earlier
 
 -- ---- the bound
 
 abbrev pub most_steps : JobData → LayoutData → ℕ
-most_steps job y = 300 * y.leaves * job.steps + 8
+most_steps job layout = 300 * layout.leaves * job.steps + 8

@@ -23,60 +23,61 @@ left_as after Held = None
 
 abbrev pub comes : {A : Type 0} → Script Then → (A → Script Then) → Result A Left →
     Option (Script Then)
-comes after next (Ok a) = Some (next a)
+comes after next (Ok result) = Some (next result)
 comes after next (Err why) = left_as after why
 
 -- the driver is to play this part next
-pub record IsNext {D A : Type 0} (stands : Standing D) (d : D) (part : Part A) : Type 0 where
+pub record IsNext {D A : Type 0} (stands : Standing D) (driver : D) (part : Part A) : Type 0 where
   pub from : D × Script Then
   pub after : Script Then
   pub next : A → Script Then
-  pub here : stands from d (Some (part after next))
+  pub here : stands from driver (Some (part after next))
 
 -- it played this part up to its result, or it was held in it
-pub record Plays {D A : Type 0} (stands : Standing D) (d : D) (part : Part A) (e : D)
+pub record Plays {D A : Type 0} (stands : Standing D) (old : D) (part : Part A) (new : D)
     (result : Result A Left) : Type 0 where
   pub on : (from : D × Script Then) (after : Script Then) (next : A → Script Then) →
-      stands from d (Some (part after next)) → stands from e (comes after next result)
+      stands from old (Some (part after next)) → stands from new (comes after next result)
 
 -- the same of a whole task, which a late worker ends as any other
-pub record IsDue {D : Type 0} (stands : Standing D) (d : D) (task : Script Then → Script Then) :
-    Type 0 where
+pub record IsDue {D : Type 0} (stands : Standing D) (driver : D)
+    (task : Script Then → Script Then) : Type 0 where
   pub from : D × Script Then
   pub after : Script Then
-  pub here : stands from d (Some (task after))
+  pub here : stands from driver (Some (task after))
 
-pub record Ends {D : Type 0} (stands : Standing D) (d : D) (task : Script Then → Script Then)
-    (e : D) (result : Result (Unit {0}) Left) : Type 0 where
+pub record Ends {D : Type 0} (stands : Standing D) (old : D) (task : Script Then → Script Then)
+    (new : D) (result : Result (Unit {0}) Left) : Type 0 where
   pub on : (from : D × Script Then) (after : Script Then) →
-      stands from d (Some (task after)) → stands from e (comes after (λ done. after) result)
+      stands from old (Some (task after)) → stands from new (comes after (λ done. after) result)
 
 -- one operation
 abbrev pub makes : Op → Part ℕ
 makes op after next = asks op next
 
 abbrev pub goes : {A : Type 0} → (A → Script Then) → Result A Stopped → Option (Script Then)
-goes next (Ok a) = Some (next a)
+goes next (Ok result) = Some (next result)
 goes next (Err why) = None
 
 -- it made this operation, and the answer is one that the word may have; or it is held there
-pub record Makes {D : Type 0} (stands : PostData → Standing D) (d : D) (op : Op) (e : D)
+pub record Makes {D : Type 0} (stands : PostData → Standing D) (old : D) (op : Op) (new : D)
     (result : Result ℕ Stopped) : Type 0 where
   pub on : (at : PostData) (from : D × Script Then) (next : ℕ → Script Then) →
-      stands at from d (Some (asks op next)) → stands at from e (goes next result)
-  pub admitted : (at : PostData) → IsNext (stands at) d (makes op) →
+      stands at from old (Some (asks op next)) → stands at from new (goes next result)
+  pub admitted : (at : PostData) → IsNext (stands at) old (makes op) →
       IfOk result (HearsAdmitted at.job at.layout op)
 
 -- the driver is at this script, and no part comes after it
-pub record IsHere {D : Type 0} (stands : Standing D) (d : D) (script : Script Then) : Type 0 where
+pub record IsHere {D : Type 0} (stands : Standing D) (driver : D)
+    (script : Script Then) : Type 0 where
   pub from : D × Script Then
-  pub here : stands from d (Some script)
+  pub here : stands from driver (Some script)
 
 -- it played the script to its end, which its result names, or it was held in it
-pub record Reaches {D A : Type 0} (stands : Standing D) (d : D) (script : Script Then)
-    (to : A → Then) (e : D) (result : Result A Stopped) : Type 0 where
-  pub on : (from : D × Script Then) → stands from d (Some script) →
-      stands from e (goes (λ a. ends (to a)) result)
+pub record Reaches {D A : Type 0} (stands : Standing D) (old : D) (script : Script Then)
+    (to : A → Then) (new : D) (result : Result A Stopped) : Type 0 where
+  pub on : (from : D × Script Then) → stands from old (Some script) →
+      stands from new (goes (λ answer. ends (to answer)) result)
 
 -- the end of a task, late or not
 abbrev pub settled : Result (Unit {0}) Left → Result (Unit {0}) Stopped

@@ -10,36 +10,42 @@ use Rattle.walkx.specs.Walk.{end_of, started, come_back}
 
 -- those fit that are newly started or come back
 abbrev pub NewWorkersFit : Type 0
-NewWorkersFit = (job : JobData) (y : LayoutData) (number : ℕ) → number < y.workers →
-    Fits job y (started number) × Fits job y (come_back number)
+NewWorkersFit = (job : JobData) (layout : LayoutData) (number : ℕ) → number < layout.workers →
+    Fits job layout (started number) × Fits job layout (come_back number)
 
 -- each admitted answer leaves a worker that fits
 abbrev pub AnswersKeepFit : Type 0
-AnswersKeepFit = (job : JobData) (y : LayoutData) (w : Walking) (found : ℕ) → IsBoard job y →
-    Fits job y w →
-    HearsAdmitted job y (ask_of job y w) found → Fits job y (told job y w found)
+AnswersKeepFit =
+    (job : JobData) (layout : LayoutData) (worker : Walking) (found : ℕ) → IsBoard job layout →
+    Fits job layout worker → HearsAdmitted job layout (ask_of job layout worker) found →
+    Fits job layout (told job layout worker found)
 
 -- a record that knows a worker knows it with the next answer, once it has the step
 abbrev pub KnownStayKnown : Type 0
-KnownStayKnown = (job : JobData) (y : LayoutData) (r : Record) (w : Walking) (found : ℕ) →
-    Fits job y w → Knows job y r w →
-    Knows job y (after r (ask_of job y w) found) (told job y w found)
+KnownStayKnown =
+    (job : JobData) (layout : LayoutData) (past : Record) (worker : Walking) (found : ℕ) →
+    Fits job layout worker → Knows job layout past worker →
+    Knows job layout (after past (ask_of job layout worker) found) (told job layout worker found)
 
 -- what a worker asks is on the board, and admitted
 abbrev pub WhatIsAskedIsAdmitted : Type 0
-WhatIsAskedIsAdmitted = (job : JobData) (y : LayoutData) (w : Walking) → IsBoard job y →
-    Fits job y w → AsksAdmitted job y (ask_of job y w)
+WhatIsAskedIsAdmitted =
+    (job : JobData) (layout : LayoutData) (worker : Walking) → IsBoard job layout →
+    Fits job layout worker → AsksAdmitted job layout (ask_of job layout worker)
 
 -- one that is not over asks for an atomic step on a word of the board
 abbrev pub WhoIsGoingSteps : Type 0
-WhoIsGoingSteps = (job : JobData) (y : LayoutData) (w : Walking) → IsBoard job y → Fits job y w →
-    end_of w.now ≡ None → IsStepOn y (ask_of job y w)
+WhoIsGoingSteps = (job : JobData) (layout : LayoutData) (worker : Walking) →
+    IsBoard job layout → Fits job layout worker →
+    end_of worker.now ≡ None → IsStepOn layout (ask_of job layout worker)
 
 -- A worker that is still going has heard fewer answers than the bound, whatever it heard, if only
 -- it may be heard.
 abbrev pub OwnStepsAreBounded : Type 0
 OwnStepsAreBounded =
-    ((job : JobData) (y : LayoutData) (w : Walking) → IsLayoutOf job y → Fits job y w →
-    (answers : List ℕ) → IsGoing (told_all job y w answers).now →
-    IsHeard job y w.number (history_of job y w answers) → length answers < most_steps job y)
+    ((job : JobData) (layout : LayoutData) (worker : Walking) →
+    IsLayoutOf job layout → Fits job layout worker →
+    (answers : List ℕ) → IsGoing (told_all job layout worker answers).now →
+    IsHeard job layout worker.number (history_of job layout worker answers) →
+    length answers < most_steps job layout)
     × NewWorkersFit

@@ -6,17 +6,17 @@ use Rattle.walkx.specs.declared.operation.Op.TheVariants.{Load, Store, Max, Swap
 
 -- the words after an atomic step
 abbrev pub words_after : List ℕ → Op → List ℕ
-words_after words (Load k) = words
-words_after words (Store k value) = slice_set words k value
-words_after words (Max k value) = slice_set words k (max (slice_index words k) value)
-words_after words (Swap k old new) =
-    slice_set words k (either (slice_index words k == old) new (slice_index words k))
+words_after words (Load word) = words
+words_after words (Store word value) = slice_set words word value
+words_after words (Max word value) = slice_set words word (max (slice_index words word) value)
+words_after words (Swap word old new) =
+    slice_set words word (either (slice_index words word == old) new (slice_index words word))
 words_after words (Over ended) = words
 
 -- what it answers: the word as it was, but for a store
 abbrev pub answer : List ℕ → Op → ℕ
-answer words (Load k) = slice_index words k
-answer words (Store k value) = 0
-answer words (Max k value) = slice_index words k
-answer words (Swap k old new) = slice_index words k
+answer words (Load word) = slice_index words word
+answer words (Store word value) = 0
+answer words (Max word value) = slice_index words word
+answer words (Swap word old new) = slice_index words word
 answer words (Over ended) = 0

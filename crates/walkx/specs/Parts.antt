@@ -28,98 +28,98 @@ use Rattle.walkx.specs.Driving.{Part}
 
 -- both words of a place
 abbrev pub both_of : PostData → ℕ → Part (ℕ × ℕ)
-both_of at p after next = loads_both at.layout p (λ a b. next (a, b))
+both_of at place after next = loads_both at.layout place (λ first second. next (first, second))
 
 -- the older of its words is swapped
 abbrev pub swap_of : PostData → ℕ → ℕ → ℕ → ℕ → Op
-swap_of at p value a b =
-    Swap (number_of at.layout (Stored p (older a b))) (older_word a b)
+swap_of at place value first second =
+    Swap (number_of at.layout (Stored place (older first second))) (older_word first second)
     (stamped_word (step_of at) value)
 
 -- a place is written, unless it was in this step or later
 abbrev pub writes : PostData → ℕ → ℕ → Part (Unit {0})
-writes at p value after next = writes_place at.layout (step_of at) p value (next tt)
+writes at place value after next = writes_place at.layout (step_of at) place value (next tt)
 
 -- both its words were heard
 abbrev pub writes_after : PostData → ℕ → ℕ → Script Then → ℕ × ℕ → Script Then
-writes_after at p value after w =
-    if is_late (step_of at) w.0 w.1 then after
-    else asks (swap_of at p value w.0 w.1) (λ found. after)
+writes_after at place value after words =
+    if is_late (step_of at) words.0 words.1 then after
+    else asks (swap_of at place value words.0 words.1) (λ found. after)
 
 -- part j of the request, if it is of this step
 abbrev pub hears : PostData → ℕ → Part ℕ
 hears at j = hears_part at.layout (step_of at) (processor_of at) j
 
 abbrev pub writes_data : PostData → ℕ → ℕ → Part (Unit {0})
-writes_data at place value after next =
-    if_data place (next tt) (λ p. writes_place at.layout (step_of at) p value (next tt))
+writes_data at part value after next =
+    if_data part (next tt) (λ place. writes_place at.layout (step_of at) place value (next tt))
 
 abbrev pub carries_out : PostData → ℕ → ℕ → ℕ → Part (Unit {0})
-carries_out at place value count after next =
-    carries at.job at.layout (step_of at) (processor_of at) place value count (next tt)
+carries_out at part value count after next =
+    carries at.job at.layout (step_of at) (processor_of at) part value count (next tt)
 
 -- ---- claims
 
 -- the data place is that of a cell
 abbrev pub is_cell_part : JobData → ℕ → Bool
-is_cell_part job place = not (place == 0) && nat_lt (place - 1) job.cells
+is_cell_part job part = not (part == 0) && nat_lt (part - 1) job.cells
 
 -- a cell is claimed for the processor; the claim to it is loaded
 abbrev pub claim_raised : PostData → ℕ → Op
-claim_raised at c =
-    Max (number_of at.layout (Claim c)) (stamped_word (step_of at)
+claim_raised at cell =
+    Max (number_of at.layout (Claim cell)) (stamped_word (step_of at)
     (claim_of at.job (processor_of at)))
 
 abbrev pub claim_loaded : PostData → ℕ → Op
-claim_loaded at c = Load (number_of at.layout (Claim c))
+claim_loaded at cell = Load (number_of at.layout (Claim cell))
 
 -- the cell of a data place is claimed, if it is one
 abbrev pub claims_data : PostData → ℕ → Part (Unit {0})
-claims_data at place after next =
-    if_data place (next tt) (λ p.
-    claims at.job at.layout (step_of at) (processor_of at) p (next tt))
+claims_data at part after next =
+    if_data part (next tt) (λ place.
+    claims at.job at.layout (step_of at) (processor_of at) place (next tt))
 
 -- the claim was heard: its owner writes
 abbrev pub owner_place : PostData → ℕ → ℕ → ℕ
-owner_place at place found =
-    if payload_of found == claim_of at.job (processor_of at) then place else 0
+owner_place at part found =
+    if payload_of found == claim_of at.job (processor_of at) then part else 0
 
 abbrev pub after_claim : PostData → ℕ → Script Then → (ℕ → Script Then) → ℕ → Script Then
-after_claim at place after next found =
-    if nat_lt (step_of at) (stamp_of found) then after else next (owner_place at place found)
+after_claim at part after next found =
+    if nat_lt (step_of at) (stamp_of found) then after else next (owner_place at part found)
 
 -- the data place that is to be written, by the claim to its cell
 abbrev pub owns : PostData → ℕ → Part ℕ
-owns at place after next =
-    if_data place (next place) (λ p.
-    if nat_lt p at.job.cells then asks (claim_loaded at p) (after_claim at place after next)
-    else next place)
+owns at part after next =
+    if_data part (next part) (λ place.
+    if nat_lt place at.job.cells then asks (claim_loaded at place) (after_claim at part after next)
+    else next part)
 
 -- by the rule
 abbrev pub readies : Rule → PostData → ℕ → Part ℕ
-readies Common at place after next = next place
-readies Priority at place after next = owns at place after next
-readies Crew at place after next = claims_data at place after (λ done. next place)
+readies Common at part after next = next part
+readies Priority at part after next = owns at part after next
+readies Crew at part after next = claims_data at part after (λ done. next part)
 
 -- ---- the tasks of the second and the third pass
 
 -- the request is heard and carried out by the rule; what follows its parts
 abbrev pub after_count : Rule → PostData → Script Then → ℕ → ℕ → ℕ → Script Then
-after_count rule at after place value count =
-    readies rule at place after (λ p. carries_out at p value count after (λ done. after))
+after_count rule at after part value count =
+    readies rule at part after (λ ready. carries_out at ready value count after (λ done. after))
 
 abbrev pub after_value : Rule → PostData → Script Then → ℕ → ℕ → Script Then
-after_value rule at after place value = hears at 2 after (after_count rule at after place value)
+after_value rule at after part value = hears at 2 after (after_count rule at after part value)
 
 abbrev pub after_place : Rule → PostData → Script Then → ℕ → Script Then
-after_place rule at after place = hears at 1 after (after_value rule at after place)
+after_place rule at after part = hears at 1 after (after_value rule at after part)
 
 abbrev pub applies : Rule → PostData → Script Then → Script Then
 applies rule at after = hears at 0 after (after_place rule at after)
 
 -- the cell of the request is claimed
 abbrev pub claims_cell : PostData → Script Then → Script Then
-claims_cell at after = hears at 0 after (λ place. claims_data at place after (λ done. after))
+claims_cell at after = hears at 0 after (λ part. claims_data at part after (λ done. after))
 
 -- the step is reported as against the rule; if it is
 abbrev pub report_made : PostData → Op
@@ -133,20 +133,20 @@ abbrev pub differs_from : PostData → ℕ → ℕ → Bool
 differs_from at value found = differs (step_of at) value found
 
 abbrev pub either_differs : PostData → ℕ → ℕ × ℕ → Bool
-either_differs at value w = differs_from at value w.0 || differs_from at value w.1
+either_differs at value words = differs_from at value words.0 || differs_from at value words.1
 
 -- the value is compared with what the place holds
 abbrev pub compares_place : PostData → ℕ → ℕ → Part (Unit {0})
-compares_place at p value after next =
-    both_of at p after (λ w. reports_if at (either_differs at value w) after next)
+compares_place at place value after next =
+    both_of at place after (λ words. reports_if at (either_differs at value words) after next)
 
 abbrev pub compares_data : PostData → ℕ → Part (Unit {0})
-compares_data at place after next =
-    if_data place (next tt) (λ p. hears at 1 after (λ value.
-    compares_place at p value after next))
+compares_data at part after next =
+    if_data part (next tt) (λ place. hears at 1 after (λ value.
+    compares_place at place value after next))
 
 abbrev pub compares : PostData → Script Then → Script Then
-compares at after = hears at 0 after (λ place. compares_data at place after (λ done. after))
+compares at after = hears at 0 after (λ part. compares_data at part after (λ done. after))
 
 -- the claim to the cell is compared with the processor's own
 abbrev pub compares_own : PostData → Script Then → (Unit {0} → Script Then) → ℕ → Script Then
@@ -154,14 +154,14 @@ compares_own at after next found =
     reports_if at (differs_from at (claim_of at.job (processor_of at)) found) after next
 
 abbrev pub compares_claim : PostData → ℕ → Part (Unit {0})
-compares_claim at place after next =
-    if_data place (next tt) (λ p.
-    if nat_lt p at.job.cells then asks (claim_loaded at p) (compares_own at after next)
+compares_claim at part after next =
+    if_data part (next tt) (λ place.
+    if nat_lt place at.job.cells then asks (claim_loaded at place) (compares_own at after next)
     else next tt)
 
 abbrev pub compares_claims : PostData → Script Then → Script Then
 compares_claims at after =
-    hears at 0 after (λ place. compares_claim at place after (λ done. after))
+    hears at 0 after (λ part. compares_claim at part after (λ done. after))
 
 -- the task of a pass, and that of the phase
 abbrev pub does_in : Kind → PostData → Script Then → Script Then
@@ -173,14 +173,14 @@ does at = does_in (kind_at at.phase) at
 -- ---- the compute task
 
 abbrev pub reads : PostData → ℕ → Part ℕ
-reads at p = reads_place at.layout (step_of at) p
+reads at place = reads_place at.layout (step_of at) place
 
 abbrev pub reads_after : PostData → Script Then → (ℕ → Script Then) → ℕ × ℕ → Script Then
-reads_after at after next w =
-    if is_late (step_of at) w.0 w.1 then after else next (newer_payload w.0 w.1)
+reads_after at after next words =
+    if is_late (step_of at) words.0 words.1 then after else next (newer_payload words.0 words.1)
 
 abbrev pub register_of : PostData → ℕ → ℕ
-register_of at r = register_place at.job (processor_of at) r
+register_of at register = register_place at.job (processor_of at) register
 
 abbrev pub reads_operands : PostData → Instr → Part (ℕ × ℕ)
 reads_operands at instr after next =
@@ -188,7 +188,7 @@ reads_operands at instr after next =
     (λ values. next (slice_index values 0, slice_index values 1))
 
 abbrev pub reads_cell_of : PostData → Instr → ℕ → Part ℕ
-reads_cell_of at instr a = reads_cell at.layout (step_of at) (cell_read at.job instr a)
+reads_cell_of at instr first = reads_cell at.layout (step_of at) (cell_read at.job instr first)
 
 abbrev pub raises_part : PostData → ℕ → ℕ → Part (Unit {0})
 raises_part at j payload after next = asks (part_raised at j payload) (λ found. next tt)
@@ -201,12 +201,12 @@ executes_at at counter instr =
     executes at.job at.layout (step_of at) (processor_of at) counter instr
 
 abbrev pub after_cell : PostData → ℕ → Instr → Script Then → ℕ × ℕ → ℕ → Script Then
-after_cell at counter instr after ab v =
-    raises at (decided at.job (processor_of at) counter instr ab.0 ab.1 v) after
+after_cell at counter instr after held value =
+    raises at (decided at.job (processor_of at) counter instr held.0 held.1 value) after
 
 abbrev pub after_operands : PostData → ℕ → Instr → Script Then → ℕ × ℕ → Script Then
-after_operands at counter instr after ab =
-    reads_cell_of at instr ab.0 after (after_cell at counter instr after ab)
+after_operands at counter instr after held =
+    reads_cell_of at instr held.0 after (after_cell at counter instr after held)
 
 abbrev pub computes : PostData → Script Then → Script Then
 computes at = compute_task at.job at.layout (step_of at) (processor_of at)

@@ -17,32 +17,35 @@ use Rattle.walkx.specs.Walk.{HearsAdmitted}
 
 -- *Seen step*: the step that the root and then word 0 show to be finished.
 abbrev pub step_seen : ℕ → ℕ → ℕ
-step_seen root u = if (root % 3 == 0) && (nat_le 1 (root / 3) && (u == root / 3)) then root / 3 - 1
-    else root / 3
+step_seen root conflict = if (root % 3 == 0) && (nat_le 1 (root / 3) && (conflict == root / 3))
+    then root / 3 - 1 else root / 3
 
 -- of two words the one with the lesser stamp, the first one if the stamps are equal: written in a
 -- finished step
 abbrev pub lesser : ℕ → ℕ → ℕ
-lesser a b = if nat_le (stamp_of a) (stamp_of b) then a else b
+lesser first second = if nat_le (stamp_of first) (stamp_of second) then first else second
 
 abbrev pub told_at : ℕ → Script Reading
-told_at a = ends (At (stamp_of a) (payload_of a))
+told_at first = ends (At (stamp_of first) (payload_of first))
 
 -- Both words of the cell are loaded, and the first once more where only the second is newer than
 -- the step seen.
 unfoldable pub read_script : LayoutData → ℕ → ℕ → Script Reading
-read_script y c s =
-    asks (Load (number_of y (Stored c 0))) (λ a. asks (Load (number_of y (Stored c 1))) (λ b.
-    if nat_le (stamp_of a) s then
-    (if nat_le (stamp_of b) s then ends (At s (newer_payload a b))
-    else asks (Load (number_of y (Stored c 0))) (λ again.
-    if again == a then ends (At s (payload_of a)) else told_at (lesser again b)))
-    else (if nat_le (stamp_of b) s then ends (At s (payload_of b)) else told_at (lesser a b))))
+read_script layout cell step =
+    asks (Load (number_of layout (Stored cell 0)))
+    (λ first. asks (Load (number_of layout (Stored cell 1))) (λ second.
+    if nat_le (stamp_of first) step
+    then (if nat_le (stamp_of second) step then ends (At step (newer_payload first second))
+    else asks (Load (number_of layout (Stored cell 0))) (λ again.
+    if again == first then ends (At step (payload_of first)) else told_at (lesser again second)))
+    else (if nat_le (stamp_of second) step then ends (At step (payload_of second))
+    else told_at (lesser first second))))
 
 unfoldable pub reader_script : LayoutData → ℕ → Script Reading
-reader_script y c = asks (Load (number_of y (Node 1))) (λ root.
-    if root % 3 == 0 then asks (Load (number_of y Conflict)) (λ u.
-    read_script y c (step_seen root u)) else read_script y c (step_seen root 0))
+reader_script layout cell = asks (Load (number_of layout (Node 1))) (λ root.
+    if root % 3 == 0 then asks (Load (number_of layout Conflict)) (λ conflict.
+    read_script layout cell (step_seen root conflict))
+    else read_script layout cell (step_seen root 0))
 
 -- a reader: its cell, and the answers heard, the newest first
 pub record Looking : Type 0 where
@@ -50,10 +53,10 @@ pub record Looking : Type 0 where
   pub heard : List ℕ
 
 abbrev pub look_of : LayoutData → Looking → Script Reading
-look_of y r = rest (reader_script y r.cell) r.heard
+look_of layout reader = rest (reader_script layout reader.cell) reader.heard
 
 abbrev pub load_of : Op → ReadOp
-load_of (Load k) = read.Load k
+load_of (Load word) = read.Load word
 load_of _ = read.Load 0
 
 abbrev pub looks_for : Script Reading → ReadOp
@@ -62,19 +65,27 @@ looks_for (ends reading) = read.Over reading
 
 -- Over hears nothing more.
 abbrev pub looked : Looking → ℕ → Script Reading → Looking
-looked r found (asks op next) = record r { heard = found ∷ r.heard }
-looked r found (ends reading) = r
+looked reader found (asks op next) = record reader { heard = found ∷ reader.heard }
+looked reader found (ends reading) = reader
+
+-- what the reader asks for next
+abbrev pub asked_by : LayoutData → Looking → ReadOp
+asked_by layout reader = looks_for (look_of layout reader)
+
+-- the reader after this answer
+abbrev pub answered : LayoutData → Looking → ℕ → Looking
+answered layout reader found = looked reader found (look_of layout reader)
 
 -- what is asked is on the board
 abbrev pub LooksOnBoard : LayoutData → ReadOp → Type 0
-LooksOnBoard y (read.Load k) = k < length_of y
-LooksOnBoard y (read.Over reading) = Unit {0}
+LooksOnBoard layout (read.Load word) = word < length_of layout
+LooksOnBoard layout (read.Over reading) = Unit {0}
 
 -- the answer of a Load is admitted for its word
 abbrev pub HeardAdmitted : JobData → LayoutData → ReadOp → ℕ → Type 0
-HeardAdmitted job y (read.Load k) found = Admits y job k found
-HeardAdmitted job y (read.Over reading) found = Unit {0}
+HeardAdmitted job layout (read.Load word) found = Admits layout job word found
+HeardAdmitted job layout (read.Over reading) found = Unit {0}
 
-pub record LooksFit (job : JobData) (y : LayoutData) (r : Looking) : Type 0 where
-  pub admitted : AllByRecursion (λ e.
-      HearsAdmitted job y e.0 e.1) (heard_in (reader_script y r.cell) r.heard)
+pub record LooksFit (job : JobData) (layout : LayoutData) (reader : Looking) : Type 0 where
+  pub admitted : AllByRecursion (λ heard. HearsAdmitted job layout heard.0 heard.1)
+      (heard_in (reader_script layout reader.cell) reader.heard)

@@ -14,11 +14,12 @@ pub data Record : Type 0 where
 
 -- the record has these steps, the newest first, in this order
 abbrev pub Has : Record → List (Op × ℕ) → Type 0
-Has r [] = Unit {0}
-Has empty (e ∷ es) = ⊥
-Has (after r op found) (e ∷ es) = ((e ≡ (op, found)) × Has r es) ⊎ Has r (e ∷ es)
-Has (both r s) (e ∷ es) = Has r (e ∷ es) ⊎ Has s (e ∷ es)
+Has past [] = Unit {0}
+Has empty (step ∷ steps) = ⊥
+Has (after past op found) (step ∷ steps) =
+    ((step ≡ (op, found)) × Has past steps) ⊎ Has past (step ∷ steps)
+Has (both past other) (step ∷ steps) = Has past (step ∷ steps) ⊎ Has other (step ∷ steps)
 
 -- the record knows the worker: it has the steps that brought it where it stands
 abbrev pub Knows : JobData → LayoutData → Record → Walking → Type 0
-Knows job y r w = Has r (heard_of job y w)
+Knows job layout past worker = Has past (heard_of job layout worker)

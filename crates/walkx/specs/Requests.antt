@@ -14,8 +14,8 @@ heard_request place value next =
     }
 
 -- the words of a request of step t, whose parts fit
-pub record AreWordsOf (t : ℕ) (r : Request) (place value next : ℕ) : Type 0 where
-  pub fits : (place_part r < 2 ^ 32) × (value_part r < 2 ^ 32) × (r.next < 2 ^ 32)
-  pub first : place ≡ stamped_word t (place_part r)
-  pub second : value ≡ stamped_word t (value_part r)
-  pub third : next ≡ stamped_word t r.next
+pub record AreWordsOf (t : ℕ) (request : Request) (place value next : ℕ) : Type 0 where
+  pub fits : (place_part request < 2 ^ 32) × (value_part request < 2 ^ 32) × (request.next < 2 ^ 32)
+  pub first : place ≡ stamped_word t (place_part request)
+  pub second : value ≡ stamped_word t (value_part request)
+  pub third : next ≡ stamped_word t request.next

@@ -21,13 +21,14 @@ abbrev pub leaf_of : PostData → Script Then
 leaf_of at = leaf_script at.job at.layout at.node at.phase
 
 abbrev pub after_children : PostData → ℕ → ℕ → Script Then
-after_children at l r = if nat_le at.phase l && nat_le at.phase r then then_marks at
-    else moves at (way_down at.layout at.worker at.node at.phase l r)
+after_children at left right = if nat_le at.phase left && nat_le at.phase right then then_marks at
+    else moves at (way_down at.layout at.worker at.node at.phase left right)
 
 abbrev pub inner_of : PostData → Script Then
 inner_of at =
-    asks (Load (number_of at.layout (Node (2 * at.node)))) (λ l.
-    asks (Load (number_of at.layout (Node (2 * at.node + 1)))) (λ r. after_children at l r))
+    asks (Load (number_of at.layout (Node (2 * at.node)))) (λ left.
+    asks (Load (number_of at.layout (Node (2 * at.node + 1))))
+    (λ right. after_children at left right))
 
 abbrev pub leaves_up : PostData → Script Then
 leaves_up at = if at.node == 1 then ends (begins 1) else moves at (at.node / 2)
@@ -43,18 +44,18 @@ turn_of at = turn_script at.job at.layout at.worker at.node at.phase
 -- what comes of a turn that leads to this node, or to none
 abbrev pub leads : PostData → Option ℕ → Then
 leads at None = begins 1
-leads at (Some n) = turns n at.phase
+leads at (Some node) = turns node at.phase
 
 abbrev pub stays : PostData → ℕ → Then
-stays at n = turns n at.phase
+stays at node = turns node at.phase
 
 -- ---- the scripts back and begin
 
 -- what comes of a script
 abbrev pub then_of : Next → Then
-then_of (next.Begins n) = begins n
-then_of (next.Turns n q) = turns n q
-then_of (next.Stops e) = stops e
+then_of (next.Begins node) = begins node
+then_of (next.Turns node phase) = turns node phase
+then_of (next.Stops end) = stops end
 
 abbrev pub back_of : PostData → Script Then
 back_of at = back_script at.layout at.worker
@@ -64,9 +65,9 @@ begin_of at = begin_script at.job at.layout at.node
 
 -- the root was heard, and the conflict
 abbrev pub after_conflict : PostData → ℕ → ℕ → Script Then
-after_conflict at root u =
-    if u == 0 then (if root == 3 * at.job.steps then ends (stops ended.Done)
-    else ends (turns at.node (root + 1))) else ends (stops (ended.Conflict u))
+after_conflict at root conflict =
+    if conflict == 0 then (if root == 3 * at.job.steps then ends (stops ended.Done)
+    else ends (turns at.node (root + 1))) else ends (stops (ended.Conflict conflict))
 
 abbrev pub conflict_of : PostData → ℕ → Script Then
 conflict_of at root = asks (Load (number_of at.layout Conflict)) (after_conflict at root)
@@ -79,5 +80,5 @@ after_root at root =
 abbrev pub script_in : PostData → Activity → Script Then
 script_in at activity.Back = back_of at
 script_in at activity.Begin = begin_of at
-script_in at (activity.Turn q) = turn_of at
-script_in at (activity.Over e) = begin_of at
+script_in at (activity.Turn phase) = turn_of at
+script_in at (activity.Over end) = begin_of at

@@ -10,13 +10,13 @@ use Rattle.walkx.specs.Inner.Glances.{ReaderData, StandsAt}
 
 -- the worker is held at this operation, or at the start of a script
 abbrev pub IsHeldAt : JobData → LayoutData → Walking → Option Op → Type 0
-IsHeldAt job y w None = IsGoing w.now × (w.heard ≡ [])
-IsHeldAt job y w (Some op) = op ≡ ask_of job y w
+IsHeldAt job layout worker None = IsGoing worker.now × (worker.heard ≡ [])
+IsHeldAt job layout worker (Some op) = op ≡ ask_of job layout worker
 
-pub record Serves (job : JobData) (y : LayoutData) (w : WorkerData) : Type 0 where
-  pub fits : Fits job y w.walking
-  pub held : IsHeldAt job y w.walking w.asked
+pub record Serves (job : JobData) (layout : LayoutData) (worker : WorkerData) : Type 0 where
+  pub fits : Fits job layout worker.walking
+  pub held : IsHeldAt job layout worker.walking worker.asked
 
-pub record Follows (y : LayoutData) (r : ReaderData) : Type 0 where
-  pub cell : r.looking.cell < y.cells
-  pub stands : StandsAt y r
+pub record Follows (layout : LayoutData) (reader : ReaderData) : Type 0 where
+  pub cell : reader.looking.cell < layout.cells
+  pub stands : StandsAt layout reader

@@ -60,7 +60,7 @@ pub(crate) fn position_look(post: &Post) -> Op
     ensures value { result ≡ Op.Load (number_of post.now.layout (Position post.now.worker)) }
     ensures limits { IsPost post.now }
 {
-    Op::Load(post.layout().position_word(post.worker()))
+    Op::Load(post.layout.position_word(post.worker))
 }
 
 #[inline(always)]
@@ -68,7 +68,7 @@ pub(crate) fn root_look(post: &Post) -> Op
     ensures value { result ≡ Op.Load (number_of post.now.layout (Node 1)) }
     ensures limits { IsPost post.now }
 {
-    Op::Load(post.layout().node_word(1))
+    Op::Load(post.layout.node_word(1))
 }
 
 #[inline(always)]
@@ -76,7 +76,7 @@ fn conflict_look(post: &Post) -> Op
     ensures value { result ≡ Op.Load (number_of post.now.layout Conflict) }
     ensures limits { IsPost post.now }
 {
-    Op::Load(post.layout().conflict_word())
+    Op::Load(post.layout.conflict_word())
 }
 
 // ---- what comes of them
@@ -97,7 +97,7 @@ fn at_node(post: &Post, found: u64) -> Next
         (Position post.now.worker)) found }
     ensures { then_of result ≡ begins found }
 {
-    let _ = post.worker();
+    post.limits_hold();
     Next::Begins(found as u32)
 }
 
@@ -107,8 +107,7 @@ fn next_turn(post: &Post, root: u64) -> Next
     requires { root ≤ 3 * post.now.job.steps }
     ensures { then_of result ≡ turns post.now.node (root + 1) }
 {
-    let _ = post.job().steps();
-    Next::Turns(post.node(), root + 1)
+    Next::Turns(post.node, root + 1)
 }
 
 // What follows the conflict, the root being this.
@@ -120,12 +119,12 @@ fn begun(post: &Post, root: u64, conflict: u64) -> Next
         conflict }
     ensures { ends (then_of result) ≡ after_conflict post.now root conflict }
 {
-    let last = 3 * u64::from(post.job().steps());
+    let last = 3 * u64::from(post.job.steps());
     if conflict != 0 {
         Next::Stops(Ended::Conflict(conflict as u32))
     } else if root == last {
         Next::Stops(Ended::Done)
     } else {
-        Next::Turns(post.node(), root + 1)
+        Next::Turns(post.node, root + 1)
     }
 }

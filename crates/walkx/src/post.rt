@@ -19,23 +19,24 @@ use pram_text::{Job, Rule};
 use pram_words::{Kind, Layout, kind_of, payload, stamp, stamped, step_of};
 use std::marker::Model;
 
-/// The law that a job and the layout of its board are within their limits. It does nothing.
+/// Says to a proof that a job and the layout of its board are within their limits. It does nothing.
 #[inline(always)]
 pub(crate) fn within_limits(job: &Job, layout: &Layout)
     requires { IsLayoutOf job.now layout.now }
     ensures { IsBoard job.now layout.now }
 {
-    let _ = (job.steps(), layout.leaves());
+    job.limits_hold();
+    layout.limits_hold();
 }
 
 /// A worker at a node, in the phase of its turn, with the job and the layout of its board.
 #[derive(Drop)]
 pub struct Post<'a> {
-    job: &'a Job,
-    layout: &'a Layout,
-    worker: u32,
-    node: u32,
-    phase: u64,
+    pub(crate) job: &'a Job,
+    pub(crate) layout: &'a Layout,
+    pub(crate) worker: u32,
+    pub(crate) node: u32,
+    pub(crate) phase: u64,
 }
 
 impl<'a> Model for Post<'a> {
@@ -62,44 +63,12 @@ impl<'a> Post<'a> {
         }
     }
 
+    /// Says to a proof that the worker is on its board. It does nothing.
     #[inline(always)]
-    pub(crate) fn job(&self) -> &Job
-        ensures value { result.now ≡ self.now.job }
-        ensures limits { IsPost self.now }
+    pub(crate) fn limits_hold(&self)
+        ensures { IsPost self.now }
     {
-        self.job
-    }
-
-    #[inline(always)]
-    pub(crate) fn layout(&self) -> &Layout
-        ensures value { result.now ≡ self.now.layout }
-        ensures limits { IsPost self.now }
-    {
-        self.layout
-    }
-
-    #[inline(always)]
-    pub(crate) fn worker(&self) -> u32
-        ensures value { result ≡ self.now.worker }
-        ensures limits { IsPost self.now }
-    {
-        self.worker
-    }
-
-    #[inline(always)]
-    pub(crate) fn node(&self) -> u32
-        ensures value { result ≡ self.now.node }
-        ensures limits { IsPost self.now }
-    {
-        self.node
-    }
-
-    #[inline(always)]
-    pub(crate) fn phase(&self) -> u64
-        ensures value { result ≡ self.now.phase }
-        ensures limits { IsPost self.now }
-    {
-        self.phase
+        let _ = &self.node;
     }
 
     /// The same, known to be a leaf of a processor.

@@ -1,7 +1,7 @@
 //! The reader of a cell.
 ghost use Rattle.std.specs.Prelude.{◌≡◌, ℕ, ◌<◌};
 ghost use Rattle.walkx.specs.Inner.Glances.{HearsGlance, IsGlance, IsLaterGlance};
-ghost use Rattle.walkx.specs.Inner.Glances.{StandsBehindGlance, most_looked, reads_again};
+ghost use Rattle.walkx.specs.Inner.Glances.{StandsAfterGlance, most_looked, reads_again};
 ghost use Rattle.walkx.specs.Inner.Glances.{reads_both, script_of_glance};
 ghost use Rattle.walkx.specs.Reads.{LooksOnBoard, lesser, looks_for, told_at};
 ghost use Rattle.walkx.specs.Scripts.{ends};
@@ -57,8 +57,7 @@ impl Reader {
     ghost use Rattle.pram_text.specs.Job.{JobData};
     ghost use Rattle.pram_words.specs.Words.{LayoutData};
     ghost use Rattle.walkx.specs.Serving.{Follows};
-    ghost use Rattle.walkx.specs.Reads.{HeardAdmitted, LooksFit, LooksOnBoard, look_of, looked};
-    ghost use Rattle.walkx.specs.Reads.{looks_for};
+    ghost use Rattle.walkx.specs.Reads.{HeardAdmitted, LooksFit, LooksOnBoard, answered, asked_by};
     ghost use Rattle.walkx.specs.Walk.{IsLayoutOf};
 
     /// A reader of this cell.
@@ -78,7 +77,7 @@ impl Reader {
     /// The reader's next atomic step, or its answer.
     pub fn ask(&self, layout: &Layout) -> ReadOp
         requires { Follows layout.now self.now }
-        ensures asks { result ≡ looks_for (look_of layout.now self.now.looking) }
+        ensures asks { result ≡ asked_by layout.now self.now.looking }
         ensures on_board { LooksOnBoard layout.now result }
         ensures few { (k : ℕ) → result ≡ ReadOp.Load k → length self.now.looking.heard < 5 }
     {
@@ -90,10 +89,9 @@ impl Reader {
         requires layout { IsLayoutOf job.now layout.now }
         requires follows { Follows layout.now self.old }
         requires fits { LooksFit job.now layout.now self.old.looking }
-        requires admitted { HeardAdmitted job.now layout.now (looks_for (look_of layout.now
-            self.old.looking)) answer }
-        ensures told { self.new.looking ≡ looked self.old.looking answer (look_of layout.now
-            self.old.looking) }
+        requires admitted { HeardAdmitted job.now layout.now
+            (asked_by layout.now self.old.looking) answer }
+        ensures told { self.new.looking ≡ answered layout.now self.old.looking answer }
         ensures follows { Follows layout.now self.new }
         ensures fits { LooksFit job.now layout.now self.new.looking }
     {
@@ -115,8 +113,7 @@ fn operation(layout: &Layout, cell: u32, stage: Glance) -> ReadOp
     ensures on_board { LooksOnBoard layout.now result }
     ensures few { (k : ℕ) → result ≡ ReadOp.Load k → most_looked stage < 5 }
 {
-    // This tells that the tree has a root.
-    let _ = layout.leaves();
+    layout.limits_hold();
     match stage {
         Glance::Begin => ReadOp::Load(layout.node_word(1)),
         Glance::Look(_) => ReadOp::Load(layout.conflict_word()),
@@ -132,7 +129,7 @@ fn after(job: &Job, layout: &Layout, cell: u32, stage: Glance, answer: u64) -> G
     requires board { IsBoard job.now layout.now }
     requires stage { IsGlance stage }
     requires answer { HearsGlance job.now layout.now cell stage answer }
-    ensures rest { StandsBehindGlance layout.now cell stage answer result }
+    ensures rest { StandsAfterGlance layout.now cell stage answer result }
     ensures stage { IsGlance result }
     ensures later { IsLaterGlance stage result }
 {
@@ -153,7 +150,7 @@ fn after(job: &Job, layout: &Layout, cell: u32, stage: Glance, answer: u64) -> G
 fn after_root(job: &Job, layout: &Layout, cell: u32, root: u64) -> Glance
     requires board { IsBoard job.now layout.now }
     requires root { HearsGlance job.now layout.now cell Glance.Begin root }
-    ensures rest { StandsBehindGlance layout.now cell Glance.Begin root result }
+    ensures rest { StandsAfterGlance layout.now cell Glance.Begin root result }
     ensures stage { IsGlance result }
     ensures later { IsLaterGlance Glance.Begin result }
 {

@@ -42,7 +42,7 @@ fn turn_on<S: Steps>(steps: &mut S, post: &Post) -> Result<Next, Stopped>
 {
     match turn(steps, post)? {
         None => Ok(Next::Begins(1)),
-        Some(node) => Ok(Next::Turns(node, post.phase())),
+        Some(node) => Ok(Next::Turns(node, post.phase)),
     }
 }
 
@@ -54,7 +54,7 @@ pub(crate) fn opening(post: &Post, activity: Activity) -> Op
 {
     match activity {
         Activity::Back => position_look(post),
-        Activity::Turn(_) => looking(post, post.node()),
+        Activity::Turn(_) => looking(post, post.node),
         Activity::Begin | Activity::Over(_) => root_look(post),
     }
 }

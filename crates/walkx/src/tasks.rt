@@ -1,7 +1,7 @@
 //! The task of a phase, by its kind and the rule of writing.
 ghost use Rattle.std.specs.Prelude.{◌≡◌};
 ghost use Rattle.walkx.specs.Driving.{Ends, IsDue};
-ghost use Rattle.walkx.specs.Parts.{does, does_in};
+ghost use Rattle.walkx.specs.Parts.{does};
 
 use crate::carry::apply;
 use crate::claim::claim_cell;
@@ -19,37 +19,13 @@ pub(crate) fn task<S: Steps>(steps: &mut S, leaf: &Leaf) -> Result<(), Left>
     requires due { IsDue (S.stands leaf.now) steps.old (does leaf.now) }
     ensures ends { Ends (S.stands leaf.now) steps.old (does leaf.now) steps.new result }
 {
-    match leaf.kind() {
-        Kind::Compute => compute(steps, leaf),
-        Kind::Apply => second_pass(steps, leaf),
-        Kind::Verify => third_pass(steps, leaf),
-    }
-}
-
-/// The task of the second pass.
-#[inline(always)]
-pub(crate) fn second_pass<S: Steps>(steps: &mut S, leaf: &Leaf) -> Result<(), Left>
-    requires due { IsDue (S.stands leaf.now) steps.old (does_in Kind.Apply leaf.now) }
-    ensures ends { Ends (S.stands leaf.now) steps.old (does_in Kind.Apply leaf.now) steps.new
-        result }
-{
-    match leaf.rule() {
-        Rule::Common => apply(steps, leaf),
-        Rule::Priority => claim_cell(steps, leaf),
-        Rule::Crew => apply(steps, leaf),
-    }
-}
-
-/// The task of the third pass.
-#[inline(always)]
-pub(crate) fn third_pass<S: Steps>(steps: &mut S, leaf: &Leaf) -> Result<(), Left>
-    requires due { IsDue (S.stands leaf.now) steps.old (does_in Kind.Verify leaf.now) }
-    ensures ends { Ends (S.stands leaf.now) steps.old (does_in Kind.Verify leaf.now) steps.new
-        result }
-{
-    match leaf.rule() {
-        Rule::Common => compare(steps, leaf),
-        Rule::Priority => apply(steps, leaf),
-        Rule::Crew => compare_claims(steps, leaf),
+    match (leaf.kind(), leaf.rule()) {
+        (Kind::Compute, _) => compute(steps, leaf),
+        (Kind::Apply, Rule::Common) => apply(steps, leaf),
+        (Kind::Apply, Rule::Priority) => claim_cell(steps, leaf),
+        (Kind::Apply, Rule::Crew) => apply(steps, leaf),
+        (Kind::Verify, Rule::Common) => compare(steps, leaf),
+        (Kind::Verify, Rule::Priority) => apply(steps, leaf),
+        (Kind::Verify, Rule::Crew) => compare_claims(steps, leaf),
     }
 }

@@ -24,7 +24,7 @@ fn mark<S: Steps>(steps: &mut S, post: &Post) -> Result<u32, Stopped>
     ensures node { IfOk result (λ n. n ≡ post.now.node) }
 {
     steps.make(marking(post))?;
-    Ok(post.node())
+    Ok(post.node)
 }
 
 // The worker's position becomes this node.
@@ -62,8 +62,8 @@ fn inner<S: Steps>(steps: &mut S, post: &Post) -> Result<u32, Stopped>
     ensures reaches { Reaches (S.stands post.now) steps.old (inner_of post.now) (stays post.now)
         steps.new result }
 {
-    let first = steps.make(looking(post, left(post.node())))?;
-    let second = steps.make(looking(post, right(post.node())))?;
+    let first = steps.make(looking(post, left(post.node)))?;
+    let second = steps.make(looking(post, right(post.node)))?;
     if both_finished(post, first, second) {
         mark(steps, post)
     } else {
@@ -81,7 +81,7 @@ fn leave<S: Steps>(steps: &mut S, post: &Post) -> Result<Option<u32>, Stopped>
     if is_root(post) {
         return Ok(None);
     }
-    let up = stand(steps, post, parent(post.node()))?;
+    let up = stand(steps, post, parent(post.node))?;
     Ok(Some(up))
 }
 
@@ -93,7 +93,7 @@ pub fn turn<S: Steps>(steps: &mut S, post: &Post) -> Result<Option<u32>, Stopped
     ensures reaches { Reaches (S.stands post.now) steps.old (turn_of post.now) (leads post.now)
         steps.new result }
 {
-    let found = steps.make(looking(post, post.node()))?;
+    let found = steps.make(looking(post, post.node))?;
     if is_finished(post, found) {
         return leave(steps, post);
     }
@@ -122,14 +122,14 @@ fn settle(done: Result<(), Left>) -> Result<(), Stopped>
 fn marking(post: &Post) -> Op
     ensures { result ≡ Op.Max (number_of post.now.layout (Node post.now.node)) post.now.phase }
 {
-    Op::Max(post.layout().node_word(post.node()), post.phase())
+    Op::Max(post.layout.node_word(post.node), post.phase)
 }
 
 #[inline(always)]
 fn standing(post: &Post, to: u32) -> Op
     ensures { result ≡ Op.Store (number_of post.now.layout (Position post.now.worker)) to }
 {
-    Op::Store(post.layout().position_word(post.worker()), u64::from(to))
+    Op::Store(post.layout.position_word(post.worker), u64::from(to))
 }
 
 #[inline(always)]
@@ -138,7 +138,7 @@ pub(crate) fn looking(post: &Post, node: u32) -> Op
     requires most { node < 2 * post.now.layout.leaves }
     ensures { result ≡ Op.Load (number_of post.now.layout (Node node)) }
 {
-    Op::Load(post.layout().node_word(node))
+    Op::Load(post.layout.node_word(node))
 }
 
 // ---- tests
@@ -147,21 +147,21 @@ pub(crate) fn looking(post: &Post, node: u32) -> Op
 fn is_finished(post: &Post, found: u64) -> bool
     ensures { result ≡ nat_le post.now.phase found }
 {
-    post.phase() <= found
+    post.phase <= found
 }
 
 #[inline(always)]
 fn both_finished(post: &Post, first: u64, second: u64) -> bool
     ensures { result ≡ (nat_le post.now.phase first && nat_le post.now.phase second) }
 {
-    post.phase() <= first && post.phase() <= second
+    post.phase <= first && post.phase <= second
 }
 
 #[inline(always)]
 fn is_leaf(post: &Post) -> bool
     ensures { result ≡ nat_le post.now.layout.leaves post.now.node }
 {
-    post.layout().leaves() <= post.node()
+    post.layout.leaves() <= post.node
 }
 
 // The leaf comes after those of the processors.
@@ -171,14 +171,14 @@ fn is_spare(post: &Post) -> bool
     ensures value { result ≡ nat_le (post.now.layout.leaves + post.now.job.procs) post.now.node }
     ensures limits { IsPost post.now }
 {
-    post.layout().leaves() + post.job().procs() <= post.node()
+    post.layout.leaves() + post.job.procs() <= post.node
 }
 
 #[inline(always)]
 fn is_root(post: &Post) -> bool
     ensures { result ≡ (post.now.node == 1) }
 {
-    post.node() == 1
+    post.node == 1
 }
 
 // The child to which the worker goes, its children holding these phases.
@@ -188,12 +188,12 @@ fn down(post: &Post, first: u64, second: u64) -> u32
     ensures { result ≡ way_down post.now.layout post.now.worker post.now.node post.now.phase first
         second }
 {
-    let node = post.node();
-    if post.phase() <= first {
+    let node = post.node;
+    if post.phase <= first {
         right(node)
-    } else if post.phase() <= second {
+    } else if post.phase <= second {
         left(node)
-    } else if post.layout().goes_right(post.worker(), node) {
+    } else if post.layout.goes_right(post.worker, node) {
         right(node)
     } else {
         left(node)

@@ -32,10 +32,11 @@ impl Model for Worker {
 }
 
 impl Worker {
-    ghost use Rattle.std.specs.Prelude.{◌≡◌, ◌<◌, ◌≤◌, ◌*◌, Some, None, length};
+    ghost use Rattle.std.specs.Prelude.{◌≡◌, ◌<◌, ◌≤◌, ◌*◌, Some, None, [], length};
     ghost use Rattle.pram_text.specs.Job.{JobData};
     ghost use Rattle.pram_words.specs.Words.{LayoutData};
     ghost use Rattle.walkx.specs.Activities.{activity_of};
+    ghost use Rattle.walkx.specs.Inner.Workers.{worker_data};
     ghost use Rattle.walkx.specs.Playing.{ComesTo, IsPlayable, asked_after, come_to, hearing};
     ghost use Rattle.walkx.specs.Playing.{stand_of};
     ghost use Rattle.walkx.specs.Records.{Record, Knows};
@@ -53,14 +54,7 @@ impl Worker {
         ensures known { (job : JobData) (y : LayoutData) (r : Record) →
             Knows job y r result.walking }
     {
-        Worker {
-            number: w,
-            node: None,
-            activity: Activity::Begin,
-            asked: None,
-            heard: [0; 15],
-            count: 0,
-        }
+        Worker::about_to(w, Activity::Begin)
     }
 
     /// Worker w, come back: it will stand where its position word says.
@@ -70,10 +64,17 @@ impl Worker {
         ensures known { (job : JobData) (y : LayoutData) (r : Record) →
             Knows job y r result.walking }
     {
+        Worker::about_to(w, Activity::Back)
+    }
+
+    // Worker w at the start of a script, not moved yet.
+    fn about_to(w: u32, activity: Activity) -> Worker
+        ensures { result ≡ worker_data w None activity None [] }
+    {
         Worker {
             number: w,
             node: None,
-            activity: Activity::Back,
+            activity,
             asked: None,
             heard: [0; 15],
             count: 0,

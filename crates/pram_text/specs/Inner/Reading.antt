@@ -22,7 +22,7 @@ use Rattle.pram_text.specs.declared.instr.Instr.TheVariants.{Halt}
 use Rattle.pram_text.specs.declared.program.Program.{Program}
 use Rattle.pram_text.specs.declared.program.Written.{Written}
 use Rattle.pram_text.specs.declared.reader.Reader.{Reader}
-use Rattle.pram_text.specs.Job.{JobData}
+use Rattle.pram_text.specs.Job.{JobData, job_data}
 use Rattle.pram_text.specs.Lines.{Word, Line, words_of, worded, is_filled}
 use Rattle.pram_text.specs.Judgement.{version_of, cells_of, procs_of}
 use Rattle.pram_text.specs.Judgement.{steps_of, unlabelled, instr_of}
@@ -198,12 +198,4 @@ Finishes before numbers last (Err fault) =
 
 -- the job of a header, of start values and of instructions
 abbrev pub job_of : Head → List ℕ → List Instr → JobData
-job_of head init code =
-    record {
-      rule = head.rule;
-      cells = head.cells;
-      procs = head.procs;
-      steps = head.steps;
-      init = init;
-      code = code;
-    }
+job_of head init code = job_data head.rule head.cells head.procs head.steps init code

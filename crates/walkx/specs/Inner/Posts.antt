@@ -19,8 +19,8 @@ pub record PostData : Type 0 where
   pub phase : ℕ
 
 abbrev pub post_data : JobData → LayoutData → ℕ → ℕ → ℕ → PostData
-post_data job y worker node phase =
-    record { job = job; layout = y; worker = worker; node = node; phase = phase }
+post_data job layout worker node phase =
+    record { job = job; layout = layout; worker = worker; node = node; phase = phase }
 
 -- the worker and its node are on the job's board
 pub record IsPost (at : PostData) : Type 0 where
@@ -60,4 +60,4 @@ part_raised at j payload =
 
 -- a cell with a claim word
 abbrev pub IsCell : LayoutData → ℕ → Type 0
-IsCell y c = IsTrue y.claims × (c < y.cells)
+IsCell layout cell = IsTrue layout.claims × (cell < layout.cells)

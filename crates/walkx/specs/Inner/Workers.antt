@@ -10,8 +10,8 @@ use Rattle.walkx.specs.Walk.{Walking}
 abbrev pub doing_in : Activity → Doing
 doing_in activity.Back = doing.Back
 doing_in activity.Begin = doing.Begin
-doing_in (activity.Turn q) = doing.Turn q
-doing_in (activity.Over e) = doing.Over e
+doing_in (activity.Turn phase) = doing.Turn phase
+doing_in (activity.Over end) = doing.Over end
 
 -- a worker, and the operation that it is held at; none at the start of a script
 pub record WorkerData : Type 0 where

@@ -13,4 +13,5 @@ returns-in_err-get-3 c = absurd (within _ 2 (omega arith) (sym c.in_err-get-3.en
 
 pub returns : goal.returns
 returns c =
-    three_are _ _ _ _ (omega arith) (sym c.in_ok-get.ensures.value) (sym c.in_ok-get-2.ensures.value) (sym c.in_ok-get-3.ensures.value)
+    three_are _ _ _ _ (omega arith) (sym c.in_ok-get.ensures.value)
+    (sym c.in_ok-get-2.ensures.value) (sym c.in_ok-get-3.ensures.value)

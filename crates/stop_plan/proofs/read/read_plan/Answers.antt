@@ -13,18 +13,25 @@ loop-draft-init c =
         config = rw (c.flexible.ensures, c.has_headers.ensures) at fr.config ∙ c.new.ensures.config;
         trim = rw (c.flexible.ensures, c.has_headers.ensures) at fr.trim ∙ c.new.ensures.trim;
         flexible = rw (c.flexible.ensures) at fr.flexible;
-        ready = inr (inr (rw (c.flexible.ensures, c.has_headers.ensures) at fr.has_headers, fr.headers));
+        ready = inr
+            (inr (rw (c.flexible.ensures, c.has_headers.ensures) at fr.has_headers, fr.headers));
       };
       given = [];
       read = fresh (λ s. Some s.now) c.args.text.now c.from_reader-reader.result fr.source fr.state;
-      judged = record { count = refl; rows = c.new-draft.ensures ∙ sym (fresh_rows c.args.workers); fine = λ place none. absurd (omega arith) };
+      judged = record {
+        count = refl;
+        rows = c.new-draft.ensures ∙ sym (fresh_rows c.args.workers);
+        fine = λ place none. absurd (omega arith);
+      };
     }
 
 pub returns-in_err-draft-clause-fault : goal.returns-in_err-draft-clause-fault
 returns-in_err-draft-clause-fault c =
     let inv = c.loop-draft.invariant in
-    let after = rw c.if-branch.true at (c.in_ok-next_record.ensures.reads c.args.text.now inv.given inv.read) in
-    let p = err_from_is_err_and c.from_residual-in_err-draft.result c.from_residual-in_err-draft.ensures.1 in
+    let after =
+    rw c.if-branch.true at (c.in_ok-next_record.ensures.reads c.args.text.now inv.given inv.read) in
+    let p = err_from_is_err_and c.from_residual-in_err-draft.result
+    c.from_residual-in_err-draft.ensures.1 in
     rw (p.1, p.2) (elim c.in_err-draft.ensures.fault [
       | inl none ↦ inl none
       | inr bad ↦ inr (rw bad.0 (first_fault _ _ _ inv.given _ _ _ _ after.rest inv.judged
@@ -40,7 +47,8 @@ pub loop-draft-preserved : goal.loop-draft-preserved
 loop-draft-preserved c =
     let inv = c.loop-draft.invariant in
     let fields = fields_of c.next_record.new.fields in
-    let after = rw c.if-branch.true at (c.in_ok-next_record.ensures.reads c.args.text.now inv.given inv.read) in
+    let after =
+    rw c.if-branch.true at (c.in_ok-next_record.ensures.reads c.args.text.now inv.given inv.read) in
     record {
       setup = c.in_ok-next_record.ensures.stays;
       given = inv.given ++ (fields ∷ []);
@@ -52,5 +60,6 @@ loop-draft-preserved c =
 pub returns-clause-plan : goal.returns-clause-plan
 returns-clause-plan c =
     let inv = c.loop-draft.invariant in
-    let all = rw c.if-branch.false at (c.in_ok-next_record.ensures.reads c.args.text.now inv.given inv.read) in
+    let all = rw c.if-branch.false at
+    (c.in_ok-next_record.ensures.reads c.args.text.now inv.given inv.read) in
     rw c.into_plan.ensures (spells _ _ _ inv.given _ all inv.judged)

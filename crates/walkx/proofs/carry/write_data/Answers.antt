@@ -4,4 +4,9 @@ use Rattle.walkx.proofs.carry.write_data.Goals as goal
 pub write_place-requires-clause-next : goal.write_place-requires-clause-next
 write_place-requires-clause-next g c =
     let r = c.requires.next in
-    record { from = r.from; after = r.after; next = r.next; here = rw (sym c.is_none.ensures ∙ c.if-is_none.false) at r.here }
+    record {
+      from = r.from;
+      after = r.after;
+      next = r.next;
+      here = rw (sym c.is_none.ensures ∙ c.if-is_none.false) at r.here;
+    }

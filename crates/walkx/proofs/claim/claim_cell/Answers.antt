@@ -9,5 +9,6 @@ claim_data-requires-clause-next g c =
       from = r.from;
       after = r.after;
       next = λ done. r.after;
-      here = c.in_ok-place.ensures.plays.on r.from r.after (λ place. claims_data at place r.after (λ done. r.after)) r.here;
+      here = c.in_ok-place.ensures.plays.on r.from r.after
+          (λ place. claims_data at place r.after (λ done. r.after)) r.here;
     }

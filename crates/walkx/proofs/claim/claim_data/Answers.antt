@@ -13,6 +13,8 @@ make-requires g c =
         from = r.from;
         after = r.after;
         next = λ found. r.next tt;
-        here = moved (g.S.Steps.stands at) r.from _ _ _ (claims_it at c.args.place r.after r.next (sym c.is_cell.ensures.value ∙ c.if-is_cell.true)) r.here;
+        here = moved (g.S.Steps.stands at) r.from _ _ _
+            (claims_it at c.args.place r.after r.next
+            (sym c.is_cell.ensures.value ∙ c.if-is_cell.true)) r.here;
       },
     )

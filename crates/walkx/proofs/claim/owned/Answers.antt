@@ -14,6 +14,8 @@ make-requires g c =
         from = r.from;
         after = r.after;
         next = after_claim at c.args.place r.after r.next;
-        here = moved (g.S.Steps.stands at) r.from _ _ _ (owns_it at c.args.place r.after r.next (sym c.is_cell.ensures.value ∙ c.if-not-is_cell.false)) r.here;
+        here = moved (g.S.Steps.stands at) r.from _ _ _
+            (owns_it at c.args.place r.after r.next
+            (sym c.is_cell.ensures.value ∙ c.if-not-is_cell.false)) r.here;
       },
     )

@@ -14,7 +14,9 @@ make-requires g c =
         from = r.from;
         after = r.after;
         next = compares_own at r.after r.next;
-        here = moved (g.S.Steps.stands at) r.from _ _ _ (compares_it at c.args.place r.after r.next (sym c.is_cell.ensures.value ∙ c.if-not-is_cell.false)) r.here;
+        here = moved (g.S.Steps.stands at) r.from _ _ _
+            (compares_it at c.args.place r.after r.next
+            (sym c.is_cell.ensures.value ∙ c.if-not-is_cell.false)) r.here;
       },
     )
 
@@ -27,7 +29,9 @@ report_if-requires g c =
         from = r.from;
         after = r.after;
         next = r.next;
-        here = rw c.claim_look.ensures at (c.in_ok-found.ensures.on at r.from (compares_own at r.after r.next))
-            (moved (g.S.Steps.stands at) r.from _ _ _ (compares_it at c.args.place r.after r.next (sym c.is_cell.ensures.value ∙ c.if-not-is_cell.false)) r.here);
+        here = rw c.claim_look.ensures at
+            (c.in_ok-found.ensures.on at r.from (compares_own at r.after r.next))
+            (moved (g.S.Steps.stands at) r.from _ _ _ (compares_it at c.args.place r.after r.next
+            (sym c.is_cell.ensures.value ∙ c.if-not-is_cell.false)) r.here);
       };
     })

@@ -5,7 +5,12 @@ pub hear_both-requires-clause-next : goal.hear_both-requires-clause-next
 hear_both-requires-clause-next g c =
     let at = c.args.leaf.now in
     let r = c.requires.next in
-    record { from = r.from; after = r.after; next = λ w. reports_if at (either_differs at c.args.value w) r.after r.next; here = r.here }
+    record {
+      from = r.from;
+      after = r.after;
+      next = λ w. reports_if at (either_differs at c.args.value w) r.after r.next;
+      here = r.here;
+    }
 
 pub report_if-requires : goal.report_if-requires
 report_if-requires g c =
@@ -16,7 +21,8 @@ report_if-requires g c =
         from = r.from;
         after = r.after;
         next = r.next;
-        here = c.in_ok-first.ensures.plays.on r.from r.after (λ w. reports_if at (either_differs at c.args.value w) r.after r.next) r.here;
+        here = c.in_ok-first.ensures.plays.on r.from r.after
+            (λ w. reports_if at (either_differs at c.args.value w) r.after r.next) r.here;
       };
     })
 
@@ -27,6 +33,7 @@ returns g c =
       plays = record {
         on = λ from after next here.
             rw c.either_differs.ensures at (c.report_if.ensures.plays.on from after next)
-            (c.in_ok-first.ensures.plays.on from after (λ w. reports_if at (either_differs at c.args.value w) after next) here);
+            (c.in_ok-first.ensures.plays.on from after
+            (λ w. reports_if at (either_differs at c.args.value w) after next) here);
       };
     }

@@ -6,14 +6,20 @@ use Rattle.walkx.proofs.parts.write_place.Goals as goal
 pub hear_both-requires-clause-next : goal.hear_both-requires-clause-next
 hear_both-requires-clause-next g c =
     let r = c.requires.next in
-    record { from = r.from; after = r.after; next = writes_after c.args.leaf.now c.args.place c.args.value (r.next tt); here = r.here }
+    record {
+      from = r.from;
+      after = r.after;
+      next = writes_after c.args.leaf.now c.args.place c.args.value (r.next tt);
+      here = r.here;
+    }
 
 pub returns-in_err-first : goal.returns-in_err-first
 returns-in_err-first g c =
     rw (passed c.from_residual.result _ c.from_residual.ensures.1) (record {
       plays = record {
         on = λ from after next here.
-            c.in_err-first.ensures.plays.on from after (writes_after c.args.leaf.now c.args.place c.args.value (next tt)) here;
+            c.in_err-first.ensures.plays.on from after
+            (writes_after c.args.leaf.now c.args.place c.args.value (next tt)) here;
       };
     })
 
@@ -21,7 +27,8 @@ pub returns-then-is_late : goal.returns-then-is_late
 returns-then-is_late g c = record {
   plays = record {
     on = λ from after next here.
-        rw (sym c.is_late.ensures ∙ c.if-is_late.true) at (c.in_ok-first.ensures.plays.on from after (writes_after c.args.leaf.now c.args.place c.args.value (next tt)) here);
+        rw (sym c.is_late.ensures ∙ c.if-is_late.true) at (c.in_ok-first.ensures.plays.on from after
+        (writes_after c.args.leaf.now c.args.place c.args.value (next tt)) here);
   };
 }
 
@@ -29,8 +36,10 @@ pub make-requires : goal.make-requires
 make-requires g c =
     let at = c.args.leaf.now in
     let r = c.requires.next in
-    let loads = rw (sym c.is_late.ensures ∙ c.if-is_late.false) at (c.in_ok-first.ensures.plays.on r.from r.after (writes_after at c.args.place c.args.value (r.next tt)) r.here) in
-    rw c.older_swap.ensures (at, record { from = r.from; after = r.after; next = λ found. r.next tt; here = loads })
+    let loads = rw (sym c.is_late.ensures ∙ c.if-is_late.false) at (c.in_ok-first.ensures.plays.on
+    r.from r.after (writes_after at c.args.place c.args.value (r.next tt)) r.here) in
+    rw c.older_swap.ensures
+    (at, record { from = r.from; after = r.after; next = λ found. r.next tt; here = loads })
 
 pub returns-in_err-make : goal.returns-in_err-make
 returns-in_err-make g c =
@@ -38,7 +47,9 @@ returns-in_err-make g c =
     rw (passed c.from_residual-in_err-make.result _ c.from_residual-in_err-make.ensures.1) (record {
       plays = record {
         on = λ from after next here.
-            let loads = rw (sym c.is_late.ensures ∙ c.if-is_late.false) at (c.in_ok-first.ensures.plays.on from after (writes_after at c.args.place c.args.value (next tt)) here) in
+            let loads = rw (sym c.is_late.ensures ∙ c.if-is_late.false) at
+            (c.in_ok-first.ensures.plays.on from after
+            (writes_after at c.args.place c.args.value (next tt)) here) in
             rw c.older_swap.ensures at (c.in_err-make.ensures.on at from (λ found. next tt)) loads;
       };
     })
@@ -49,7 +60,9 @@ returns g c =
     record {
       plays = record {
         on = λ from after next here.
-            let loads = rw (sym c.is_late.ensures ∙ c.if-is_late.false) at (c.in_ok-first.ensures.plays.on from after (writes_after at c.args.place c.args.value (next tt)) here) in
+            let loads = rw (sym c.is_late.ensures ∙ c.if-is_late.false) at
+            (c.in_ok-first.ensures.plays.on from after
+            (writes_after at c.args.place c.args.value (next tt)) here) in
             rw c.older_swap.ensures at (c.in_ok-make.ensures.on at from (λ found. next tt)) loads;
       };
     }

@@ -8,7 +8,12 @@ pub read_place-requires-clause-next : goal.read_place-requires-clause-next
 unfolding compute_task
 read_place-requires-clause-next g c =
     let r = c.requires.due in
-    rw c.counter_place.ensures.value (record { from = r.from; after = r.after; next = after_counter c.args.leaf.now r.after; here = r.here })
+    rw c.counter_place.ensures.value (record {
+      from = r.from;
+      after = r.after;
+      next = after_counter c.args.leaf.now r.after;
+      here = r.here;
+    })
 
 pub returns-in_err-counter : goal.returns-in_err-counter
 unfolding compute_task
@@ -16,7 +21,9 @@ returns-in_err-counter g c =
     rw (passed c.from_residual.result _ c.from_residual.ensures.1) (record {
       ends = record {
         on = λ from after here.
-            rw c.counter_place.ensures.value at (c.in_err-counter.ensures.plays.on from after (after_counter c.args.leaf.now after)) here;
+            rw c.counter_place.ensures.value at
+            (c.in_err-counter.ensures.plays.on from after (after_counter c.args.leaf.now after))
+            here;
       };
     })
 
@@ -24,23 +31,35 @@ pub raise_request-requires-clause-due : goal.raise_request-requires-clause-due
 unfolding compute_task
 raise_request-requires-clause-due g c =
     let r = c.requires.due in
-    let read = rw c.counter_place.ensures.value at (c.in_ok-counter.ensures.plays.on r.from r.after (after_counter c.args.leaf.now r.after)) r.here in
-    rw c.goes_to.ensures (record { from = r.from; after = r.after; here = rw (sym c.fetch.ensures.value ∙ c.in-None.is) at read })
+    let read = rw c.counter_place.ensures.value at (c.in_ok-counter.ensures.plays.on r.from r.after
+    (after_counter c.args.leaf.now r.after)) r.here in
+    rw c.goes_to.ensures (record {
+      from = r.from;
+      after = r.after;
+      here = rw (sym c.fetch.ensures.value ∙ c.in-None.is) at read;
+    })
 
 pub execute-requires-clause-due : goal.execute-requires-clause-due
 unfolding compute_task
 execute-requires-clause-due g c =
     let r = c.requires.due in
-    let read = rw c.counter_place.ensures.value at (c.in_ok-counter.ensures.plays.on r.from r.after (after_counter c.args.leaf.now r.after)) r.here in
-    record { from = r.from; after = r.after; here = rw (sym c.fetch.ensures.value ∙ c.in-Some.is) at read }
+    let read = rw c.counter_place.ensures.value at (c.in_ok-counter.ensures.plays.on r.from r.after
+    (after_counter c.args.leaf.now r.after)) r.here in
+    record {
+      from = r.from;
+      after = r.after;
+      here = rw (sym c.fetch.ensures.value ∙ c.in-Some.is) at read;
+    }
 
 pub returns-in-None : goal.returns-in-None
 unfolding compute_task
 returns-in-None g c = record {
   ends = record {
     on = λ from after here.
-        let read = rw c.counter_place.ensures.value at (c.in_ok-counter.ensures.plays.on from after (after_counter c.args.leaf.now after)) here in
-        rw c.goes_to.ensures at (c.raise_request.ensures.ends.on from after) (rw (sym c.fetch.ensures.value ∙ c.in-None.is) at read);
+        let read = rw c.counter_place.ensures.value at
+        (c.in_ok-counter.ensures.plays.on from after (after_counter c.args.leaf.now after)) here in
+        rw c.goes_to.ensures at (c.raise_request.ensures.ends.on from after)
+        (rw (sym c.fetch.ensures.value ∙ c.in-None.is) at read);
   };
 }
 
@@ -49,7 +68,9 @@ unfolding compute_task
 returns-in-Some g c = record {
   ends = record {
     on = λ from after here.
-        let read = rw c.counter_place.ensures.value at (c.in_ok-counter.ensures.plays.on from after (after_counter c.args.leaf.now after)) here in
-        c.execute.ensures.ends.on from after (rw (sym c.fetch.ensures.value ∙ c.in-Some.is) at read);
+        let read = rw c.counter_place.ensures.value at
+        (c.in_ok-counter.ensures.plays.on from after (after_counter c.args.leaf.now after)) here in
+        c.execute.ensures.ends.on from after
+        (rw (sym c.fetch.ensures.value ∙ c.in-Some.is) at read);
   };
 }

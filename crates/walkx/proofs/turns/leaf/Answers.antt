@@ -13,7 +13,8 @@ task-requires g c =
       due = record {
         from = r.from;
         after = then_marks at;
-        here = moved (g.S.Steps.stands at) r.from _ _ _ (leaf_does at (sym c.is_spare.ensures.value ∙ c.if-is_spare.false)) r.here;
+        here = moved (g.S.Steps.stands at) r.from _ _ _
+            (leaf_does at (sym c.is_spare.ensures.value ∙ c.if-is_spare.false)) r.here;
       };
     })
 
@@ -22,9 +23,11 @@ returns-in_err-settle g c =
     let at = c.args.post.now in
     rw (passed c.from_residual.result _ c.from_residual.ensures.1) (record {
       reaches = record {
-        on = λ from here.
-            comes_to (g.S.Steps.stands at) from _ _ _ (settled_err c.task.result (then_marks at) _ (sym c.settle.ensures ∙ c.in_err-settle.was))
-            (rw c.leaf.ensures at (c.task.ensures.ends.on from (then_marks at)) (moved (g.S.Steps.stands at) from _ _ _ (leaf_does at (sym c.is_spare.ensures.value ∙ c.if-is_spare.false)) here));
+        on = λ from here. comes_to (g.S.Steps.stands at) from _ _ _ (settled_err c.task.result
+            (then_marks at) _ (sym c.settle.ensures ∙ c.in_err-settle.was))
+            (rw c.leaf.ensures at (c.task.ensures.ends.on from (then_marks at))
+            (moved (g.S.Steps.stands at) from _ _ _
+            (leaf_does at (sym c.is_spare.ensures.value ∙ c.if-is_spare.false)) here));
       };
     })
 
@@ -36,8 +39,11 @@ mark-requires-2 g c =
       here = record {
         from = r.from;
         here =
-            comes_to (g.S.Steps.stands at) r.from _ _ _ (settled_ok c.task.result (then_marks at) _ (sym c.settle.ensures ∙ c.in_ok-settle.was))
-            (rw c.leaf.ensures at (c.task.ensures.ends.on r.from (then_marks at)) (moved (g.S.Steps.stands at) r.from _ _ _ (leaf_does at (sym c.is_spare.ensures.value ∙ c.if-is_spare.false)) r.here));
+            comes_to (g.S.Steps.stands at) r.from _ _ _
+            (settled_ok c.task.result (then_marks at) _ (sym c.settle.ensures ∙ c.in_ok-settle.was))
+            (rw c.leaf.ensures at (c.task.ensures.ends.on r.from (then_marks at))
+            (moved (g.S.Steps.stands at) r.from _ _ _
+            (leaf_does at (sym c.is_spare.ensures.value ∙ c.if-is_spare.false)) r.here));
       };
     }
 
@@ -47,7 +53,10 @@ returns g c =
     record {
       reaches = record {
         on = λ from here. c.mark-2.ensures.reaches.on from
-            (comes_to (g.S.Steps.stands at) from _ _ _ (settled_ok c.task.result (then_marks at) _ (sym c.settle.ensures ∙ c.in_ok-settle.was))
-            (rw c.leaf.ensures at (c.task.ensures.ends.on from (then_marks at)) (moved (g.S.Steps.stands at) from _ _ _ (leaf_does at (sym c.is_spare.ensures.value ∙ c.if-is_spare.false)) here)));
+            (comes_to (g.S.Steps.stands at) from _ _ _
+            (settled_ok c.task.result (then_marks at) _ (sym c.settle.ensures ∙ c.in_ok-settle.was))
+            (rw c.leaf.ensures at (c.task.ensures.ends.on from (then_marks at))
+            (moved (g.S.Steps.stands at) from _ _ _
+            (leaf_does at (sym c.is_spare.ensures.value ∙ c.if-is_spare.false)) here)));
       };
     }

@@ -1,14 +1,26 @@
 use Rattle.walkx.specs.Scripts.{ends}
 use Rattle.walkx.specs.Rests.{stays}
+use Rattle.walkx.proofs.Turning.{node_is}
 use Rattle.walkx.proofs.turns.mark.Goals as goal
 
 pub make-requires : goal.make-requires
 make-requires g c =
     let r = c.requires.here in
     let at = c.args.post.now in
-    rw c.marking.ensures (at, record { from = r.from; after = ends (stays at at.node); next = λ found. ends (stays at at.node); here = r.here })
+    rw c.marking.ensures (
+      at,
+      record {
+        from = r.from;
+        after = ends (stays at at.node);
+        next = λ found. ends (stays at at.node);
+        here = r.here;
+      },
+    )
 
 pub returns-clause-reaches : goal.returns-clause-reaches
 returns-clause-reaches g c =
     let at = c.args.post.now in
-    rw c.node.ensures.value (record { on = λ from here. rw c.marking.ensures at (c.in_ok-make.ensures.on at from (λ found. ends (stays at at.node))) here })
+    rw (node_is c.post.view_is) (record {
+      on = λ from here. rw c.marking.ensures at
+          (c.in_ok-make.ensures.on at from (λ found. ends (stays at at.node))) here;
+    })

@@ -3,6 +3,7 @@ use Rattle.walkx.specs.Scripts.{ends}
 use Rattle.walkx.specs.Walk.{turn_script}
 use Rattle.walkx.proofs.Passing.{passed}
 use Rattle.walkx.specs.Rests.{after_node, stays}
+use Rattle.walkx.proofs.Turning.{node_is}
 use Rattle.walkx.proofs.turns.turn.Goals as goal
 
 pub make-requires : goal.make-requires
@@ -10,7 +11,8 @@ unfolding turn_script
 make-requires g c =
     let at = c.args.post.now in
     let r = c.requires.here in
-    rw (c.looking.ensures, c.node.ensures.value) (at, record { from = r.from; after = ends (stays at 0); next = after_node at; here = r.here })
+    rw (c.looking.ensures, node_is c.post.view_is)
+    (at, record { from = r.from; after = ends (stays at 0); next = after_node at; here = r.here })
 
 pub returns-in_err-found : goal.returns-in_err-found
 unfolding turn_script
@@ -19,7 +21,8 @@ returns-in_err-found g c =
     rw (passed c.from_residual.result _ c.from_residual.ensures.1) (record {
       reaches = record {
         on = λ from here.
-            rw (c.looking.ensures, c.node.ensures.value) at (c.in_err-found.ensures.on at from (after_node at)) here;
+            rw (c.looking.ensures, node_is c.post.view_is) at
+            (c.in_err-found.ensures.on at from (after_node at)) here;
       };
     })
 
@@ -28,8 +31,14 @@ unfolding turn_script
 leave-requires g c =
     let at = c.args.post.now in
     let r = c.requires.here in
-    let node = rw (c.looking.ensures, c.node.ensures.value) at (c.in_ok-found.ensures.on at r.from (after_node at)) r.here in
-    record { here = record { from = r.from; here = rw (sym c.is_finished.ensures ∙ c.if-is_finished.true) at node } }
+    let node = rw (c.looking.ensures, node_is c.post.view_is) at
+    (c.in_ok-found.ensures.on at r.from (after_node at)) r.here in
+    record {
+      here = record {
+        from = r.from;
+        here = rw (sym c.is_finished.ensures ∙ c.if-is_finished.true) at node;
+      };
+    }
 
 pub returns-then-is_finished : goal.returns-then-is_finished
 unfolding turn_script
@@ -38,8 +47,10 @@ returns-then-is_finished g c =
     record {
       reaches = record {
         on = λ from here.
-            let node = rw (c.looking.ensures, c.node.ensures.value) at (c.in_ok-found.ensures.on at from (after_node at)) here in
-            c.leave.ensures.reaches.on from (rw (sym c.is_finished.ensures ∙ c.if-is_finished.true) at node);
+            let node = rw (c.looking.ensures, node_is c.post.view_is) at
+            (c.in_ok-found.ensures.on at from (after_node at)) here in
+            c.leave.ensures.reaches.on from
+            (rw (sym c.is_finished.ensures ∙ c.if-is_finished.true) at node);
       };
     }
 
@@ -48,8 +59,15 @@ unfolding turn_script
 leaf-requires-clause-here g c =
     let at = c.args.post.now in
     let r = c.requires.here in
-    let node = rw (c.looking.ensures, c.node.ensures.value) at (c.in_ok-found.ensures.on at r.from (after_node at)) r.here in
-    record { from = r.from; here = rw (sym c.is_finished.ensures ∙ c.if-is_finished.false, sym c.is_leaf.ensures ∙ c.if-is_leaf.true) at node }
+    let node = rw (c.looking.ensures, node_is c.post.view_is) at
+    (c.in_ok-found.ensures.on at r.from (after_node at)) r.here in
+    record {
+      from = r.from;
+      here = rw (
+        sym c.is_finished.ensures ∙ c.if-is_finished.false,
+        sym c.is_leaf.ensures ∙ c.if-is_leaf.true,
+      ) at node;
+    }
 
 pub returns-in_err-next : goal.returns-in_err-next
 unfolding turn_script
@@ -58,8 +76,12 @@ returns-in_err-next g c =
     rw (passed c.from_residual-in_err-next.result _ c.from_residual-in_err-next.ensures.1) (record {
       reaches = record {
         on = λ from here.
-            let node = rw (c.looking.ensures, c.node.ensures.value) at (c.in_ok-found.ensures.on at from (after_node at)) here in
-            c.in_err-next.ensures.reaches.on from (rw (sym c.is_finished.ensures ∙ c.if-is_finished.false, sym c.is_leaf.ensures ∙ c.if-is_leaf.true) at node);
+            let node = rw (c.looking.ensures, node_is c.post.view_is) at
+            (c.in_ok-found.ensures.on at from (after_node at)) here in
+            c.in_err-next.ensures.reaches.on from (rw (
+              sym c.is_finished.ensures ∙ c.if-is_finished.false,
+              sym c.is_leaf.ensures ∙ c.if-is_leaf.true,
+            ) at node);
       };
     })
 
@@ -68,18 +90,30 @@ unfolding turn_script
 inner-requires-clause-here g c =
     let at = c.args.post.now in
     let r = c.requires.here in
-    let node = rw (c.looking.ensures, c.node.ensures.value) at (c.in_ok-found.ensures.on at r.from (after_node at)) r.here in
-    record { from = r.from; here = rw (sym c.is_finished.ensures ∙ c.if-is_finished.false, sym c.is_leaf.ensures ∙ c.if-is_leaf.false) at node }
+    let node = rw (c.looking.ensures, node_is c.post.view_is) at
+    (c.in_ok-found.ensures.on at r.from (after_node at)) r.here in
+    record {
+      from = r.from;
+      here = rw (
+        sym c.is_finished.ensures ∙ c.if-is_finished.false,
+        sym c.is_leaf.ensures ∙ c.if-is_leaf.false,
+      ) at node;
+    }
 
 pub returns-in_err-next-2 : goal.returns-in_err-next-2
 unfolding turn_script
 returns-in_err-next-2 g c =
     let at = c.args.post.now in
-    rw (passed c.from_residual-in_err-next-2.result _ c.from_residual-in_err-next-2.ensures.1) (record {
+    rw (passed c.from_residual-in_err-next-2.result _ c.from_residual-in_err-next-2.ensures.1)
+    (record {
       reaches = record {
         on = λ from here.
-            let node = rw (c.looking.ensures, c.node.ensures.value) at (c.in_ok-found.ensures.on at from (after_node at)) here in
-            c.in_err-next-2.ensures.reaches.on from (rw (sym c.is_finished.ensures ∙ c.if-is_finished.false, sym c.is_leaf.ensures ∙ c.if-is_leaf.false) at node);
+            let node = rw (c.looking.ensures, node_is c.post.view_is) at
+            (c.in_ok-found.ensures.on at from (after_node at)) here in
+            c.in_err-next-2.ensures.reaches.on from (rw (
+              sym c.is_finished.ensures ∙ c.if-is_finished.false,
+              sym c.is_leaf.ensures ∙ c.if-is_leaf.false,
+            ) at node);
       };
     })
 
@@ -90,8 +124,12 @@ returns-in_ok-next g c =
     record {
       reaches = record {
         on = λ from here.
-            let node = rw (c.looking.ensures, c.node.ensures.value) at (c.in_ok-found.ensures.on at from (after_node at)) here in
-            c.in_ok-next.ensures.reaches.on from (rw (sym c.is_finished.ensures ∙ c.if-is_finished.false, sym c.is_leaf.ensures ∙ c.if-is_leaf.true) at node);
+            let node = rw (c.looking.ensures, node_is c.post.view_is) at
+            (c.in_ok-found.ensures.on at from (after_node at)) here in
+            c.in_ok-next.ensures.reaches.on from (rw (
+              sym c.is_finished.ensures ∙ c.if-is_finished.false,
+              sym c.is_leaf.ensures ∙ c.if-is_leaf.true,
+            ) at node);
       };
     }
 
@@ -102,7 +140,11 @@ returns-in_ok-next-2 g c =
     record {
       reaches = record {
         on = λ from here.
-            let node = rw (c.looking.ensures, c.node.ensures.value) at (c.in_ok-found.ensures.on at from (after_node at)) here in
-            c.in_ok-next-2.ensures.reaches.on from (rw (sym c.is_finished.ensures ∙ c.if-is_finished.false, sym c.is_leaf.ensures ∙ c.if-is_leaf.false) at node);
+            let node = rw (c.looking.ensures, node_is c.post.view_is) at
+            (c.in_ok-found.ensures.on at from (after_node at)) here in
+            c.in_ok-next-2.ensures.reaches.on from (rw (
+              sym c.is_finished.ensures ∙ c.if-is_finished.false,
+              sym c.is_leaf.ensures ∙ c.if-is_leaf.false,
+            ) at node);
       };
     }

@@ -12,15 +12,22 @@ loop-written-init c = rw c.in_ok-code.ensures.items refl
 pub returns-in-Err-clause-told : goal.returns-in-Err-clause-told
 returns-in-Err-clause-told c = rw (← c.deref-written-items.ensures.value) (λ _. (
   c.loop-written.written-index,
-  sym (get_or-map (λ (w : Written). w.line) c.deref-written-items.result.now _ _ 0 c.loop-written-test.true),
-  first_wrong (λ w. resolved (place_at c.args.self.now.places) w.statement) c.deref-written-items.result.now _ _ _ c.loop-written-test.true c.loop-written.invariant _ (sym c.resolve.ensures ∙ c.in-Err.is),
+  sym (get_or-map (λ (w : Written). w.line)
+      c.deref-written-items.result.now _ _ 0 c.loop-written-test.true),
+  first_wrong (λ w. resolved (place_at c.args.self.now.places) w.statement)
+      c.deref-written-items.result.now _ _ _ c.loop-written-test.true c.loop-written.invariant _
+      (sym c.resolve.ensures ∙ c.in-Err.is),
 ))
 
 pub loop-written-preserved : goal.loop-written-preserved
 loop-written-preserved c = rw c.in_ok-push-in-Ok.ensures.items
-    (coded_more (λ w. resolved (place_at c.args.self.now.places) w.statement) c.deref-written-items.result.now _ _ _ c.loop-written-test.true c.loop-written.invariant _ (sym c.resolve.ensures ∙ c.in-Ok.is))
+    (coded_more (λ w. resolved (place_at c.args.self.now.places) w.statement)
+    c.deref-written-items.result.now _ _ _ c.loop-written-test.true c.loop-written.invariant _
+    (sym c.resolve.ensures ∙ c.in-Ok.is))
 
 pub returns-clause-told : goal.returns-clause-told
 returns-clause-told c =
     let outcome = λ (w : Written). resolved (place_at c.args.self.now.places) w.statement in
-    ap (map outcome) (sym (take_all _ _ c.loop-written-test.false ∙ c.deref-written-items.ensures.value)) ∙ c.loop-written.invariant
+    ap (map outcome)
+    (sym (take_all _ _ c.loop-written-test.false ∙ c.deref-written-items.ensures.value))
+    ∙ c.loop-written.invariant

@@ -5,4 +5,5 @@ use Rattle.pram_text.proofs.program.Program.code.Given as goal
 
 -- the statements so far
 abbrev pub invariant-loop-written : goal.invariant-loop-written
-invariant-loop-written l = map (λ w. resolved (place_at l.self.places) w.statement) (take l.written-index l.written-items) ≡ map (λ i. Ok i) l.code.items
+invariant-loop-written l = map (λ w. resolved (place_at l.self.places) w.statement)
+    (take l.written-index l.written-items) ≡ map (λ i. Ok i) l.code.items

@@ -10,11 +10,24 @@ returns-in_err-code-clause-told c = λ before last held.
     let p = err_from_is_err_and c.from_residual.result c.from_residual.ensures.1 in
     rw (p.1, p.2) (λ other.
     let first = c.in_err-code.ensures.told other in
-    inr (end_fault-none before c.args.self.now held (omega (arith, c.requires.some, c.args.self.now.program.written.ok.0)), (first.0, first.1, rw (body_of-held before c.args.self.now held) (first_unknown held.2 c.args.self.now.program first.0 _ held.6 first.2))))
+    inr (
+      end_fault-none before c.args.self.now held
+          (omega (arith, c.requires.some, c.args.self.now.program.written.ok.0)),
+      (
+        first.0,
+        first.1,
+        rw (body_of-held before c.args.self.now held)
+            (first_unknown held.2 c.args.self.now.program first.0 _ held.6 first.2),
+      ),
+    ))
 
 pub new-requires : goal.new-requires
-new-requires c = lines_keep _ _ (SpellsLines-held c.requires.held.0 c.args.self.now _ _ c.requires.held.1 (rw c.deref.ensures.value at c.in_ok-init.ensures) c.in_ok-code.ensures.told (omega (arith, c.requires.some, c.args.self.now.program.written.ok.0)))
+new-requires c = lines_keep _ _ (SpellsLines-held c.requires.held.0 c.args.self.now _
+    _ c.requires.held.1 (rw c.deref.ensures.value at c.in_ok-init.ensures) c.in_ok-code.ensures.told
+    (omega (arith, c.requires.some, c.args.self.now.program.written.ok.0)))
 
 pub returns-clause-told : goal.returns-clause-told
 returns-clause-told c = λ before last held.
-    rw c.new.ensures (SpellsLines-held before c.args.self.now _ _ held (rw c.deref.ensures.value at c.in_ok-init.ensures) c.in_ok-code.ensures.told (omega (arith, c.requires.some, c.args.self.now.program.written.ok.0)))
+    rw c.new.ensures (SpellsLines-held before c.args.self.now _ _ held
+    (rw c.deref.ensures.value at c.in_ok-init.ensures) c.in_ok-code.ensures.told
+    (omega (arith, c.requires.some, c.args.self.now.program.written.ok.0)))

@@ -8,7 +8,8 @@ returns-in_err-draft-clause-fault c =
     let p = err_from_is_err_and c.from_residual.result c.from_residual.ensures.1 in
     rw (p.1, p.2) (elim c.in_err-draft.ensures.fault [
       | inl none ↦ inl none
-      | inr bad ↦ inr (rw bad.0 (first_bad _ _ _ _ _ _ _ c.loop-row-test.true c.loop-row.invariant bad.1))
+      | inr bad ↦
+          inr (rw bad.0 (first_bad _ _ _ _ _ _ _ c.loop-row-test.true c.loop-row.invariant bad.1))
     ])
 
 pub loop-row-preserved : goal.loop-row-preserved
@@ -16,4 +17,5 @@ loop-row-preserved c =
     one_more _ _ _ _ _ _ _ c.loop-row-test.true c.loop-row.invariant c.in_ok-draft.ensures.taken
 
 pub returns-clause-plan : goal.returns-clause-plan
-returns-clause-plan c = rw c.into_plan.ensures (all_judged _ _ _ _ _ c.loop-row-test.false c.loop-row.invariant)
+returns-clause-plan c =
+    rw c.into_plan.ensures (all_judged _ _ _ _ _ c.loop-row-test.false c.loop-row.invariant)

@@ -4,6 +4,6 @@ use Rattle.std.specs.Borrow.{Bor}
 use Rattle.pram_text.specs.Lines.{lines_of}
 
 -- the lines after a line feed, and none where there is no line feed
-abbrev pub lines_behind : Option (Bor (List ℕ)) → List (List ℕ)
-lines_behind None = []
-lines_behind (Some rest) = lines_of rest.now
+abbrev pub lines_after : Option (Bor (List ℕ)) → List (List ℕ)
+lines_after None = []
+lines_after (Some rest) = lines_of rest.now
