@@ -1,5 +1,7 @@
 -- Rows that are written one after the other, and buffers whose front is written.
-use Rattle.std.proofs.Common.{arith, ◌≡◌, ◌≢◌, ◌⊎◌, ℕ, zero, suc, ◌+◌, ◌-◌, ◌<◌, ◌≤◌, List, [], ◌∷◌, length, take, slice_get, slice_set, Some, refl, sym, ap, subst, ◌∙◌, inl, inr, ◌==◌}
+use Rattle.std.proofs.Common.{arith, ◌≡◌, ◌≢◌, ◌⊎◌, ℕ, zero, suc, ◌+◌, ◌-◌, ◌<◌, ◌≤◌}
+use Rattle.std.proofs.Common.{List, [], ◌∷◌, length, take, slice_get, slice_set}
+use Rattle.std.proofs.Common.{Some, refl, sym, ap, subst, ◌∙◌, inl, inr, ◌==◌}
 use Rattle.std.proofs.lemmas.Bool.{cases_Bool, cases_lt, eqb-true, eqb-false}
 use Rattle.std.proofs.lemmas.List.{drop-set-lt, length-take-le}
 use Rattle.pram_text.specs.Job.{JobData, IsJob}
@@ -10,7 +12,9 @@ use Rattle.pram_page.specs.declared.codes.TheConstants.{MEMORY}
 use Rattle.pram_page.specs.declared.board.Hindrance.{Hindrance}
 use Rattle.pram_page.specs.declared.board.Hindrance.TheVariants as hindrance
 use Rattle.pram_page.specs.declared.finding.Finding.{Finding}
-use Rattle.pram_page.specs.declared.finding.Finding.TheVariants.{Done, Conflict, Unfinished, NoRoom, NoStep, TooFar, BadWorkers, BadEvent, Refused}
+use Rattle.pram_page.specs.declared.finding.Finding.TheVariants.{Done, Conflict, Unfinished}
+use Rattle.pram_page.specs.declared.finding.Finding.TheVariants.{NoRoom, NoStep, TooFar}
+use Rattle.pram_page.specs.declared.finding.Finding.TheVariants.{BadWorkers, BadEvent, Refused}
 use Rattle.pram_page.specs.declared.finding.Told.{Told}
 use Rattle.pram_page.specs.declared.requests.RequestRow.{RequestRow}
 use Rattle.pram_page.specs.declared.rows.EventRow.{EventRow}
@@ -20,12 +24,14 @@ use Rattle.pram_page.specs.Findings.{IsKeptBehind, count_written, told_of, told_
 use Rattle.pram_page.specs.Requests.{IsAskedIn, IsKeptAsked}
 use Rattle.pram_page.specs.Scenes.{IsNoted, bodies_told, hindered_as, words_told}
 
-pub set_same : {X : Type 0} (xs : List X) (n : ℕ) (x : X) → n < length xs → slice_get (slice_set xs n x) n ≡ Some x
+pub set_same : {X : Type 0} (xs : List X) (n : ℕ) (x : X) → n < length xs →
+    slice_get (slice_set xs n x) n ≡ Some x
 set_same [] n x h = absurd (omega arith)
 set_same (z ∷ zs) zero x h = refl
 set_same (z ∷ zs) (suc n) x h = set_same zs n x (omega arith)
 
-pub set_other : {X : Type 0} (xs : List X) (b at : ℕ) (x : X) → at ≢ b → slice_get (slice_set xs b x) at ≡ slice_get xs at
+pub set_other : {X : Type 0} (xs : List X) (b at : ℕ) (x : X) → at ≢ b →
+    slice_get (slice_set xs b x) at ≡ slice_get xs at
 set_other [] b at x apart = refl
 set_other (z ∷ zs) zero zero x apart = absurd (apart refl)
 set_other (z ∷ zs) zero (suc at) x apart = refl
@@ -33,28 +39,36 @@ set_other (z ∷ zs) (suc b) zero x apart = refl
 set_other (z ∷ zs) (suc b) (suc at) x apart = set_other zs b at x (λ e. apart (ap suc e))
 
 pub nat_cases : (a b : ℕ) → (a ≡ b) ⊎ (a ≢ b)
-nat_cases a b = elim (cases_Bool (a == b)) [ inl same ↦ inl (eqb-true a b same) | inr apart ↦ inr (eqb-false a b apart) ]
+nat_cases a b = elim (cases_Bool (a == b)) [
+  | inl same ↦ inl (eqb-true a b same)
+  | inr apart ↦ inr (eqb-false a b apart)
+]
 
 -- the first n rows are these, and so is the next one, once it is written
-pub written : {X : Type 0} (f : ℕ → X) (xs : List X) (n : ℕ) (x : X) → n < length xs → ((i : ℕ) → i < n → slice_get xs i ≡ Some (f i)) → x ≡ f n
-    → (i : ℕ) → i < n + 1 → slice_get (slice_set xs n x) i ≡ Some (f i)
+pub written : {X : Type 0} (f : ℕ → X) (xs : List X) (n : ℕ) (x : X) → n < length xs →
+    ((i : ℕ) → i < n → slice_get xs i ≡ Some (f i)) → x ≡ f n → (i : ℕ) → i < n + 1 →
+    slice_get (slice_set xs n x) i ≡ Some (f i)
 written f xs n x room before is i below = elim (nat_cases i n) [
-  | inl same ↦ subst (λ (k : ℕ). slice_get (slice_set xs n x) k ≡ Some (f k)) (sym same) (set_same xs n x room ∙ ap Some is)
+  | inl same ↦ subst (λ (k : ℕ). slice_get (slice_set xs n x) k ≡ Some (f k))
+      (sym same) (set_same xs n x room ∙ ap Some is)
   | inr apart ↦ set_other xs n i x apart ∙ before i (omega arith)
 ]
 
 -- a state of the machine has all places
-pub length_after : (job : JobData) (t : ℕ) (s : State) → StatesHaveAllPlaces → IsJob job → IsStateAfter job t s → length s ≡ place_count job
+pub length_after : (job : JobData) (t : ℕ) (s : State) → StatesHaveAllPlaces → IsJob job →
+    IsStateAfter job t s → length s ≡ place_count job
 length_after job t s law limits after = ap length after.state ∙ (law job t limits).0
 
-pub length_front : (job : JobData) (t n : ℕ) (s : State) → StatesHaveAllPlaces → IsJob job → IsStateAfter job t s → n ≤ job.cells → n ≡ length (take n s)
+pub length_front : (job : JobData) (t n : ℕ) (s : State) → StatesHaveAllPlaces → IsJob job →
+    IsStateAfter job t s → n ≤ job.cells → n ≡ length (take n s)
 length_front job t n s law limits after few =
     let all : length s ≡ place_count job = length_after job t s law limits after in
     sym (length-take-le n s (omega arith))
 
 -- ---- what lies after the elements that are written
 
-pub kept_set : {X : Type 0} (n : ℕ) (old now : List X) (i : ℕ) (x : X) → i < n → IsKeptBehind n old now → IsKeptBehind n old (slice_set now i x)
+pub kept_set : {X : Type 0} (n : ℕ) (old now : List X) (i : ℕ) (x : X) → i < n →
+    IsKeptBehind n old now → IsKeptBehind n old (slice_set now i x)
 kept_set n old now i x below kept = drop-set-lt n now i x below ∙ kept
 
 -- as is told
@@ -71,26 +85,41 @@ count_told (Refused (NoJob fault)) = refl
 count_told (Refused TextTooLong) = refl
 count_told (Refused Memory) = refl
 
-pub kept_as_told : {X : Type 0} (f : Finding) (told : Told) (old now : List X) → told ≡ told_of f → IsKeptBehind (count_written f) old now → IsKeptBehind (told_written told) old now
-kept_as_told f told old now is kept = subst (λ (n : ℕ). IsKeptBehind n old now) (sym (ap told_written is ∙ count_told f)) kept
+pub kept_as_told : {X : Type 0} (f : Finding) (told : Told) (old now : List X) → told ≡ told_of f →
+    IsKeptBehind (count_written f) old now → IsKeptBehind (told_written told) old now
+kept_as_told f told old now is kept =
+    subst (λ (n : ℕ). IsKeptBehind n old now) (sym (ap told_written is ∙ count_told f)) kept
 
-pub kept_as_asked : (f : Finding) (told : Told) (old now : List RequestRow) → told ≡ told_of f → IsKeptAsked old now f → told.code ≢ MEMORY → IsKeptBehind (told_written told) old now
-kept_as_asked (Done step count) told old now is kept some = kept_as_told (Done step count) told old now is kept
-kept_as_asked (Conflict fault count) told old now is kept some = kept_as_told (Conflict fault count) told old now is kept
-kept_as_asked (Unfinished step) told old now is kept some = kept_as_told (Unfinished step) told old now is kept
-kept_as_asked (NoRoom needed) told old now is kept some = kept_as_told (NoRoom needed) told old now is kept
+pub kept_as_asked : (f : Finding) (told : Told) (old now : List RequestRow) → told ≡ told_of f →
+    IsKeptAsked old now f → told.code ≢ MEMORY → IsKeptBehind (told_written told) old now
+kept_as_asked (Done step count) told old now is kept some =
+    kept_as_told (Done step count) told old now is kept
+kept_as_asked (Conflict fault count) told old now is kept some =
+    kept_as_told (Conflict fault count) told old now is kept
+kept_as_asked (Unfinished step) told old now is kept some =
+    kept_as_told (Unfinished step) told old now is kept
+kept_as_asked (NoRoom needed) told old now is kept some =
+    kept_as_told (NoRoom needed) told old now is kept
 kept_as_asked NoStep told old now is kept some = kept_as_told NoStep told old now is kept
 kept_as_asked TooFar told old now is kept some = kept_as_told TooFar told old now is kept
 kept_as_asked BadWorkers told old now is kept some = kept_as_told BadWorkers told old now is kept
-kept_as_asked (BadEvent number) told old now is kept some = kept_as_told (BadEvent number) told old now is kept
-kept_as_asked (Refused (NoJob fault)) told old now is kept some = kept_as_told (Refused (NoJob fault)) told old now is kept
-kept_as_asked (Refused TextTooLong) told old now is kept some = kept_as_told (Refused TextTooLong) told old now is kept
-kept_as_asked (Refused Memory) told old now is kept some = absurd (some (ap (λ (t : Told). t.code) is))
+kept_as_asked (BadEvent number) told old now is kept some =
+    kept_as_told (BadEvent number) told old now is kept
+kept_as_asked (Refused (NoJob fault)) told old now is kept some =
+    kept_as_told (Refused (NoJob fault)) told old now is kept
+kept_as_asked (Refused TextTooLong) told old now is kept some =
+    kept_as_told (Refused TextTooLong) told old now is kept
+kept_as_asked (Refused Memory) told old now is kept some =
+    absurd (some (ap (λ (t : Told). t.code) is))
 
-pub asked_kept : (job : JobData) (t : ℕ) (old rows : List RequestRow) (f : Finding) → IsAskedIn job t rows f → IsKeptBehind job.procs old rows → IsKeptAsked old rows f
-asked_kept job t old rows (Done step count) asked kept = subst (λ (n : ℕ). IsKeptBehind n old rows) (sym asked.2) kept
-asked_kept job t old rows (Conflict fault count) asked kept = subst (λ (n : ℕ). IsKeptBehind n old rows) (sym asked.2) kept
-asked_kept job t old rows (Refused refusal) asked kept = subst (λ r. IsKeptAsked old rows (Refused r)) (sym asked) tt
+pub asked_kept : (job : JobData) (t : ℕ) (old rows : List RequestRow) (f : Finding) →
+    IsAskedIn job t rows f → IsKeptBehind job.procs old rows → IsKeptAsked old rows f
+asked_kept job t old rows (Done step count) asked kept =
+    subst (λ (n : ℕ). IsKeptBehind n old rows) (sym asked.2) kept
+asked_kept job t old rows (Conflict fault count) asked kept =
+    subst (λ (n : ℕ). IsKeptBehind n old rows) (sym asked.2) kept
+asked_kept job t old rows (Refused refusal) asked kept =
+    subst (λ r. IsKeptAsked old rows (Refused r)) (sym asked) tt
 asked_kept job t old rows (Unfinished step) asked kept = absurd asked
 asked_kept job t old rows (NoRoom needed) asked kept = absurd asked
 asked_kept job t old rows NoStep asked kept = absurd asked
@@ -99,12 +128,17 @@ asked_kept job t old rows BadWorkers asked kept = absurd asked
 asked_kept job t old rows (BadEvent number) asked kept = absurd asked
 
 -- a row of an event
-pub kept_noted : (row : EventRow) (from n all : ℕ) (first old now : List EventRow) → n < all → IsNoted row from n old now → IsKeptBehind (all - from) first old → IsKeptBehind (all - from) first now
+pub kept_noted : (row : EventRow) (from n all : ℕ) (first old now : List EventRow) →
+    n < all → IsNoted row from n old now → IsKeptBehind (all - from) first old →
+    IsKeptBehind (all - from) first now
 kept_noted row from n all first old now below noted kept = elim (cases_lt n from) [
-  | inl early ↦ subst (IsKeptBehind (all - from) first) (sym (noted.outside (λ low room. omega arith))) kept
+  | inl early ↦
+      subst (IsKeptBehind (all - from) first) (sym (noted.outside (λ low room. omega arith))) kept
   | inr low ↦ elim (cases_lt (n - from) (length old)) [
-    | inl room ↦ subst (IsKeptBehind (all - from) first) (sym (noted.inside low room)) (kept_set (all - from) first old (n - from) row (omega arith) kept)
-    | inr full ↦ subst (IsKeptBehind (all - from) first) (sym (noted.outside (λ low room. omega arith))) kept
+    | inl room ↦ subst (IsKeptBehind (all - from) first) (sym (noted.inside low room))
+        (kept_set (all - from) first old (n - from) row (omega arith) kept)
+    | inr full ↦
+        subst (IsKeptBehind (all - from) first) (sym (noted.outside (λ low room. omega arith))) kept
   ]
 ]
 
@@ -123,8 +157,12 @@ no_bodies (hindrance.Refused Memory) = refl
 no_bodies hindrance.BadWorkers = refl
 no_bodies (hindrance.BadEvent at) = refl
 
-pub words_kept : {X : Type 0} (h : Hindrance) (told : Scene) (old now : List X) → told ≡ hindered_as h → now ≡ old → IsKeptBehind (words_told told) old now
-words_kept h told old now is same = subst (λ n. IsKeptBehind n old now) (sym (ap words_told is ∙ no_words h)) same
+pub words_kept : {X : Type 0} (h : Hindrance) (told : Scene) (old now : List X) →
+    told ≡ hindered_as h → now ≡ old → IsKeptBehind (words_told told) old now
+words_kept h told old now is same =
+    subst (λ n. IsKeptBehind n old now) (sym (ap words_told is ∙ no_words h)) same
 
-pub bodies_kept : {X : Type 0} (h : Hindrance) (told : Scene) (old now : List X) → told ≡ hindered_as h → now ≡ old → IsKeptBehind (bodies_told told) old now
-bodies_kept h told old now is same = subst (λ n. IsKeptBehind n old now) (sym (ap bodies_told is ∙ no_bodies h)) same
+pub bodies_kept : {X : Type 0} (h : Hindrance) (told : Scene) (old now : List X) →
+    told ≡ hindered_as h → now ≡ old → IsKeptBehind (bodies_told told) old now
+bodies_kept h told old now is same =
+    subst (λ n. IsKeptBehind n old now) (sym (ap bodies_told is ∙ no_bodies h)) same

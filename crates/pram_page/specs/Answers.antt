@@ -16,19 +16,22 @@ use Rattle.pram_page.specs.declared.board.Hindrance.{Hindrance}
 use Rattle.pram_page.specs.declared.board.Hindrance.TheVariants as hindrance
 use Rattle.pram_page.specs.declared.finding.Finding.{Finding}
 use Rattle.pram_page.specs.declared.finding.Finding.TheVariants.{Done, Conflict, Unfinished, NoRoom}
-use Rattle.pram_page.specs.declared.finding.Finding.TheVariants.{NoStep, TooFar, BadWorkers}
-use Rattle.pram_page.specs.declared.finding.Finding.TheVariants.{BadEvent, Refused}
-use Rattle.pram_page.specs.declared.finding.Told.{Told}
+use Rattle.pram_page.specs.declared.finding.Finding.TheVariants.{BadWorkers, BadEvent, Refused}
 use Rattle.pram_page.specs.declared.reads.ReadRow.{ReadRow}
 use Rattle.pram_page.specs.Events.{BoardAfter, IsBoardAfter, IsHindered, run_of}
 use Rattle.pram_page.specs.Texts.{OfJob}
-use Rattle.pram_page.specs.Findings.{told_of}
 
 -- why there is no board
 abbrev pub finding_of : Hindrance → Finding
 finding_of (hindrance.Refused r) = Refused r
 finding_of hindrance.BadWorkers = BadWorkers
 finding_of (hindrance.BadEvent n) = BadEvent n
+
+abbrev pub IsNoBoard : List ℕ → ℕ → List Event → Finding → Type 0
+IsNoBoard text workers events BadWorkers = IsHindered text workers events hindrance.BadWorkers
+IsNoBoard text workers events (BadEvent n) = IsHindered text workers events (hindrance.BadEvent n)
+IsNoBoard text workers events (Refused r) = IsHindered text workers events (hindrance.Refused r)
+IsNoBoard text workers events _ = ⊥
 
 -- the board of the text after the events is such a world
 abbrev pub OfWorld : List ℕ → ℕ → List Event → (WorldData → Type 0) → Type 0
@@ -47,19 +50,7 @@ IsOutcomeFound text workers events old cells (Unfinished step) =
 IsOutcomeFound text workers events old cells (NoRoom needed) =
     OfWorld text workers events (λ s. (found : List ℕ) × IsOutcome s (answer.Final found)
     × (needed ≡ length found) × (length old < needed))
-IsOutcomeFound text workers events old cells NoStep = ⊥
-IsOutcomeFound text workers events old cells TooFar = ⊥
-IsOutcomeFound text workers events old cells BadWorkers =
-    IsHindered text workers events hindrance.BadWorkers
-IsOutcomeFound text workers events old cells (BadEvent n) =
-    IsHindered text workers events (hindrance.BadEvent n)
-IsOutcomeFound text workers events old cells (Refused r) =
-    IsHindered text workers events (hindrance.Refused r)
-
-abbrev pub IsOutcomeTold : List ℕ → ℕ → List Event → List ℕ → List ℕ → Told → Type 0
-IsOutcomeTold text workers events old cells told =
-    (finding : Finding) × IsOutcomeFound text workers events old cells finding
-    × (told ≡ told_of finding)
+IsOutcomeFound text workers events old cells finding = IsNoBoard text workers events finding
 
 -- ---- what readers get
 
@@ -104,15 +95,4 @@ AreReadsFound text workers events old rows (Done step count) =
     × AreAllRead job s (run_of job workers events).made step count rows)
 AreReadsFound text workers events old rows (NoRoom needed) =
     OfWorld text workers events (λ s. (needed ≡ s.job.cells) × (length old < needed))
-AreReadsFound text workers events old rows BadWorkers =
-    IsHindered text workers events hindrance.BadWorkers
-AreReadsFound text workers events old rows (BadEvent n) =
-    IsHindered text workers events (hindrance.BadEvent n)
-AreReadsFound text workers events old rows (Refused r) =
-    IsHindered text workers events (hindrance.Refused r)
-AreReadsFound text workers events old rows _ = ⊥
-
-abbrev pub AreReadsTold : List ℕ → ℕ → List Event → List ReadRow → List ReadRow → Told → Type 0
-AreReadsTold text workers events old rows told =
-    (finding : Finding) × AreReadsFound text workers events old rows finding
-    × (told ≡ told_of finding)
+AreReadsFound text workers events old rows finding = IsNoBoard text workers events finding

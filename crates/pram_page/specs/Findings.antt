@@ -46,6 +46,10 @@ told_of (Refused r) =
       line = (refused_as r).line;
     }
 
+-- a finding of which this holds is told
+abbrev pub IsToldOf : (Finding → Type 0) → Told → Type 0
+IsToldOf holds told = (finding : Finding) × holds finding × (told ≡ told_of finding)
+
 -- ---- buffers
 
 -- so many elements of the buffer are written

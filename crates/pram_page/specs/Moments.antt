@@ -1,6 +1,5 @@
 -- What is told of the plain machine.
 use Rattle.std.specs.Prelude.{◌≡◌, ℕ, ◌<◌, ◌≤◌, List, length, take}
-use Rattle.pram_text.specs.Job.{JobData}
 use Rattle.pram_step.specs.declared.answer.RunAnswer.TheVariants as answer
 use Rattle.pram_step.specs.Machine.{place_count}
 use Rattle.pram_step.specs.Runs.{IsReached, IsStateAfter, IsFirstConflict, IsAnswer}
@@ -8,18 +7,7 @@ use Rattle.pram_page.specs.declared.finding.Finding.{Finding}
 use Rattle.pram_page.specs.declared.finding.Finding.TheVariants.{Done, Conflict, NoRoom}
 use Rattle.pram_page.specs.declared.finding.Finding.TheVariants.{NoStep, TooFar}
 use Rattle.pram_page.specs.declared.finding.Finding.TheVariants.{Refused}
-use Rattle.pram_page.specs.declared.finding.Told.{Told}
-use Rattle.pram_page.specs.declared.machine.Moment.{Moment}
-use Rattle.pram_page.specs.declared.machine.Moment.TheVariants as moment
 use Rattle.pram_page.specs.Texts.{OfJob, IsRefused}
-use Rattle.pram_page.specs.Findings.{told_of}
-
--- what is there after t steps: the state, or the first conflict up to them, or as many steps were
--- made as the caller allows
-abbrev pub IsMoment : JobData → ℕ → ℕ → Moment → Type 0
-IsMoment job t most (moment.Reached s) = IsStateAfter job t s
-IsMoment job t most (moment.Disputed fault) = IsFirstConflict job fault × (fault.step ≤ t)
-IsMoment job t most moment.TooFar = (most < t) × IsReached job most
 
 -- ---- the answer of a text: the front of the buffer holds the cells
 
@@ -36,10 +24,6 @@ IsAnswerFound text most old cells TooFar =
 IsAnswerFound text most old cells (Refused refusal) = IsRefused text refusal
 IsAnswerFound text most old cells _ = ⊥
 
-abbrev pub IsAnswered : List ℕ → ℕ → List ℕ → List ℕ → Told → Type 0
-IsAnswered text most old cells told =
-    (finding : Finding) × IsAnswerFound text most old cells finding × (told ≡ told_of finding)
-
 -- ---- the state after t steps: the front of the buffer holds the places
 
 abbrev pub IsStateFound : List ℕ → ℕ → ℕ → List ℕ → List ℕ → Finding → Type 0
@@ -54,7 +38,3 @@ IsStateFound text t most old places NoStep = OfJob text (λ job. job.steps < t)
 IsStateFound text t most old places TooFar = OfJob text (λ job. (most < t) × IsReached job most)
 IsStateFound text t most old places (Refused refusal) = IsRefused text refusal
 IsStateFound text t most old places _ = ⊥
-
-abbrev pub IsStateTold : List ℕ → ℕ → ℕ → List ℕ → List ℕ → Told → Type 0
-IsStateTold text t most old places told =
-    (finding : Finding) × IsStateFound text t most old places finding × (told ≡ told_of finding)

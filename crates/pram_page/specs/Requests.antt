@@ -11,12 +11,11 @@ use Rattle.pram_page.specs.declared.finding.Finding.{Finding}
 use Rattle.pram_page.specs.declared.finding.Finding.TheVariants.{Done, Conflict, NoRoom}
 use Rattle.pram_page.specs.declared.finding.Finding.TheVariants.{NoStep, TooFar}
 use Rattle.pram_page.specs.declared.finding.Finding.TheVariants.{Refused}
-use Rattle.pram_page.specs.declared.finding.Told.{Told}
 use Rattle.pram_page.specs.declared.requests.RequestRow.{RequestRow}
 use Rattle.pram_page.specs.declared.requests.Target.{Target}
 use Rattle.pram_page.specs.declared.text.Refusal.TheVariants.{Memory}
 use Rattle.pram_page.specs.Texts.{OfJob, IsRefused}
-use Rattle.pram_page.specs.Findings.{IsKeptBehind, count_written, told_of}
+use Rattle.pram_page.specs.Findings.{IsKeptBehind, count_written}
 
 -- 0 where a counter is an instruction's place, 1 where the processor has halted, 2 where an address
 -- was out of range
@@ -100,10 +99,6 @@ IsAskedFor text t most old rows NoStep = OfJob text (λ job. job.steps ≤ t)
 IsAskedFor text t most old rows TooFar = OfJob text (λ job. (most < t) × IsReached job most)
 IsAskedFor text t most old rows (Refused refusal) = IsRefused text refusal
 IsAskedFor text t most old rows _ = ⊥
-
-abbrev pub AreAsked : List ℕ → ℕ → ℕ → List RequestRow → List RequestRow → Told → Type 0
-AreAsked text t most old rows told =
-    (finding : Finding) × IsAskedFor text t most old rows finding × (told ≡ told_of finding)
 
 -- after the rows that are told nothing is written; out of memory the rows may be written
 abbrev pub IsKeptAsked : List RequestRow → List RequestRow → Finding → Type 0

@@ -1,28 +1,15 @@
 //! The states of the plain machine.
 ghost use Rattle.std.specs.Bool.{OnFalse};
 ghost use Rattle.std.specs.Prelude.{◌≡◌, ◌≤◌, ◌↔◌, IfOk, IsTrue, length, take};
-ghost use Rattle.pram_step.specs.Laws.{AllStopped};
-ghost use Rattle.pram_step.specs.Machine.{place_count};
-ghost use Rattle.pram_page.specs.Findings.{IsKeptBehind, count_written, told_written};
-ghost use Rattle.pram_page.specs.Moments.{IsAnswered, IsMoment, IsStateFound, IsAnswerFound};
-ghost use Rattle.pram_page.specs.Moments.{IsStateTold};
+ghost use Rattle.pram_step.specs.Arrivals.{IsArrival};
+ghost use Rattle.pram_page.specs.Findings.{IsKeptBehind, IsToldOf, count_written, told_written};
+ghost use Rattle.pram_page.specs.Moments.{IsStateFound, IsAnswerFound};
 
 use crate::finding::{Finding, Told, tell};
 use crate::text::{Refusal, take_job};
-use pram_step::{Fault, State, StepFault, laws, step as make_step};
+use pram_step::{Arrival, go_to, laws};
 use pram_text::Job;
 use std::alloc::{AllocError, Global};
-
-/// What is there after so many steps of the machine.
-#[derive(Drop)]
-pub enum Moment {
-    /// This state.
-    Reached(State),
-    /// No state: this step was against the rule.
-    Disputed(Fault),
-    /// So many steps may not be made.
-    TooFar,
-}
 
 /// Tells the answer of a text: the cells after the last step, or the first conflict. At most
 /// `most` steps are made; a machine whose processors have all stopped makes none.
@@ -34,7 +21,7 @@ pub extern "C" fn pram_page_answer(
     cells: &mut [u32],
     told: &mut Told,
 )
-    ensures told { IsAnswered text.now most cells.old cells.new told.new }
+    ensures told { IsToldOf (IsAnswerFound text.now most cells.old cells.new) told.new }
     ensures behind { IsKeptBehind (told_written told.new) cells.old cells.new }
 {
     *told = tell(answer(alloc, text, most, cells));
@@ -51,7 +38,7 @@ pub extern "C" fn pram_page_state(
     places: &mut [u32],
     told: &mut Told,
 )
-    ensures told { IsStateTold text.now step most places.old places.new told.new }
+    ensures told { IsToldOf (IsStateFound text.now step most places.old places.new) told.new }
     ensures behind { IsKeptBehind (told_written told.new) places.old places.new }
 {
     *told = tell(state(alloc, text, step, most, places));
@@ -68,9 +55,9 @@ fn answer(alloc: Global, text: &[u8], most: u32, cells: &mut [u32]) -> Finding
     };
     match go_to_end(alloc, &job, most) {
         Err(_) => Finding::Refused(Refusal::Memory),
-        Ok(Moment::TooFar) => Finding::TooFar,
-        Ok(Moment::Disputed(fault)) => Finding::Conflict { fault, count: 0 },
-        Ok(Moment::Reached(state)) => {
+        Ok(Arrival::TooFar) => Finding::TooFar,
+        Ok(Arrival::Disputed(fault)) => Finding::Conflict { fault, count: 0 },
+        Ok(Arrival::Reached(state)) => {
             let count = job.cells() as usize;
             if copy(&state.places()[..count], cells) {
                 Finding::Done {
@@ -100,9 +87,9 @@ fn state(alloc: Global, text: &[u8], step: u32, most: u32, places: &mut [u32]) -
     }
     match go_to(alloc, &job, step, most) {
         Err(_) => Finding::Refused(Refusal::Memory),
-        Ok(Moment::TooFar) => Finding::TooFar,
-        Ok(Moment::Disputed(fault)) => Finding::Conflict { fault, count: 0 },
-        Ok(Moment::Reached(state)) => {
+        Ok(Arrival::TooFar) => Finding::TooFar,
+        Ok(Arrival::Disputed(fault)) => Finding::Conflict { fault, count: 0 },
+        Ok(Arrival::Reached(state)) => {
             let count = state.places().len() as u64;
             if copy(state.places(), places) {
                 Finding::Done { step, count }
@@ -128,60 +115,8 @@ pub(crate) fn copy(values: &[u32], buffer: &mut [u32]) -> bool
 }
 
 // The state after the last step.
-fn go_to_end(alloc: Global, job: &Job, most: u32) -> Result<Moment, AllocError>
-    ensures { IfOk result (IsMoment job.now job.now.steps most) }
+fn go_to_end(alloc: Global, job: &Job, most: u32) -> Result<Arrival, AllocError>
+    ensures { IfOk result (IsArrival job.now job.now.steps most) }
 {
     go_to(alloc, job, job.steps(), most)
-}
-
-/// The state after so many steps.
-pub(crate) fn go_to(alloc: Global, job: &Job, steps: u32, most: u32) -> Result<Moment, AllocError>
-    ensures { IfOk result (IsMoment job.now steps most) }
-{
-    laws::start_is_a_state();
-    laws::next_is_a_state();
-    laws::states_have_all_places();
-    laws::stopped_machine_goes_on();
-    let _ = job.steps();
-    let mut state = State::start(alloc, job)?;
-    for made in 0..steps {
-        if have_stopped(job, &state) {
-            return Ok(Moment::Reached(state));
-        }
-        if made == most {
-            return Ok(Moment::TooFar);
-        }
-        match make_step(alloc, job, &mut state) {
-            Ok(()) => {}
-            Err(StepFault::Memory) => return Err(AllocError),
-            Err(
-                StepFault::Conflict {
-                    cell,
-                    first,
-                    second,
-                },
-            ) => {
-                return Ok(Moment::Disputed(Fault {
-                    step: made + 1,
-                    cell,
-                    first,
-                    second,
-                }));
-            }
-        }
-    }
-    Ok(Moment::Reached(state))
-}
-
-/// Whether all processors have stopped.
-fn have_stopped(job: &Job, state: &State) -> bool
-    requires { length state.now ≡ place_count job.now }
-    ensures { IsTrue result → AllStopped job.now state.now }
-{
-    for processor in 0..job.procs() {
-        if (state.get(job.counter_place(processor)) as usize) < job.code().len() {
-            return false;
-        }
-    }
-    true
 }

@@ -1,7 +1,7 @@
 //! What a board answers.
 ghost use Rattle.std.specs.Prelude.{◌≡◌};
-ghost use Rattle.pram_page.specs.Answers.{IsOutcomeFound, IsOutcomeTold, finding_of};
-ghost use Rattle.pram_page.specs.Findings.{IsKeptBehind, count_written, told_written};
+ghost use Rattle.pram_page.specs.Answers.{IsOutcomeFound, finding_of};
+ghost use Rattle.pram_page.specs.Findings.{IsKeptBehind, IsToldOf, count_written, told_written};
 
 use crate::board::{Event, Hindrance};
 use crate::finding::{Finding, Told, tell};
@@ -22,7 +22,8 @@ pub extern "C" fn pram_page_outcome(
     cells: &mut [u32],
     told: &mut Told,
 )
-    ensures told { IsOutcomeTold text.now workers events.now cells.old cells.new told.new }
+    ensures told { IsToldOf (IsOutcomeFound text.now workers events.now cells.old cells.new)
+        told.new }
     ensures behind { IsKeptBehind (told_written told.new) cells.old cells.new }
 {
     *told = tell(outcome(alloc, text, workers, events, cells));

@@ -1,7 +1,7 @@
 //! The cells of a board as readers get them.
 ghost use Rattle.std.specs.Prelude.{◌≡◌, ◌<◌, ◌≤◌, length};
-ghost use Rattle.pram_page.specs.Answers.{AreRead, AreReadsFound, AreReadsTold, read_in};
-ghost use Rattle.pram_page.specs.Findings.{IsKeptBehind, count_written, told_written};
+ghost use Rattle.pram_page.specs.Answers.{AreRead, AreReadsFound, read_in};
+ghost use Rattle.pram_page.specs.Findings.{IsKeptBehind, IsToldOf, count_written, told_written};
 
 use crate::board::Event;
 use crate::finding::{Finding, Told, tell};
@@ -30,7 +30,8 @@ pub extern "C" fn pram_page_reads(
     cells: &mut [ReadRow],
     told: &mut Told,
 )
-    ensures told { AreReadsTold text.now workers events.now cells.old cells.new told.new }
+    ensures told { IsToldOf (AreReadsFound text.now workers events.now cells.old cells.new)
+        told.new }
     ensures behind { IsKeptBehind (told_written told.new) cells.old cells.new }
 {
     *told = tell(reads(alloc, text, workers, events, cells));

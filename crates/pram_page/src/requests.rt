@@ -4,16 +4,15 @@ ghost use Rattle.pram_step.specs.Machine.{IsDataPlace, counter as counter_of, pl
 ghost use Rattle.pram_step.specs.Machine.{register as register_of};
 ghost use Rattle.pram_step.specs.Runs.{IsStateAfter};
 ghost use Rattle.pram_page.specs.declared.codes.TheConstants.{MEMORY};
-ghost use Rattle.pram_page.specs.Findings.{IsKeptBehind, told_written};
-ghost use Rattle.pram_page.specs.Requests.{AreAsked, AreRows, IsAskedFor, IsAskedIn, IsKeptAsked};
+ghost use Rattle.pram_page.specs.Findings.{IsKeptBehind, IsToldOf, told_written};
+ghost use Rattle.pram_page.specs.Requests.{AreRows, IsAskedFor, IsAskedIn, IsKeptAsked};
 ghost use Rattle.pram_page.specs.Requests.{cell_in, cell_part, held_part, row_in, status_of};
 ghost use Rattle.pram_page.specs.Requests.{target_of};
 
 use crate::finding::{Finding, Told, tell};
-use crate::machine::{Moment, go_to};
 use crate::text::{Refusal, take_job};
 use pram_step::{
-    Fault, Sources, State, StepFault, cell_read, laws, request, sources_of, step as make_step,
+    Arrival, Sources, State, cell_read, counter, go_to, laws, make_step, request_after, sources_of,
 };
 use pram_text::Job;
 use std::alloc::Global;
@@ -55,7 +54,7 @@ pub extern "C" fn pram_page_requests(
     rows: &mut [RequestRow],
     told: &mut Told,
 )
-    ensures told { AreAsked text.now step most rows.old rows.new told.new }
+    ensures told { IsToldOf (IsAskedFor text.now step most rows.old rows.new) told.new }
     ensures behind { told.new.code ≢ MEMORY
         → IsKeptBehind (told_written told.new) rows.old rows.new }
 {
@@ -80,9 +79,9 @@ fn requests(alloc: Global, text: &[u8], step: u32, most: u32, rows: &mut [Reques
     }
     match go_to(alloc, &job, step, most) {
         Err(_) => Finding::Refused(Refusal::Memory),
-        Ok(Moment::TooFar) => Finding::TooFar,
-        Ok(Moment::Disputed(fault)) => Finding::Conflict { fault, count: 0 },
-        Ok(Moment::Reached(state)) => ask(alloc, &job, step, state, rows),
+        Ok(Arrival::TooFar) => Finding::TooFar,
+        Ok(Arrival::Disputed(fault)) => Finding::Conflict { fault, count: 0 },
+        Ok(Arrival::Reached(state)) => ask(alloc, &job, step, state, rows),
     }
 }
 
@@ -94,29 +93,12 @@ fn ask(alloc: Global, job: &Job, step: u32, mut state: State, rows: &mut [Reques
     ensures asked { IsAskedIn job.now step rows.new result }
     ensures behind { IsKeptBehind job.now.procs rows.old rows.new }
 {
-    laws::states_have_all_places();
-    // This tells the job's limits.
-    let _ = job.steps();
     let count = u64::from(job.procs());
     write_rows(job, &state, rows);
-    match make_step(alloc, job, &mut state) {
-        Ok(()) => Finding::Done { step, count },
-        Err(StepFault::Memory) => Finding::Refused(Refusal::Memory),
-        Err(
-            StepFault::Conflict {
-                cell,
-                first,
-                second,
-            },
-        ) => Finding::Conflict {
-            fault: Fault {
-                step: step + 1,
-                cell,
-                first,
-                second,
-            },
-            count,
-        },
+    match make_step(alloc, job, &mut state, step) {
+        Ok(None) => Finding::Done { step, count },
+        Ok(Some(fault)) => Finding::Conflict { fault, count },
+        Err(_) => Finding::Refused(Refusal::Memory),
     }
 }
 
@@ -137,13 +119,10 @@ fn row(job: &Job, state: &State, processor: u32) -> RequestRow
     requires reached { (t : ℕ) × IsStateAfter job.now t state.now }
     ensures { result ≡ row_in job.now state.now processor }
 {
-    // This tells the job's limits.
-    let _ = job.procs();
-    laws::requests_have_shape();
+    job.limits_hold();
     laws::states_have_all_places();
-    laws::counters_stay_within();
     let counter = counter(job, state, processor);
-    let asked = request(job, state, processor);
+    let asked = request_after(job, state, processor);
     let reads = cell(job, state, processor, counter);
     let target = aim(job, processor, asked.put);
     RequestRow {
@@ -156,15 +135,6 @@ fn row(job: &Job, state: &State, processor: u32) -> RequestRow
         value: target.value,
         next: asked.next,
     }
-}
-
-// A processor's counter.
-fn counter(job: &Job, state: &State, processor: u32) -> u32
-    requires processor { processor < job.now.procs }
-    requires places { length state.now ≡ place_count job.now }
-    ensures { result ≡ counter_of job.now state.now processor }
-{
-    state.get(job.counter_place(processor))
 }
 
 // Whether a counter is the number of an instruction, or why the processor has stopped.
@@ -211,8 +181,7 @@ fn part_of_cell(job: &Job, cell: Option<u32>) -> u32
     requires { IfSome cell (λ c. c < job.now.cells) }
     ensures { result ≡ cell_part cell }
 {
-    // This tells the job's limits.
-    let _ = job.cells();
+    job.limits_hold();
     match cell {
         None => 0,
         Some(cell) => cell + 1,
@@ -225,8 +194,7 @@ fn held(job: &Job, state: &State, cell: Option<u32>) -> u32
     requires places { length state.now ≡ place_count job.now }
     ensures { result ≡ held_part state.now cell }
 {
-    // This tells the job's limits.
-    let _ = job.cells();
+    job.limits_hold();
     match cell {
         None => 0,
         Some(cell) => state.get(cell),
@@ -239,8 +207,7 @@ fn aim(job: &Job, processor: u32, put: Option<(u32, u32)>) -> Target
     requires place { IfSome put (λ w. IsDataPlace job.now processor w.0) }
     ensures { result ≡ target_of job.now processor put }
 {
-    // This tells the job's limits.
-    let _ = job.procs();
+    job.limits_hold();
     let cells = job.cells();
     match put {
         None => Target {

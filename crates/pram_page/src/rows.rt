@@ -109,16 +109,15 @@ fn was_older(world: &World, word: Word, before: u64) -> u32
     requires { IsWord world.now.layout word }
     ensures { result ≡ older_before world.now.layout world.now.words before word }
 {
-    // This tells the layout's limits.
-    let _ = world.layout().length();
+    world.layout().limits_hold();
     match word {
-        Word::Stored(p, 0) => {
-            let second = world.load(world.layout().place_word(p) + 1);
-            u32::from(older(before, second) == 0)
-        }
-        Word::Stored(p, _) => {
-            let first = world.load(world.layout().place_word(p));
-            u32::from(older(first, before) == 1)
+        Word::Stored(place, part) => {
+            let (first, second) = world.place_words(place);
+            if part == 0 {
+                u32::from(older(before, second) == 0)
+            } else {
+                u32::from(older(first, before) == 1)
+            }
         }
         _ => 0,
     }

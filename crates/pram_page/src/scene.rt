@@ -55,7 +55,13 @@ pub extern "C" fn pram_page_scene(
     ensures words { IsKeptBehind (words_told told.new) words.old words.new }
     ensures bodies { IsKeptBehind (bodies_told told.new) bodies.old bodies.new }
 {
-    *told = match show(alloc, text, workers, events, from, rows, words, bodies) {
+    let asked = Asked {
+        text,
+        workers,
+        events,
+        from,
+    };
+    *told = match show(alloc, &asked, rows, words, bodies) {
         Ok(scene) => scene,
         Err(hindrance) => hindered(hindrance),
     };
@@ -100,25 +106,34 @@ fn hindered(hindrance: Hindrance) -> Scene
     }
 }
 
+// What a scene is asked for: the board of a job and so many workers after events, and what the
+// events did from `from` on.
+#[derive(Drop)]
+struct Asked<'a> {
+    text: &'a [u8],
+    workers: u32,
+    events: &'a [Event],
+    from: usize,
+}
+
 fn show(
     alloc: Global,
-    text: &[u8],
-    workers: u32,
-    events: &[Event],
-    from: usize,
+    asked: &Asked<'_>,
     rows: &mut [EventRow],
     words: &mut [WordRow],
     bodies: &mut [BodyRow],
 ) -> Result<Scene, Hindrance>
-    ensures shown { IfOk result
-        (λ told. IsScene text.now workers events.now from rows.new words.new bodies.new told) }
-    ensures hindered { IfErr result (λ h. IsHindered text.now workers events.now h) }
-    ensures rows { IsKeptBehind (length events.now - from) rows.old rows.new }
+    ensures shown { IfOk result (λ told. IsScene asked.now.text.now asked.now.workers
+        asked.now.events.now asked.now.from rows.new words.new bodies.new told) }
+    ensures hindered { IfErr result
+        (λ h. IsHindered asked.now.text.now asked.now.workers asked.now.events.now h) }
+    ensures rows { IsKeptBehind (length asked.now.events.now - asked.now.from) rows.old rows.new }
     ensures words { IfOk result (λ told. IsKeptBehind (words_told told) words.old words.new) }
     ensures bodies { IfOk result (λ told. IsKeptBehind (bodies_told told) bodies.old bodies.new) }
     ensures kept { OnErr result ((words.new ≡ words.old) × (bodies.new ≡ bodies.old)) }
 {
-    let mut world = match open(alloc, text, workers) {
+    let (events, from) = (asked.events, asked.from);
+    let mut world = match open(alloc, asked.text, asked.workers) {
         Ok(world) => world,
         Err(hindrance) => return Err(hindrance),
     };
@@ -211,25 +226,33 @@ pub(crate) fn watch(
         let event = events[number];
         let bodies = world.count();
         let effect = make(world, number, event)?;
-        note(world, rows, from, number, event, small(bodies)?, effect);
+        let made = Made {
+            number,
+            event,
+            bodies: small(bodies)?,
+            effect,
+        };
+        note(world, made, from, rows);
     }
     Ok(())
 }
 
-// What the event of this number did is put into its row, if there is one.
-fn note(
-    world: &World,
-    rows: &mut [EventRow],
-    from: usize,
+// An event that was made: its number, how many bodies there were before, and its effect.
+#[derive(Drop)]
+struct Made {
     number: usize,
     event: Event,
     bodies: u32,
     effect: Effect,
-)
-    ensures { IsNoted (row_with world.now event bodies effect) from number rows.old rows.new }
+}
+
+// What an event did is put into its row, if there is one.
+fn note(world: &World, made: Made, from: usize, rows: &mut [EventRow])
+    ensures { IsNoted (row_with world.now made.event made.bodies made.effect) from made.number
+        rows.old rows.new }
 {
-    if from <= number && number - from < rows.len() {
-        rows[number - from] = event_row(world, event, bodies, effect);
+    if from <= made.number && made.number - from < rows.len() {
+        rows[made.number - from] = event_row(world, made.event, made.bodies, made.effect);
     }
 }
 

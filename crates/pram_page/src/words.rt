@@ -51,7 +51,7 @@ fn word_row(world: &World, k: u32) -> WordRow
     ensures { result ≡ word_in world.now.layout world.now.words k }
 {
     words_keep_apart();
-    let _ = world.layout().length();
+    world.layout().limits_hold();
     let value = world.load(k);
     let word = world.layout().word(k);
     let Meaning { form, which, part } = meaning_of(word);
@@ -74,12 +74,12 @@ pub(crate) fn meaning_of(word: Word) -> Meaning
 {
     let (form, which, part) = match word {
         Word::Conflict => (0, 0, 0),
-        Word::Node(n) => (1, n, 0),
-        Word::Asked(i, j) => (2, i, j),
-        Word::Position(w) => (3, w, 0),
-        Word::Stored(p, k) => (4, p, k),
-        Word::Claim(c) => (5, c, 0),
-        Word::Spare(k) => (6, k, 0),
+        Word::Node(node) => (1, node, 0),
+        Word::Asked(processor, part) => (2, processor, part),
+        Word::Position(worker) => (3, worker, 0),
+        Word::Stored(place, part) => (4, place, part),
+        Word::Claim(cell) => (5, cell, 0),
+        Word::Spare(number) => (6, number, 0),
     };
     Meaning { form, which, part }
 }
@@ -89,12 +89,11 @@ fn newer(world: &World, word: Word) -> u32
     requires { IsWord world.now.layout word }
     ensures { result ≡ newer_of world.now.layout world.now.words word }
 {
-    let _ = world.layout().length();
+    world.layout().limits_hold();
     match word {
-        Word::Stored(p, k) => {
-            let at = world.layout().place_word(p);
-            let older = older(world.load(at), world.load(at + 1));
-            u32::from(older != k)
+        Word::Stored(place, part) => {
+            let (first, second) = world.place_words(place);
+            u32::from(older(first, second) != part)
         }
         _ => 0,
     }

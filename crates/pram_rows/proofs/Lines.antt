@@ -1,5 +1,6 @@
 -- The rows of processors and of steps, one after the other, and what a sink took of them.
-use Rattle.std.proofs.Common.{◌≡◌, ◌∙◌, ◌++◌, ◌+◌, ◌-◌, ◌≤◌, ◌∷◌, [], ℕ, zero, suc, List, Option, refl, sym, ap, subst, append_assoc, append-nil, arith, min}
+use Rattle.std.proofs.Common.{◌≡◌, ◌∙◌, ◌++◌, ◌+◌, ◌-◌, ◌≤◌, ◌∷◌, [], ℕ, zero, suc, List, Option}
+use Rattle.std.proofs.Common.{refl, sym, ap, subst, append_assoc, append-nil, arith, min}
 use Rattle.std.proofs.KnownBytes.{Appends-trans}
 use Rattle.std.proofs.Math.Seq.{take-length}
 use Rattle.std.proofs.lemmas.Grind.{flat_map-append}
@@ -7,83 +8,117 @@ use Rattle.std.specs.Io.KnownBytes.{Appends}
 use Rattle.std.specs.List.{flat_map, range_with_len}
 use Rattle.pram_text.specs.Job.{JobData}
 use Rattle.pram_streams.specs.Transfer.{AppendsBeginning}
-use Rattle.pram_streams.proofs.Beginnings.{beginning-behind, beginning-longer}
+use Rattle.pram_streams.proofs.Beginnings.{beginning-after, beginning-longer}
 use Rattle.pram_rows.specs.Inner.Printing.{TakesBut}
-use Rattle.pram_rows.specs.Rows.{header, lines_behind, rows_text, step_lines}
+use Rattle.pram_rows.specs.Rows.{header, lines_after, rows_text, step_lines}
 
 -- so many numbers, and then more
-range_more : (t m n k u : ℕ) → k ≡ m + n → u ≡ t + m → range_with_len t k ≡ range_with_len t m ++ range_with_len u n
+range_more : (t m n k u : ℕ) → k ≡ m + n → u ≡ t + m →
+    range_with_len t k ≡ range_with_len t m ++ range_with_len u n
 range_more t zero n k u count place =
     let all : k ≡ n = omega arith in
     let here : u ≡ t = omega arith in
     rw (all, here) refl
 range_more t (suc m) n zero u count place = absurd (omega arith)
-range_more t (suc m) n (suc k) u count place = ap (λ l. t ∷ l) (range_more (t + 1) m n k u (omega arith) (omega arith))
+range_more t (suc m) n (suc k) u count place =
+    ap (λ l. t ∷ l) (range_more (t + 1) m n k u (omega arith) (omega arith))
 
-pub flat_map-range : (f : ℕ → List ℕ) (t m n k u : ℕ) → k ≡ m + n → u ≡ t + m
-    → flat_map f (range_with_len t k) ≡ flat_map f (range_with_len t m) ++ flat_map f (range_with_len u n)
-flat_map-range f t m n k u count place = ap (flat_map f) (range_more t m n k u count place) ∙ flat_map-append f (range_with_len t m) (range_with_len u n)
+pub flat_map-range : (f : ℕ → List ℕ) (t m n k u : ℕ) → k ≡ m + n → u ≡ t + m →
+    flat_map f (range_with_len t k)
+    ≡ flat_map f (range_with_len t m) ++ flat_map f (range_with_len u n)
+flat_map-range f t m n k u count place = ap (flat_map f) (range_more t m n k u count place)
+    ∙ flat_map-append f (range_with_len t m) (range_with_len u n)
 
 -- a text, the pieces of some numbers, and the piece of the next number
 pub pieces-more : (text : List ℕ) (f : ℕ → List ℕ) (t m k u : ℕ) → k ≡ m + 1 → u ≡ t + m
     → (text ++ flat_map f (range_with_len t m)) ++ f u ≡ text ++ flat_map f (range_with_len t k)
 pieces-more text f t m k u count place =
     append_assoc text (flat_map f (range_with_len t m)) (f u)
-    ∙ ap (λ l. text ++ l) (sym (flat_map-range f t m 1 k u count place ∙ ap (λ l. flat_map f (range_with_len t m) ++ l) (append-nil (f u))))
+    ∙ ap (λ l. text ++ l) (sym (flat_map-range f t m 1 k u count place
+    ∙ ap (λ l. flat_map f (range_with_len t m) ++ l) (append-nil (f u))))
 
 -- the rows of more steps begin with those of fewer
-lines-longer : (job : JobData) (t m n : ℕ) → m ≤ n → lines_behind job t n ≡ lines_behind job t m ++ lines_behind job (t + m) (n - m)
-lines-longer job t m n few = flat_map-range (step_lines job) t m (n - m) n (t + m) (omega arith) refl
+lines-longer : (job : JobData) (t m n : ℕ) → m ≤ n →
+    lines_after job t n ≡ lines_after job t m ++ lines_after job (t + m) (n - m)
+lines-longer job t m n few =
+    flat_map-range (step_lines job) t m (n - m) n (t + m) (omega arith) refl
 
 -- the header and the rows of some steps are a beginning of the rows of a window
-pub rows-begin : (a b : Option (List ℕ)) (job : JobData) (from to last first m : ℕ) → first ≡ from - 1 → m ≤ min to last - first
-    → AppendsBeginning a b (header ++ lines_behind job first m) → AppendsBeginning a b (rows_text job from to last)
+pub rows-begin : (a b : Option (List ℕ)) (job : JobData) (from to last first m : ℕ) →
+    first ≡ from - 1 → m ≤ min to last - first →
+    AppendsBeginning a b (header ++ lines_after job first m) →
+    AppendsBeginning a b (rows_text job from to last)
 rows-begin a b job from to last first m is few begins =
     let n = min to last - first in
-    let longer = beginning-longer a b (header ++ lines_behind job first m) (lines_behind job (first + m) (n - m)) begins in
-    let whole = append_assoc header (lines_behind job first m) (lines_behind job (first + m) (n - m)) ∙ ap (λ l. header ++ l) (sym (lines-longer job first m n few)) in
-    subst (λ f. AppendsBeginning a b (header ++ lines_behind job f (min to last - f))) is (subst (λ l. AppendsBeginning a b l) whole longer)
+    let longer = beginning-longer a b
+    (header ++ lines_after job first m) (lines_after job (first + m) (n - m)) begins in
+    let whole =
+    append_assoc header (lines_after job first m) (lines_after job (first + m) (n - m))
+    ∙ ap (λ l. header ++ l) (sym (lines-longer job first m n few)) in
+    subst (λ f. AppendsBeginning a b (header ++ lines_after job f (min to last - f))) is
+    (subst (λ l. AppendsBeginning a b l) whole longer)
 
 -- and those of all its steps are its rows
-pub rows-all : (a b : Option (List ℕ)) (job : JobData) (from to last first m : ℕ) → first ≡ from - 1 → m ≡ min to last - first
-    → Appends a b (header ++ lines_behind job first m) → Appends a b (rows_text job from to last)
+pub rows-all : (a b : Option (List ℕ)) (job : JobData) (from to last first m : ℕ) →
+    first ≡ from - 1 → m ≡ min to last - first → Appends a b (header ++ lines_after job first m) →
+    Appends a b (rows_text job from to last)
 rows-all a b job from to last first m is all put =
-    subst (λ f. Appends a b (header ++ lines_behind job f (min to last - f))) is (subst (λ n. Appends a b (header ++ lines_behind job first n)) all put)
+    subst (λ f. Appends a b (header ++ lines_after job f (min to last - f))) is
+    (subst (λ n. Appends a b (header ++ lines_after job first n)) all put)
 
 -- what was taken whole was begun
-pub whole-begins : (a b : Option (List ℕ)) (text : List ℕ) → Appends a b text → AppendsBeginning a b text
+pub whole-begins : (a b : Option (List ℕ)) (text : List ℕ) →
+    Appends a b text → AppendsBeginning a b text
 whole-begins a b text put = (text, take-length text, put)
 
 module _ (a b : Option (List ℕ)) (rest text : List ℕ) (takes : TakesBut a b rest text) where
   pub but-begins : AppendsBeginning a b text
-  but-begins = subst (λ l. AppendsBeginning a b l) takes.text_is (beginning-longer a b takes.front rest (whole-begins a b takes.front takes.put))
+  but-begins = subst (λ l. AppendsBeginning a b l) takes.text_is
+      (beginning-longer a b takes.front rest (whole-begins a b takes.front takes.put))
 
   pub but-rest : (c : Option (List ℕ)) → Appends b c rest → Appends a c text
-  but-rest c put = subst (λ l. Appends a c l) takes.text_is (Appends-trans a b c takes.front rest takes.put put)
+  but-rest c put =
+      subst (λ l. Appends a c l) takes.text_is (Appends-trans a b c takes.front rest takes.put put)
 
   pub but-beginning : (c : Option (List ℕ)) → AppendsBeginning b c rest → AppendsBeginning a c text
-  but-beginning c begins = subst (λ l. AppendsBeginning a c l) takes.text_is (beginning-behind a b c takes.front rest takes.put begins)
+  but-beginning c begins = subst (λ l. AppendsBeginning a c l) takes.text_is
+      (beginning-after a b c takes.front rest takes.put begins)
 
   all-is : (more : List ℕ) → takes.front ++ (rest ++ more) ≡ text ++ more
   all-is more = sym (append_assoc takes.front rest more) ∙ ap (λ l. l ++ more) takes.text_is
 
-  pub more-begins : (c : Option (List ℕ)) (more : List ℕ) → AppendsBeginning b c (rest ++ more) → AppendsBeginning a c (text ++ more)
-  more-begins c more begins = subst (λ l. AppendsBeginning a c l) (all-is more) (beginning-behind a b c takes.front (rest ++ more) takes.put begins)
+  pub more-begins : (c : Option (List ℕ)) (more : List ℕ) → AppendsBeginning b c (rest ++ more) →
+      AppendsBeginning a c (text ++ more)
+  more-begins c more begins = subst (λ l. AppendsBeginning a c l) (all-is more)
+      (beginning-after a b c takes.front (rest ++ more) takes.put begins)
 
-  pub more-taken : (c : Option (List ℕ)) (left more : List ℕ) → TakesBut b c left (rest ++ more) → TakesBut a c left (text ++ more)
+  pub more-taken : (c : Option (List ℕ)) (left more : List ℕ) → TakesBut b c left (rest ++ more) →
+      TakesBut a c left (text ++ more)
   more-taken c left more taken = record {
     front = takes.front ++ taken.front;
     put = Appends-trans a b c takes.front taken.front takes.put taken.put;
-    text_is = append_assoc takes.front taken.front left ∙ ap (λ l. takes.front ++ l) taken.text_is ∙ all-is more;
+    text_is = append_assoc takes.front taken.front left
+        ∙ ap (λ l. takes.front ++ l) taken.text_is ∙ all-is more;
   }
 
 -- before the first row
-pub no-rows : (a b : Option (List ℕ)) (job : JobData) (t : ℕ) (rest : List ℕ) → rest ≡ [] → Appends a b header → TakesBut a b rest (header ++ lines_behind job t 0)
-no-rows a b job t rest none put = record { front = header; put = put; text_is = ap (λ l. header ++ l) none }
+pub no-rows : (a b : Option (List ℕ)) (job : JobData) (t : ℕ) (rest : List ℕ) → rest ≡ [] →
+    Appends a b header → TakesBut a b rest (header ++ lines_after job t 0)
+no-rows a b job t rest none put =
+    record { front = header; put = put; text_is = ap (λ l. header ++ l) none }
 
-module _ (a b : Option (List ℕ)) (job : JobData) (t m k u : ℕ) (rest : List ℕ) (takes : TakesBut a b rest (header ++ lines_behind job t m)) (count : k ≡ m + 1) (place : u ≡ t + m) where
-  pub row-begins : (c : Option (List ℕ)) → AppendsBeginning b c (rest ++ step_lines job u) → AppendsBeginning a c (header ++ lines_behind job t k)
-  row-begins c begins = subst (λ l. AppendsBeginning a c l) (pieces-more header (step_lines job) t m k u count place) (more-begins a b rest (header ++ lines_behind job t m) takes c (step_lines job u) begins)
+module _ (a b : Option (List ℕ)) (job : JobData) (t m k u : ℕ) (rest : List ℕ)
+    (takes : TakesBut a b rest (header ++ lines_after job t m))
+    (count : k ≡ m + 1) (place : u ≡ t + m) where
+  pub row-begins : (c : Option (List ℕ)) → AppendsBeginning b c (rest ++ step_lines job u) →
+      AppendsBeginning a c (header ++ lines_after job t k)
+  row-begins c begins =
+      subst (λ l. AppendsBeginning a c l) (pieces-more header (step_lines job) t m k u count place)
+      (more-begins a b rest (header ++ lines_after job t m) takes c (step_lines job u) begins)
 
-  pub row-taken : (c : Option (List ℕ)) (left : List ℕ) → TakesBut b c left (rest ++ step_lines job u) → TakesBut a c left (header ++ lines_behind job t k)
-  row-taken c left taken = subst (λ l. TakesBut a c left l) (pieces-more header (step_lines job) t m k u count place) (more-taken a b rest (header ++ lines_behind job t m) takes c left (step_lines job u) taken)
+  pub row-taken : (c : Option (List ℕ)) (left : List ℕ) →
+      TakesBut b c left (rest ++ step_lines job u) →
+      TakesBut a c left (header ++ lines_after job t k)
+  row-taken c left taken =
+      subst (λ l. TakesBut a c left l) (pieces-more header (step_lines job) t m k u count place)
+      (more-taken a b rest (header ++ lines_after job t m) takes c left (step_lines job u) taken)

@@ -1,23 +1,30 @@
 -- The fields of a row, which csv writes without quotes.
-use Rattle.std.proofs.Common.{◌≡◌, ◌∙◌, ◌==◌, ◌++◌, ◌-◌, ◌<◌, ◌^◌, ◌∷◌, [], ℕ, List, Option, Some, None, Bool, true, false, cond, refl, sym, subst, append_assoc, arith, length, inl, inr}
+use Rattle.std.proofs.Common.{◌≡◌, ◌∙◌, ◌==◌, ◌++◌, ◌-◌, ◌<◌, ◌^◌, ◌∷◌, [], ℕ, List}
+use Rattle.std.proofs.Common.{Option, Some, None, Bool, true, false, cond, refl}
+use Rattle.std.proofs.Common.{sym, subst, append_assoc, arith, length, inl, inr}
 use Rattle.std.proofs.lemmas.Bool.{ne_eqb}
 use Rattle.std.proofs.lemmas.Fmt.{decimal_is_IsNumeral}
 use Rattle.std.proofs.lemmas.List.Folds.{list_any-append}
 use Rattle.std.proofs.lemmas.Option.{slice_get_within, get_or_from_slice_get}
 use Rattle.std.proofs.lemmas.Str.Parse.{digit_at}
-use Rattle.std.specs.Prelude.{codes, decimal, slice_get, nat_lt}
+use Rattle.std.specs.Prelude.{codes, decimal, slice_get, nat_lt, IfSome}
 use Rattle.std.specs.Char.{digit_value}
 use Rattle.std.specs.Str.Parse.{AllDigits}
-use Rattle.csv.specs.Writing.{default_writer, field_text, fields_text, is_blank, needs_byte, needs_quotes, row_text}
+use Rattle.csv.specs.Writing.{default_writer, field_text, fields_text}
+use Rattle.csv.specs.Writing.{is_blank, needs_byte, needs_quotes, row_text}
 use Rattle.pram_text.specs.Job.{JobData, IsInstr, IsJob}
 use Rattle.pram_text.specs.declared.instr.Instr.{Instr}
 use Rattle.pram_text.specs.declared.instr.Operands.{Operands}
-use Rattle.pram_text.specs.declared.instr.Operands.TheVariants.{Bare, Target, TargetNumber, TargetOne, TargetTwo, Two, OnePlace, Place}
+use Rattle.pram_text.specs.declared.instr.Operands.TheVariants.{Bare, Target, TargetNumber}
+use Rattle.pram_text.specs.declared.instr.Operands.TheVariants.{TargetOne, TargetTwo, Two}
+use Rattle.pram_text.specs.declared.instr.Operands.TheVariants.{OnePlace, Place}
 use Rattle.pram_text.specs.Instructions.{AreOperands, row_of}
-use Rattle.pram_step.specs.Instructions.{HasShape, request_in}
+use Rattle.pram_step.specs.Instructions.{request_in}
 use Rattle.pram_step.specs.Machine.{IsDataPlace, State, counter, halted, register_place}
-use Rattle.pram_rows.specs.Instructions.{instruction_text, one_register, register_number, spelled, two_registers, three_registers}
-use Rattle.pram_rows.specs.Rows.{instruction_at, instruction_or_stop, row_line, target_text, value_text}
+use Rattle.pram_rows.specs.Instructions.{instruction_text, one_register, register_number}
+use Rattle.pram_rows.specs.Instructions.{spelled, two_registers, three_registers}
+use Rattle.pram_rows.specs.Rows.{instruction_at, instruction_or_stop}
+use Rattle.pram_rows.specs.Rows.{row_line, target_text, value_text}
 
 -- no byte of the field calls for quotes
 abbrev pub IsUnquoted : List ℕ → Type 0
@@ -33,65 +40,96 @@ plain field unquoted = rw unquoted refl
 digit-unquoted : (byte : ℕ) → digit_value byte < 10 → needs_byte default_writer byte ≡ false
 digit-unquoted byte digit =
     let within = digit_at (byte ∷ []) 0 (digit, tt) (omega arith) in
-    rw (ne_eqb byte 44 (λ is. omega (arith, is, within)), ne_eqb byte 34 (λ is. omega (arith, is, within)), ne_eqb byte 13 (λ is. omega (arith, is, within)), ne_eqb byte 10 (λ is. omega (arith, is, within))) refl
+    rw (
+      ne_eqb byte 44 (λ is. omega (arith, is, within)),
+      ne_eqb byte 34 (λ is. omega (arith, is, within)),
+      ne_eqb byte 13 (λ is. omega (arith, is, within)),
+      ne_eqb byte 10 (λ is. omega (arith, is, within)),
+    ) refl
 
 digits-unquoted : (digits : List ℕ) → AllDigits 10 digits → IsUnquoted digits
 digits-unquoted [] all = refl
-digits-unquoted (digit ∷ digits) (first, all) = rw (digit-unquoted digit first) (digits-unquoted digits all)
+digits-unquoted (digit ∷ digits) (first, all) =
+    rw (digit-unquoted digit first) (digits-unquoted digits all)
 
 pub decimal-unquoted : (n : ℕ) → n < 2 ^ 64 → IsUnquoted (decimal n)
 decimal-unquoted n fits = digits-unquoted (decimal n) (decimal_is_IsNumeral n fits).0.1
 
 append-unquoted : (a b : List ℕ) → IsUnquoted a → IsUnquoted b → IsUnquoted (a ++ b)
-append-unquoted a b first second = list_any-append (needs_byte default_writer) a b ∙ (rw (first, second) refl)
+append-unquoted a b first second =
+    list_any-append (needs_byte default_writer) a b ∙ (rw (first, second) refl)
 
 -- a text, what stands between, and a number
-number-unquoted : (text between : List ℕ) (n : ℕ) → IsUnquoted text → IsUnquoted between → n < 2 ^ 64 → IsUnquoted ((text ++ between) ++ decimal n)
-number-unquoted text between n first second fits = append-unquoted (text ++ between) (decimal n) (append-unquoted text between first second) (decimal-unquoted n fits)
+number-unquoted : (text between : List ℕ) (n : ℕ) → IsUnquoted text → IsUnquoted between →
+    n < 2 ^ 64 → IsUnquoted ((text ++ between) ++ decimal n)
+number-unquoted text between n first second fits = append-unquoted (text ++ between) (decimal n)
+    (append-unquoted text between first second) (decimal-unquoted n fits)
 
 one-unquoted : (name : List ℕ) (r : ℕ) → IsUnquoted name → r < 4 → IsUnquoted (one_register name r)
 one-unquoted name r named low = number-unquoted name (codes " r") r named refl (omega arith)
 
-register_number-unquoted : (name : List ℕ) (r k : ℕ) → IsUnquoted name → r < 4 → k < 2 ^ 64 → IsUnquoted (register_number name r k)
-register_number-unquoted name r k named low fits = number-unquoted (one_register name r) (codes " ") k (one-unquoted name r named low) refl fits
+register_number-unquoted : (name : List ℕ) (r k : ℕ) → IsUnquoted name → r < 4 → k < 2 ^ 64 →
+    IsUnquoted (register_number name r k)
+register_number-unquoted name r k named low fits =
+    number-unquoted (one_register name r) (codes " ") k (one-unquoted name r named low) refl fits
 
-two-unquoted : (name : List ℕ) (a b : ℕ) → IsUnquoted name → a < 4 → b < 4 → IsUnquoted (two_registers name a b)
-two-unquoted name a b named low low' = number-unquoted (one_register name a) (codes " r") b (one-unquoted name a named low) refl (omega arith)
+two-unquoted : (name : List ℕ) (a b : ℕ) → IsUnquoted name → a < 4 → b < 4 →
+    IsUnquoted (two_registers name a b)
+two-unquoted name a b named low low' = number-unquoted (one_register name a) (codes " r") b
+    (one-unquoted name a named low) refl (omega arith)
 
-three-unquoted : (name : List ℕ) (r a b : ℕ) → IsUnquoted name → (r < 4) × (a < 4) × (b < 4) → IsUnquoted (three_registers name r a b)
-three-unquoted name r a b named (first, second, third) = number-unquoted (two_registers name r a) (codes " r") b (two-unquoted name r a named first second) refl (omega arith)
+three-unquoted : (name : List ℕ) (r a b : ℕ) → IsUnquoted name → (r < 4) × (a < 4) × (b < 4) →
+    IsUnquoted (three_registers name r a b)
+three-unquoted name r a b named (first, second, third) = number-unquoted (two_registers name r a)
+    (codes " r") b (two-unquoted name r a named first second) refl (omega arith)
 
 name-unquoted : (instr : Instr) → IsUnquoted (row_of instr).0
 name-unquoted instr = grind arith
 
-spelled-unquoted : (len : ℕ) (name : List ℕ) (operands : Operands) → len < 2 ^ 32 → IsUnquoted name → AreOperands len operands → IsUnquoted (spelled name operands)
+spelled-unquoted : (len : ℕ) (name : List ℕ) (operands : Operands) → len < 2 ^ 32 →
+    IsUnquoted name → AreOperands len operands → IsUnquoted (spelled name operands)
 spelled-unquoted len name Bare short named are = named
 spelled-unquoted len name (Target r) short named are = one-unquoted name r named are
-spelled-unquoted len name (TargetNumber r k) short named (register, fits) = register_number-unquoted name r k named register (omega arith)
-spelled-unquoted len name (TargetOne r a) short named (first, second) = two-unquoted name r a named first second
+spelled-unquoted len name (TargetNumber r k) short named (register, fits) =
+    register_number-unquoted name r k named register (omega arith)
+spelled-unquoted len name (TargetOne r a) short named (first, second) =
+    two-unquoted name r a named first second
 spelled-unquoted len name (TargetTwo r a b) short named are = three-unquoted name r a b named are
-spelled-unquoted len name (Two a b) short named (first, second) = two-unquoted name a b named first second
-spelled-unquoted len name (OnePlace r place) short named (register, within) = register_number-unquoted name r place named register (omega arith)
-spelled-unquoted len name (Place place) short named are = number-unquoted name (codes " ") place named refl (omega arith)
+spelled-unquoted len name (Two a b) short named (first, second) =
+    two-unquoted name a b named first second
+spelled-unquoted len name (OnePlace r place) short named (register, within) =
+    register_number-unquoted name r place named register (omega arith)
+spelled-unquoted len name (Place place) short named are =
+    number-unquoted name (codes " ") place named refl (omega arith)
 
-instruction-unquoted : (len : ℕ) (instr : Instr) → len < 2 ^ 32 → IsInstr len instr → IsUnquoted (instruction_text instr)
-instruction-unquoted len instr short is = spelled-unquoted len (row_of instr).0 (row_of instr).1 short (name-unquoted instr) is
+instruction-unquoted : (len : ℕ) (instr : Instr) → len < 2 ^ 32 → IsInstr len instr →
+    IsUnquoted (instruction_text instr)
+instruction-unquoted len instr short is =
+    spelled-unquoted len (row_of instr).0 (row_of instr).1 short (name-unquoted instr) is
 
-either-unquoted : (b : Bool) (first second : List ℕ) → IsUnquoted first → IsUnquoted second → IsUnquoted (cond b first second)
+either-unquoted : (b : Bool) (first second : List ℕ) → IsUnquoted first → IsUnquoted second →
+    IsUnquoted (cond b first second)
 either-unquoted true first second one other = one
 either-unquoted false first second one other = other
 
-stop-or-instruction : (job : JobData) (counter : ℕ) (o : Option Instr) → IsJob job → slice_get job.code counter ≡ o → IsUnquoted (instruction_or_stop job counter o)
-stop-or-instruction job counter None is at = either-unquoted (counter == halted job) (codes "halted") (codes "out_of_range") refl refl
+stop-or-instruction : (job : JobData) (counter : ℕ) (o : Option Instr) → IsJob job →
+    slice_get job.code counter ≡ o → IsUnquoted (instruction_or_stop job counter o)
+stop-or-instruction job counter None is at =
+    either-unquoted (counter == halted job) (codes "halted") (codes "out_of_range") refl refl
 stop-or-instruction job counter (Some instr) is at =
     let here = is.code_fits counter instr (slice_get_within job.code counter instr at) in
-    let instr_is = subst (λ (x : Instr). IsInstr (length job.code) x) (get_or_from_slice_get job.code counter instr instr at) here in
-    instruction-unquoted (length job.code) instr (let few = is.code_len.1 in omega (arith, few)) instr_is
+    let instr_is = subst (λ (x : Instr). IsInstr (length job.code) x)
+    (get_or_from_slice_get job.code counter instr instr at) here in
+    instruction-unquoted (length job.code) instr
+    (let few = is.code_len.1 in omega (arith, few)) instr_is
 
-pub instruction-plain : (job : JobData) (counter : ℕ) → IsJob job → IsPlain (instruction_at job counter)
-instruction-plain job counter is = plain (instruction_at job counter) (stop-or-instruction job counter (slice_get job.code counter) is refl)
+pub instruction-plain : (job : JobData) (counter : ℕ) → IsJob job →
+    IsPlain (instruction_at job counter)
+instruction-plain job counter is = plain (instruction_at job counter)
+    (stop-or-instruction job counter (slice_get job.code counter) is refl)
 
-place-fits : (job : JobData) (i place : ℕ) → IsJob job → i < job.procs → IsDataPlace job i place → place < 2 ^ 64
+place-fits : (job : JobData) (i place : ℕ) → IsJob job → i < job.procs →
+    IsDataPlace job i place → place < 2 ^ 64
 place-fits job i place is low (inl cell) = let cells = is.cells.1 in omega (arith, cells, cell)
 place-fits job i place is low (inr own) =
     let cells = is.cells.1 in
@@ -99,27 +137,33 @@ place-fits job i place is low (inr own) =
     let below = own.1 in
     omega (arith, cells, procs, below)
 
-pub target-plain : (job : JobData) (i : ℕ) (put : Option (ℕ × ℕ)) → IsJob job → i < job.procs
-    → ((place value : ℕ) → put ≡ Some (place, value) → IsDataPlace job i place) → IsPlain (target_text job i put)
+pub target-plain : (job : JobData) (i : ℕ) (put : Option (ℕ × ℕ)) → IsJob job →
+    i < job.procs → IfSome put (λ w. IsDataPlace job i w.0) → IsPlain (target_text job i put)
 target-plain job i None is low own = refl
 target-plain job i (Some (place, value)) is low own =
-    let fits : place < 2 ^ 64 = place-fits job i place is low (own place value refl) in
+    let fits : place < 2 ^ 64 = place-fits job i place is low own in
     plain (target_text job i (Some (place, value)))
-    (either-unquoted (nat_lt place job.cells) (codes "cell " ++ decimal place) (codes "r" ++ decimal (place - register_place job i 0))
+    (either-unquoted (nat_lt place job.cells)
+    (codes "cell " ++ decimal place) (codes "r" ++ decimal (place - register_place job i 0))
     (append-unquoted (codes "cell ") (decimal place) refl (decimal-unquoted place fits))
-    (append-unquoted (codes "r") (decimal (place - register_place job i 0)) refl (decimal-unquoted (place - register_place job i 0) (omega arith))))
+    (append-unquoted (codes "r") (decimal (place - register_place job i 0)) refl
+    (decimal-unquoted (place - register_place job i 0) (omega arith))))
 
 -- a row of such fields as csv writes it
-seven-text : (step processor place instruction target value next : List ℕ)
-    → IsPlain step → IsPlain processor → IsPlain place → IsPlain instruction → IsPlain target → IsPlain value → IsPlain next
-    → row_text default_writer (step ∷ processor ∷ place ∷ instruction ∷ target ∷ value ∷ next ∷ [])
-    ≡ step ++ codes "," ++ processor ++ codes "," ++ place ++ codes "," ++ instruction ++ codes "," ++ target ++ codes "," ++ value ++ codes "," ++ next ++ codes "\n"
+seven-text : (step processor place instruction target value next : List ℕ) →
+    IsPlain step → IsPlain processor →
+    IsPlain place → IsPlain instruction → IsPlain target → IsPlain value → IsPlain next →
+    row_text default_writer (step ∷ processor ∷ place ∷ instruction ∷ target ∷ value ∷ next ∷ [])
+    ≡ step ++ codes "," ++ processor ++ codes "," ++ place ++ codes "," ++ instruction ++ codes ","
+    ++ target ++ codes "," ++ value ++ codes "," ++ next ++ codes "\n"
 unfolding fields_text is_blank
-seven-text step processor place instruction target value next steps processors places instructions targets values nexts =
+seven-text step processor place instruction target value next steps processors
+    places instructions targets values nexts =
     rw (steps, processors, places, instructions, targets, values, nexts) (simp append_assoc)
 
 -- the fields of a row of the machine, each plain
-pub record AreFields (job : JobData) (s : State) (n i : ℕ) (step processor place instruction target value next : List ℕ) : Type 0 where
+pub record AreFields (job : JobData) (s : State) (n i : ℕ)
+    (step processor place instruction target value next : List ℕ) : Type 0 where
   pub step_is : step ≡ decimal n
   pub processor_is : processor ≡ decimal i
   pub place_is : place ≡ decimal (counter job s i)
@@ -133,12 +177,26 @@ pub record AreFields (job : JobData) (s : State) (n i : ℕ) (step processor pla
   pub values : IsPlain value
   pub nexts : IsPlain next
 
-pub row-is : (job : JobData) (s : State) (n i : ℕ) (step processor place instruction target value next : List ℕ)
-    → IsJob job → i < job.procs → HasShape job i (request_in job s i) → AreFields job s n i step processor place instruction target value next
-    → row_text default_writer (step ∷ processor ∷ place ∷ instruction ∷ target ∷ value ∷ next ∷ []) ≡ row_line job s n i
+pub row-is : (job : JobData) (s : State)
+    (n i : ℕ) (step processor place instruction target value next : List ℕ) → IsJob job →
+    i < job.procs → IfSome (request_in job s i).put (λ w. IsDataPlace job i w.0) →
+    AreFields job s n i step processor place instruction target value next →
+    row_text default_writer (step ∷ processor ∷ place ∷ instruction ∷ target ∷ value ∷ next ∷ [])
+    ≡ row_line job s n i
 unfolding row_line
-row-is job s n i step processor place instruction target value next is low shape fields =
-    let instructions : IsPlain instruction = subst (λ l. IsPlain l) (sym fields.instruction_is) (instruction-plain job (counter job s i) is) in
-    let targets : IsPlain target = subst (λ l. IsPlain l) (sym fields.target_is) (target-plain job i (request_in job s i).put is low shape.data_place) in
-    seven-text step processor place instruction target value next fields.steps fields.processors fields.places instructions targets fields.values fields.nexts
-    ∙ rw (fields.step_is, fields.processor_is, fields.place_is, fields.instruction_is, fields.target_is, fields.value_is, fields.next_is) refl
+row-is job s n i step processor place instruction target value next is low own fields =
+    let instructions : IsPlain instruction = subst (λ l. IsPlain l)
+    (sym fields.instruction_is) (instruction-plain job (counter job s i) is) in
+    let targets : IsPlain target = subst (λ l. IsPlain l)
+    (sym fields.target_is) (target-plain job i (request_in job s i).put is low own) in
+    seven-text step processor place instruction target value next
+    fields.steps fields.processors fields.places instructions targets fields.values fields.nexts
+    ∙ rw (
+      fields.step_is,
+      fields.processor_is,
+      fields.place_is,
+      fields.instruction_is,
+      fields.target_is,
+      fields.value_is,
+      fields.next_is,
+    ) refl

@@ -50,8 +50,8 @@ abbrev pub step_lines : JobData → ℕ → List ℕ
 step_lines job t = rows_in job (state_after job t) (t + 1)
 
 -- the rows of so many steps after t steps
-abbrev pub lines_behind : JobData → ℕ → ℕ → List ℕ
-lines_behind job t count = flat_map (step_lines job) (range_with_len t count)
+abbrev pub lines_after : JobData → ℕ → ℕ → List ℕ
+lines_after job t count = flat_map (step_lines job) (range_with_len t count)
 
 abbrev pub header : List ℕ
 header = codes "step,processor,place,instruction,writes,value,next\n"
@@ -59,4 +59,4 @@ header = codes "step,processor,place,instruction,writes,value,next\n"
 -- the header, and the rows of the steps from one to another, those that there are: the last of all
 -- is `last`
 abbrev pub rows_text : JobData → ℕ → ℕ → ℕ → List ℕ
-rows_text job from to last = header ++ lines_behind job (from - 1) (min to last - (from - 1))
+rows_text job from to last = header ++ lines_after job (from - 1) (min to last - (from - 1))

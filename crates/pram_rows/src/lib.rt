@@ -2,6 +2,7 @@
 #![tactic(auto)]
 
 mod instruction;
+mod moment;
 mod print;
 mod row;
 #[cfg(test)]

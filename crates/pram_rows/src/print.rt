@@ -1,18 +1,17 @@
 //! The steps of a job and its answer, printed.
-ghost use Rattle.std.specs.Prelude.{◌≡◌, ◌+◌, ◌-◌, ◌⊎◌, ◌++◌, ◌↔◌, false};
-ghost use Rattle.std.specs.Prelude.{length, IfOk, OnErr, OnOk, IsErrOf, IsTrue};
+ghost use Rattle.std.specs.Prelude.{◌≡◌, ◌+◌, ◌-◌, ◌<◌, ◌^◌, ◌⊎◌, ◌++◌, ◌↔◌, false};
+ghost use Rattle.std.specs.Prelude.{IfOk, OnErr, OnOk, IsErrOf, IsTrue};
 ghost use Rattle.std.specs.Io.KnownBytes.{Appends};
-ghost use Rattle.pram_step.specs.Laws.{AllStopped};
-ghost use Rattle.pram_step.specs.Machine.{place_count};
 ghost use Rattle.pram_step.specs.Runs.{IsReached, IsStateAfter};
 ghost use Rattle.pram_streams.specs.Transfer.{AppendsBeginning};
 ghost use Rattle.pram_rows.specs.Inner.Printing.{TakesBut};
 ghost use Rattle.pram_rows.specs.Rows.{rows_text, step_lines};
 ghost use Rattle.pram_rows.specs.Shown.{BeginsSteps, TakesSteps, last_step};
 
+use crate::moment::Moment;
 use crate::row::push_rows;
 use crate::window::Window;
-use pram_step::{RunAnswer, State, StepFault, laws, plain_answer, step};
+use pram_step::{Arrival, RunAnswer, State, go_to, make_step, plain_answer};
 use pram_streams::{PrintFault, Sink, print_answer, put};
 use pram_text::Job;
 use std::alloc::{AllocError, Global};
@@ -84,35 +83,42 @@ fn print_rows<W: Sink>(
     if first >= end {
         return Ok(());
     }
-    let mut state = go_to(alloc, job, first)?;
-    let mut rows = show_step(alloc, sink, job, &state, first, Vec::new(alloc))?;
+    let mut state = state_after(alloc, job, first)?;
+    let moment = Moment {
+        job,
+        state: &state,
+        made: first,
+    };
+    let mut rows = show_step(alloc, sink, &moment, Vec::new(alloc))?;
     for made in first..end - 1 {
-        make_step(alloc, job, &mut state, made)?;
-        rows = show_step(alloc, sink, job, &state, made + 1, rows)?;
+        agreed_step(alloc, job, &mut state, made)?;
+        let moment = Moment {
+            job,
+            state: &state,
+            made: made + 1,
+        };
+        rows = show_step(alloc, sink, &moment, rows)?;
     }
     put(sink, rows.as_slice())?;
     Ok(())
 }
 
-// The rows of the step after so many steps go after these. What is not put into the sink is given
+// The rows of the step that comes next go after these. What is not put into the sink is given
 // back.
 fn show_step<W: Sink>(
     alloc: Global,
     sink: &mut W,
-    job: &Job,
-    state: &State,
-    made: u32,
+    moment: &Moment<'_>,
     rows: Vec<u8>,
 ) -> Result<Vec<u8>, PrintFault>
-    requires sink { W.has_failed sink.old ≡ false }
-    requires after { IsStateAfter job.now made state.now }
+    requires { W.has_failed sink.old ≡ false }
     ensures ok { IfOk result (λ left. TakesBut (W.taken sink.old) (W.taken sink.new) left.items
-        (rows.items ++ step_lines job.now made)) }
+        (rows.items ++ step_lines moment.now.job.now moment.now.made)) }
     ensures beginning { AppendsBeginning (W.taken sink.old) (W.taken sink.new)
-        (rows.items ++ step_lines job.now made) }
+        (rows.items ++ step_lines moment.now.job.now moment.now.made) }
     ensures failed { IsTrue (W.has_failed sink.new) ↔ IsErrOf result PrintFault.Device }
 {
-    let rows = push_rows(alloc, job, state, made, rows)?;
+    let rows = push_rows(alloc, moment, rows)?;
     pass_on(sink, rows)
 }
 
@@ -132,49 +138,25 @@ fn pass_on<W: Sink>(sink: &mut W, mut rows: Vec<u8>) -> Result<Vec<u8>, PrintFau
 }
 
 // The state after so many steps, none of which is against the rule.
-fn go_to(alloc: Global, job: &Job, steps: u32) -> Result<State, AllocError>
+fn state_after(alloc: Global, job: &Job, steps: u32) -> Result<State, AllocError>
     requires { IsReached job.now steps }
     ensures { IfOk result (IsStateAfter job.now steps) }
 {
-    laws::start_is_a_state();
-    laws::states_have_all_places();
-    laws::stopped_machine_goes_on();
-    let _ = job.steps();
-    let mut state = State::start(alloc, job)?;
-    for made in 0..steps {
-        if have_stopped(job, &state) {
-            return Ok(state);
-        }
-        make_step(alloc, job, &mut state, made)?;
+    match go_to(alloc, job, steps, steps)? {
+        Arrival::Reached(state) => Ok(state),
+        Arrival::Disputed(_) | Arrival::TooFar => unreachable!(),
     }
-    Ok(state)
 }
 
 // Makes a step that agrees.
-fn make_step(alloc: Global, job: &Job, state: &mut State, made: u32) -> Result<(), AllocError>
+fn agreed_step(alloc: Global, job: &Job, state: &mut State, made: u32) -> Result<(), AllocError>
     requires reached { IsReached job.now (made + 1) }
     requires after { IsStateAfter job.now made state.old }
+    requires fits { made + 1 < 2 ^ 32 }
     ensures { OnOk result (IsStateAfter job.now (made + 1) state.new) }
 {
-    laws::next_is_a_state();
-    laws::states_have_all_places();
-    let _ = job.steps();
-    match step(alloc, job, state) {
-        Ok(()) => Ok(()),
-        Err(StepFault::Memory) => Err(AllocError),
-        Err(StepFault::Conflict { .. }) => unreachable!(),
+    match make_step(alloc, job, state, made)? {
+        None => Ok(()),
+        Some(_) => unreachable!(),
     }
-}
-
-// Whether all processors have stopped.
-fn have_stopped(job: &Job, state: &State) -> bool
-    requires { length state.now ≡ place_count job.now }
-    ensures { IsTrue result → AllStopped job.now state.now }
-{
-    for processor in 0..job.procs() {
-        if (state.get(job.counter_place(processor)) as usize) < job.code().len() {
-            return false;
-        }
-    }
-    true
 }

@@ -3,35 +3,32 @@ ghost use Rattle.std.specs.Prelude.{◌≡◌, ◌+◌, ◌<◌, ◌++◌, decim
 ghost use Rattle.std.specs.Prelude.{map, string_bytes, IfOk, IfSome, OnOk};
 ghost use Rattle.std.specs.Io.KnownBytes.{Appends};
 ghost use Rattle.csv.specs.Writing.{default_writer, field_text, row_text, text_written};
-ghost use Rattle.pram_step.specs.Machine.{IsDataPlace, counter as counter_of, place_count};
-ghost use Rattle.pram_step.specs.Runs.{IsStateAfter};
+ghost use Rattle.pram_step.specs.Machine.{IsDataPlace};
 ghost use Rattle.pram_rows.specs.Inner.Printing.{IsBetweenRecords};
 ghost use Rattle.pram_rows.specs.Rows.{instruction_at, row_line, rows_in};
 ghost use Rattle.pram_rows.specs.Rows.{stop_word, target_text, value_text};
 
 use crate::instruction::instruction_text;
+use crate::moment::Moment;
 use csv::{Error, Writer};
 use itoa::Buffer;
-use pram_step::{State, laws, request};
+use pram_step::{counter, laws, request_after};
 use pram_text::Job;
 use std::alloc::{AllocError, Global};
 use std::io::Write;
 
-/// Writes the rows of the step after so many steps, which lead to this state, after these bytes.
+/// Writes the rows of the step that comes next, after these bytes.
 pub(crate) fn push_rows(
     alloc: Global,
-    job: &Job,
-    state: &State,
-    made: u32,
+    moment: &Moment<'_>,
     bytes: Vec<u8>,
 ) -> Result<Vec<u8>, AllocError>
-    requires { IsStateAfter job.now made state.now }
-    ensures { IfOk result (λ rows. rows.items
-        ≡ bytes.items ++ rows_in job.now state.now (made + 1)) }
+    ensures { IfOk result (λ rows. rows.items ≡ bytes.items
+        ++ rows_in moment.now.job.now moment.now.state.now (moment.now.made + 1)) }
 {
     let mut writer = Writer::from_writer(bytes);
-    for processor in 0..job.procs() {
-        write_row(alloc, &mut writer, job, state, made, processor)?;
+    for processor in 0..moment.job.procs() {
+        write_row(alloc, &mut writer, moment, processor)?;
     }
     match writer.into_inner() {
         Ok(rows) => Ok(rows),
@@ -43,24 +40,21 @@ pub(crate) fn push_rows(
 fn write_row<W: Write + Drop>(
     alloc: Global,
     writer: &mut Writer<W>,
-    job: &Job,
-    state: &State,
-    made: u32,
+    moment: &Moment<'_>,
     processor: u32,
 ) -> Result<(), AllocError>
     requires between { IsBetweenRecords writer.old }
-    requires reached { IsStateAfter job.now made state.now }
-    requires processor { processor < job.now.procs }
+    requires processor { processor < moment.now.job.now.procs }
     ensures between { OnOk result (IsBetweenRecords writer.new) }
     ensures text { OnOk result (Appends (text_written W.contents writer.old)
-        (text_written W.contents writer.new) (row_line job.now state.now (made + 1) processor)) }
+        (text_written W.contents writer.new)
+        (row_line moment.now.job.now moment.now.state.now (moment.now.made + 1) processor)) }
 {
-    let _ = job.procs();
-    laws::requests_have_shape();
+    let (job, state, made) = (moment.job, moment.state, moment.made);
+    job.limits_hold();
     laws::states_have_all_places();
-    laws::counters_stay_within();
     let place = counter(job, state, processor);
-    let asked = request(job, state, processor);
+    let asked = request_after(job, state, processor);
     let instruction = instruction_in(alloc, job, place)?;
     let target = target_in(alloc, job, processor, asked.put)?;
     let mut steps = Buffer::new();
@@ -93,15 +87,6 @@ fn write_record<W: Write + Drop>(writer: &mut Writer<W>, fields: &[&[u8]]) -> Re
         Ok(()) => Ok(()),
         Err(_) => Err(AllocError),
     }
-}
-
-// A processor's counter.
-fn counter(job: &Job, state: &State, processor: u32) -> u32
-    requires processor { processor < job.now.procs }
-    requires places { length state.now ≡ place_count job.now }
-    ensures { result ≡ counter_of job.now state.now processor }
-{
-    state.get(job.counter_place(processor))
 }
 
 // The instruction at a counter, or why the processor has stopped.
@@ -139,7 +124,7 @@ fn target_in(
     requires place { IfSome put (λ w. IsDataPlace job.now processor w.0) }
     ensures { IfOk result (λ text. string_bytes text ≡ target_text job.now processor put) }
 {
-    let _ = job.procs();
+    job.limits_hold();
     let cells = job.cells();
     match put {
         None => Ok(String::new(alloc)),

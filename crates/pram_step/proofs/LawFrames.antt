@@ -1,5 +1,6 @@
 -- A request depends on its processor's own places and on one cell at most.
-use Rattle.std.proofs.Common.{◌≡◌, ℕ, ◌<◌, Bool, true, false, cond, List, [], ◌∷◌, map, length, Option, Some, None, refl, sym, ap, subst, ◌∙◌, arith}
+use Rattle.std.proofs.Common.{◌≡◌, ℕ, ◌<◌, Bool, true, false, cond, List, [], ◌∷◌, map}
+use Rattle.std.proofs.Common.{length, Option, Some, None, refl, sym, ap, subst, ◌∙◌, arith}
 use Rattle.std.specs.Prelude.{slice_get, slice_index, nat_lt}
 use Rattle.std.proofs.lemmas.Bool.{ltb-true}
 use Rattle.std.proofs.lemmas.Option.{none-some, same_Some}
@@ -8,30 +9,36 @@ use Rattle.pram_text.specs.declared.instr.Instr.TheVariants.{Set, Pid, Ld, St, J
 use Rattle.pram_text.specs.Job.{JobData, IsJob, IsInstr}
 use Rattle.pram_step.specs.declared.requests.Request.{Request}
 use Rattle.pram_step.specs.Machine.{State, register, counter}
-use Rattle.pram_step.specs.Instructions.{sources_of, cell_read, goes_to, decided, operand_held, cell_held, decided_in, request_in}
+use Rattle.pram_step.specs.Instructions.{sources_of, cell_read, goes_to, decided}
+use Rattle.pram_step.specs.Instructions.{operand_held, cell_held, decided_in, request_in}
 use Rattle.pram_step.specs.Laws.{SameOwn}
 use Rattle.pram_step.proofs.Shapes.{instr_is}
 
--- what processor i asks for in s it asks for in each state that holds the same in its own places and in one cell
+-- what processor i asks for in s it asks for in each state that holds the same in its own places
+-- and in one cell
 abbrev pub ReadsOneCell : JobData → State → ℕ → (State → Request) → Type 0
-ReadsOneCell job s i asked = (cell : ℕ) × (cell < job.cells) × ((t : State) → SameOwn job s t i → slice_index s cell ≡ slice_index t cell → asked s ≡ asked t)
+ReadsOneCell job s i asked = (cell : ℕ) × (cell < job.cells) × ((t : State) → SameOwn job s t i →
+    slice_index s cell ≡ slice_index t cell → asked s ≡ asked t)
 
 -- the registers that are read are the same
 abbrev SameRegisters : JobData → State → State → ℕ → List ℕ → Type 0
 SameRegisters job s t i rs = map (register job s i) rs ≡ map (register job t i) rs
 
 -- the cell that is read is one of the job's
-cell_within : (job : JobData) (instr : Instr) (a cell : ℕ) → cell_read job instr a ≡ Some cell → cell < job.cells
+cell_within : (job : JobData) (instr : Instr) (a cell : ℕ) →
+    cell_read job instr a ≡ Some cell → cell < job.cells
 cell_within job (Ld r _) a cell e = within (nat_lt a job.cells) (λ is. ltb-true a job.cells is) e
   where
-    within : (b : Bool) → (b ≡ true → a < job.cells) → cond b (Some a) None ≡ Some cell → cell < job.cells
+    within : (b : Bool) → (b ≡ true → a < job.cells) →
+        cond b (Some a) None ≡ Some cell → cell < job.cells
     within true low e = subst (λ c. c < job.cells) (same_Some a cell e) (low refl)
     within false low e = absurd (none-some cell e)
 cell_within job Halt a cell e = absurd (none-some cell e)
 cell_within job _ a cell e = absurd (none-some cell e)
 
 module _ (job : JobData) (s : State) (i : ℕ) (cell_zero : 0 < job.cells) where
-  operands_same : (t : State) (instr : Instr) → IsInstr (length job.code) instr → SameOwn job s t i → SameRegisters job s t i (sources_of instr)
+  operands_same : (t : State) (instr : Instr) → IsInstr (length job.code) instr →
+      SameOwn job s t i → SameRegisters job s t i (sources_of instr)
   operands_same t (Set r k) is own = refl
   operands_same t (Pid r) is own = refl
   operands_same t (Ld r a) is own = λ k. own.registers a is.1 k ∷ []
@@ -44,28 +51,46 @@ module _ (job : JobData) (s : State) (i : ℕ) (cell_zero : 0 < job.cells) where
   abbrev held_by : State → Option ℕ → ℕ
   held_by q cell = elim cell [ None ↦ 0 | Some c ↦ slice_index q c ]
 
-  decided_reads : (instr : Instr) → IsInstr (length job.code) instr → ReadsOneCell job s i (λ q. decided_in job q i instr)
+  decided_reads : (instr : Instr) → IsInstr (length job.code) instr →
+      ReadsOneCell job s i (λ q. decided_in job q i instr)
   decided_reads instr is = by_cell (cell_read job instr (operand_held job s i instr 0)) refl
     where
-      same_but : (t : State) (cell : Option ℕ) → cell_read job instr (operand_held job s i instr 0) ≡ cell → SameOwn job s t i → held_by s cell ≡ held_by t cell → decided_in job s i instr ≡ decided_in job t i instr
+      same_but : (t : State) (cell : Option ℕ) →
+          cell_read job instr (operand_held job s i instr 0) ≡ cell → SameOwn job s t i →
+          held_by s cell ≡ held_by t cell → decided_in job s i instr ≡ decided_in job t i instr
       same_but t cell e own held =
           let registers = operands_same t instr is own in
-          let cells : cell_held job s instr (operand_held job s i instr 0) ≡ cell_held job t instr (operand_held job t i instr 0) =
-          subst (λ (o : Option ℕ). held_by s o ≡ held_by t o) (sym e) held ∙ ap (λ (values : List ℕ). cell_held job t instr (slice_index values 0)) registers
-          in
-          λ k. decided job i (own.counters k) instr (slice_index (registers k) 0) (slice_index (registers k) 1) (cells k)
+          let cells : cell_held job s instr (operand_held job s i instr 0)
+          ≡ cell_held job t instr (operand_held job t i instr 0) =
+          subst (λ (o : Option ℕ). held_by s o ≡ held_by t o) (sym e) held
+          ∙ ap (λ (values : List ℕ). cell_held job t instr (slice_index values 0)) registers in
+          λ k. decided job i (own.counters k) instr (slice_index (registers k) 0)
+          (slice_index (registers k) 1) (cells k)
 
-      by_cell : (cell : Option ℕ) → cell_read job instr (operand_held job s i instr 0) ≡ cell → ReadsOneCell job s i (λ q. decided_in job q i instr)
+      by_cell : (cell : Option ℕ) → cell_read job instr (operand_held job s i instr 0) ≡ cell →
+          ReadsOneCell job s i (λ q. decided_in job q i instr)
       by_cell None e = (0, cell_zero, λ t own held. same_but t None e own refl)
-      by_cell (Some cell) e = (cell, cell_within job instr _ cell e, λ t own held. same_but t (Some cell) e own held)
+      by_cell (Some cell) e =
+          (cell, cell_within job instr _ cell e, λ t own held. same_but t (Some cell) e own held)
 
-  fetched_reads : (o : Option Instr) → ((instr : Instr) → o ≡ Some instr → IsInstr (length job.code) instr) → ReadsOneCell job s i (λ q. elim o [ None ↦ goes_to (counter job q i) | Some instr ↦ decided_in job q i instr ])
+  fetched_reads : (o : Option Instr) →
+      ((instr : Instr) → o ≡ Some instr → IsInstr (length job.code) instr) → ReadsOneCell job s i
+      (λ q. elim o [ None ↦ goes_to (counter job q i) | Some instr ↦ decided_in job q i instr ])
   fetched_reads None is = (0, cell_zero, λ t own held. ap goes_to own.counters)
   fetched_reads (Some instr) is = decided_reads instr (is instr refl)
 
-pub reads_one_cell : (job : JobData) (s : State) (i : ℕ) → IsJob job → ReadsOneCell job s i (λ q. request_in job q i)
+pub reads_one_cell : (job : JobData) (s : State) (i : ℕ) → IsJob job →
+    ReadsOneCell job s i (λ q. request_in job q i)
 unfolding request_in
 reads_one_cell job s i is_job =
     let cell_zero : 0 < job.cells = omega (arith, is_job.cells.0) in
-    let fetched = fetched_reads job s i cell_zero (slice_get job.code (counter job s i)) (λ instr. instr_is job (counter job s i) instr is_job) in
-    (fetched.0, fetched.1, λ t own e. fetched.2 t own e ∙ ap (λ (c : ℕ). elim (slice_get job.code c) as (λ (o : Option Instr). Request) [ None ↦ goes_to (counter job t i) | Some instr ↦ decided_in job t i instr ]) own.counters)
+    let fetched = fetched_reads job s i cell_zero (slice_get job.code (counter job s i))
+    (λ instr. instr_is job (counter job s i) instr is_job) in (
+      fetched.0,
+      fetched.1,
+      λ t own e. fetched.2 t own e
+          ∙ ap (λ (c : ℕ). elim (slice_get job.code c) as (λ (o : Option Instr). Request) [
+            | None ↦ goes_to (counter job t i)
+            | Some instr ↦ decided_in job t i instr
+          ]) own.counters,
+    )

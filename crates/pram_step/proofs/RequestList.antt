@@ -1,5 +1,7 @@
 -- Lists of requests, and their writers.
-use Rattle.std.proofs.Common.{◌≡◌, ◌≢◌, ℕ, zero, suc, ◌+◌, ◌<◌, ◌⊎◌, eqb, cond, List, [], ◌∷◌, length, take, get_or, Option, Some, None, refl, sym, ap₂, ◌∙◌, subst, inl, inr, arith, length-take-le}
+use Rattle.std.proofs.Common.{◌≡◌, ◌≢◌, ℕ, zero, suc, ◌+◌, ◌<◌, ◌⊎◌, eqb, cond, List}
+use Rattle.std.proofs.Common.{[], ◌∷◌, length, take, get_or, Option, Some, None, refl}
+use Rattle.std.proofs.Common.{sym, ap₂, ◌∙◌, subst, inl, inr, arith, length-take-le}
 use Rattle.std.specs.Prelude.{slice_get}
 use Rattle.std.proofs.lemmas.Bool.{cases_eq, eq-eqb, ne_eqb, eqb-true, cases_Bool}
 use Rattle.std.proofs.lemmas.Option.{none-some, same_Some, slice_get-get_or, slice_get_within}
@@ -11,7 +13,8 @@ use Rattle.pram_step.specs.Inner.Marks.{Puts}
 
 -- ---- the front of a list, and with one element more
 
-pub slice_get-take : {X : Type 0} (n : ℕ) (xs : List X) (i : ℕ) → i < n → slice_get (take n xs) i ≡ slice_get xs i
+pub slice_get-take : {X : Type 0} (n : ℕ) (xs : List X) (i : ℕ) → i < n →
+    slice_get (take n xs) i ≡ slice_get xs i
 slice_get-take zero xs i h = absurd (omega arith)
 slice_get-take (suc n) [] i h = refl
 slice_get-take (suc n) (x ∷ xs) zero h = refl
@@ -23,53 +26,84 @@ request_at requests i = get_or requests i (record { put = None; next = 0 })
 
 module _ (requests : List Request) (m : ℕ) (inside : m < length requests) where
   pub slice_get_below : (i : ℕ) (r : Request) → slice_get (take m requests) i ≡ Some r → i < m
-  slice_get_below i r h = subst (λ n. i < n) (length-take-le m requests (omega arith)) (slice_get_within (take m requests) i r h)
+  slice_get_below i r h = subst (λ n. i < n) (length-take-le m requests (omega arith))
+      (slice_get_within (take m requests) i r h)
 
-  pub slice_get_more : (i : ℕ) (r : Request) → slice_get (take m requests) i ≡ Some r → slice_get (take (m + 1) requests) i ≡ Some r
+  pub slice_get_more : (i : ℕ) (r : Request) → slice_get (take m requests) i ≡ Some r →
+      slice_get (take (m + 1) requests) i ≡ Some r
   slice_get_more i r h =
       let low = slice_get_below i r h in
       slice_get-take (m + 1) requests i (omega arith) ∙ sym (slice_get-take m requests i low) ∙ h
 
   pub slice_get_last : slice_get (take (m + 1) requests) m ≡ Some (request_at requests m)
-  slice_get_last = slice_get-take (m + 1) requests m (omega arith) ∙ slice_get-get_or requests m (record { put = None; next = 0 }) inside
+  slice_get_last = slice_get-take (m + 1) requests m (omega arith)
+      ∙ slice_get-get_or requests m (record { put = None; next = 0 }) inside
 
   -- an element of the longer front is one of the shorter, or the new one
-  pub slice_get_earlier : (i : ℕ) (r : Request) → slice_get (take (m + 1) requests) i ≡ Some r → (slice_get (take m requests) i ≡ Some r) ⊎ ((i ≡ m) × (request_at requests m ≡ r))
+  pub slice_get_earlier : (i : ℕ) (r : Request) → slice_get (take (m + 1) requests) i ≡ Some r →
+      (slice_get (take m requests) i ≡ Some r) ⊎ ((i ≡ m) × (request_at requests m ≡ r))
   slice_get_earlier i r h = elim (cases_eq i m) [
-    | inl same ↦ inr (same, same_Some (request_at requests m) r (sym slice_get_last ∙ subst (λ n. slice_get (take (m + 1) requests) n ≡ Some r) same h))
+    | inl same ↦ inr (
+      same,
+      same_Some (request_at requests m) r
+          (sym slice_get_last ∙ subst (λ n. slice_get (take (m + 1) requests) n ≡ Some r) same h),
+    )
     | inr apart ↦
-        let below : i < m + 1 = subst (λ n. i < n) (length-take-le (m + 1) requests (omega arith)) (slice_get_within (take (m + 1) requests) i r h) in
+        let below : i < m + 1 = subst (λ n. i < n) (length-take-le (m + 1) requests (omega arith))
+        (slice_get_within (take (m + 1) requests) i r h) in
         let low : i < m = omega arith in
         inl (slice_get-take m requests i low ∙ sym (slice_get-take (m + 1) requests i below) ∙ h)
   ]
 
 -- ---- writes to cells are data
 
-pub written_of_put : (job : JobData) (p i v : ℕ) (r : Request) → p ≢ counter_place job i → r.put ≡ Some (p, v) → written job p i r ≡ Some v
-written_of_put job p i v r away puts = rw (ne_eqb p (counter_place job i) away, puts, eq-eqb p p refl)
+pub written_of_put : (job : JobData) (p i v : ℕ) (r : Request) → p ≢ counter_place job i →
+    r.put ≡ Some (p, v) → written job p i r ≡ Some v
+written_of_put job p i v r away puts =
+    rw (ne_eqb p (counter_place job i) away, puts, eq-eqb p p refl)
 
 -- a write to a place is the processor's next counter or its data
-put_of_data : (p v : ℕ) (o : Option (ℕ × ℕ)) → (elim o [ None ↦ None | Some w ↦ cond (eqb w.0 p) (Some w.1) None ]) ≡ Some v → o ≡ Some (p, v)
+put_of_data : (p v : ℕ) (o : Option (ℕ × ℕ)) →
+    (elim o [ None ↦ None | Some w ↦ cond (eqb w.0 p) (Some w.1) None ]) ≡ Some v → o ≡ Some (p, v)
 put_of_data p v None h = absurd (none-some v h)
 put_of_data p v (Some w) h =
     elim (cases_Bool (eqb w.0 p)) [
-      | inl same ↦ let at_place = eqb-true w.0 p same in let h' = rw same at h in let value = same_Some w.1 v h' in ap₂ (λ (a b : ℕ). Some (a, b)) at_place value
+      | inl same ↦
+          let at_place = eqb-true w.0 p same in
+          let h' = rw same at h in
+          let value = same_Some w.1 v h' in ap₂ (λ (a b : ℕ). Some (a, b)) at_place value
       | inr other ↦ let h' = rw other at h in absurd (none-some v h')
     ]
 
-pub written_cases : (job : JobData) (p i v : ℕ) (r : Request) → written job p i r ≡ Some v → ((p ≡ counter_place job i) × (v ≡ r.next)) ⊎ (r.put ≡ Some (p, v))
+pub written_cases : (job : JobData) (p i v : ℕ) (r : Request) → written job p i r ≡ Some v →
+    ((p ≡ counter_place job i) × (v ≡ r.next)) ⊎ (r.put ≡ Some (p, v))
 written_cases job p i v r writes =
     elim (cases_Bool (eqb p (counter_place job i))) [
-      | inl same ↦ (let h = rw same at writes in inl (eqb-true p (counter_place job i) same, sym (same_Some r.next v h)))
+      | inl same ↦ (let h = rw same at writes in
+          inl (eqb-true p (counter_place job i) same, sym (same_Some r.next v h)))
       | inr away ↦ let h = rw away at writes in inr (put_of_data p v r.put h)
     ]
 
-pub put_of_written : (job : JobData) (cell i v : ℕ) (r : Request) → cell < job.cells → written job cell i r ≡ Some v → r.put ≡ Some (cell, v)
-put_of_written job cell i v r low writes = elim (written_cases job cell i v r writes) [ inl counter ↦ absurd (let c = counter.0 in omega arith) | inr puts ↦ puts ]
+pub put_of_written : (job : JobData) (cell i v : ℕ) (r : Request) → cell < job.cells →
+    written job cell i r ≡ Some v → r.put ≡ Some (cell, v)
+put_of_written job cell i v r low writes = elim (written_cases job cell i v r writes) [
+  | inl counter ↦ absurd (let c = counter.0 in omega arith)
+  | inr puts ↦ puts
+]
 
 -- each processor's write to a cell is its data
-pub Puts-from_Writes : (job : JobData) (requests : List Request) (cell i v : ℕ) → cell < job.cells → Writes job requests cell i v → Puts requests cell i v
-Puts-from_Writes job requests cell i v low w = record { request = w.request; asked = w.asked; puts = put_of_written job cell i v w.request low w.writes }
+pub Puts-from_Writes : (job : JobData) (requests : List Request) (cell i v : ℕ) → cell < job.cells →
+    Writes job requests cell i v → Puts requests cell i v
+Puts-from_Writes job requests cell i v low w = record {
+  request = w.request;
+  asked = w.asked;
+  puts = put_of_written job cell i v w.request low w.writes;
+}
 
-pub Writes-from_Puts : (job : JobData) (requests : List Request) (cell i v : ℕ) → cell < job.cells → Puts requests cell i v → Writes job requests cell i v
-Writes-from_Puts job requests cell i v low p = record { request = p.request; asked = p.asked; writes = written_of_put job cell i v p.request (λ same. omega arith) p.puts }
+pub Writes-from_Puts : (job : JobData) (requests : List Request) (cell i v : ℕ) → cell < job.cells →
+    Puts requests cell i v → Writes job requests cell i v
+Writes-from_Puts job requests cell i v low p = record {
+  request = p.request;
+  asked = p.asked;
+  writes = written_of_put job cell i v p.request (λ same. omega arith) p.puts;
+}

@@ -1,18 +1,24 @@
 -- The requests of a state, one of each processor, and what they may be.
-use Rattle.std.proofs.Common.{◌≡◌, ℕ, zero, suc, ◌+◌, ◌^◌, ◌<◌, ◌≤◌, Bool, true, false, cond, List, [], ◌∷◌, length, map, Option, Some, None, refl, sym, ap, subst, ◌∙◌, inl, inr, arith}
+use Rattle.std.proofs.Common.{◌≡◌, ℕ, zero, suc, ◌+◌, ◌^◌, ◌<◌, ◌≤◌, Bool, true}
+use Rattle.std.proofs.Common.{false, cond, List, [], ◌∷◌, length, map, Option, Some}
+use Rattle.std.proofs.Common.{None, refl, sym, ap, subst, ◌∙◌, inl, inr, arith}
 use Rattle.std.specs.Prelude.{slice_get, slice_index, nat_lt, ◌==◌, All}
 use Rattle.std.proofs.lemmas.Bool.{ltb-true}
 use Rattle.std.proofs.lemmas.List.{get_or_past}
 use Rattle.std.proofs.lemmas.List.FromFn.{length-map-range_with_len, get_or-map-range_with_len}
 use Rattle.std.proofs.lemmas.Bool.{cases_lt}
 use Rattle.std.proofs.lemmas.Nat.{and_le_l, or_lt, xor_lt}
-use Rattle.std.proofs.lemmas.Option.{none-some, same_Some, some_pair_parts, slice_get_within, slice_get-get_or, get_or_from_slice_get}
+use Rattle.std.proofs.lemmas.Option.{none-some, same_Some, some_pair_parts, slice_get_within}
+use Rattle.std.proofs.lemmas.Option.{slice_get-get_or, get_or_from_slice_get}
 use Rattle.pram_text.specs.declared.instr.Instr.{Instr}
-use Rattle.pram_text.specs.declared.instr.Instr.TheVariants.{Set, Pid, And, Or, Xor, Lt, Eq, Ld, St, Jz, Jmp, Halt}
+use Rattle.pram_text.specs.declared.instr.Instr.TheVariants.{Set, Pid, And, Or, Xor, Lt}
+use Rattle.pram_text.specs.declared.instr.Instr.TheVariants.{Eq, Ld, St, Jz, Jmp, Halt}
 use Rattle.pram_text.specs.Job.{JobData, IsJob, IsInstr}
 use Rattle.pram_step.specs.declared.requests.Request.{Request}
-use Rattle.pram_step.specs.Machine.{State, IsDataPlace, register_place, counter_place, register, counter, out_of_range}
-use Rattle.pram_step.specs.Instructions.{sources_of, cell_read, gives, goes_to, decided, HasShape, operand_held, decided_in, request_in, requests_in}
+use Rattle.pram_step.specs.Machine.{State, IsDataPlace, register_place}
+use Rattle.pram_step.specs.Machine.{counter_place, register, counter, out_of_range}
+use Rattle.pram_step.specs.Instructions.{sources_of, cell_read, gives, goes_to, decided, HasShape}
+use Rattle.pram_step.specs.Instructions.{operand_held, decided_in, request_in, requests_in}
 use Rattle.pram_step.specs.Inner.Marks.{AreOwn}
 
 -- ---- the request of each processor
@@ -21,38 +27,49 @@ pub length-requests_in : (job : JobData) (s : State) → length (requests_in job
 unfolding requests_in
 length-requests_in job s = length-map-range_with_len (request_in job s) 0 job.procs
 
-pub asks : (job : JobData) (s : State) (i : ℕ) → i < job.procs → slice_get (requests_in job s) i ≡ Some (request_in job s i)
+pub asks : (job : JobData) (s : State) (i : ℕ) → i < job.procs →
+    slice_get (requests_in job s) i ≡ Some (request_in job s i)
 unfolding requests_in
 asks job s i lt =
     let within : i < length (requests_in job s) = omega (arith, length-requests_in job s) in
     let there : 0 + i ≡ i = omega arith in
-    slice_get-get_or (requests_in job s) i (request_in job s i) within ∙ ap Some (get_or-map-range_with_len (request_in job s) 0 job.procs i i (request_in job s i) lt there)
+    slice_get-get_or (requests_in job s) i (request_in job s i) within ∙ ap Some
+    (get_or-map-range_with_len (request_in job s) 0 job.procs i i (request_in job s i) lt there)
 
-pub asked_by : (job : JobData) (s : State) (i : ℕ) (r : Request) → slice_get (requests_in job s) i ≡ Some r → i < job.procs
-asked_by job s i r e = omega (arith, slice_get_within (requests_in job s) i r e, length-requests_in job s)
+pub asked_by : (job : JobData) (s : State) (i : ℕ) (r : Request) →
+    slice_get (requests_in job s) i ≡ Some r → i < job.procs
+asked_by job s i r e =
+    omega (arith, slice_get_within (requests_in job s) i r e, length-requests_in job s)
 
-pub asked_is : (job : JobData) (s : State) (i : ℕ) (r : Request) → slice_get (requests_in job s) i ≡ Some r → r ≡ request_in job s i
+pub asked_is : (job : JobData) (s : State) (i : ℕ) (r : Request) →
+    slice_get (requests_in job s) i ≡ Some r → r ≡ request_in job s i
 asked_is job s i r e = same_Some _ _ (sym e ∙ asks job s i (asked_by job s i r e))
 
 -- ---- by cases: whether there is an instruction at the counter, and whether a test holds
 
-pub instr_is : (job : JobData) (k : ℕ) (instr : Instr) → IsJob job → slice_get job.code k ≡ Some instr → IsInstr (length job.code) instr
+pub instr_is : (job : JobData) (k : ℕ) (instr : Instr) → IsJob job →
+    slice_get job.code k ≡ Some instr → IsInstr (length job.code) instr
 instr_is job k instr is_job e =
-    subst (λ (x : Instr). IsInstr (length job.code) x) (get_or_from_slice_get job.code k instr instr e) (is_job.code_fits k instr (slice_get_within job.code k instr e))
+    subst (λ (x : Instr). IsInstr (length job.code) x)
+    (get_or_from_slice_get job.code k instr instr e)
+    (is_job.code_fits k instr (slice_get_within job.code k instr e))
 
 pub request_by :
-    (P : Request → Type 0) (job : JobData) (s : State) (i : ℕ)
-    → P (goes_to (counter job s i))
-    → ((instr : Instr) → slice_get job.code (counter job s i) ≡ Some instr → P (decided_in job s i instr))
-    → P (request_in job s i)
+    (P : Request → Type 0) (job : JobData) (s : State) (i : ℕ) → P (goes_to (counter job s i)) →
+    ((instr : Instr) → slice_get job.code (counter job s i) ≡ Some instr →
+    P (decided_in job s i instr)) → P (request_in job s i)
 unfolding request_in
 request_by P job s i stays runs = by_instr (slice_get job.code (counter job s i)) refl
   where
-    by_instr : (o : Option Instr) → slice_get job.code (counter job s i) ≡ o → P (elim o [ None ↦ goes_to (counter job s i) | Some instr ↦ decided_in job s i instr ])
+    by_instr : (o : Option Instr) → slice_get job.code (counter job s i) ≡ o → P (elim o [
+      | None ↦ goes_to (counter job s i)
+      | Some instr ↦ decided_in job s i instr
+    ])
     by_instr None e = stays
     by_instr (Some instr) e = runs instr e
 
-by_test : (P : Request → Type 0) (b : Bool) (x y : Request) → (b ≡ true → P x) → (b ≡ false → P y) → P (cond b x y)
+by_test : (P : Request → Type 0) (b : Bool) (x y : Request) → (b ≡ true → P x) →
+    (b ≡ false → P y) → P (cond b x y)
 by_test P true x y f g = f refl
 by_test P false x y f g = g refl
 
@@ -68,7 +85,9 @@ module _ (job : JobData) (i counter a b v : ℕ) where
   GoesWell r = (place value : ℕ) → r.put ≡ Some (place, value) → IsDataPlace job i place
 
   to_register : (r value : ℕ) → r < 4 → GoesWell (gives job i counter r value)
-  to_register r value low place v h = let e = (some_pair_parts (register_place job i r) place value v h).0 in inr (omega arith, omega arith)
+  to_register r value low place v h =
+      let e = (some_pair_parts (register_place job i r) place value v h).0 in
+      inr (omega arith, omega arith)
 
   to_cell : a < job.cells → GoesWell (record { put = Some (a, b); next = counter + 1 })
   to_cell low place v h = let e = (some_pair_parts a place b v h).0 in inl (omega arith)
@@ -76,11 +95,14 @@ module _ (job : JobData) (i counter a b v : ℕ) where
   to_none : GoesWell (goes_to 0)
   to_none place v h = absurd (none-some (place, v) h)
 
-  pub decided_place : (instr : Instr) → IsInstr (length job.code) instr → (place value : ℕ) → (decided job i counter instr a b v).put ≡ Some (place, value) → IsDataPlace job i place
+  pub decided_place : (instr : Instr) → IsInstr (length job.code) instr → (place value : ℕ) →
+      (decided job i counter instr a b v).put ≡ Some (place, value) → IsDataPlace job i place
   unfolding decided
   decided_place (Pid r) is = to_register r i is
-  decided_place (Ld r _) is = by_test GoesWell (nat_lt a job.cells) _ _ (λ low. to_register r v is.0) (λ high. to_none)
-  decided_place (St _ _) is = by_test GoesWell (nat_lt a job.cells) _ _ (λ low. to_cell (ltb-true a job.cells low)) (λ high. to_none)
+  decided_place (Ld r _) is =
+      by_test GoesWell (nat_lt a job.cells) _ _ (λ low. to_register r v is.0) (λ high. to_none)
+  decided_place (St _ _) is = by_test GoesWell (nat_lt a job.cells) _ _
+      (λ low. to_cell (ltb-true a job.cells low)) (λ high. to_none)
   decided_place (Jz r place) is = to_none
   decided_place (Jmp place) is = to_none
   decided_place Halt is = to_none
@@ -96,32 +118,48 @@ module _ (job : JobData) (i counter a b v : ℕ) where
   of_none : HasValue (goes_to 0)
   of_none place v h = absurd (none-some (place, v) h)
 
-  pub decided_value : (instr : Instr) → IsInstr (length job.code) instr → i < 2 ^ 32 → a < 2 ^ 32 → b < 2 ^ 32 → v < 2 ^ 32 → (place value : ℕ) → (decided job i counter instr a b v).put ≡ Some (place, value) → value < 2 ^ 32
+  pub decided_value : (instr : Instr) → IsInstr (length job.code) instr →
+      i < 2 ^ 32 → a < 2 ^ 32 → b < 2 ^ 32 → v < 2 ^ 32 → (place value : ℕ) →
+      (decided job i counter instr a b v).put ≡ Some (place, value) → value < 2 ^ 32
   unfolding decided
   decided_value (Set r k) is low fits fits_too held = of_value _ _ is.1
   decided_value (Pid r) is low fits fits_too held = of_value _ _ low
   decided_value (And r _ _) is low fits fits_too held = of_value _ _ (omega (arith, and_le_l a b))
   decided_value (Or r _ _) is low fits fits_too held = of_value _ _ (or_lt 32 a b fits fits_too)
   decided_value (Xor r _ _) is low fits fits_too held = of_value _ _ (xor_lt 32 a b fits fits_too)
-  decided_value (Lt r _ _) is low fits fits_too held = of_value _ _ (either (λ n. n < 2 ^ 32) (nat_lt a b) 1 0 (omega arith) (omega arith))
-  decided_value (Eq r _ _) is low fits fits_too held = of_value _ _ (either (λ n. n < 2 ^ 32) (a == b) 1 0 (omega arith) (omega arith))
-  decided_value (Ld r _) is low fits fits_too held = by_test HasValue (nat_lt a job.cells) _ _ (λ low. of_value _ _ held) (λ high. of_none)
-  decided_value (St _ _) is low fits fits_too held = by_test HasValue (nat_lt a job.cells) _ _ (λ low. of_value _ _ fits_too) (λ high. of_none)
+  decided_value (Lt r _ _) is low fits fits_too held =
+      of_value _ _ (either (λ n. n < 2 ^ 32) (nat_lt a b) 1 0 (omega arith) (omega arith))
+  decided_value (Eq r _ _) is low fits fits_too held =
+      of_value _ _ (either (λ n. n < 2 ^ 32) (a == b) 1 0 (omega arith) (omega arith))
+  decided_value (Ld r _) is low fits fits_too held =
+      by_test HasValue (nat_lt a job.cells) _ _ (λ low. of_value _ _ held) (λ high. of_none)
+  decided_value (St _ _) is low fits fits_too held =
+      by_test HasValue (nat_lt a job.cells) _ _ (λ low. of_value _ _ fits_too) (λ high. of_none)
   decided_value (Jz r place) is low fits fits_too held = of_none
   decided_value (Jmp place) is low fits fits_too held = of_none
   decided_value Halt is low fits fits_too held = of_none
   decided_value _ is low fits fits_too held = of_value _ _ (omega arith)
 
-  pub decided_next : (instr : Instr) → IsInstr (length job.code) instr → counter < length job.code → (decided job i counter instr a b v).next ≤ out_of_range job
+  pub decided_next : (instr : Instr) → IsInstr (length job.code) instr → counter < length job.code →
+      (decided job i counter instr a b v).next ≤ out_of_range job
   unfolding decided
-  decided_next (Ld r _) is low = by_test (λ r. r.next ≤ out_of_range job) (nat_lt a job.cells) _ _ (λ is. omega arith) (λ is. omega arith)
-  decided_next (St _ _) is low = by_test (λ r. r.next ≤ out_of_range job) (nat_lt a job.cells) _ _ (λ is. omega arith) (λ is. omega arith)
-  decided_next (Jz r place) is low = either (λ n. n ≤ out_of_range job) (a == 0) place (counter + 1) (omega (arith, is.1)) (omega arith)
+  decided_next (Ld r _) is low = by_test (λ r. r.next ≤ out_of_range job) (nat_lt a job.cells) _ _
+      (λ is. omega arith) (λ is. omega arith)
+  decided_next (St _ _) is low = by_test (λ r. r.next ≤ out_of_range job) (nat_lt a job.cells) _ _
+      (λ is. omega arith) (λ is. omega arith)
+  decided_next (Jz r place) is low = either (λ n. n ≤ out_of_range job) (a == 0) place (counter + 1)
+      (omega (arith, is.1)) (omega arith)
   decided_next (Jmp place) is low = omega (arith, is)
   decided_next _ is low = omega arith
 
-  pub decided_shape : (instr : Instr) → IsInstr (length job.code) instr → i < 2 ^ 32 → a < 2 ^ 32 → b < 2 ^ 32 → v < 2 ^ 32 → counter < length job.code → HasShape job i (decided job i counter instr a b v)
-  decided_shape instr is low fits fits_too held inside = record { data_place = decided_place instr is; data_value = decided_value instr is low fits fits_too held; next = decided_next instr is inside }
+  pub decided_shape : (instr : Instr) → IsInstr (length job.code) instr →
+      i < 2 ^ 32 → a < 2 ^ 32 → b < 2 ^ 32 → v < 2 ^ 32 → counter < length job.code →
+      HasShape job i (decided job i counter instr a b v)
+  decided_shape instr is low fits fits_too held inside = record {
+    data_place = decided_place instr is;
+    data_value = decided_value instr is low fits fits_too held;
+    next = decided_next instr is inside;
+  }
 
 -- ---- what a processor may ask for in a state
 
@@ -131,14 +169,22 @@ place_fits s p fits = elim (cases_lt p (length s)) [
   | inr past ↦ (let zero_there : slice_index s p ≡ 0 = get_or_past s p 0 past in omega arith)
 ]
 
-pub request_place : (job : JobData) (s : State) (i place value : ℕ) → IsJob job → (request_in job s i).put ≡ Some (place, value) → IsDataPlace job i place
+pub request_place : (job : JobData) (s : State) (i place value : ℕ) → IsJob job →
+    (request_in job s i).put ≡ Some (place, value) → IsDataPlace job i place
 request_place job s i place value is_job =
-    request_by (λ r. r.put ≡ Some (place, value) → IsDataPlace job i place) job s i (λ h. absurd (none-some (place, value) h)) (λ instr e. decided_place job i _ _ _ _ instr (instr_is job _ instr is_job e) place value)
+    request_by (λ r. r.put ≡ Some (place, value) → IsDataPlace job i place) job s i
+    (λ h. absurd (none-some (place, value) h))
+    (λ instr e. decided_place job i _ _ _ _ instr (instr_is job _ instr is_job e) place value)
 
-pub request_value : (job : JobData) (s : State) (i place value : ℕ) → IsJob job → All (λ v. v < 2 ^ 32) s → i < job.procs → (request_in job s i).put ≡ Some (place, value) → value < 2 ^ 32
+pub request_value : (job : JobData) (s : State) (i place value : ℕ) →
+    IsJob job → All (λ v. v < 2 ^ 32) s → i < job.procs →
+    (request_in job s i).put ≡ Some (place, value) → value < 2 ^ 32
 request_value job s i place value is_job fits low =
-    request_by (λ r. r.put ≡ Some (place, value) → value < 2 ^ 32) job s i (λ h. absurd (none-some (place, value) h)) (λ instr e.
-    decided_value job i _ _ _ _ instr (instr_is job _ instr is_job e) (omega (arith, is_job.procs.1)) (operand_fits instr 0) (operand_fits instr 1) (cell_fits (cell_read job instr (operand_held job s i instr 0))) place value)
+    request_by (λ r. r.put ≡ Some (place, value) → value < 2 ^ 32) job s i
+    (λ h. absurd (none-some (place, value) h)) (λ instr e.
+    decided_value job i _ _ _ _ instr (instr_is job _ instr is_job e)
+    (omega (arith, is_job.procs.1)) (operand_fits instr 0) (operand_fits instr 1)
+    (cell_fits (cell_read job instr (operand_held job s i instr 0))) place value)
   where
     operand_fits : (instr : Instr) (k : ℕ) → operand_held job s i instr k < 2 ^ 32
     operand_fits instr k = registers_fit (sources_of instr) k
@@ -152,18 +198,22 @@ request_value job s i place value is_job fits low =
     cell_fits None = omega arith
     cell_fits (Some cell) = place_fits s cell fits
 
-pub request_within : (job : JobData) (s : State) (i : ℕ) → IsJob job → counter job s i ≤ out_of_range job → (request_in job s i).next ≤ out_of_range job
+pub request_within : (job : JobData) (s : State) (i : ℕ) → IsJob job →
+    counter job s i ≤ out_of_range job → (request_in job s i).next ≤ out_of_range job
 request_within job s i is_job low =
-    request_by (λ r. r.next ≤ out_of_range job) job s i low (λ instr e. decided_next job i _ _ _ _ instr (instr_is job _ instr is_job e) (slice_get_within job.code _ instr e))
+    request_by (λ r. r.next ≤ out_of_range job) job s i low (λ instr e. decided_next job i _ _ _ _
+    instr (instr_is job _ instr is_job e) (slice_get_within job.code _ instr e))
 
-pub request_next_fits : (job : JobData) (s : State) (i : ℕ) → IsJob job → All (λ v. v < 2 ^ 32) s → (request_in job s i).next < 2 ^ 32
+pub request_next_fits : (job : JobData) (s : State) (i : ℕ) → IsJob job → All (λ v. v < 2 ^ 32) s →
+    (request_in job s i).next < 2 ^ 32
 request_next_fits job s i is_job fits =
     request_by (λ r. r.next < 2 ^ 32) job s i (place_fits s (counter_place job i) fits) (λ instr e.
-    let low : (decided_in job s i instr).next ≤ out_of_range job = decided_next job i _ _ _ _ instr (instr_is job _ instr is_job e) (slice_get_within job.code _ instr e) in
-    let most = is_job.code_len.1 in
-    omega arith)
+    let low : (decided_in job s i instr).next ≤ out_of_range job = decided_next job i _ _ _ _ instr
+    (instr_is job _ instr is_job e) (slice_get_within job.code _ instr e) in
+    let most = is_job.code_len.1 in omega arith)
 
-pub request_shape : (job : JobData) (s : State) (i : ℕ) → IsJob job → All (λ v. v < 2 ^ 32) s → i < job.procs → counter job s i ≤ out_of_range job → HasShape job i (request_in job s i)
+pub request_shape : (job : JobData) (s : State) (i : ℕ) → IsJob job → All (λ v. v < 2 ^ 32) s →
+    i < job.procs → counter job s i ≤ out_of_range job → HasShape job i (request_in job s i)
 request_shape job s i is_job fits low inside = record {
   data_place = λ place value. request_place job s i place value is_job;
   data_value = λ place value. request_value job s i place value is_job fits low;
@@ -171,4 +221,7 @@ request_shape job s i is_job fits low inside = record {
 }
 
 pub AreOwn-requests_in : (job : JobData) (s : State) → IsJob job → AreOwn job (requests_in job s)
-AreOwn-requests_in job s is_job = record { own = λ i place v p. request_place job s i place v is_job (subst (λ (r : Request). r.put ≡ Some (place, v)) (asked_is job s i p.request p.asked) p.puts) }
+AreOwn-requests_in job s is_job = record {
+  own = λ i place v p. request_place job s i place v is_job (subst
+      (λ (r : Request). r.put ≡ Some (place, v)) (asked_is job s i p.request p.asked) p.puts);
+}

@@ -41,8 +41,8 @@ cell_read job _ a = None
 
 -- a register takes a value
 abbrev pub gives : JobData → ℕ → ℕ → ℕ → ℕ → Request
-gives job i counter r value =
-    record { put = Some (register_place job i r, value); next = counter + 1 }
+gives job i counter register value =
+    record { put = Some (register_place job i register, value); next = counter + 1 }
 
 -- no data, and this next counter
 abbrev pub goes_to : ℕ → Request
@@ -80,10 +80,10 @@ listed (sources.Two a b) = a ∷ b ∷ []
 
 -- The parts of a request: the data place plus 1 or 0 for none, the data value, the next counter.
 abbrev pub place_part : Request → ℕ
-place_part request = elim request.put [ None ↦ 0 | Some w ↦ w.0 + 1 ]
+place_part request = elim request.put [ None ↦ 0 | Some write ↦ write.0 + 1 ]
 
 abbrev pub value_part : Request → ℕ
-value_part request = elim request.put [ None ↦ 0 | Some w ↦ w.1 ]
+value_part request = elim request.put [ None ↦ 0 | Some write ↦ write.1 ]
 
 abbrev pub part_of : Request → ℕ → ℕ
 part_of request zero = place_part request
@@ -99,26 +99,29 @@ pub record HasShape (job : JobData) (i : ℕ) (request : Request) : Type 0 where
 
 -- ---- in a state
 
--- what operand k of an instruction holds, and the cell that it reads
+-- what an operand of an instruction holds, and the cell that it reads
 abbrev pub operand_held : JobData → State → ℕ → Instr → ℕ → ℕ
-operand_held job s i instr k = slice_index (map (register job s i) (sources_of instr)) k
+operand_held job state i instr which =
+    slice_index (map (register job state i) (sources_of instr)) which
 
 abbrev pub cell_held : JobData → State → Instr → ℕ → ℕ
-cell_held job s instr a = elim (cell_read job instr a) [ None ↦ 0 | Some cell ↦ slice_index s cell ]
+cell_held job state instr first =
+    elim (cell_read job instr first) [ None ↦ 0 | Some cell ↦ slice_index state cell ]
 
 abbrev pub decided_in : JobData → State → ℕ → Instr → Request
-decided_in job s i instr =
-    decided job i (counter job s i) instr (operand_held job s i instr 0)
-    (operand_held job s i instr 1) (cell_held job s instr (operand_held job s i instr 0))
+decided_in job state i instr =
+    decided job i (counter job state i) instr (operand_held job state i instr 0)
+    (operand_held job state i instr 1)
+    (cell_held job state instr (operand_held job state i instr 0))
 
 -- A processor whose counter is no instruction's place asks for no data and stays.
 unfoldable pub request_in : JobData → State → ℕ → Request
-request_in job s i =
-    elim (slice_get job.code (counter job s i)) [
-      | None ↦ goes_to (counter job s i)
-      | Some instr ↦ decided_in job s i instr
+request_in job state i =
+    elim (slice_get job.code (counter job state i)) [
+      | None ↦ goes_to (counter job state i)
+      | Some instr ↦ decided_in job state i instr
     ]
 
 -- the requests of all processors, each from the state before the step
 unfoldable pub requests_in : JobData → State → List Request
-requests_in job s = map (request_in job s) (range_with_len 0 job.procs)
+requests_in job state = map (request_in job state) (range_with_len 0 job.procs)

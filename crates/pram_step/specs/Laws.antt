@@ -24,17 +24,17 @@ abbrev pub AllStopped : JobData → State → Type 0
 AllStopped job s = (i : ℕ) → i < job.procs → IsStopped job s i
 
 -- the two states hold the same in the registers and the counter of processor i
-pub record SameOwn (job : JobData) (s t : State) (i : ℕ) : Type 0 where
-  pub registers : (r : ℕ) → r < 4 → register job s i r ≡ register job t i r
-  pub counters : counter job s i ≡ counter job t i
+pub record SameOwn (job : JobData) (state other : State) (i : ℕ) : Type 0 where
+  pub registers : (which : ℕ) → which < 4 → register job state i which ≡ register job other i which
+  pub counters : counter job state i ≡ counter job other i
 
 -- ---- requests
 
 abbrev pub RequestsHaveShape : Type 0
 RequestsHaveShape =
-    (job : JobData) (s : State) (i : ℕ) → IsJob job → i < job.procs → All (λ v. v < 2 ^ 32) s →
-    counter job s i ≤ out_of_range job
-    → HasShape job i (request_in job s i)
+    (job : JobData) (state : State) (i : ℕ) → IsJob job →
+    i < job.procs → All (λ value. value < 2 ^ 32) state →
+    counter job state i ≤ out_of_range job → HasShape job i (request_in job state i)
 
 abbrev pub DecisionsHaveShape : Type 0
 DecisionsHaveShape =
@@ -45,17 +45,17 @@ DecisionsHaveShape =
 
 abbrev pub ReadsOneCell : Type 0
 ReadsOneCell =
-    (job : JobData) (s : State) (i : ℕ) → IsJob job
-    → (cell : ℕ) × (cell < job.cells)
-    × ((t : State) → SameOwn job s t i → slice_index s cell ≡ slice_index t cell →
-    request_in job s i ≡ request_in job t i)
+    (job : JobData) (state : State) (i : ℕ) → IsJob job → (cell : ℕ) × (cell < job.cells)
+    × ((other : State) → SameOwn job state other i →
+    slice_index state cell ≡ slice_index other cell →
+    request_in job state i ≡ request_in job other i)
 
 -- ---- the next state
 
 abbrev pub NextIsNext : Type 0
 NextIsNext =
-    (job : JobData) (s : State) → IsJob job → Agrees job (requests_in job s)
-    → IsNext job (requests_in job s) s (next_state job s)
+    (job : JobData) (state : State) → IsJob job → Agrees job (requests_in job state)
+    → IsNext job (requests_in job state) state (next_state job state)
 
 abbrev pub OneNext : Type 0
 OneNext =
@@ -65,12 +65,13 @@ OneNext =
 abbrev pub AgreesOrHasADispute : Type 0
 AgreesOrHasADispute =
     (job : JobData) (requests : List Request) →
-    Agrees job requests ⊎ ((d : Dispute) × IsDispute job requests d)
+    Agrees job requests ⊎ ((dispute : Dispute) × IsDispute job requests dispute)
 
 abbrev pub OneDispute : Type 0
 OneDispute =
-    (job : JobData) (requests : List Request) (d e : Dispute) → IsDispute job requests d →
-    IsDispute job requests e → d ≡ e
+    (job : JobData) (requests : List Request) (dispute other : Dispute) →
+    IsDispute job requests dispute →
+    IsDispute job requests other → dispute ≡ other
 
 abbrev pub PriorityAlwaysAgrees : Type 0
 PriorityAlwaysAgrees =
@@ -78,26 +79,27 @@ PriorityAlwaysAgrees =
 
 abbrev pub OnlyCellsClash : Type 0
 OnlyCellsClash =
-    (job : JobData) (s : State) (p i j v w : ℕ) → IsJob job → job.cells ≤ p
-    → Writes job (requests_in job s) p i v → Writes job (requests_in job s) p j w →
-    (i ≡ j) × (v ≡ w)
+    (job : JobData) (state : State) (place i j value other : ℕ) →
+    IsJob job → job.cells ≤ place → Writes job (requests_in job state) place i value →
+    Writes job (requests_in job state) place j other →
+    (i ≡ j) × (value ≡ other)
 
 abbrev pub OrderIsFree : Type 0
 OrderIsFree =
-    (job : JobData) (s : State) (order : List ℕ)
-    → IsJob job → job.rule ≢ Priority → Agrees job (requests_in job s) → HasAll job order
-    → after_first_found job (requests_in job s) order s ≡ next_state job s
+    (job : JobData) (state : State) (order : List ℕ)
+    → IsJob job → job.rule ≢ Priority → Agrees job (requests_in job state) → HasAll job order
+    → after_first_found job (requests_in job state) order state ≡ next_state job state
 
 abbrev pub LeastWriterIsFound : Type 0
 LeastWriterIsFound =
-    (job : JobData) (s : State) (order : List ℕ) → HasAll job order →
-    after_least_found job (requests_in job s) order s ≡ next_state job s
+    (job : JobData) (state : State) (order : List ℕ) → HasAll job order →
+    after_least_found job (requests_in job state) order state ≡ next_state job state
 
 abbrev pub TurnsAreFree : Type 0
 TurnsAreFree =
-    (job : JobData) (s : State) (order : List ℕ)
-    → IsJob job → job.rule ≢ Priority → Agrees job (requests_in job s) → HasAll job order
-    → after_in_turn job (requests_in job s) order s ≡ next_state job s
+    (job : JobData) (state : State) (order : List ℕ)
+    → IsJob job → job.rule ≢ Priority → Agrees job (requests_in job state) → HasAll job order
+    → after_in_turn job (requests_in job state) order state ≡ next_state job state
 
 -- ---- states
 
@@ -107,22 +109,24 @@ StartIsAState =
 
 abbrev pub NextIsAState : Type 0
 NextIsAState =
-    (job : JobData) (t : ℕ) (s : State) → IsStateAfter job t s → Agrees job (requests_in job s) →
-    IsStateAfter job (t + 1) (next_state job s)
+    (job : JobData) (t : ℕ) (state : State) →
+    IsStateAfter job t state → Agrees job (requests_in job state) →
+    IsStateAfter job (t + 1) (next_state job state)
 
 abbrev pub OneState : Type 0
 OneState =
-    (job : JobData) (t : ℕ) (r s : State) → IsStateAfter job t r → IsStateAfter job t s → r ≡ s
+    (job : JobData) (t : ℕ) (state other : State) → IsStateAfter job t state →
+    IsStateAfter job t other → state ≡ other
 
 abbrev pub ReachedWhereNothingIsDisputed : Type 0
 ReachedWhereNothingIsDisputed =
-    (job : JobData) (t : ℕ)
-    → IsReached job t ↔ ((s : ℕ) (d : Dispute) → s < t → IsDispute job (requests_after job s) d → ⊥)
+    (job : JobData) (t : ℕ) → IsReached job t ↔ ((earlier : ℕ) (dispute : Dispute) → earlier < t →
+    IsDispute job (requests_after job earlier) dispute → ⊥)
 
 abbrev pub StatesHaveAllPlaces : Type 0
 StatesHaveAllPlaces =
-    (job : JobData) (t : ℕ) → IsJob job
-    → (length (state_after job t) ≡ place_count job) × All (λ v. v < 2 ^ 32) (state_after job t)
+    (job : JobData) (t : ℕ) → IsJob job → (length (state_after job t) ≡ place_count job)
+    × All (λ value. value < 2 ^ 32) (state_after job t)
 
 abbrev pub CountersStayWithin : Type 0
 CountersStayWithin =
@@ -131,74 +135,77 @@ CountersStayWithin =
 
 abbrev pub CountersFollowRequests : Type 0
 CountersFollowRequests =
-    (job : JobData) (s : State) (i : ℕ) → IsJob job → length s ≡ place_count job → i < job.procs
-    → counter job (next_state job s) i ≡ (request_in job s i).next
+    (job : JobData) (state : State) (i : ℕ) → IsJob job → length state ≡ place_count job →
+    i < job.procs → counter job (next_state job state) i ≡ (request_in job state i).next
 
 -- ---- what the steps write
 
 abbrev pub LastWriteIsTheLast : Type 0
 LastWriteIsTheLast =
-    (job : JobData) (t p : ℕ)
-    → (last_write job t p ≤ t) × ((s : ℕ) → last_write job t p ≡ suc s → IsWritten job s p)
-    × ((s : ℕ) → s < t → IsWritten job s p → s < last_write job t p)
+    (job : JobData) (t place : ℕ) → (last_write job t place ≤ t)
+    × ((earlier : ℕ) → last_write job t place ≡ suc earlier → IsWritten job earlier place)
+    × ((earlier : ℕ) → earlier < t → IsWritten job earlier place → earlier < last_write job t place)
 
 abbrev pub UnwrittenPlaceKeepsItsValue : Type 0
 UnwrittenPlaceKeepsItsValue =
-    (job : JobData) (t u p : ℕ) → IsJob job → p < place_count job → t ≤ u
-    → ((s : ℕ) → t ≤ s → s < u → IsWritten job s p → ⊥)
-    → slice_index (state_after job u) p ≡ slice_index (state_after job t) p
+    (job : JobData) (t later place : ℕ) → IsJob job → place < place_count job → t ≤ later
+    → ((earlier : ℕ) → t ≤ earlier → earlier < later → IsWritten job earlier place → ⊥)
+    → slice_index (state_after job later) place ≡ slice_index (state_after job t) place
 
 abbrev pub ValueIsOfTheLastWrite : Type 0
 ValueIsOfTheLastWrite =
-    (job : JobData) (t p : ℕ) → IsJob job → p < place_count job
-    → slice_index (state_after job t) p ≡ slice_index (state_after job (last_write job t p)) p
+    (job : JobData) (t place : ℕ) → IsJob job → place < place_count job →
+    slice_index (state_after job t) place
+    ≡ slice_index (state_after job (last_write job t place)) place
 
 abbrev pub WrittenPlaceHoldsTheValue : Type 0
 WrittenPlaceHoldsTheValue =
-    (job : JobData) (s p i v : ℕ) → IsJob job → p < place_count job → AgreesAfter job s →
-    Asks job s p i v → Wins job s p i
-    → slice_index (state_after job (suc s)) p ≡ v
+    (job : JobData) (t place i value : ℕ) →
+    IsJob job → place < place_count job → AgreesAfter job t →
+    Asks job t place i value → Wins job t place i →
+    slice_index (state_after job (suc t)) place ≡ value
 
 abbrev pub ProcessorsWriteTheirRequests : Type 0
 ProcessorsWriteTheirRequests =
-    (job : JobData) (s p i v : ℕ) → IsJob job → i < job.procs
-    → Asks job s p i v
-    ↔ (((p ≡ counter_place job i) × (v ≡ part_after job s i 2))
-    ⊎ ((part_after job s i 0 ≡ suc p) × (part_after job s i 1 ≡ v)))
+    (job : JobData) (t place i value : ℕ) → IsJob job → i < job.procs
+    → Asks job t place i value
+    ↔ (((place ≡ counter_place job i) × (value ≡ part_after job t i 2))
+    ⊎ ((part_after job t i 0 ≡ suc place) × (part_after job t i 1 ≡ value)))
 
 abbrev pub WritesFit : Type 0
 WritesFit =
-    (job : JobData) (s p i v : ℕ) → IsJob job → Asks job s p i v →
-    (p < place_count job) × (v < 2 ^ 32)
+    (job : JobData) (t place i value : ℕ) → IsJob job → Asks job t place i value →
+    (place < place_count job) × (value < 2 ^ 32)
 
 -- ---- what stops
 
 abbrev pub StoppedMachineStays : Type 0
 StoppedMachineStays =
-    (job : JobData) (s : State) → AllStopped job s →
-    Agrees job (requests_in job s) × (next_state job s ≡ s)
+    (job : JobData) (state : State) → AllStopped job state →
+    Agrees job (requests_in job state) × (next_state job state ≡ state)
 
 abbrev pub StoppedMachineGoesOn : Type 0
 StoppedMachineGoesOn =
-    (job : JobData) (t k : ℕ) (s : State) → IsStateAfter job t s → AllStopped job s →
-    IsStateAfter job (t + k) s
+    (job : JobData) (t more : ℕ) (state : State) → IsStateAfter job t state → AllStopped job state →
+    IsStateAfter job (t + more) state
 
 abbrev pub UnchangedStays : Type 0
 UnchangedStays =
-    (job : JobData) (t k : ℕ) (s : State) → IsStateAfter job t s → Agrees job (requests_in job s) →
-    next_state job s ≡ s → IsStateAfter job (t + k) s
+    (job : JobData) (t more : ℕ) (state : State) →
+    IsStateAfter job t state → Agrees job (requests_in job state) →
+    next_state job state ≡ state → IsStateAfter job (t + more) state
 
 abbrev pub StoppedProcessorStays : Type 0
 StoppedProcessorStays =
-    (job : JobData) (t k i : ℕ) → IsJob job → i < job.procs → IsStopped job (state_after job t) i
-    → (counter job (state_after job (t + k)) i ≡ counter job (state_after job t) i)
-    × ((request_in job (state_after job (t + k)) i).put ≡ None)
+    (job : JobData) (t more i : ℕ) → IsJob job → i < job.procs → IsStopped job (state_after job t) i
+    → (counter job (state_after job (t + more)) i ≡ counter job (state_after job t) i)
+    × ((request_in job (state_after job (t + more)) i).put ≡ None)
 
 -- ---- answers
 
 abbrev pub ConflictExcludesFinal : Type 0
 ConflictExcludesFinal =
-    (job : JobData) (t : ℕ) (s : State) (fault : Fault) → IsStateAfter job t s →
+    (job : JobData) (t : ℕ) (state : State) (fault : Fault) → IsStateAfter job t state →
     IsFirstConflict job fault → t < fault.step
 
 abbrev pub HasAnswer : Type 0
@@ -207,20 +214,22 @@ HasAnswer =
 
 abbrev pub OneAnswer : Type 0
 OneAnswer =
-    (job : JobData) (a b : RunAnswer) → IsAnswer job a → IsAnswer job b → a ≡ b
+    (job : JobData) (answer other : RunAnswer) → IsAnswer job answer →
+    IsAnswer job other → answer ≡ other
 
 -- ---- jobs that differ in their rule or their number of steps alone
 
 abbrev pub CrewIsStrictest : Type 0
 CrewIsStrictest =
-    (job : JobData) (rule : Rule) (t : ℕ) (s : State)
-    → IsStateAfter (record job { rule = Crew }) t s → IsStateAfter (record job { rule = rule }) t s
+    (job : JobData) (rule : Rule) (t : ℕ) (state : State) →
+    IsStateAfter (record job { rule = Crew }) t state →
+    IsStateAfter (record job { rule = rule }) t state
 
 abbrev pub PriorityIsFreest : Type 0
 PriorityIsFreest =
-    (job : JobData) (rule : Rule) (t : ℕ) (s : State)
-    → IsStateAfter (record job { rule = rule }) t s →
-    IsStateAfter (record job { rule = Priority }) t s
+    (job : JobData) (rule : Rule) (t : ℕ) (state : State)
+    → IsStateAfter (record job { rule = rule }) t state →
+    IsStateAfter (record job { rule = Priority }) t state
 
 abbrev pub NextOfCrewIsNextOfEachRule : Type 0
 NextOfCrewIsNextOfEachRule =
@@ -248,10 +257,10 @@ PriorityEndsAsEachRule =
 
 abbrev pub ConflictIsThatOfALongerJob : Type 0
 ConflictIsThatOfALongerJob =
-    (job : JobData) (n : ℕ) (fault : Fault) → job.steps ≤ n → fault.step ≤ job.steps
-    → IsAnswer job (Conflict fault) ↔ IsAnswer (record job { steps = n }) (Conflict fault)
+    (job : JobData) (most : ℕ) (fault : Fault) → job.steps ≤ most → fault.step ≤ job.steps
+    → IsAnswer job (Conflict fault) ↔ IsAnswer (record job { steps = most }) (Conflict fault)
 
 abbrev pub LongerJobGoesOn : Type 0
 LongerJobGoesOn =
-    (job : JobData) (n t : ℕ) (s : State) → IsStateAfter job t s →
-    IsStateAfter (record job { steps = n }) t s
+    (job : JobData) (most t : ℕ) (state : State) → IsStateAfter job t state →
+    IsStateAfter (record job { steps = most }) t state

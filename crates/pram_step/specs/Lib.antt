@@ -2,6 +2,7 @@ pub mod Machine
 pub mod Instructions
 pub mod Steps
 pub mod Runs
+pub mod Arrivals
 pub mod History
 pub mod Orders
 pub mod Laws

@@ -9,7 +9,7 @@ abbrev pub State : Type 0
 State = List ℕ
 
 abbrev pub register_place : JobData → ℕ → ℕ → ℕ
-register_place job i r = register_at job.cells i r
+register_place job i register = register_at job.cells i register
 
 abbrev pub counter_place : JobData → ℕ → ℕ
 counter_place job i = counters_at job.cells job.procs + i
@@ -19,18 +19,18 @@ place_count job = places_in job.cells job.procs
 
 -- the place is a cell, or a register of processor i
 abbrev pub IsDataPlace : JobData → ℕ → ℕ → Type 0
-IsDataPlace job i p = (p < job.cells)
-    ⊎ ((register_place job i 0 ≤ p) × (p < register_place job i 4))
+IsDataPlace job i place = (place < job.cells)
+    ⊎ ((register_place job i 0 ≤ place) × (place < register_place job i 4))
 
 -- The cells hold their start values, all else 0.
 abbrev pub start : JobData → State
 start job = job.init ++ replicate (5 * job.procs) 0
 
 abbrev pub register : JobData → State → ℕ → ℕ → ℕ
-register job s i r = slice_index s (register_place job i r)
+register job state i which = slice_index state (register_place job i which)
 
 abbrev pub counter : JobData → State → ℕ → ℕ
-counter job s i = slice_index s (counter_place job i)
+counter job state i = slice_index state (counter_place job i)
 
 -- A counter below K is the place of an instruction. K says that the processor has halted, K + 1
 -- that an address was out of range.
@@ -42,4 +42,4 @@ out_of_range job = length job.code + 1
 
 -- it has stopped, by either
 abbrev pub IsStopped : JobData → State → ℕ → Type 0
-IsStopped job s i = halted job ≤ counter job s i
+IsStopped job state i = halted job ≤ counter job state i

@@ -14,48 +14,49 @@ HasAll job order = (i : ℕ) → i < job.procs → Contains order i
 
 -- what processor i writes to the place, if anything
 abbrev pub written_by : JobData → List Request → ℕ → ℕ → Option ℕ
-written_by job requests p i =
-    elim (slice_get requests i) [ None ↦ None | Some request ↦ written job p i request ]
+written_by job requests place i =
+    elim (slice_get requests i) [ None ↦ None | Some request ↦ written job place i request ]
 
 -- ---- the first writer that is found
 
 abbrev pub first_found : JobData → List Request → ℕ → List ℕ → Option ℕ
-first_found job requests p [] = None
-first_found job requests p (i ∷ order) =
-    option_or (written_by job requests p i) (first_found job requests p order)
+first_found job requests place [] = None
+first_found job requests place (i ∷ order) =
+    option_or (written_by job requests place i) (first_found job requests place order)
 
 -- each place takes what the first writer that is found gives it
 unfoldable pub after_first_found : JobData → List Request → List ℕ → State → State
-after_first_found job requests order s = given (λ p. first_found job requests p order) s
+after_first_found job requests order state =
+    given (λ place. first_found job requests place order) state
 
 -- ---- the least writer that is found
 
 -- of two writers with their values the one of the lesser number
 abbrev pub lesser : Option (ℕ × ℕ) → Option (ℕ × ℕ) → Option (ℕ × ℕ)
-lesser None b = b
-lesser (Some a) None = Some a
-lesser (Some a) (Some b) = if nat_le a.0 b.0 then Some a else Some b
+lesser None second = second
+lesser (Some first) None = Some first
+lesser (Some first) (Some second) = if nat_le first.0 second.0 then Some first else Some second
 
 abbrev pub least_found : JobData → List Request → ℕ → List ℕ → Option (ℕ × ℕ)
-least_found job requests p [] = None
-least_found job requests p (i ∷ order) =
-    lesser (option_map (λ v. (i, v)) (written_by job requests p i))
-    (least_found job requests p order)
+least_found job requests place [] = None
+least_found job requests place (i ∷ order) =
+    lesser (option_map (λ value. (i, value)) (written_by job requests place i))
+    (least_found job requests place order)
 
 -- each place takes what the least writer that is found gives it
 unfoldable pub after_least_found : JobData → List Request → List ℕ → State → State
-after_least_found job requests order s =
-    given (λ p. option_map (λ w. w.1) (least_found job requests p order)) s
+after_least_found job requests order state =
+    given (λ place. option_map (λ found. found.1) (least_found job requests place order)) state
 
 -- ---- one processor after another
 
 -- processor i has written what it asked for
 unfoldable pub after_writes_of : JobData → List Request → ℕ → State → State
-after_writes_of job requests i s = given (λ p. written_by job requests p i) s
+after_writes_of job requests i state = given (λ place. written_by job requests place i) state
 
 -- the processors of the order have written one after another, each what it asked for before all of
 -- them
 unfoldable pub after_in_turn : JobData → List Request → List ℕ → State → State
-after_in_turn job requests [] s = s
-after_in_turn job requests (i ∷ order) s =
-    after_in_turn job requests order (after_writes_of job requests i s)
+after_in_turn job requests [] state = state
+after_in_turn job requests (i ∷ order) state =
+    after_in_turn job requests order (after_writes_of job requests i state)

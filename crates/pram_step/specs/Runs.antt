@@ -27,12 +27,12 @@ AgreesAfter job t = Agrees job (requests_after job t)
 
 -- there is a state after t steps: the steps up to t agree
 abbrev pub IsReached : JobData → ℕ → Type 0
-IsReached job t = (s : ℕ) → s < t → AgreesAfter job s
+IsReached job t = (earlier : ℕ) → earlier < t → AgreesAfter job earlier
 
 -- and it is this one
-pub record IsStateAfter (job : JobData) (t : ℕ) (s : State) : Type 0 where
+pub record IsStateAfter (job : JobData) (t : ℕ) (now : State) : Type 0 where
   pub reached : IsReached job t
-  pub state : s ≡ state_after job t
+  pub state : now ≡ state_after job t
 
 -- the dispute of the step that a fault names
 abbrev pub dispute_of : Fault → Dispute
@@ -50,24 +50,24 @@ pub record IsFault (job : JobData) (fault : Fault) : Type 0 where
   pub first : IsFirstConflict job fault
   pub within : fault.step ≤ job.steps
 
--- the requests of the job's step n, which is its first conflict
-pub record AreConflicting (job : JobData) (n : ℕ) (requests : List Request) : Type 0 where
+-- the requests of the step that is named, which is the job's first conflict
+pub record AreConflicting (job : JobData) (named : ℕ) (requests : List Request) : Type 0 where
   pub before : ℕ
-  pub step : n ≡ before + 1
-  pub within : n ≤ job.steps
+  pub step : named ≡ before + 1
+  pub within : named ≤ job.steps
   pub reached : IsReached job before
   pub against : AgreesAfter job before → ⊥
   pub are : requests ≡ requests_after job before
 
 -- The state after the job's last step, or its first conflict.
 abbrev pub IsOutcome : JobData → Outcome → Type 0
-IsOutcome job (outcome.Final s) = IsStateAfter job job.steps s
+IsOutcome job (outcome.Final state) = IsStateAfter job job.steps state
 IsOutcome job (outcome.Conflict step cell first second) =
     IsFault job (record { step = step; cell = cell; first = first; second = second })
 
 -- The same, of the state its cells alone.
 abbrev pub IsAnswer : JobData → RunAnswer → Type 0
-IsAnswer job (answer.Final cells) = (s : State) × IsStateAfter job job.steps s
-    × (cells ≡ take job.cells s)
+IsAnswer job (answer.Final cells) = (state : State) × IsStateAfter job job.steps state
+    × (cells ≡ take job.cells state)
 IsAnswer job (answer.Conflict fault) = IsFault job fault
 IsAnswer job (answer.Unfinished step) = ⊥

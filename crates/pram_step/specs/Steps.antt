@@ -17,22 +17,25 @@ use Rattle.pram_step.specs.Instructions.{requests_in}
 
 -- what processor i writes to a place; its next counter is a write to its counter's place
 abbrev pub written : JobData → ℕ → ℕ → Request → Option ℕ
-written job p i r = if p == counter_place job i then Some r.next
-    else (elim r.put [ None ↦ None | Some w ↦ if w.0 == p then Some w.1 else None ])
+written job place i request = if place == counter_place job i then Some request.next
+    else (elim request.put [
+      | None ↦ None
+      | Some write ↦ if write.0 == place then Some write.1 else None
+    ])
 
--- the writers of a place: processor i writes v to it
-pub record Writes (job : JobData) (requests : List Request) (p i v : ℕ) : Type 0 where
+-- the writers of a place: processor i writes the value to it
+pub record Writes (job : JobData) (requests : List Request) (place i value : ℕ) : Type 0 where
   pub request : Request
   pub asked : slice_get requests i ≡ Some request
-  pub writes : written job p i request ≡ Some v
+  pub writes : written job place i request ≡ Some value
 
 -- ---- when a step agrees
 
 -- Two writes to one cell that the rule forbids.
 abbrev pub Forbids : Rule → ℕ → ℕ → ℕ → ℕ → Type 0
-Forbids Common i v j w = v ≢ w
-Forbids Priority i v j w = ⊥
-Forbids Crew i v j w = i ≢ j
+Forbids Common i value j other = value ≢ other
+Forbids Priority i value j other = ⊥
+Forbids Crew i value j other = i ≢ j
 
 -- processors i and j write to the cell against the rule
 pub record Clashes (job : JobData) (requests : List Request) (cell i j : ℕ) : Type 0 where
@@ -49,11 +52,12 @@ Agrees job requests = (cell i j : ℕ) → Clashes job requests cell i j → ⊥
 
 -- The dispute of a step that does not agree: the least cell in which two clash, its least writer,
 -- and the least that clashes with that one.
-pub record IsDispute (job : JobData) (requests : List Request) (d : Dispute) : Type 0 where
-  pub clash : Clashes job requests d.cell d.first d.second
-  pub least_cell : (cell i j : ℕ) → Clashes job requests cell i j → d.cell ≤ cell
-  pub least_first : (i v : ℕ) → Writes job requests d.cell i v → d.first ≤ i
-  pub least_second : (j : ℕ) → Clashes job requests d.cell d.first j → d.second ≤ j
+pub record IsDispute (job : JobData) (requests : List Request) (dispute : Dispute) : Type 0 where
+  pub clash : Clashes job requests dispute.cell dispute.first dispute.second
+  pub least_cell : (cell i j : ℕ) → Clashes job requests cell i j → dispute.cell ≤ cell
+  pub least_first : (i value : ℕ) → Writes job requests dispute.cell i value → dispute.first ≤ i
+  pub least_second : (j : ℕ) →
+      Clashes job requests dispute.cell dispute.first j → dispute.second ≤ j
 
 -- they agree, or this is their dispute
 abbrev pub IsVerdict : JobData → List Request → Option Dispute → Type 0
@@ -70,31 +74,34 @@ IsStepFault job requests Memory = Unit {0}
 
 -- Processor i's write counts: with rule priority that of the least writer, else that of any.
 abbrev pub Counts : Rule → JobData → List Request → ℕ → ℕ → Type 0
-Counts Common job requests p i = Unit {0}
-Counts Priority job requests p i = (j w : ℕ) → Writes job requests p j w → i ≤ j
-Counts Crew job requests p i = Unit {0}
+Counts Common job requests place i = Unit {0}
+Counts Priority job requests place i = (j value : ℕ) → Writes job requests place j value → i ≤ j
+Counts Crew job requests place i = Unit {0}
 
 -- Each place that a write counts for holds its value, each other place what it held.
 pub record IsNext (job : JobData) (requests : List Request) (old new : State) : Type 0 where
   pub len : length new ≡ length old
-  pub written_to : (p i v : ℕ) → p < length old → Writes job requests p i v →
-      Counts job.rule job requests p i → slice_index new p ≡ v
-  pub kept : (p : ℕ) → p < length old → ((i v : ℕ) → Writes job requests p i v → ⊥) →
-      slice_index new p ≡ slice_index old p
+  pub written_to : (place i value : ℕ) → place < length old → Writes job requests place i value →
+      Counts job.rule job requests place i → slice_index new place ≡ value
+  pub kept : (place : ℕ) → place < length old →
+      ((i value : ℕ) → Writes job requests place i value → ⊥) →
+      slice_index new place ≡ slice_index old place
 
 -- the value that the first of these processors that writes to the place gives it, the first being
 -- processor i
 abbrev pub first_written : JobData → ℕ → ℕ → List Request → Option ℕ
-first_written job p i [] = None
-first_written job p i (r ∷ rs) = option_or (written job p i r) (first_written job p (i + 1) rs)
+first_written job place i [] = None
+first_written job place i (request ∷ requests) =
+    option_or (written job place i request) (first_written job place (i + 1) requests)
 
 -- each place holds what it is given, or else what it held
 abbrev pub given : (ℕ → Option ℕ) → State → State
-given values s = map (λ p. unwrap_or (values p) (slice_index s p)) (range_with_len 0 (length s))
+given values state = map (λ place. unwrap_or (values place) (slice_index state place))
+    (range_with_len 0 (length state))
 
 -- The one next state where the step agrees, as a function of all states.
 unfoldable pub after_requests : JobData → List Request → State → State
-after_requests job requests s = given (λ p. first_written job p 0 requests) s
+after_requests job requests state = given (λ place. first_written job place 0 requests) state
 
 abbrev pub next_state : JobData → State → State
-next_state job s = after_requests job (requests_in job s) s
+next_state job state = after_requests job (requests_in job state) state

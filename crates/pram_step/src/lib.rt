@@ -2,6 +2,8 @@
 #![tactic(auto)]
 
 mod answer;
+mod arrival;
+mod asking;
 mod conflict;
 mod instructions;
 pub mod laws;
@@ -13,6 +15,8 @@ mod state;
 mod tests;
 
 pub use answer::{Cells, Dispute, Fault, RunAnswer};
+pub use arrival::{Arrival, go_to, make_step};
+pub use asking::{counter, request_after};
 pub use conflict::{dispute, fault_of};
 pub use instructions::{Found, Sources, cell_read, decided, goes_to, sources_of};
 pub use requests::{Request, place_part, value_part};

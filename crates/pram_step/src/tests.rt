@@ -267,6 +267,39 @@ fn disputed_step_changes_nothing(rt: HostRuntime) -> Result<(), Fail> {
     Ok(())
 }
 
+#[test]
+fn steps_are_gone_through(rt: HostRuntime) -> Result<(), Fail> {
+    let text = "pram 2\ncells 1\nprocs 2\nsteps 3\nrule crew\ncode\npid r0\nst r1 r0\n";
+    let job = job(&rt, text)?;
+    assert_eq!(rt; job.procs(), 2);
+    job.limits_hold();
+    laws::states_have_all_places();
+    let fault = Fault {
+        step: 2,
+        cell: 0,
+        first: 0,
+        second: 1,
+    };
+    match go_to(rt.alloc(), &job, 3, 3)? {
+        Arrival::Disputed(found) => assert_eq!(rt; found, fault),
+        _ => panic!(rt; "step 3"),
+    }
+    assert!(rt; matches!(go_to(rt.alloc(), &job, 3, 1)?, Arrival::TooFar));
+    match go_to(rt.alloc(), &job, 1, 1)? {
+        Arrival::Reached(mut state) => {
+            assert_eq!(rt; counter(&job, &state, 1), 1);
+            let asked = Request {
+                put: Some((0, 1)),
+                next: 2,
+            };
+            assert_eq!(rt; request_after(&job, &state, 1), asked);
+            assert_eq!(rt; make_step(rt.alloc(), &job, &mut state, 1)?, Some(fault));
+        }
+        _ => panic!(rt; "step 1"),
+    }
+    Ok(())
+}
+
 fn disputed(cell: u32, first: u32, second: u32) -> Option<Dispute> {
     Some(Dispute {
         cell,

@@ -1,5 +1,6 @@
 -- What the worlds' lemmas rest on, of the walk and of lawful words.
-use Rattle.std.proofs.Common.{◌≡◌, ◌≢◌, ℕ, ◌*◌, ◌<◌, ◌≤◌, List, [], ◌∷◌, length, None, sym, ◌∙◌, arith}
+use Rattle.std.proofs.Common.{◌≡◌, ◌≢◌, ℕ, ◌*◌, ◌<◌, ◌≤◌, List, []}
+use Rattle.std.proofs.Common.{◌∷◌, length, None, sym, ◌∙◌, arith}
 use Rattle.pram_text.specs.Job.{JobData}
 use Rattle.pram_words.specs.Words.{LayoutData}
 use Rattle.walkx.proofs.Asking.{all_ask}
@@ -11,11 +12,12 @@ use Rattle.walkx.specs.declared.operation.Ended.TheVariants as ended
 use Rattle.walkx.specs.declared.operation.Op.{Op}
 use Rattle.walkx.specs.Doing.{Doing}
 use Rattle.walkx.specs.Doing as doing
-use Rattle.walkx.specs.Scripts.{behind}
+use Rattle.walkx.specs.Scripts.{rest_after}
 use Rattle.walkx.specs.Bound.{told_all, history_of, most_steps}
 use Rattle.walkx.specs.Operations.{answer}
 use Rattle.walkx.specs.Records.{Record, after, Has, Knows}
-use Rattle.walkx.specs.Walk.{Walking, IsBoard, IsGoing, HearsAdmitted, ask_of, told, rest_of, end_of, heard_of, started, come_back}
+use Rattle.walkx.specs.Walk.{Walking, IsBoard, IsGoing, HearsAdmitted, ask_of}
+use Rattle.walkx.specs.Walk.{told, rest_of, end_of, heard_of, started, come_back}
 use Rattle.lawful_walk.specs.Board.{Stands, root, conflict}
 use Rattle.lawful_walk.specs.Moments.{Backed}
 use Rattle.lawful_walk.specs.Walks.{Moves}
@@ -25,39 +27,56 @@ use Rattle.lawful_walk.proofs.Knowing.{root_now, conflict_now}
 use Rattle.lawful_walk.proofs.Turns.{workers_keep}
 use Rattle.pram_world.specs.Inner.Holding.{Fitting}
 
-pub board_of : (job : JobData) (y : LayoutData) (words : List ℕ) → Stands job y words → IsBoard job y
-board_of job y words stands = record { limits = stands.limits; layout = stands.sizes; is = stands.layout }
+pub board_of : (job : JobData) (y : LayoutData) (words : List ℕ) →
+    Stands job y words → IsBoard job y
+board_of job y words stands =
+    record { limits = stands.limits; layout = stands.sizes; is = stands.layout }
 
 -- the next step of a worker that a record knows
-pub moves : (job : JobData) (y : LayoutData) (r : Record) (w : Walking) (words : List ℕ) → Stands job y words → Backed job y r words → Knows job y r w → Fitting job y w → Moves job y r w words
-moves job y r w words stands backed knows fits = workers_keep job y r w words stands fits knows backed
+pub moves : (job : JobData) (y : LayoutData) (r : Record) (w : Walking) (words : List ℕ) →
+    Stands job y words → Backed job y r words → Knows job y r w →
+    Fitting job y w → Moves job y r w words
+moves job y r w words stands backed knows fits =
+    workers_keep job y r w words stands fits knows backed
 
 -- it stays known
-pub known_on : (job : JobData) (y : LayoutData) (r : Record) (w : Walking) (found : ℕ) → Knows job y r w → Fitting job y w → Knows job y (after r (ask_of job y w) found) (told job y w found)
+pub known_on : (job : JobData) (y : LayoutData) (r : Record) (w : Walking) (found : ℕ) →
+    Knows job y r w → Fitting job y w →
+    Knows job y (after r (ask_of job y w) found) (told job y w found)
 known_on job y r w found knows fits = knows_next job y r w found fits knows
 
 -- other workers stay known
-pub more : (job : JobData) (y : LayoutData) (r : Record) (op : Op) (found : ℕ) (w : Walking) → Knows job y r w → Knows job y (after r op found) w
+pub more : (job : JobData) (y : LayoutData) (r : Record) (op : Op) (found : ℕ) (w : Walking) →
+    Knows job y r w → Knows job y (after r op found) w
 more job y r op found w knows = has_more r op found (heard_of job y w) knows
 
-pub has_on : (r : Record) (op : Op) (found : ℕ) (es : List (Op × ℕ)) → Has r es → Has (after r op found) es
+pub has_on : (r : Record) (op : Op) (found : ℕ) (es : List (Op × ℕ)) →
+    Has r es → Has (after r op found) es
 has_on = has_more
 
 -- what standing words answer is admitted
-pub hears_admitted : (job : JobData) (y : LayoutData) (words : List ℕ) (w : Walking) → Stands job y words → Fitting job y w → HearsAdmitted job y (ask_of job y w) (answer words (ask_of job y w))
-hears_admitted job y words w stands fits = answer_admitted job y words (ask_of job y w) stands (all_ask job y w (board_of job y words stands) fits)
+pub hears_admitted : (job : JobData) (y : LayoutData) (words : List ℕ) (w : Walking) →
+    Stands job y words → Fitting job y w →
+    HearsAdmitted job y (ask_of job y w) (answer words (ask_of job y w))
+hears_admitted job y words w stands fits = answer_admitted job y words (ask_of job y w) stands
+    (all_ask job y w (board_of job y words stands) fits)
 
 -- so it fits on
-pub fits_on : (job : JobData) (y : LayoutData) (words : List ℕ) (w : Walking) → Stands job y words → Fitting job y w → Fitting job y (told job y w (answer words (ask_of job y w)))
-fits_on job y words w stands fits = fits_told job y w (answer words (ask_of job y w)) (board_of job y words stands) fits (hears_admitted job y words w stands fits)
+pub fits_on : (job : JobData) (y : LayoutData) (words : List ℕ) (w : Walking) → Stands job y words →
+    Fitting job y w → Fitting job y (told job y w (answer words (ask_of job y w)))
+fits_on job y words w stands fits = fits_told job y w (answer words (ask_of job y w))
+    (board_of job y words stands) fits (hears_admitted job y words w stands fits)
 
-pub start_fits : (job : JobData) (y : LayoutData) (n : ℕ) → n < y.workers → Fitting job y (started n)
+pub start_fits : (job : JobData) (y : LayoutData) (n : ℕ) →
+    n < y.workers → Fitting job y (started n)
 start_fits job y n below = (new_workers_fit job y n below).0
 
-pub back_fits : (job : JobData) (y : LayoutData) (n : ℕ) → n < y.workers → Fitting job y (come_back n)
+pub back_fits : (job : JobData) (y : LayoutData) (n : ℕ) →
+    n < y.workers → Fitting job y (come_back n)
 back_fits job y n below = (new_workers_fit job y n below).1
 
-pub in_workers : (job : JobData) (y : LayoutData) (w : Walking) → Fitting job y w → w.number < y.workers
+pub in_workers : (job : JobData) (y : LayoutData) (w : Walking) →
+    Fitting job y w → w.number < y.workers
 in_workers job y w fits = fits.number
 
 going_of : (d : Doing) → end_of d ≡ None → IsGoing d
@@ -67,23 +86,35 @@ going_of (doing.Turn q) e = tt
 going_of (doing.Over x) e = absurd (cc)
 
 -- A worker that is going has made fewer steps than the bound since a record knew it.
-pub own_steps : (job : JobData) (y : LayoutData) (r : Record) (w : Walking) (answers words : List ℕ) → Stands job y words → Backed job y r words → Has r (history_of job y w answers) → Fitting job y w →
+pub own_steps : (job : JobData) (y : LayoutData) (r : Record)
+    (w : Walking) (answers words : List ℕ) → Stands job y words → Backed job y r words →
+    Has r (history_of job y w answers) → Fitting job y w →
     end_of (told_all job y w answers).now ≡ None → length answers < most_steps job y
 own_steps job y r w answers words stands backed has fits going =
-    sound_steps job y r w answers stands.layout fits (sound_of job y r words stands backed) has (going_of (told_all job y w answers).now going)
+    sound_steps job y r w answers stands.layout fits (sound_of job y r words stands backed) has
+    (going_of (told_all job y w answers).now going)
 
 -- a worker that is over stays so
-pub told_still : (job : JobData) (y : LayoutData) (w : Walking) (found : ℕ) (e : Ended) → w.now ≡ doing.Over e → told job y w found ≡ w
-told_still job y w found e is = told_over w found (behind (rest_of job y w) found) w.now e is
+pub told_still : (job : JobData) (y : LayoutData) (w : Walking) (found : ℕ) (e : Ended) →
+    w.now ≡ doing.Over e → told job y w found ≡ w
+told_still job y w found e is = told_over w found (rest_after (rest_of job y w) found) w.now e is
 
 -- Done: the root shows the last step; Conflict: word 0 is not 0
-pub ended_root : (job : JobData) (y : LayoutData) (r : Record) (w : Walking) (words : List ℕ) → Stands job y words → Backed job y r words → Knows job y r w → Fitting job y w → w.now ≡ doing.Over ended.Done → 3 * job.steps ≤ root y words
+pub ended_root : (job : JobData) (y : LayoutData) (r : Record) (w : Walking) (words : List ℕ) →
+    Stands job y words → Backed job y r words → Knows job y r w → Fitting job y w →
+    w.now ≡ doing.Over ended.Done → 3 * job.steps ≤ root y words
 ended_root job y r w words stands backed knows fits is =
     let done = (sound_ends job y r w (sound_of job y r words stands backed) fits knows).0 is in
     let h = done.heard in
-    root_now job y r (3 * job.steps) words backed (record { op = h.op; hears = h.hears; has = has_earlier r (h.next, 0) ((h.op, 3 * job.steps) ∷ []) h.has })
+    root_now job y r (3 * job.steps) words backed (record {
+      op = h.op;
+      hears = h.hears;
+      has = has_earlier r (h.next, 0) ((h.op, 3 * job.steps) ∷ []) h.has;
+    })
 
-pub ended_conflict : (job : JobData) (y : LayoutData) (r : Record) (w : Walking) (u : ℕ) (words : List ℕ) → Stands job y words → Backed job y r words → Knows job y r w → Fitting job y w → w.now ≡ doing.Over (ended.Conflict u) → conflict y words ≢ 0
+pub ended_conflict : (job : JobData) (y : LayoutData) (r : Record) (w : Walking)
+    (u : ℕ) (words : List ℕ) → Stands job y words → Backed job y r words → Knows job y r w →
+    Fitting job y w → w.now ≡ doing.Over (ended.Conflict u) → conflict y words ≢ 0
 ended_conflict job y r w u words stands backed knows fits is =
     let c = (sound_ends job y r w (sound_of job y r words stands backed) fits knows).1 u is in
     let step = (c.1).step in

@@ -1,5 +1,7 @@
 -- How many steps a body has made: fewer than the bound while it is going.
-use Rattle.std.proofs.Common.{◌≡◌, ◌≢◌, ℕ, zero, suc, ◌+◌, ◌<◌, ◌≤◌, ◌*◌, ◌^◌, List, [], ◌∷◌, length, slice_get, slice_set, Option, Some, None, true, refl, sym, ap, subst, ◌∙◌, inl, inr, mul-le-mul, arith}
+use Rattle.std.proofs.Common.{◌≡◌, ◌≢◌, ℕ, zero, suc, ◌+◌, ◌<◌, ◌≤◌, ◌*◌, ◌^◌, List, []}
+use Rattle.std.proofs.Common.{◌∷◌, length, slice_get, slice_set, Option, Some, None, true}
+use Rattle.std.proofs.Common.{refl, sym, ap, subst, ◌∙◌, inl, inr, mul-le-mul, arith}
 use Rattle.std.proofs.lemmas.Bool.{cases_lt}
 use Rattle.std.specs.Option.{is_none}
 use Rattle.pram_text.specs.Job.{JobData}
@@ -13,9 +15,11 @@ use Rattle.pram_world.specs.declared.event.Event.{Event}
 use Rattle.pram_world.specs.declared.event.Event.TheVariants.{Go, Stop, Back}
 use Rattle.pram_world.specs.Ends.{steps_of}
 use Rattle.pram_world.specs.Inner.Holding.{Fitting, Holds}
-use Rattle.pram_world.specs.Worlds.{Body, walks, stopped, WorldData, Walks, KeepsBoard, going, goes, went, replaced, happens, run}
+use Rattle.pram_world.specs.Worlds.{Body, walks, stopped, WorldData, Walks, KeepsBoard}
+use Rattle.pram_world.specs.Worlds.{going, goes, went, replaced, happens, run}
 use Rattle.pram_world.proofs.Cited.{has_on, own_steps}
-use Rattle.pram_world.proofs.Keeping.{Held, holds_step}
+use Rattle.pram_world.specs.Inner.Holding.{Held}
+use Rattle.pram_world.proofs.Keeping.{holds_step}
 
 -- a body that is going is a worker that is not over
 pub record IsGoing (s : WorldData) (b : ℕ) : Type 0 where
@@ -27,10 +31,12 @@ none_is : {X : Type 0} (o : Option X) → is_none o ≡ true → o ≡ None
 none_is None e = refl
 none_is (Some x) e = absurd (cc)
 
-goer_by : (s : WorldData) (b : ℕ) (o : Option Body) → slice_get s.bodies b ≡ o → goes o ≡ true → IsGoing s b
+goer_by : (s : WorldData) (b : ℕ) (o : Option Body) →
+    slice_get s.bodies b ≡ o → goes o ≡ true → IsGoing s b
 goer_by s b None is e = absurd (cc)
 goer_by s b (Some (stopped n)) is e = absurd (cc)
-goer_by s b (Some (walks w)) is e = record { worker = w; walks = is; going = none_is (end_of w.now) e }
+goer_by s b (Some (walks w)) is e =
+    record { worker = w; walks = is; going = none_is (end_of w.now) e }
 
 pub goer : (s : WorldData) (b : ℕ) → going s b ≡ true → IsGoing s b
 goer s b e = goer_by s b (slice_get s.bodies b) refl e
@@ -44,17 +50,21 @@ pub record Counted (now : WorldData) (made : Record) (b n : ℕ) : Type 0 where
   pub at : Walks now b (told_all now.job now.layout worker answers)
   pub has : Has made (history_of now.job now.layout worker answers)
 
-pub counted_none : (s : WorldData) (made : Record) (b : ℕ) → Holds s made → IsGoing s b → Counted s made b 0
+pub counted_none : (s : WorldData) (made : Record) (b : ℕ) → Holds s made →
+    IsGoing s b → Counted s made b 0
 counted_none s made b h g =
     let k = h.known b g.worker g.walks in
     record { worker = g.worker; fits = k.1; answers = []; count = refl; at = g.walks; has = k.0 }
 
 -- so it has made fewer than the bound
-pub fewer : (s : WorldData) (made : Record) (b n : ℕ) → Holds s made → Counted s made b n → IsGoing s b → n < most_steps s.job s.layout
+pub fewer : (s : WorldData) (made : Record) (b n : ℕ) → Holds s made → Counted s made b n →
+    IsGoing s b → n < most_steps s.job s.layout
 fewer s made b n h c g =
-    let same : g.worker ≡ told_all s.job s.layout c.worker c.answers = same_some g.worker (told_all s.job s.layout c.worker c.answers) (sym g.walks ∙ c.at) in
+    let same : g.worker ≡ told_all s.job s.layout c.worker c.answers =
+    same_some g.worker (told_all s.job s.layout c.worker c.answers) (sym g.walks ∙ c.at) in
     subst (λ (k : ℕ). k < most_steps s.job s.layout) c.count
-    (own_steps s.job s.layout made c.worker c.answers s.words h.stands h.backed c.has c.fits (subst (λ (w : Walking). end_of w.now ≡ None) same g.going))
+    (own_steps s.job s.layout made c.worker c.answers s.words h.stands h.backed c.has c.fits
+    (subst (λ (w : Walking). end_of w.now ≡ None) same g.going))
   where
     same_some : (v w : Walking) → Some (walks v) ≡ Some (walks w) → v ≡ w
     same_some v w e = cc
@@ -63,14 +73,17 @@ fewer s made b n h c g =
 
 -- the record with the step
 abbrev pub lengthened : WorldData → Record → Walking → Record
-lengthened s made w = after made (ask_of s.job s.layout w) (answer s.words (ask_of s.job s.layout w))
+lengthened s made w =
+    after made (ask_of s.job s.layout w) (answer s.words (ask_of s.job s.layout w))
 
-pub get_set_same : {X : Type 0} (xs : List X) (b : ℕ) (x y : X) → slice_get xs b ≡ Some y → slice_get (slice_set xs b x) b ≡ Some x
+pub get_set_same : {X : Type 0} (xs : List X) (b : ℕ) (x y : X) → slice_get xs b ≡ Some y →
+    slice_get (slice_set xs b x) b ≡ Some x
 get_set_same [] b x y e = absurd (cc)
 get_set_same (z ∷ zs) zero x y e = refl
 get_set_same (z ∷ zs) (suc b) x y e = get_set_same zs b x y e
 
-pub get_set_other : {X : Type 0} (xs : List X) (b at : ℕ) (x : X) → at ≢ b → slice_get (slice_set xs b x) at ≡ slice_get xs at
+pub get_set_other : {X : Type 0} (xs : List X) (b at : ℕ) (x : X) → at ≢ b →
+    slice_get (slice_set xs b x) at ≡ slice_get xs at
 get_set_other [] b at x apart = refl
 get_set_other (z ∷ zs) zero zero x apart = absurd (apart refl)
 get_set_other (z ∷ zs) zero (suc at) x apart = refl
@@ -78,7 +91,8 @@ get_set_other (z ∷ zs) (suc b) zero x apart = refl
 get_set_other (z ∷ zs) (suc b) (suc at) x apart = get_set_other zs b at x (λ e. apart (ap suc e))
 
 -- by the body itself
-pub counted_own : (s : WorldData) (made : Record) (b n : ℕ) (w : Walking) → Walks s b w → Counted s made b n → Counted (went s b (Some (walks w))) (lengthened s made w) b (n + 1)
+pub counted_own : (s : WorldData) (made : Record) (b n : ℕ) (w : Walking) → Walks s b w →
+    Counted s made b n → Counted (went s b (Some (walks w))) (lengthened s made w) b (n + 1)
 counted_own s made b n w is c =
     let old = told_all s.job s.layout c.worker c.answers in
     let same : w ≡ old = same_some w old (sym is ∙ c.at) in
@@ -89,7 +103,8 @@ counted_own s made b n w is c =
       fits = c.fits;
       answers = found ∷ c.answers;
       count = one;
-      at = get_set_same s.bodies b (walks (told s.job s.layout w found)) (walks w) is ∙ ap (λ v. Some (walks (told s.job s.layout v found))) same;
+      at = get_set_same s.bodies b (walks (told s.job s.layout w found)) (walks w) is
+          ∙ ap (λ v. Some (walks (told s.job s.layout v found))) same;
       has = inl (ap (λ v. (ask_of s.job s.layout v, found)) (sym same), c.has);
     }
   where
@@ -97,39 +112,50 @@ counted_own s made b n w is c =
     same_some v w e = cc
 
 -- by another
-pub counted_other : (s : WorldData) (made : Record) (b n other : ℕ) (w : Walking) → b ≢ other → Counted s made b n → Counted (went s other (Some (walks w))) (lengthened s made w) b n
+pub counted_other : (s : WorldData) (made : Record) (b n other : ℕ) (w : Walking) → b ≢ other →
+    Counted s made b n → Counted (went s other (Some (walks w))) (lengthened s made w) b n
 counted_other s made b n other w apart c = record {
   worker = c.worker;
   fits = c.fits;
   answers = c.answers;
   count = c.count;
-  at = get_set_other s.bodies other b (walks (told s.job s.layout w (answer s.words (ask_of s.job s.layout w)))) apart ∙ c.at;
-  has = has_on made (ask_of s.job s.layout w) (answer s.words (ask_of s.job s.layout w)) (history_of s.job s.layout c.worker c.answers) c.has;
+  at = get_set_other s.bodies other b
+      (walks (told s.job s.layout w (answer s.words (ask_of s.job s.layout w)))) apart ∙ c.at;
+  has = has_on made (ask_of s.job s.layout w) (answer s.words (ask_of s.job s.layout w))
+      (history_of s.job s.layout c.worker c.answers) c.has;
 }
 
 -- ---- job and layout stay
 
-went_board : (s : WorldData) (b : ℕ) (o : Option Body) → ((went s b o).job ≡ s.job) × ((went s b o).layout ≡ s.layout)
+went_board : (s : WorldData) (b : ℕ) (o : Option Body) →
+    ((went s b o).job ≡ s.job) × ((went s b o).layout ≡ s.layout)
 went_board s b None = (refl, refl)
 went_board s b (Some (stopped n)) = (refl, refl)
 went_board s b (Some (walks w)) = (refl, refl)
 
-replaced_board : (s : WorldData) (b : ℕ) (new : ℕ → Body) (o : Option Body) → ((replaced s b new o).job ≡ s.job) × ((replaced s b new o).layout ≡ s.layout)
+replaced_board : (s : WorldData) (b : ℕ) (new : ℕ → Body) (o : Option Body) →
+    ((replaced s b new o).job ≡ s.job) × ((replaced s b new o).layout ≡ s.layout)
 replaced_board s b new None = (refl, refl)
 replaced_board s b new (Some body) = (refl, refl)
 
-pub same_board : (s : WorldData) (e : Event) → ((happens s e).job ≡ s.job) × ((happens s e).layout ≡ s.layout)
+pub same_board : (s : WorldData) (e : Event) →
+    ((happens s e).job ≡ s.job) × ((happens s e).layout ≡ s.layout)
 same_board s (Go b) = went_board s b (slice_get s.bodies b)
 same_board s (Stop b) = replaced_board s b stopped (slice_get s.bodies b)
 same_board s (Back b) = replaced_board s b (λ n. walks (come_back n)) (slice_get s.bodies b)
 
 pub run_board : (s : WorldData) (es : List Event) → KeepsBoard s (run s es)
 run_board s [] = (refl, refl)
-run_board s (e ∷ es) = let one = same_board s e in let rest = run_board (happens s e) es in (rest.0 ∙ one.0, rest.1 ∙ one.1)
+run_board s (e ∷ es) =
+    let one = same_board s e in
+    let rest = run_board (happens s e) es in (rest.0 ∙ one.0, rest.1 ∙ one.1)
 
-pub steps_board : (s : WorldData) (b n : ℕ) → ((steps_of s b n).job ≡ s.job) × ((steps_of s b n).layout ≡ s.layout)
+pub steps_board : (s : WorldData) (b n : ℕ) →
+    ((steps_of s b n).job ≡ s.job) × ((steps_of s b n).layout ≡ s.layout)
 steps_board s b zero = (refl, refl)
-steps_board s b (suc n) = let one = same_board (steps_of s b n) (Go b) in let rest = steps_board s b n in (one.0 ∙ rest.0, one.1 ∙ rest.1)
+steps_board s b (suc n) =
+    let one = same_board (steps_of s b n) (Go b) in
+    let rest = steps_board s b n in (one.0 ∙ rest.0, one.1 ∙ rest.1)
 
 -- ---- steps of one body alone
 
@@ -138,33 +164,47 @@ record Chained (s : WorldData) (b n : ℕ) : Type 0 where
   holds : Holds (steps_of s b n) made
   counted : Counted (steps_of s b n) made b n
 
-chained : (s : WorldData) (b n : ℕ) → Held s → ((k : ℕ) → k ≤ n → going (steps_of s b k) b ≡ true) → Chained s b n
-chained s b zero h all = record { made = h.made; holds = h.holds; counted = counted_none s h.made b h.holds (goer s b (all 0 (omega arith))) }
+chained : (s : WorldData) (b n : ℕ) → Held s →
+    ((k : ℕ) → k ≤ n → going (steps_of s b k) b ≡ true) → Chained s b n
+chained s b zero h all = record {
+  made = h.made;
+  holds = h.holds;
+  counted = counted_none s h.made b h.holds (goer s b (all 0 (omega arith)));
+}
 chained s b (suc n) h all =
     let c = chained s b n h (λ k le. all k (omega arith)) in
     let now = steps_of s b n in
     let g = goer (steps_of s b n) b (all n (omega arith)) in
     let made = lengthened now c.made g.worker in
-    let same : went now b (Some (walks g.worker)) ≡ happens now (Go b) = ap (went now b) (sym g.walks) in
-    let count : Counted (went now b (Some (walks g.worker))) made b (suc n) = subst (Counted (went now b (Some (walks g.worker))) made b) (let e : n + 1 ≡ suc n = omega arith in e) (counted_own now c.made b n g.worker g.walks c.counted) in
+    let same : went now b (Some (walks g.worker)) ≡ happens now (Go b) =
+    ap (went now b) (sym g.walks) in
+    let count : Counted (went now b (Some (walks g.worker))) made b (suc n) =
+    subst (Counted (went now b (Some (walks g.worker))) made b)
+    (let e : n + 1 ≡ suc n = omega arith in
+    e) (counted_own now c.made b n g.worker g.walks c.counted) in
     record {
       made = made;
-      holds = subst (λ (x : WorldData). Holds x made) same (holds_step now c.made b g.worker g.walks c.holds);
+      holds = subst (λ (x : WorldData). Holds x made) same
+          (holds_step now c.made b g.worker g.walks c.holds);
       counted = subst (λ (x : WorldData). Counted x made b (suc n)) same count;
     }
 
 -- a body that was going before each of its steps has made no more than the bound
-pub finish_bound : (s : WorldData) (b n : ℕ) → Held s → ((k : ℕ) → k < n → going (steps_of s b k) b ≡ true) → n ≤ most_steps s.job s.layout
+pub finish_bound : (s : WorldData) (b n : ℕ) → Held s →
+    ((k : ℕ) → k < n → going (steps_of s b k) b ≡ true) → n ≤ most_steps s.job s.layout
 finish_bound s b zero h all = omega arith
 finish_bound s b (suc n) h all =
     let c = chained s b n h (λ k le. all k (omega arith)) in
-    let less : n < most_steps (steps_of s b n).job (steps_of s b n).layout = fewer (steps_of s b n) c.made b n c.holds c.counted (goer (steps_of s b n) b (all n (omega arith))) in
+    let less : n < most_steps (steps_of s b n).job (steps_of s b n).layout = fewer (steps_of s b n)
+    c.made b n c.holds c.counted (goer (steps_of s b n) b (all n (omega arith))) in
     let board = steps_board s b n in
-    let same : n < most_steps s.job s.layout = subst (λ (y : LayoutData). n < most_steps s.job y) board.1 (subst (λ (job : JobData). n < most_steps job (steps_of s b n).layout) board.0 less) in
+    let same : n < most_steps s.job s.layout = subst (λ (y : LayoutData). n < most_steps s.job y)
+    board.1 (subst (λ (job : JobData). n < most_steps job (steps_of s b n).layout) board.0 less) in
     omega arith
 
 -- the bound fits 64 bits
-pub bound_small : (job : JobData) (y : LayoutData) (words : List ℕ) → Stands job y words → most_steps job y < 2 ^ 63
+pub bound_small : (job : JobData) (y : LayoutData) (words : List ℕ) →
+    Stands job y words → most_steps job y < 2 ^ 63
 bound_small job y words stands =
     let l = stands.sizes.leaves in
     let leaves : 300 * y.leaves ≤ 307200 = (let h = l.1 in omega arith) in
@@ -173,8 +213,14 @@ bound_small job y words stands =
     omega arith
 
 -- what one more step of the code comes to
-pub going_more : (s : WorldData) (b n : ℕ) → ((k : ℕ) → k < n → going (steps_of s b k) b ≡ true) → going (steps_of s b n) b ≡ true → (k : ℕ) → k < n + 1 → going (steps_of s b k) b ≡ true
-going_more s b n all last k below = elim (cases_lt k n) [ inl less ↦ all k less | inr le ↦ (let e : n ≡ k = omega arith in subst (λ (m : ℕ). going (steps_of s b m) b ≡ true) e last) ]
+pub going_more : (s : WorldData) (b n : ℕ) → ((k : ℕ) → k < n → going (steps_of s b k) b ≡ true) →
+    going (steps_of s b n) b ≡ true → (k : ℕ) → k < n + 1 → going (steps_of s b k) b ≡ true
+going_more s b n all last k below = elim (cases_lt k n) [
+  | inl less ↦ all k less
+  | inr le ↦
+      (let e : n ≡ k = omega arith in subst (λ (m : ℕ). going (steps_of s b m) b ≡ true) e last)
+]
 
-pub step_more : (s now : WorldData) (b n : ℕ) → now ≡ happens (steps_of s b n) (Go b) → now ≡ steps_of s b (n + 1)
+pub step_more : (s now : WorldData) (b n : ℕ) →
+    now ≡ happens (steps_of s b n) (Go b) → now ≡ steps_of s b (n + 1)
 step_more s now b n is = let e : suc n ≡ n + 1 = omega arith in is ∙ ap (steps_of s b) e

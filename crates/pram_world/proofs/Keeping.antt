@@ -1,5 +1,7 @@
 -- Each event keeps what holds of a world.
-use Rattle.std.proofs.Common.{◌≡◌, ◌≢◌, ◌⊎◌, ℕ, zero, suc, ◌+◌, ◌<◌, ◌≤◌, List, [], ◌∷◌, ◌++◌, map, slice_get, slice_set, Option, Some, None, refl, sym, subst, inl, inr, arith}
+use Rattle.std.proofs.Common.{◌≡◌, ◌≢◌, ◌⊎◌, ℕ, zero, suc, ◌+◌, ◌<◌, ◌≤◌, List}
+use Rattle.std.proofs.Common.{[], ◌∷◌, ◌++◌, map, slice_get, slice_set, Option}
+use Rattle.std.proofs.Common.{Some, None, refl, sym, subst, inl, inr, arith}
 use Rattle.std.specs.List.{range_with_len}
 use Rattle.pram_text.specs.Job.{JobData, IsJob}
 use Rattle.pram_words.specs.declared.layout.Form.{Form}
@@ -15,20 +17,25 @@ use Rattle.lawful_walk.specs.Walks.{phase_now}
 use Rattle.lawful_walk.proofs.Starting.{starts_stand}
 use Rattle.pram_world.specs.declared.event.Event.{Event}
 use Rattle.pram_world.specs.declared.event.Event.TheVariants.{Go, Stop, Back}
-use Rattle.pram_world.specs.Inner.Holding.{Fitting, Holds}
-use Rattle.pram_world.specs.Worlds.{Body, walks, stopped, number, WorldData, start, start_on, twinned, went, replaced, happens, run, Walks, StaleChangesNothing}
-use Rattle.pram_world.proofs.Cited.{moves, known_on, more, fits_on, start_fits, back_fits, in_workers}
+use Rattle.pram_world.specs.Inner.Holding.{Fitting, Held, Holds}
+use Rattle.pram_world.specs.Worlds.{Body, walks, stopped, number, WorldData}
+use Rattle.pram_world.specs.Worlds.{start, start_on, twinned, went, replaced}
+use Rattle.pram_world.specs.Worlds.{happens, run, Walks, StaleChangesNothing}
+use Rattle.pram_world.proofs.Cited.{moves, known_on, more, fits_on}
+use Rattle.pram_world.proofs.Cited.{start_fits, back_fits, in_workers}
 
 -- ---- lists of bodies
 
-pub get_set : {X : Type 0} (xs : List X) (b at : ℕ) (x v : X) → slice_get (slice_set xs b x) at ≡ Some v → (v ≡ x) ⊎ (slice_get xs at ≡ Some v)
+pub get_set : {X : Type 0} (xs : List X) (b at : ℕ) (x v : X) →
+    slice_get (slice_set xs b x) at ≡ Some v → (v ≡ x) ⊎ (slice_get xs at ≡ Some v)
 get_set [] b at x v e = inr e
 get_set (z ∷ zs) zero zero x v e = inl (cc)
 get_set (z ∷ zs) zero (suc at) x v e = inr e
 get_set (z ∷ zs) (suc b) zero x v e = inr e
 get_set (z ∷ zs) (suc b) (suc at) x v e = get_set zs b at x v e
 
-pub get_push : {X : Type 0} (xs : List X) (at : ℕ) (x v : X) → slice_get (xs ++ x ∷ []) at ≡ Some v → (v ≡ x) ⊎ (slice_get xs at ≡ Some v)
+pub get_push : {X : Type 0} (xs : List X) (at : ℕ) (x v : X) →
+    slice_get (xs ++ x ∷ []) at ≡ Some v → (v ≡ x) ⊎ (slice_get xs at ≡ Some v)
 get_push [] zero x v e = inl (cc)
 get_push [] (suc at) x v e = absurd (cc)
 get_push (z ∷ zs) zero x v e = inr e
@@ -46,31 +53,43 @@ record Starts (low n : ℕ) (body : Body) : Type 0 where
   is : body ≡ walks (started worker)
   below : worker < low + n
 
-starts_at : (low n at : ℕ) (body : Body) → slice_get (map (λ w. walks (started w)) (range_with_len low n)) at ≡ Some body → Starts low n body
+starts_at : (low n at : ℕ) (body : Body) →
+    slice_get (map (λ w. walks (started w)) (range_with_len low n)) at ≡ Some body →
+    Starts low n body
 starts_at low zero at body e = absurd (cc)
 starts_at low (suc n) zero body e = record { worker = low; is = cc; below = omega arith }
-starts_at low (suc n) (suc at) body e = let s = starts_at (low + 1) n at body e in let b = s.below in record { worker = s.worker; is = s.is; below = omega arith }
+starts_at low (suc n) (suc at) body e =
+    let s = starts_at (low + 1) n at body e in
+    let b = s.below in record { worker = s.worker; is = s.is; below = omega arith }
 
 -- ---- the start
 
-pub holds_start_on : (job : JobData) (form : Form) (workers : ℕ) → IsJob job → 1 ≤ workers → workers ≤ 64 → Holds (start_on job form workers) empty
+pub holds_start_on : (job : JobData) (form : Form) (workers : ℕ) → IsJob job → 1 ≤ workers →
+    workers ≤ 64 → Holds (start_on job form workers) empty
 holds_start_on job form workers limits some most = record {
   stands = starts_stand job form workers limits some most;
   backed = tt;
   known = λ b w is.
       let s = starts_at 0 workers b (walks w) is in
       let e : w ≡ started s.worker = same_walking w (started s.worker) s.is in
-      let below = s.below in
-      (subst (λ (v : Walking). Knows job (layout_of job form workers) empty v) (sym e) tt, subst (Fitting job (layout_of job form workers)) (sym e) (start_fits job (layout_of job form workers) s.worker (omega arith)));
-  numbers = λ b body is. let s = starts_at 0 workers b body is in let below = s.below in subst (λ (x : Body). number x < workers) (sym s.is) (omega arith);
+      let below = s.below in (
+        subst (λ (v : Walking). Knows job (layout_of job form workers) empty v) (sym e) tt,
+        subst (Fitting job (layout_of job form workers))
+            (sym e) (start_fits job (layout_of job form workers) s.worker (omega arith)),
+      );
+  numbers = λ b body is. let s = starts_at 0 workers b body is in
+      let below = s.below in subst (λ (x : Body). number x < workers) (sym s.is) (omega arith);
 }
 
-pub holds_start : (job : JobData) (workers : ℕ) → IsJob job → 1 ≤ workers → workers ≤ 64 → Holds (start job workers) empty
+pub holds_start : (job : JobData) (workers : ℕ) → IsJob job → 1 ≤ workers → workers ≤ 64 →
+    Holds (start job workers) empty
 holds_start job workers = holds_start_on job Compact workers
 
 -- ---- a step
 
-pub holds_step : (s : WorldData) (made : Record) (b : ℕ) (w : Walking) → Walks s b w → Holds s made → Holds (went s b (Some (walks w))) (after made (ask_of s.job s.layout w) (answer s.words (ask_of s.job s.layout w)))
+pub holds_step : (s : WorldData) (made : Record) (b : ℕ) (w : Walking) →
+    Walks s b w → Holds s made → Holds (went s b (Some (walks w)))
+    (after made (ask_of s.job s.layout w) (answer s.words (ask_of s.job s.layout w)))
 holds_step s made b w is h =
     let job = s.job in
     let y = s.layout in
@@ -85,11 +104,15 @@ holds_step s made b w is h =
       stands = ((m.goes).keeps).stands;
       backed = m.backed;
       known = λ at v e. elim (get_set s.bodies b at (walks new) (walks v) e) [
-        | inl same ↦ (let f : v ≡ new = same_walking v new same in (subst (λ (x : Walking). Knows job y (after made op found) x) (sym f) knows, subst (Fitting job y) (sym f) fits))
+        | inl same ↦ (let f : v ≡ new = same_walking v new same in (
+          subst (λ (x : Walking). Knows job y (after made op found) x) (sym f) knows,
+          subst (Fitting job y) (sym f) fits,
+        ))
         | inr old ↦ (let g = h.known at v old in (more s.job s.layout made op found v g.0, g.1))
       ];
       numbers = λ at body e. elim (get_set s.bodies b at (walks new) body e) [
-        | inl same ↦ subst (λ (x : Body). number x < y.workers) (sym same) (in_workers s.job s.layout new fits)
+        | inl same ↦ subst (λ (x : Body). number x < y.workers)
+            (sym same) (in_workers s.job s.layout new fits)
         | inr old ↦ h.numbers at body old
       ];
     }
@@ -98,7 +121,8 @@ holds_step s made b w is h =
 
 -- nothing has to be heard to know it
 abbrev IsKnown : WorldData → Body → Type 0
-IsKnown s body = (number body < s.layout.workers) × ((w : Walking) → body ≡ walks w → (made : Record) → Knows s.job s.layout made w × Fitting s.job s.layout w)
+IsKnown s body = (number body < s.layout.workers) × ((w : Walking) → body ≡ walks w →
+    (made : Record) → Knows s.job s.layout made w × Fitting s.job s.layout w)
 
 pub stopped_known : (s : WorldData) (n : ℕ) → n < s.layout.workers → IsKnown s (stopped n)
 stopped_known s n below = (below, λ w is made. absurd (not_stopped w n (sym is)))
@@ -107,53 +131,77 @@ pub started_known : (s : WorldData) (n : ℕ) → n < s.layout.workers → IsKno
 started_known s n below = (
   below,
   λ w is made.
-      let e : started n ≡ w = same_walking (started n) w is in
-      (subst (λ (x : Walking). Knows s.job s.layout made x) e tt, subst (Fitting s.job s.layout) e (start_fits s.job s.layout n below)),
+      let e : started n ≡ w = same_walking (started n) w is in (
+        subst (λ (x : Walking). Knows s.job s.layout made x) e tt,
+        subst (Fitting s.job s.layout) e (start_fits s.job s.layout n below),
+      ),
 )
 
 pub back_known : (s : WorldData) (n : ℕ) → n < s.layout.workers → IsKnown s (walks (come_back n))
 back_known s n below = (
   below,
   λ w is made.
-      let e : come_back n ≡ w = same_walking (come_back n) w is in
-      (subst (λ (x : Walking). Knows s.job s.layout made x) e tt, subst (Fitting s.job s.layout) e (back_fits s.job s.layout n below)),
+      let e : come_back n ≡ w = same_walking (come_back n) w is in (
+        subst (λ (x : Walking). Knows s.job s.layout made x) e tt,
+        subst (Fitting s.job s.layout) e (back_fits s.job s.layout n below),
+      ),
 )
 
 -- bodies of which each is an old one or this one
-others_hold : (s : WorldData) (made : Record) (bodies : List Body) (new : Body) → Holds s made → IsKnown s new →
-    ((at : ℕ) (body : Body) → slice_get bodies at ≡ Some body → (body ≡ new) ⊎ (slice_get s.bodies at ≡ Some body)) → Holds (record s { bodies = bodies }) made
+others_hold : (s : WorldData) (made : Record) (bodies : List Body) (new : Body) →
+    Holds s made → IsKnown s new →
+    ((at : ℕ) (body : Body) → slice_get bodies at ≡ Some body →
+    (body ≡ new) ⊎ (slice_get s.bodies at ≡ Some body)) → Holds (record s { bodies = bodies }) made
 others_hold s made bodies new h known each = record {
   stands = h.stands;
   backed = h.backed;
-  known = λ at v e. elim (each at (walks v) e) [ inl same ↦ known.1 v (sym same) made | inr old ↦ h.known at v old ];
-  numbers = λ at body e. elim (each at body e) [ inl same ↦ subst (λ (x : Body). number x < s.layout.workers) (sym same) known.0 | inr old ↦ h.numbers at body old ];
+  known = λ at v e. elim (each at (walks v) e) [
+    | inl same ↦ known.1 v (sym same) made
+    | inr old ↦ h.known at v old
+  ];
+  numbers = λ at body e. elim (each at body e) [
+    | inl same ↦ subst (λ (x : Body). number x < s.layout.workers) (sym same) known.0
+    | inr old ↦ h.numbers at body old
+  ];
 }
 
-pub holds_replaced : (s : WorldData) (made : Record) (b : ℕ) (new : Body) → Holds s made → IsKnown s new → Holds (record s { bodies = slice_set s.bodies b new }) made
-holds_replaced s made b new h known = others_hold s made (slice_set s.bodies b new) new h known (λ at body e. get_set s.bodies b at new body e)
+pub holds_replaced : (s : WorldData) (made : Record) (b : ℕ) (new : Body) → Holds s made →
+    IsKnown s new → Holds (record s { bodies = slice_set s.bodies b new }) made
+holds_replaced s made b new h known = others_hold s made (slice_set s.bodies b new) new h known
+    (λ at body e. get_set s.bodies b at new body e)
 
-pub holds_twinned : (s : WorldData) (made : Record) (w : ℕ) → Holds s made → w < s.layout.workers → Holds (twinned s w) made
-holds_twinned s made w h below = others_hold s made (s.bodies ++ walks (started w) ∷ []) (walks (started w)) h (started_known s w below) (λ at body e. get_push s.bodies at (walks (started w)) body e)
+pub holds_twinned : (s : WorldData) (made : Record) (w : ℕ) → Holds s made →
+    w < s.layout.workers → Holds (twinned s w) made
+holds_twinned s made w h below =
+    others_hold s made (s.bodies ++ walks (started w) ∷ []) (walks (started w)) h
+    (started_known s w below) (λ at body e. get_push s.bodies at (walks (started w)) body e)
 
 -- ---- events
 
--- the world holds, with a record that has grown or not
-pub record Held (s : WorldData) : Type 0 where
-  pub made : Record
-  pub holds : Holds s made
-
-went_holds : (s : WorldData) (b : ℕ) (o : Option Body) → slice_get s.bodies b ≡ o → Held s → Held (went s b o)
+went_holds : (s : WorldData) (b : ℕ) (o : Option Body) →
+    slice_get s.bodies b ≡ o → Held s → Held (went s b o)
 went_holds s b None is h = h
 went_holds s b (Some (stopped n)) is h = h
-went_holds s b (Some (walks w)) is h = record { made = _; holds = holds_step s h.made b w is h.holds }
+went_holds s b (Some (walks w)) is h =
+    record { made = _; holds = holds_step s h.made b w is h.holds }
 
-stop_holds : (s : WorldData) (b : ℕ) (o : Option Body) → slice_get s.bodies b ≡ o → Held s → Held (replaced s b stopped o)
+stop_holds : (s : WorldData) (b : ℕ) (o : Option Body) → slice_get s.bodies b ≡ o →
+    Held s → Held (replaced s b stopped o)
 stop_holds s b None is h = h
-stop_holds s b (Some body) is h = record { made = h.made; holds = holds_replaced s h.made b (stopped (number body)) h.holds (stopped_known s (number body) ((h.holds).numbers b body is)) }
+stop_holds s b (Some body) is h = record {
+  made = h.made;
+  holds = holds_replaced s h.made b
+      (stopped (number body)) h.holds (stopped_known s (number body) ((h.holds).numbers b body is));
+}
 
-back_holds : (s : WorldData) (b : ℕ) (o : Option Body) → slice_get s.bodies b ≡ o → Held s → Held (replaced s b (λ n. walks (come_back n)) o)
+back_holds : (s : WorldData) (b : ℕ) (o : Option Body) → slice_get s.bodies b ≡ o → Held s →
+    Held (replaced s b (λ n. walks (come_back n)) o)
 back_holds s b None is h = h
-back_holds s b (Some body) is h = record { made = h.made; holds = holds_replaced s h.made b (walks (come_back (number body))) h.holds (back_known s (number body) ((h.holds).numbers b body is)) }
+back_holds s b (Some body) is h = record {
+  made = h.made;
+  holds = holds_replaced s h.made b (walks (come_back (number body))) h.holds
+      (back_known s (number body) ((h.holds).numbers b body is));
+}
 
 pub happens_holds : (s : WorldData) (e : Event) → Held s → Held (happens s e)
 happens_holds s (Go b) h = went_holds s b (slice_get s.bodies b) refl h
@@ -164,13 +212,16 @@ pub run_holds : (s : WorldData) (es : List Event) → Held s → Held (run s es)
 run_holds s [] h = h
 run_holds s (e ∷ es) h = run_holds (happens s e) es (happens_holds s e h)
 
-pub run_more : (s : WorldData) (es : List Event) (e : Event) → run s (es ++ e ∷ []) ≡ happens (run s es) e
+pub run_more : (s : WorldData) (es : List Event) (e : Event) →
+    run s (es ++ e ∷ []) ≡ happens (run s es) e
 run_more s [] e = refl
 run_more s (x ∷ es) e = run_more (happens s x) es e
 
 -- ---- stale steps
 
-stale_step : (s : WorldData) (b : ℕ) (o : Option Body) → slice_get s.bodies b ≡ o → Held s → (w : Walking) → o ≡ Some (walks w) → phase_now w.now ≤ root s.layout s.words → (a : Word) → IsWord s.layout a → a ≢ Position w.number →
+stale_step : (s : WorldData) (b : ℕ) (o : Option Body) → slice_get s.bodies b ≡ o →
+    Held s → (w : Walking) → o ≡ Some (walks w) → phase_now w.now ≤ root s.layout s.words →
+    (a : Word) → IsWord s.layout a → a ≢ Position w.number →
     held s.layout (went s b o).words a ≡ held s.layout s.words a
 stale_step s b None is h w e behind a word apart = refl
 stale_step s b (Some (stopped n)) is h w e behind a word apart = refl
@@ -178,13 +229,18 @@ stale_step s b (Some (walks v)) is h w e behind a word apart =
     let f : w ≡ v = cc in
     let k = (h.holds).known b v is in
     let m = moves s.job s.layout h.made v s.words (h.holds).stands (h.holds).backed k.0 k.1 in
-    (m.goes).stale (subst (λ (x : Walking). phase_now x.now ≤ root s.layout s.words) f behind) a word (subst (λ (x : Walking). a ≢ Position x.number) f apart)
+    (m.goes).stale (subst (λ (x : Walking). phase_now x.now ≤ root s.layout s.words) f behind) a
+    word (subst (λ (x : Walking). a ≢ Position x.number) f apart)
 
-replaced_words : (s : WorldData) (b : ℕ) (new : ℕ → Body) (o : Option Body) → (replaced s b new o).words ≡ s.words
+replaced_words : (s : WorldData) (b : ℕ) (new : ℕ → Body) (o : Option Body) →
+    (replaced s b new o).words ≡ s.words
 replaced_words s b new None = refl
 replaced_words s b new (Some body) = refl
 
-pub stale_changes_nothing : (s : WorldData) (e : Event) → Held s → StaleChangesNothing s e (happens s e)
-stale_changes_nothing s (Go b) h = λ w is behind a word apart. stale_step s b (slice_get s.bodies b) refl h w is behind a word apart
+pub stale_changes_nothing : (s : WorldData) (e : Event) → Held s →
+    StaleChangesNothing s e (happens s e)
+stale_changes_nothing s (Go b) h = λ w is behind a word apart.
+    stale_step s b (slice_get s.bodies b) refl h w is behind a word apart
 stale_changes_nothing s (Stop b) h = replaced_words s b stopped (slice_get s.bodies b)
-stale_changes_nothing s (Back b) h = replaced_words s b (λ n. walks (come_back n)) (slice_get s.bodies b)
+stale_changes_nothing s (Back b) h =
+    replaced_words s b (λ n. walks (come_back n)) (slice_get s.bodies b)

@@ -37,10 +37,10 @@ EveryReadIsLawful =
     IsJob job → 1 ≤ workers → workers ≤ 64 → TwinsFit workers acts → TwinsFit workers later →
     c < job.cells →
     let y = layout_of job form workers in let before =
-    all_acted (begun job form workers) acts in let behind = all_acted before later in
+    all_acted (begun job form workers) acts in let now = all_acted before later in
     rest (reader_script y c) answers ≡ ends (At step value) →
-    behind.loads ≡ afters before.loads (heard_in (reader_script y c) answers) →
-    IsLawfulRead job y before.loads behind.loads c step value
+    now.loads ≡ afters before.loads (heard_in (reader_script y c) answers) →
+    IsLawfulRead job y before.loads now.loads c step value
     × (length (heard_in (reader_script y c) answers) ≤ 5)
 
 -- After such acts, a body makes no more atomic steps than the own-step bound, whatever happens,

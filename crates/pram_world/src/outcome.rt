@@ -3,7 +3,7 @@ ghost use Rattle.std.specs.Prelude.{◌≡◌, ◌≢◌, ◌*◌, ◌<◌, leng
 ghost use Rattle.pram_step.specs.Runs.{IsAnswer};
 ghost use Rattle.pram_step.specs.declared.answer.RunAnswer.TheVariants.{Conflict as Disputed};
 ghost use Rattle.pram_words.specs.Words.{length_of, places_of};
-ghost use Rattle.pram_words.specs.declared.words.Word.TheVariants.{Asked};
+ghost use Rattle.pram_words.specs.declared.words.Word.TheVariants.{Asked, Stored};
 ghost use Rattle.lawful_walk.specs.Board.{Stands, conflict as conflict_in, held, root};
 ghost use Rattle.pram_world.specs.Inner.Telling.{AreNamed, Says, last_cells, newest_of};
 ghost use Rattle.pram_world.specs.Outcomes.{IsTold};
@@ -73,10 +73,19 @@ fn newest(layout: &Layout, words: &[u64], place: u32) -> u32
     requires place { place < places_of layout.now }
     ensures { result ≡ newest_of layout.now words.now place }
 {
-    let word = layout.place_word(place);
-    let first = words[word as usize];
-    let second = words[word as usize + 1];
+    let (first, second) = place_words(layout, words, place);
     newer_payload(first, second)
+}
+
+// The two words of a place.
+pub(crate) fn place_words(layout: &Layout, words: &[u64], place: u32) -> (u64, u64)
+    requires words { length words.now ≡ length_of layout.now }
+    requires place { place < places_of layout.now }
+    ensures first { result.0 ≡ held layout.now words.now (Stored place 0) }
+    ensures second { result.1 ≡ held layout.now words.now (Stored place 1) }
+{
+    let word = layout.place_word(place) as usize;
+    (words[word], words[word + 1])
 }
 
 // The conflict that word 0 names.
@@ -127,7 +136,7 @@ fn glance(layout: &Layout, words: &[u64]) -> (u64, u64)
     ensures conflict { result.0 ≡ conflict_in layout.now words.now }
     ensures root { result.1 ≡ root layout.now words.now }
 {
-    let _ = layout.leaves();
+    layout.limits_hold();
     let named = words[layout.conflict_word() as usize];
     let root = words[layout.node_word(1) as usize];
     (named, root)

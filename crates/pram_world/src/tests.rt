@@ -197,6 +197,8 @@ fn events_and_effects(rt: HostRuntime) -> Result<(), Fail> {
         RunAnswer::Unfinished { step } => assert_eq!(rt; step, 0),
         _ => panic!(rt; "finished"),
     }
+    world.layout().limits_hold();
+    assert_eq!(rt; world.place_words(1), (9, 9));
     world.facts();
     laws::every_interleaving();
     laws::every_read_is_lawful();

@@ -1,16 +1,17 @@
 //! The world.
 ghost use Rattle.std.specs.Prelude.{◌≡◌, ℕ, ◌<◌, ◌≤◌, IfOk, IfErr, length, slice_index};
 ghost use Rattle.std.specs.Prelude.{option_map, slice_get};
-ghost use Rattle.pram_words.specs.Words.{length_of};
+ghost use Rattle.pram_words.specs.Words.{length_of, places_of};
+ghost use Rattle.pram_words.specs.declared.words.Word.TheVariants.{Stored};
 ghost use Rattle.pram_text.specs.Job.{JobData};
 ghost use Rattle.pram_words.specs.Words.{LayoutData};
 ghost use Rattle.walkx.specs.Operations.{words_after};
 ghost use Rattle.walkx.specs.Serving.{Serves};
 ghost use Rattle.walkx.specs.Walk.{come_back};
-ghost use Rattle.lawful_walk.specs.Board.{Grows};
+ghost use Rattle.lawful_walk.specs.Board.{Grows, held};
 ghost use Rattle.pram_world.specs.declared.event.Event.TheVariants.{Go, Stop, Back};
 ghost use Rattle.pram_world.specs.Ends.{Finishes, end_in};
-ghost use Rattle.pram_world.specs.Inner.Holding.{AreStarted, IsHeard, IsOnBoard, body_of};
+ghost use Rattle.pram_world.specs.Inner.Holding.{AreStarted, Held, IsHeard, IsOnBoard, body_of};
 ghost use Rattle.pram_world.specs.Interleavings.{IsInterleaved};
 ghost use Rattle.pram_world.specs.Outcomes.{IsOutcome};
 ghost use Rattle.pram_world.specs.Standings.{standing_of};
@@ -19,7 +20,7 @@ ghost use Rattle.pram_world.specs.Worlds.{StaleChangesNothing, effect_of, going,
 ghost use Rattle.pram_world.specs.Worlds.{number as number_of, run, shown, start};
 
 use crate::event::{Effect, Event, Standing};
-use crate::outcome::answer;
+use crate::outcome::{answer, place_words};
 use pram_step::RunAnswer;
 use pram_text::Job;
 use pram_words::Layout;
@@ -103,7 +104,7 @@ impl World {
         ensures grows { Grows self.old.layout self.old.words self.new.words }
         ensures stale { StaleChangesNothing self.old event self.new }
     {
-        let _ = &self.words;
+        self.invariant_holds();
         match event {
             Event::Go(b) => self.go(b),
             Event::Stop(b) => {
@@ -123,7 +124,7 @@ impl World {
         ensures board { KeepsBoard self.old self.new }
         ensures lawful { IsLawfulThroughout self.old events.now }
     {
-        let _ = &self.words;
+        self.invariant_holds();
         for event in events {
             self.event(*event);
         }
@@ -135,6 +136,15 @@ impl World {
         ensures { result ≡ slice_index self.now.words k }
     {
         self.words[k as usize]
+    }
+
+    /// The two words of a place.
+    pub fn place_words(&self, place: u32) -> (u64, u64)
+        requires { place < places_of self.now.layout }
+        ensures first { result.0 ≡ held self.now.layout self.now.words (Stored place 0) }
+        ensures second { result.1 ≡ held self.now.layout self.now.words (Stored place 1) }
+    {
+        place_words(&self.layout, self.words.as_slice(), place)
     }
 
     /// Whether this body is neither stopped nor over.
@@ -190,6 +200,14 @@ impl World {
         ensures lawful { IsLawful self.now }
         ensures interleaved { IsInterleaved self.now }
     {
+        self.invariant_holds();
+    }
+
+    // Says to a proof what any world keeps: a field that is named brings the type's invariant. It
+    // does nothing.
+    fn invariant_holds(&self)
+        ensures { Held self.now }
+    {
         let _ = &self.words;
     }
 
@@ -207,7 +225,7 @@ impl World {
         ensures finishes { Finishes self.old b self.new result }
         ensures board { KeepsBoard self.old self.new }
     {
-        let _ = &self.words;
+        self.invariant_holds();
         let mut made: u64 = 0;
         loop {
             if !self.is_going(b) {

@@ -30,6 +30,11 @@ pub record Holds (s : WorldData) (made : Record) : Type 0 where
   pub numbers : (b : ℕ) (body : Body) → slice_get s.bodies b ≡ Some body →
       number body < s.layout.workers
 
+-- the same, with some record
+pub record Held (s : WorldData) : Type 0 where
+  pub made : Record
+  pub holds : Holds s made
+
 -- what a body is to contracts
 abbrev pub body_of : Runner → Body
 body_of (runner.Walks k) = walks k.walking

@@ -9,7 +9,8 @@ invariant-loop-step l = record {
   follows : Follows l.world.layout l.reader;
   fits : LooksFit l.world.job l.world.layout l.reader.looking;
   cell : l.reader.looking.cell ≡ l.cell;
-  reads : read_on l.world.words (look_of l.world.layout l.reader.looking) ≡ read_on l.world.words (reader_script l.world.layout l.cell);
+  reads : read_on l.world.words (look_of l.world.layout l.reader.looking)
+      ≡ read_on l.world.words (reader_script l.world.layout l.cell);
 }
 
 abbrev pub decreases-loop-step : goal.decreases-loop-step

@@ -6,6 +6,8 @@ use Rattle.pram_page.proofs.words.write_words.Goals as goal
 
 pub loop-k-preserved : goal.loop-k-preserved
 loop-k-preserved c = record {
-  words = written (word_in c.args.world.now.layout c.args.world.now.words) c.loop-k.rows c.loop-k.k c.word_row.result (search rules) c.loop-k.invariant.words c.word_row.ensures;
-  behind = kept_set (length_of c.args.world.now.layout) c.args.rows.now c.loop-k.rows c.loop-k.k c.word_row.result (search rules) c.loop-k.invariant.behind;
+  words = written (word_in c.args.world.now.layout c.args.world.now.words) c.loop-k.rows
+      c.loop-k.k c.word_row.result (search rules) c.loop-k.invariant.words c.word_row.ensures;
+  behind = kept_set (length_of c.args.world.now.layout) c.args.rows.now
+      c.loop-k.rows c.loop-k.k c.word_row.result (search rules) c.loop-k.invariant.behind;
 }

@@ -3,4 +3,5 @@ use Rattle.std.proofs.lemmas.Result.{IfOk-weaker}
 use Rattle.pram_rows.proofs.instruction.two.Goals as goal
 
 pub returns : goal.returns
-returns c = IfOk-weaker c.format.result _ _ (λ text written. written ∙ simp append_assoc) c.format.ensures.ok
+returns c = IfOk-weaker c.format.result _ _
+    (λ text written. written ∙ simp append_assoc) c.format.ensures.ok

@@ -2,60 +2,82 @@ use Rattle.std.proofs.Common.{◌∙◌, ◌+◌, ◌-◌, sym, refl, rules, sub
 use Rattle.std.specs.Io.KnownBytes.{Appends}
 use Rattle.pram_streams.specs.Transfer.{AppendsBeginning}
 use Rattle.pram_rows.specs.Rows.{header}
-use Rattle.pram_rows.proofs.Lines.{but-begins, but-beginning, but-rest, no-rows, row-begins, row-taken, rows-all, rows-begin, whole-begins}
+use Rattle.pram_rows.proofs.Lines.{but-begins, but-beginning, but-rest, no-rows, row-begins}
+use Rattle.pram_rows.proofs.Lines.{row-taken, rows-all, rows-begin, whole-begins}
 use Rattle.pram_rows.proofs.Reaching.{reached-fewer}
 use Rattle.pram_rows.proofs.print.print_rows.Goals as goal
 
 pub returns-in_err-put-clause-beginning : goal.returns-in_err-put-clause-beginning
 returns-in_err-put-clause-beginning g c =
-    rows-begin _ _ c.args.job.now c.args.window.from c.args.window.to c.args.last (c.args.window.from - 1) 0 refl (omega arith)
-    (subst (λ l. AppendsBeginning (g.W.Sink.taken c.args.sink.now) (g.W.Sink.taken c.put.new.sink) l) (c.as_bytes.ensures.value ∙ sym (append-nil header)) c.in_err-put.ensures.beginning)
+    rows-begin _ _ c.args.job.now c.args.window.from c.args.window.to c.args.last
+    (c.args.window.from - 1) 0 refl (omega arith)
+    (subst (λ l. AppendsBeginning (g.W.Sink.taken c.args.sink.now) (g.W.Sink.taken c.put.new.sink)
+    l) (c.as_bytes.ensures.value ∙ sym (append-nil header)) c.in_err-put.ensures.beginning)
 
 pub returns-then-first-end-clause-ok : goal.returns-then-first-end-clause-ok
 returns-then-first-end-clause-ok g c =
-    rows-all _ _ c.args.job.now c.args.window.from c.args.window.to c.args.last c.saturating_sub-first.result 0 c.saturating_sub-first.ensures (omega (arith, c.min-end.ensures))
-    (subst (λ l. Appends (g.W.Sink.taken c.args.sink.now) (g.W.Sink.taken c.put.new.sink) l) (c.as_bytes.ensures.value ∙ sym (append-nil header)) c.in_ok-put.ensures.ok)
+    rows-all _ _ c.args.job.now c.args.window.from
+    c.args.window.to c.args.last c.saturating_sub-first.result 0 c.saturating_sub-first.ensures
+    (omega (arith, c.min-end.ensures))
+    (subst (λ l. Appends (g.W.Sink.taken c.args.sink.now) (g.W.Sink.taken c.put.new.sink) l)
+    (c.as_bytes.ensures.value ∙ sym (append-nil header)) c.in_ok-put.ensures.ok)
 
 pub returns-then-first-end-clause-beginning : goal.returns-then-first-end-clause-beginning
-returns-then-first-end-clause-beginning g c = whole-begins _ _ _ (returns-then-first-end-clause-ok g c)
+returns-then-first-end-clause-beginning g c =
+    whole-begins _ _ _ (returns-then-first-end-clause-ok g c)
 
-pub go_to-requires : goal.go_to-requires
-go_to-requires g c = reached-fewer c.args.job.now c.saturating_sub-first.result (c.args.last - 1) (omega (arith, c.min-end.ensures)) c.requires.reached
+pub state_after-requires : goal.state_after-requires
+state_after-requires g c =
+    reached-fewer c.args.job.now c.saturating_sub-first.result (c.args.last - 1)
+    (omega (arith, c.min-end.ensures)) c.requires.reached
 
 pub returns-in_err-rows-clause-beginning : goal.returns-in_err-rows-clause-beginning
 returns-in_err-rows-clause-beginning g c =
     let job = c.args.job.now in
     let first = c.saturating_sub-first.result in
-    let header_put = subst (λ l. Appends (g.W.Sink.taken c.args.sink.now) (g.W.Sink.taken c.put.new.sink) l) c.as_bytes.ensures.value c.in_ok-put.ensures.ok in
-    rows-begin _ _ job c.args.window.from c.args.window.to c.args.last first 1 c.saturating_sub-first.ensures (omega (arith, c.min-end.ensures))
-    (row-begins _ _ job first 0 1 first c.new.result.items (no-rows _ _ job first c.new.result.items c.new.ensures.items header_put) refl (omega arith) _ c.in_err-rows.ensures.beginning)
+    let header_put =
+    subst (λ l. Appends (g.W.Sink.taken c.args.sink.now) (g.W.Sink.taken c.put.new.sink) l)
+    c.as_bytes.ensures.value c.in_ok-put.ensures.ok in
+    rows-begin _ _ job c.args.window.from c.args.window.to
+    c.args.last first 1 c.saturating_sub-first.ensures (omega (arith, c.min-end.ensures))
+    (row-begins _ _ job first 0 1 first c.new.result.items
+    (no-rows _ _ job first c.new.result.items c.new.ensures.items header_put) refl
+    (omega arith) _ c.in_err-rows.ensures.beginning)
 
 pub loop-made-init : goal.loop-made-init
 loop-made-init g c =
     let job = c.args.job.now in
     let first = c.saturating_sub-first.result in
-    let header_put = subst (λ l. Appends (g.W.Sink.taken c.args.sink.now) (g.W.Sink.taken c.put.new.sink) l) c.as_bytes.ensures.value c.in_ok-put.ensures.ok in
+    let header_put =
+    subst (λ l. Appends (g.W.Sink.taken c.args.sink.now) (g.W.Sink.taken c.put.new.sink) l)
+    c.as_bytes.ensures.value c.in_ok-put.ensures.ok in
     record {
       unfailed = search rules;
       after = c.in_ok-state.ensures;
-      put = row-taken _ _ job first 0 (first + 1 - first) first c.new.result.items (no-rows _ _ job first c.new.result.items c.new.ensures.items header_put) (omega arith) (omega arith) _ c.in_ok-rows.rows.items c.in_ok-rows.ensures.ok;
+      put = row-taken _ _ job first 0 (first + 1 - first) first c.new.result.items
+          (no-rows _ _ job first c.new.result.items c.new.ensures.items header_put)
+          (omega arith) (omega arith) _ c.in_ok-rows.rows.items c.in_ok-rows.ensures.ok;
     }
 
-pub make_step-requires-clause-reached : goal.make_step-requires-clause-reached
-make_step-requires-clause-reached g c = reached-fewer c.args.job.now (c.loop-made.made + 1) (c.args.last - 1) (omega (arith, c.min-end.ensures)) c.requires.reached
+pub agreed_step-requires-clause-reached : goal.agreed_step-requires-clause-reached
+agreed_step-requires-clause-reached g c = reached-fewer c.args.job.now (c.loop-made.made + 1)
+    (c.args.last - 1) (omega (arith, c.min-end.ensures)) c.requires.reached
 
-pub returns-in_err-make_step-clause-beginning : goal.returns-in_err-make_step-clause-beginning
-returns-in_err-make_step-clause-beginning g c =
+pub returns-in_err-agreed_step-clause-beginning : goal.returns-in_err-agreed_step-clause-beginning
+returns-in_err-agreed_step-clause-beginning g c =
     let first = c.saturating_sub-first.result in
-    rows-begin _ _ c.args.job.now c.args.window.from c.args.window.to c.args.last first (c.loop-made.made + 1 - first) c.saturating_sub-first.ensures (omega (arith, c.min-end.ensures))
+    rows-begin _ _ c.args.job.now c.args.window.from c.args.window.to c.args.last first
+    (c.loop-made.made + 1 - first) c.saturating_sub-first.ensures (omega (arith, c.min-end.ensures))
     (but-begins _ _ _ _ c.loop-made.invariant.put)
 
 pub returns-in_err-rows-2-clause-beginning : goal.returns-in_err-rows-2-clause-beginning
 returns-in_err-rows-2-clause-beginning g c =
     let first = c.saturating_sub-first.result in
     let made = c.loop-made.made in
-    rows-begin _ _ c.args.job.now c.args.window.from c.args.window.to c.args.last first (made + 1 + 1 - first) c.saturating_sub-first.ensures (omega (arith, c.min-end.ensures))
-    (row-begins _ _ c.args.job.now first (made + 1 - first) (made + 1 + 1 - first) (made + 1) _ c.loop-made.invariant.put (omega arith) (omega arith) _ c.in_err-rows-2.ensures.beginning)
+    rows-begin _ _ c.args.job.now c.args.window.from c.args.window.to c.args.last first
+    (made + 1 + 1 - first) c.saturating_sub-first.ensures (omega (arith, c.min-end.ensures))
+    (row-begins _ _ c.args.job.now first (made + 1 - first) (made + 1 + 1 - first) (made + 1) _
+    c.loop-made.invariant.put (omega arith) (omega arith) _ c.in_err-rows-2.ensures.beginning)
 
 pub loop-made-preserved : goal.loop-made-preserved
 loop-made-preserved g c =
@@ -63,21 +85,28 @@ loop-made-preserved g c =
     let made = c.loop-made.made in
     record {
       unfailed = search rules;
-      after = c.in_ok-make_step.ensures;
-      put = row-taken _ _ c.args.job.now first (made + 1 - first) (made + 1 + 1 - first) (made + 1) _ c.loop-made.invariant.put (omega arith) (omega arith) _ _ c.in_ok-rows-2.ensures.ok;
+      after = c.in_ok-agreed_step.ensures;
+      put = row-taken _ _ c.args.job.now first (made + 1 - first) (made + 1 + 1 - first) (made + 1)
+          _ c.loop-made.invariant.put (omega arith) (omega arith) _ _ c.in_ok-rows-2.ensures.ok;
     }
 
 pub returns-in_err-put-2-clause-beginning : goal.returns-in_err-put-2-clause-beginning
 returns-in_err-put-2-clause-beginning g c =
     let first = c.saturating_sub-first.result in
-    rows-begin _ _ c.args.job.now c.args.window.from c.args.window.to c.args.last first (c.loop-made.made + 1 - first) c.saturating_sub-first.ensures (omega (arith, c.min-end.ensures))
-    (but-beginning _ _ _ _ c.loop-made.invariant.put _ (subst (λ l. AppendsBeginning (g.W.Sink.taken c.loop-made.sink) (g.W.Sink.taken c.put-2.new.sink) l) c.as_slice.ensures.value c.in_err-put-2.ensures.beginning))
+    rows-begin _ _ c.args.job.now c.args.window.from c.args.window.to c.args.last first
+    (c.loop-made.made + 1 - first) c.saturating_sub-first.ensures (omega (arith, c.min-end.ensures))
+    (but-beginning _ _ _ _ c.loop-made.invariant.put _
+    (subst (λ l. AppendsBeginning (g.W.Sink.taken c.loop-made.sink)
+    (g.W.Sink.taken c.put-2.new.sink) l) c.as_slice.ensures.value c.in_err-put-2.ensures.beginning))
 
 pub returns-clause-ok : goal.returns-clause-ok
 returns-clause-ok g c =
     let first = c.saturating_sub-first.result in
-    rows-all _ _ c.args.job.now c.args.window.from c.args.window.to c.args.last first (c.loop-made.made + 1 - first) c.saturating_sub-first.ensures (omega (arith, c.min-end.ensures))
-    (but-rest _ _ _ _ c.loop-made.invariant.put _ (subst (λ l. Appends (g.W.Sink.taken c.loop-made.sink) (g.W.Sink.taken c.put-2.new.sink) l) c.as_slice.ensures.value c.in_ok-put-2.ensures.ok))
+    rows-all _ _ c.args.job.now c.args.window.from c.args.window.to c.args.last first
+    (c.loop-made.made + 1 - first) c.saturating_sub-first.ensures (omega (arith, c.min-end.ensures))
+    (but-rest _ _ _ _ c.loop-made.invariant.put _
+    (subst (λ l. Appends (g.W.Sink.taken c.loop-made.sink) (g.W.Sink.taken c.put-2.new.sink) l)
+    c.as_slice.ensures.value c.in_ok-put-2.ensures.ok))
 
 pub returns-clause-beginning : goal.returns-clause-beginning
 returns-clause-beginning g c = whole-begins _ _ _ (returns-clause-ok g c)

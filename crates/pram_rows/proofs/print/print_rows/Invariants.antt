@@ -1,7 +1,7 @@
 use Rattle.std.proofs.Common.{◌≡◌, ◌+◌, ◌-◌, ◌++◌, false}
 use Rattle.pram_step.specs.Runs.{IsStateAfter}
 use Rattle.pram_rows.specs.Inner.Printing.{TakesBut}
-use Rattle.pram_rows.specs.Rows.{header, lines_behind}
+use Rattle.pram_rows.specs.Rows.{header, lines_after}
 use Rattle.pram_rows.proofs.print.print_rows.Given as goal
 
 -- the rows so far are put, or stand in the bytes that are left
@@ -9,5 +9,6 @@ abbrev pub invariant-loop-made : goal.invariant-loop-made
 invariant-loop-made g l = record {
   unfailed : g.W.Sink.has_failed l.sink ≡ false;
   after : IsStateAfter l.job l.made l.state;
-  put : TakesBut (g.W.Sink.taken l.fn.sink) (g.W.Sink.taken l.sink) l.rows.items (header ++ lines_behind l.job l.first (l.made + 1 - l.first));
+  put : TakesBut (g.W.Sink.taken l.fn.sink) (g.W.Sink.taken l.sink) l.rows.items
+      (header ++ lines_after l.job l.first (l.made + 1 - l.first));
 }

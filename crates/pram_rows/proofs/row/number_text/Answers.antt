@@ -5,5 +5,6 @@ use Rattle.pram_rows.proofs.row.number_text.Goals as goal
 pub returns : goal.returns
 returns c = record {
   text = c.as_bytes.ensures.value ∙ c.format.ensures.text;
-  plain = rw (c.as_bytes.ensures.value, c.format.ensures.text) (plain _ (decimal-unquoted c.args.number c.ranges.number.fits));
+  plain = rw (c.as_bytes.ensures.value, c.format.ensures.text)
+      (plain _ (decimal-unquoted c.args.number c.ranges.number.fits));
 }

@@ -5,16 +5,22 @@ use Rattle.pram_rows.proofs.row.push_rows.Goals as goal
 
 pub loop-processor-init : goal.loop-processor-init
 loop-processor-init c = record {
-  between = record { setup = c.from_writer-writer.ensures.cfg; fields = c.from_writer-writer.ensures.fields; clean = c.from_writer-writer.ensures.wrote };
+  between = record {
+    setup = c.from_writer-writer.ensures.cfg;
+    fields = c.from_writer-writer.ensures.fields;
+    clean = c.from_writer-writer.ensures.wrote;
+  };
   text = rw (c.from_writer-writer.ensures.wtr, c.from_writer-writer.ensures.empty) refl;
 }
 
 pub loop-processor-preserved : goal.loop-processor-preserved
 loop-processor-preserved c =
-    let line = row_line c.args.job.now c.args.state.now (c.args.made + 1) in
+    let line =
+    row_line c.args.moment.now.job.now c.args.moment.now.state.now (c.args.moment.now.made + 1) in
     let i = c.loop-processor.processor in
     record {
       between = c.in_ok-write_row.ensures.between;
-      text = c.in_ok-write_row.ensures.text ∙ ap (λ text. text ++ line i) c.loop-processor.invariant.text
+      text = c.in_ok-write_row.ensures.text
+          ∙ ap (λ text. text ++ line i) c.loop-processor.invariant.text
           ∙ pieces-more c.args.bytes.items line 0 i (i + 1) i refl (omega arith);
     }

@@ -9,5 +9,7 @@ use Rattle.pram_rows.proofs.row.push_rows.Given as goal
 abbrev pub invariant-loop-processor : goal.invariant-loop-processor
 invariant-loop-processor l = record {
   between : IsBetweenRecords l.writer;
-  text : (writer_under l.writer).items ++ writer_pending l.writer ≡ l.fn.bytes.items ++ flat_map (row_line l.job l.state (l.made + 1)) (range_with_len 0 l.processor);
+  text : (writer_under l.writer).items ++ writer_pending l.writer ≡ l.fn.bytes.items
+      ++ flat_map (row_line l.moment.job.now l.moment.state.now (l.moment.made + 1))
+      (range_with_len 0 l.processor);
 }

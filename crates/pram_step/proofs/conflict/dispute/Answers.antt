@@ -5,4 +5,6 @@ use Rattle.pram_step.proofs.conflict.dispute.Goals as goal
 
 pub returns : goal.returns
 returns c =
-    subst (λ xs. IsVerdict c.args.job.now xs c.loop-processor.found) (take_all c.loop-processor.processor c.args.requests.now (omega arith)) c.loop-processor.invariant.found
+    subst (λ xs. IsVerdict c.args.job.now xs c.loop-processor.found)
+    (take_all c.loop-processor.processor c.args.requests.now (omega arith))
+    c.loop-processor.invariant.found

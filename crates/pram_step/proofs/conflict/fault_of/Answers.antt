@@ -6,9 +6,12 @@ use Rattle.pram_step.proofs.Shapes.{length-requests_in}
 use Rattle.pram_step.proofs.conflict.fault_of.Goals as goal
 
 pub dispute-requires : goal.dispute-requires
-dispute-requires c = ap length c.requires.are ∙ length-requests_in c.args.job.now (state_after c.args.job.now c.requires.before)
+dispute-requires c = ap length c.requires.are
+    ∙ length-requests_in c.args.job.now (state_after c.args.job.now c.requires.before)
 
 pub unreachable-requires : goal.unreachable-requires
 unreachable-requires c =
-    let agrees : Agrees c.args.job.now c.args.requests.now = subst (λ (o : Option Dispute). IsVerdict c.args.job.now c.args.requests.now o) c.in_default.is c.in_ok-found.ensures in
+    let agrees : Agrees c.args.job.now c.args.requests.now =
+    subst (λ (o : Option Dispute). IsVerdict c.args.job.now c.args.requests.now o)
+    c.in_default.is c.in_ok-found.ensures in
     c.requires.against (subst (Agrees c.args.job.now) c.requires.are agrees)

@@ -8,17 +8,24 @@ use Rattle.pram_step.proofs.pass.ask.Goals.{After-loop-processor}
 
 pub judge-found-requires-clause-found : goal.judge-found-requires-clause-found
 judge-found-requires-clause-found c =
-    subst (λ xs. IsVerdict c.args.job.now xs c.loop-processor.found) (sym (take-set c.loop-processor.requests c.loop-processor.processor c.request_in.result)) c.loop-processor.invariant.found
+    subst (λ xs. IsVerdict c.args.job.now xs c.loop-processor.found)
+    (sym (take-set c.loop-processor.requests c.loop-processor.processor c.request_in.result))
+    c.loop-processor.invariant.found
 
 -- all processors were asked
-all_asked : (c : After-loop-processor) → c.loop-processor.requests ≡ requests_in c.args.job.now c.args.places.now
+all_asked : (c : After-loop-processor) →
+    c.loop-processor.requests ≡ requests_in c.args.job.now c.args.places.now
 unfolding requests_in
 all_asked c =
-    fill_by_all (request_in c.args.job.now c.args.places.now) c.loop-processor.requests c.args.job.now.procs (record { put = None; next = 0 }) (omega arith) (λ k low. c.loop-processor.invariant.asked k (omega arith))
+    fill_by_all (request_in c.args.job.now c.args.places.now) c.loop-processor.requests
+    c.args.job.now.procs (record { put = None; next = 0 }) (omega arith)
+    (λ k low. c.loop-processor.invariant.asked k (omega arith))
 
 pub returns-clause-requests : goal.returns-clause-requests
 returns-clause-requests c = all_asked c
 
 pub returns-clause-found : goal.returns-clause-found
 returns-clause-found c =
-    subst (λ xs. IsVerdict c.args.job.now xs c.loop-processor.found) (take_all c.loop-processor.processor c.loop-processor.requests (omega arith) ∙ all_asked c) c.loop-processor.invariant.found
+    subst (λ xs. IsVerdict c.args.job.now xs c.loop-processor.found)
+    (take_all c.loop-processor.processor c.loop-processor.requests (omega arith) ∙ all_asked c)
+    c.loop-processor.invariant.found

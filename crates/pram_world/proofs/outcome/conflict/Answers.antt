@@ -12,5 +12,7 @@ overflow_cast-named c =
 
 pub fault_of-requires : goal.fault_of-requires
 fault_of-requires c =
-    subst (λ (rs : List Request). AreConflicting c.args.job.now c.glance-named.result.0 rs) (sym c.as_slice.ensures.value)
-    (conflicting c.args.job.now c.args.layout.now c.args.words.now c.in_ok-requests.requests.items _ c.requires.stands c.requires.some c.in_ok-requests.ensures.are c.glance-named.ensures.conflict)
+    subst (λ (rs : List Request). AreConflicting c.args.job.now c.glance-named.result.0 rs)
+    (sym c.as_slice.ensures.value)
+    (conflicting c.args.job.now c.args.layout.now c.args.words.now c.in_ok-requests.requests.items _
+    c.requires.stands c.requires.some c.in_ok-requests.ensures.are c.glance-named.ensures.conflict)

@@ -8,5 +8,6 @@ use Rattle.pram_world.proofs.outcome.requests.Given as goal
 abbrev pub invariant-loop-i : goal.invariant-loop-i
 invariant-loop-i l = record {
   each : length l.requests.items ≡ l.i;
-  are : (s : ℕ) → conflict l.layout l.words ≡ suc s → l.requests.items ≡ map (request_in l.job (state_after l.job s)) (range_with_len 0 l.i);
+  are : (s : ℕ) → conflict l.layout l.words ≡ suc s →
+      l.requests.items ≡ map (request_in l.job (state_after l.job s)) (range_with_len 0 l.i);
 }

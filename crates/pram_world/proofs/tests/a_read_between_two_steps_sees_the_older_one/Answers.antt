@@ -7,6 +7,7 @@ pub look-requires-clause-follows : goal.look-requires-clause-follows
 look-requires-clause-follows g c =
     let y = c.in_ok-job.layout in
     let job : IsJob c.in_ok-job.job = subst IsJob c.job.view_is c.job.invariant in
-    let same : y.cells ≡ c.in_ok-job.job.cells = ap (λ (z : LayoutData). z.cells) c.in_ok-job.ensures.layout in
+    let same : y.cells ≡ c.in_ok-job.job.cells =
+    ap (λ (z : LayoutData). z.cells) c.in_ok-job.ensures.layout in
     let some = job.cells in
     c.new-reader.ensures.follows y (omega arith)

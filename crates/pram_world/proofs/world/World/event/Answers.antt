@@ -5,50 +5,57 @@ use Rattle.pram_world.specs.declared.event.Event.TheVariants.{Go, Stop, Back}
 use Rattle.pram_world.specs.Worlds.{WorldData, KeepsBoard, StaleChangesNothing}
 use Rattle.pram_world.proofs.Counting.{same_board}
 use Rattle.pram_world.proofs.Interleaving.{event_grows}
-use Rattle.pram_world.proofs.Keeping.{Held, happens_holds, stale_changes_nothing}
+use Rattle.pram_world.proofs.Keeping.{happens_holds, stale_changes_nothing}
 use Rattle.pram_world.proofs.world.World.event.Goals as goal
 
 pub returns-in-Go-clause-lawful : goal.returns-in-Go-clause-lawful
 returns-in-Go-clause-lawful c =
-    let h : Held c.args.self.now = subst Held c.self.view_is (record { made = c.self.invariant.made; holds = c.self.invariant.holds }) in
-    subst (λ (x : WorldData). Stands x.job x.layout x.words) (sym c.go.ensures.world) ((happens_holds c.args.self.now (Go c.in-Go.b) h).holds).stands
+    subst (λ (x : WorldData). Stands x.job x.layout x.words) (sym c.go.ensures.world)
+    ((happens_holds c.args.self.now (Go c.in-Go.b) c.invariant_holds.ensures).holds).stands
 
 pub returns-in-Go-clause-stale : goal.returns-in-Go-clause-stale
 returns-in-Go-clause-stale c =
-    let h : Held c.args.self.now = subst Held c.self.view_is (record { made = c.self.invariant.made; holds = c.self.invariant.holds }) in
     subst (λ (e : Event). StaleChangesNothing c.args.self.now e c.go.new.self) (sym c.in-Go.is)
-    (subst (StaleChangesNothing c.args.self.now (Go c.in-Go.b)) (sym c.go.ensures.world) (stale_changes_nothing c.args.self.now (Go c.in-Go.b) h))
+    (subst (StaleChangesNothing c.args.self.now (Go c.in-Go.b)) (sym c.go.ensures.world)
+    (stale_changes_nothing c.args.self.now (Go c.in-Go.b) c.invariant_holds.ensures))
 
 pub returns-in-Stop-clause-lawful : goal.returns-in-Stop-clause-lawful
 returns-in-Stop-clause-lawful c =
-    let h : Held c.args.self.now = subst Held c.self.view_is (record { made = c.self.invariant.made; holds = c.self.invariant.holds }) in
-    subst (λ (x : WorldData). Stands x.job x.layout x.words) (sym c.stop.ensures) ((happens_holds c.args.self.now (Stop c.in-Stop.b) h).holds).stands
+    subst (λ (x : WorldData). Stands x.job x.layout x.words) (sym c.stop.ensures)
+    ((happens_holds c.args.self.now (Stop c.in-Stop.b) c.invariant_holds.ensures).holds).stands
 
 pub returns-in-Back-clause-lawful : goal.returns-in-Back-clause-lawful
 returns-in-Back-clause-lawful c =
-    let h : Held c.args.self.now = subst Held c.self.view_is (record { made = c.self.invariant.made; holds = c.self.invariant.holds }) in
-    subst (λ (x : WorldData). Stands x.job x.layout x.words) (sym c.back.ensures) ((happens_holds c.args.self.now (Back c.in-Back.b) h).holds).stands
+    subst (λ (x : WorldData). Stands x.job x.layout x.words) (sym c.back.ensures)
+    ((happens_holds c.args.self.now (Back c.in-Back.b) c.invariant_holds.ensures).holds).stands
 
 pub returns-in-Go-clause-grows : goal.returns-in-Go-clause-grows
 returns-in-Go-clause-grows c =
-    let h : Held c.args.self.now = subst Held c.self.view_is (record { made = c.self.invariant.made; holds = c.self.invariant.holds }) in
-    subst (λ (x : WorldData). Grows c.args.self.now.layout c.args.self.now.words x.words) (sym c.go.ensures.world) (event_grows c.args.self.now h.made (Go c.in-Go.b) h.holds)
+    subst (λ (x : WorldData). Grows c.args.self.now.layout c.args.self.now.words x.words)
+    (sym c.go.ensures.world)
+    (event_grows c.args.self.now c.invariant_holds.ensures.made
+    (Go c.in-Go.b) c.invariant_holds.ensures.holds)
 
 pub returns-in-Stop-clause-grows : goal.returns-in-Stop-clause-grows
 returns-in-Stop-clause-grows c =
-    let h : Held c.args.self.now = subst Held c.self.view_is (record { made = c.self.invariant.made; holds = c.self.invariant.holds }) in
-    subst (λ (x : WorldData). Grows c.args.self.now.layout c.args.self.now.words x.words) (sym c.stop.ensures) (event_grows c.args.self.now h.made (Stop c.in-Stop.b) h.holds)
+    subst (λ (x : WorldData). Grows c.args.self.now.layout c.args.self.now.words x.words)
+    (sym c.stop.ensures) (event_grows c.args.self.now c.invariant_holds.ensures.made
+    (Stop c.in-Stop.b) c.invariant_holds.ensures.holds)
 
 pub returns-in-Back-clause-grows : goal.returns-in-Back-clause-grows
 returns-in-Back-clause-grows c =
-    let h : Held c.args.self.now = subst Held c.self.view_is (record { made = c.self.invariant.made; holds = c.self.invariant.holds }) in
-    subst (λ (x : WorldData). Grows c.args.self.now.layout c.args.self.now.words x.words) (sym c.back.ensures) (event_grows c.args.self.now h.made (Back c.in-Back.b) h.holds)
+    subst (λ (x : WorldData). Grows c.args.self.now.layout c.args.self.now.words x.words)
+    (sym c.back.ensures) (event_grows c.args.self.now c.invariant_holds.ensures.made
+    (Back c.in-Back.b) c.invariant_holds.ensures.holds)
 
 pub returns-in-Go-clause-board : goal.returns-in-Go-clause-board
-returns-in-Go-clause-board c = subst (KeepsBoard c.args.self.now) (sym c.go.ensures.world) (same_board c.args.self.now (Go c.in-Go.b))
+returns-in-Go-clause-board c = subst (KeepsBoard c.args.self.now) (sym c.go.ensures.world)
+    (same_board c.args.self.now (Go c.in-Go.b))
 
 pub returns-in-Stop-clause-board : goal.returns-in-Stop-clause-board
-returns-in-Stop-clause-board c = subst (KeepsBoard c.args.self.now) (sym c.stop.ensures) (same_board c.args.self.now (Stop c.in-Stop.b))
+returns-in-Stop-clause-board c = subst (KeepsBoard c.args.self.now) (sym c.stop.ensures)
+    (same_board c.args.self.now (Stop c.in-Stop.b))
 
 pub returns-in-Back-clause-board : goal.returns-in-Back-clause-board
-returns-in-Back-clause-board c = subst (KeepsBoard c.args.self.now) (sym c.back.ensures) (same_board c.args.self.now (Back c.in-Back.b))
+returns-in-Back-clause-board c = subst (KeepsBoard c.args.self.now) (sym c.back.ensures)
+    (same_board c.args.self.now (Back c.in-Back.b))

@@ -8,5 +8,9 @@ use Rattle.pram_world.proofs.world.World.twin.Goals as goal
 pub invariant_of-self-2 : goal.invariant_of-self-2
 invariant_of-self-2 c =
     let s = c.self.inside in
-    subst (λ (runners : List Runner). IsWorld s.job s.layout s.words.items runners) (sym c.in_ok-push.ensures.items)
-    (twin_keeps s.job s.layout s.words.items s.bodies.items c.args.w c.start.result c.self.invariant (subst (λ (x : WorldData). c.args.w < x.layout.workers) (sym c.self.view_is) c.requires) c.start.ensures.value (c.start.ensures.serves s.job s.layout (subst (λ (x : WorldData). c.args.w < x.layout.workers) (sym c.self.view_is) c.requires)))
+    subst (λ (runners : List Runner). IsWorld s.job s.layout s.words.items runners)
+    (sym c.in_ok-push.ensures.items)
+    (twin_keeps s.job s.layout s.words.items s.bodies.items c.args.w c.start.result c.self.invariant
+    (subst (λ (x : WorldData). c.args.w < x.layout.workers) (sym c.self.view_is) c.requires)
+    c.start.ensures.value (c.start.ensures.serves s.job s.layout
+    (subst (λ (x : WorldData). c.args.w < x.layout.workers) (sym c.self.view_is) c.requires)))

@@ -1,0 +1,94 @@
+//! What is there after so many steps.
+ghost use Rattle.std.specs.Prelude.{◌≡◌, ◌+◌, ◌<◌, ◌^◌, ◌↔◌, length, IfOk, IsTrue};
+ghost use Rattle.pram_step.specs.Arrivals.{IsArrival, IsStepMade};
+ghost use Rattle.pram_step.specs.Laws.{AllStopped};
+ghost use Rattle.pram_step.specs.Machine.{place_count};
+ghost use Rattle.pram_step.specs.Runs.{IsStateAfter};
+
+use crate::answer::Fault;
+use crate::asking::counter;
+use crate::laws;
+use crate::state::{State, StepFault, step};
+use pram_text::Job;
+use std::alloc::{AllocError, Global};
+
+/// What is there after so many steps.
+#[derive(Debug, Drop)]
+pub enum Arrival {
+    /// This state.
+    Reached(State),
+    /// No state: this step was against the rule.
+    Disputed(Fault),
+    /// So many steps may not be made.
+    TooFar,
+}
+
+/// Goes so many steps from the start. At most `most` steps are made; a machine whose processors
+/// have all stopped makes none.
+pub fn go_to(alloc: Global, job: &Job, steps: u32, most: u32) -> Result<Arrival, AllocError>
+    ensures { IfOk result (IsArrival job.now steps most) }
+{
+    laws::start_is_a_state();
+    laws::states_have_all_places();
+    laws::stopped_machine_goes_on();
+    job.limits_hold();
+    let mut state = State::start(alloc, job)?;
+    for made in 0..steps {
+        if have_stopped(job, &state) {
+            return Ok(Arrival::Reached(state));
+        }
+        if made == most {
+            return Ok(Arrival::TooFar);
+        }
+        if let Some(fault) = make_step(alloc, job, &mut state, made)? {
+            return Ok(Arrival::Disputed(fault));
+        }
+    }
+    Ok(Arrival::Reached(state))
+}
+
+/// Makes the step after so many. Where it is against the rule, the state stays, and the fault is
+/// answered.
+pub fn make_step(
+    alloc: Global,
+    job: &Job,
+    state: &mut State,
+    made: u32,
+) -> Result<Option<Fault>, AllocError>
+    requires after { IsStateAfter job.now made state.old }
+    requires fits { made + 1 < 2 ^ 32 }
+    ensures { IfOk result (IsStepMade job.now made state.new) }
+{
+    laws::next_is_a_state();
+    laws::states_have_all_places();
+    job.limits_hold();
+    match step(alloc, job, state) {
+        Ok(()) => Ok(None),
+        Err(StepFault::Memory) => Err(AllocError),
+        Err(
+            StepFault::Conflict {
+                cell,
+                first,
+                second,
+            },
+        ) => Ok(Some(Fault {
+            step: made + 1,
+            cell,
+            first,
+            second,
+        })),
+    }
+}
+
+// Whether all processors have stopped.
+fn have_stopped(job: &Job, state: &State) -> bool
+    requires { length state.now ≡ place_count job.now }
+    ensures { IsTrue result ↔ AllStopped job.now state.now }
+{
+    for processor in 0..job.procs() {
+        if (counter(job, state, processor) as usize) < job.code().len() {
+            return false;
+        }
+    }
+    true
+}
