@@ -1,5 +1,6 @@
 -- A reader's loads, and what they come to.
-use Rattle.std.proofs.Common.{◌≡◌, ◌⊎◌, ℕ, ◌%◌, ◌==◌, ◌<◌, nat_le, List, [], ◌∷◌, ◌++◌, refl, sym, ap, subst, ◌∙◌, inl, inr}
+use Rattle.std.proofs.Common.{◌≡◌, ◌⊎◌, ℕ, ◌%◌, ◌==◌, ◌<◌, nat_le, List, []}
+use Rattle.std.proofs.Common.{◌∷◌, ◌++◌, refl, sym, ap, subst, ◌∙◌, inl, inr}
 use Rattle.std.proofs.lemmas.Bool.{cond_both}
 use Rattle.pram_words.specs.Stamps.{stamp_of}
 use Rattle.pram_words.specs.Words.{LayoutData}
@@ -8,9 +9,10 @@ use Rattle.walkx.specs.declared.operation.Op.TheVariants.{Load, Store, Max, Swap
 use Rattle.walkx.specs.declared.operation.ReadOp.TheVariants as read
 use Rattle.walkx.specs.declared.operation.Reading.{Reading}
 use Rattle.walkx.specs.declared.operation.Reading.TheVariants.{At}
-use Rattle.walkx.specs.Reads.{Looking, look_of, looked, looks_for, reader_script, read_script, step_seen}
+use Rattle.walkx.specs.Reads.{Looking, look_of, looked, looks_for}
+use Rattle.walkx.specs.Reads.{reader_script, read_script, step_seen}
 use Rattle.walkx.specs.Records.{after}
-use Rattle.walkx.specs.Scripts.{Script, asks, ends, behind, rest, op_with, heard_in}
+use Rattle.walkx.specs.Scripts.{Script, asks, ends, rest_after, rest, op_with, heard_in}
 use Rattle.lawful_walk.specs.Moments.{Sound, WasBacked}
 use Rattle.lawful_walk.specs.Walks.{IsLawfulRead}
 use Rattle.lawful_walk.specs.Moments.{afters}
@@ -35,16 +37,21 @@ read_loads y c s = (
   λ a. (
     tt,
     λ b. cond_both (nat_le (stamp_of a) s) _ _ Loads
-        (λ e. cond_both (nat_le (stamp_of b) s) _ _ Loads (λ f. tt) (λ f. (tt, λ again. cond_both (again == a) _ _ Loads (λ g. tt) (λ g. tt))))
+        (λ e. cond_both (nat_le (stamp_of b) s) _ _ Loads
+        (λ f. tt) (λ f. (tt, λ again. cond_both (again == a) _ _ Loads (λ g. tt) (λ g. tt))))
         (λ e. cond_both (nat_le (stamp_of b) s) _ _ Loads (λ f. tt) (λ f. tt)),
   ),
 )
 
 reader_loads : (y : LayoutData) (c : ℕ) → Loads (reader_script y c)
 unfolding reader_script
-reader_loads y c = (tt, λ root. cond_both (root % 3 == 0) _ _ Loads (λ e. (tt, λ u. read_loads y c (step_seen root u))) (λ e. read_loads y c (step_seen root 0)))
+reader_loads y c = (
+  tt,
+  λ root. cond_both (root % 3 == 0) _ _ Loads
+      (λ e. (tt, λ u. read_loads y c (step_seen root u))) (λ e. read_loads y c (step_seen root 0)),
+)
 
-loads_next : (s : Script Reading) (found : ℕ) → Loads s → Loads (behind s found)
+loads_next : (s : Script Reading) (found : ℕ) → Loads s → Loads (rest_after s found)
 loads_next (asks op next) found l = l.1 found
 loads_next (ends r) found l = tt
 
@@ -54,15 +61,18 @@ loads_rest s (found ∷ earlier) l = loads_next (rest s earlier) found (loads_re
 
 -- ---- one load
 
-with_load : (s : Script Reading) (k found : ℕ) → Loads s → looks_for s ≡ read.Load k → op_with s found ≡ (Load k, found) ∷ []
-with_load (asks (Load j) next) k found l e = let same : j ≡ k = cc in ap (λ (n : ℕ). (Load n, found) ∷ []) same
+with_load : (s : Script Reading) (k found : ℕ) → Loads s → looks_for s ≡ read.Load k →
+    op_with s found ≡ (Load k, found) ∷ []
+with_load (asks (Load j) next) k found l e =
+    let same : j ≡ k = cc in ap (λ (n : ℕ). (Load n, found) ∷ []) same
 with_load (asks (Store j v) next) k found l e = absurd l.0
 with_load (asks (Max j v) next) k found l e = absurd l.0
 with_load (asks (Swap j old new) next) k found l e = absurd l.0
 with_load (asks (Over e') next) k found l e = absurd l.0
 with_load (ends r) k found l e = absurd (cc)
 
-looked_load : (x : Looking) (found k : ℕ) (s : Script Reading) → looks_for s ≡ read.Load k → looked x found s ≡ record { cell = x.cell; heard = found ∷ x.heard }
+looked_load : (x : Looking) (found k : ℕ) (s : Script Reading) → looks_for s ≡ read.Load k →
+    looked x found s ≡ record { cell = x.cell; heard = found ∷ x.heard }
 looked_load x found k (asks op next) e = refl
 looked_load x found k (ends r) e = absurd (cc)
 
@@ -82,43 +92,78 @@ starts_asking y c r e = cc
 
 pub record Looks (t : Task) (p q : Place) (c : ℕ) (x : Looking) : Type 0 where
   pub cell : x.cell ≡ c
-  pub is : q ≡ record { desk = p.desk; record_of = afters p.record_of (heard_in (reader_script t.layout c) x.heard) }
+  pub is : q ≡ record {
+    desk = p.desk;
+    record_of = afters p.record_of (heard_in (reader_script t.layout c) x.heard);
+  }
   pub was : (x.heard ≡ []) ⊎ WasBacked t.job t.layout q.record_of
 
-pub looks_at_first : (t : Task) (p : Place) (c : ℕ) (x : Looking) → x ≡ record { cell = c; heard = [] } → Looks t p p c x
-looks_at_first t p c x e = subst (Looks t p p c) (sym e) (record { cell = refl; is = refl; was = inl refl })
+pub looks_at_first : (t : Task) (p : Place) (c : ℕ) (x : Looking) →
+    x ≡ record { cell = c; heard = [] } → Looks t p p c x
+looks_at_first t p c x e =
+    subst (Looks t p p c) (sym e) (record { cell = refl; is = refl; was = inl refl })
 
 -- the seat and the reader with one load more
-pub looks_on : (t : Task) (p q : Place) (c k found : ℕ) (x : Looking) (q' : Place) (x' : Looking) → Looks t p q c x → looks_for (look_of t.layout x) ≡ read.Load k → q' ≡ hears q (Load k) found → Sound t.job t.layout q'.record_of → x' ≡ looked x found (look_of t.layout x) →
+pub looks_on : (t : Task) (p q : Place) (c k found : ℕ) (x : Looking) (q' : Place) (x' : Looking) →
+    Looks t p q c x → looks_for (look_of t.layout x) ≡ read.Load k → q' ≡ hears q (Load k) found →
+    Sound t.job t.layout q'.record_of → x' ≡ looked x found (look_of t.layout x) →
     Looks t p q' c x'
 looks_on t p q c k found x q' x' l e grows sound told =
     let s : Script Reading = rest (reader_script t.layout c) x.heard in
-    let es : looks_for s ≡ read.Load k = ap (λ (n : ℕ). looks_for (rest (reader_script t.layout n) x.heard)) (sym l.cell) ∙ e in
-    let made : op_with s found ≡ (Load k, found) ∷ [] = with_load s k found (loads_rest (reader_script t.layout c) x.heard (reader_loads t.layout c)) es in
-    let now : x' ≡ record { cell = x.cell; heard = found ∷ x.heard } = told ∙ looked_load x found k (look_of t.layout x) e in
-    let longer : q' ≡ record { desk = p.desk; record_of = afters p.record_of (heard_in (reader_script t.layout c) (found ∷ x.heard)) } =
-    grows ∙ ap (λ (z : Place). hears z (Load k) found) l.is ∙ ap (λ (h : List (Op × ℕ)). record { desk = p.desk; record_of = afters p.record_of (h ++ heard_in (reader_script t.layout c) x.heard) }) (sym made) in
-    let was : WasBacked t.job t.layout (after q.record_of (Load k) found) = subst (λ (z : Place). Sound t.job t.layout z.record_of) grows sound in
-    subst (Looks t p q' c) (sym now) (record { cell = l.cell; is = longer; was = inr (subst (λ (z : Place). WasBacked t.job t.layout z.record_of) (sym grows) was) })
+    let es : looks_for s ≡ read.Load k =
+    ap (λ (n : ℕ). looks_for (rest (reader_script t.layout n) x.heard)) (sym l.cell) ∙ e in
+    let made : op_with s found ≡ (Load k, found) ∷ [] = with_load s k found
+    (loads_rest (reader_script t.layout c) x.heard (reader_loads t.layout c)) es in
+    let now : x' ≡ record { cell = x.cell; heard = found ∷ x.heard } =
+    told ∙ looked_load x found k (look_of t.layout x) e in
+    let longer : q' ≡ record {
+      desk = p.desk;
+      record_of = afters p.record_of (heard_in (reader_script t.layout c) (found ∷ x.heard));
+    } =
+    grows ∙ ap (λ (z : Place). hears z (Load k) found) l.is ∙ ap (λ (h : List (Op × ℕ)). record {
+      desk = p.desk;
+      record_of = afters p.record_of (h ++ heard_in (reader_script t.layout c) x.heard);
+    }) (sym made) in
+    let was : WasBacked t.job t.layout (after q.record_of (Load k) found) =
+    subst (λ (z : Place). Sound t.job t.layout z.record_of) grows sound in
+    subst (Looks t p q' c) (sym now) (record {
+      cell = l.cell;
+      is = longer;
+      was = inr (subst (λ (z : Place). WasBacked t.job t.layout z.record_of) (sym grows) was);
+    })
 
-was_read_now : (t : Task) (p q : Place) (c : ℕ) (answers : List ℕ) (reading : Reading) → c < t.layout.cells → q ≡ record { desk = p.desk; record_of = afters p.record_of (heard_in (reader_script t.layout c) answers) } →
-    rest (reader_script t.layout c) answers ≡ ends reading → WasBacked t.job t.layout q.record_of → WasRead t p q c reading
+was_read_now : (t : Task) (p q : Place) (c : ℕ) (answers : List ℕ) (reading : Reading) →
+    c < t.layout.cells → q ≡ record {
+      desk = p.desk;
+      record_of = afters p.record_of (heard_in (reader_script t.layout c) answers);
+    } →
+    rest (reader_script t.layout c) answers ≡ ends reading →
+    WasBacked t.job t.layout q.record_of → WasRead t p q c reading
 was_read_now t p q c answers (At step value) cell is over was =
-    let w : WasBacked t.job t.layout (afters p.record_of (heard_in (reader_script t.layout c) answers)) = subst (λ (z : Place). WasBacked t.job t.layout z.record_of) is was in
+    let w : WasBacked t.job t.layout
+    (afters p.record_of (heard_in (reader_script t.layout c) answers)) =
+    subst (λ (z : Place). WasBacked t.job t.layout z.record_of) is was in
     record {
       answers = answers;
       is = is;
       over = over;
       few = (was_read t.job t.layout p.record_of c step value answers cell over w).1;
-      lawful = subst (λ (z : Place). IsLawfulRead t.job t.layout p.record_of z.record_of c step value) (sym is) ((was_read t.job t.layout p.record_of c step value answers cell over w).0);
+      lawful =
+          subst (λ (z : Place). IsLawfulRead t.job t.layout p.record_of z.record_of c step value)
+          (sym is) ((was_read t.job t.layout p.record_of c step value answers cell over w).0);
     }
 
 -- the end of a reader
-pub looks_over : (t : Task) (p q : Place) (c : ℕ) (x : Looking) (reading : Reading) → c < t.layout.cells → Looks t p q c x → looks_for (look_of t.layout x) ≡ read.Over reading → WasRead t p q c reading
+pub looks_over : (t : Task) (p q : Place) (c : ℕ) (x : Looking) (reading : Reading) →
+    c < t.layout.cells → Looks t p q c x →
+    looks_for (look_of t.layout x) ≡ read.Over reading → WasRead t p q c reading
 looks_over t p q c x reading cell l e =
     let over : rest (reader_script t.layout c) x.heard ≡ ends reading =
-    ends_as (rest (reader_script t.layout c) x.heard) reading (loads_rest (reader_script t.layout c) x.heard (reader_loads t.layout c)) (ap (λ (n : ℕ). looks_for (rest (reader_script t.layout n) x.heard)) (sym l.cell) ∙ e) in
+    ends_as (rest (reader_script t.layout c) x.heard) reading
+    (loads_rest (reader_script t.layout c) x.heard (reader_loads t.layout c))
+    (ap (λ (n : ℕ). looks_for (rest (reader_script t.layout n) x.heard)) (sym l.cell) ∙ e) in
     elim l.was [
-      | inl none ↦ absurd (starts_asking t.layout c reading (subst (λ (h : List ℕ). rest (reader_script t.layout c) h ≡ ends reading) none over))
+      | inl none ↦ absurd (starts_asking t.layout c reading
+          (subst (λ (h : List ℕ). rest (reader_script t.layout c) h ≡ ends reading) none over))
       | inr was ↦ was_read_now t p q c x.heard reading cell l.is over was
     ]

@@ -5,7 +5,7 @@ use Rattle.std.proofs.lemmas.List.{append_assoc}
 use Rattle.pram_text.specs.Job.{JobData}
 use Rattle.pram_words.specs.Words.{LayoutData}
 use Rattle.walkx.specs.declared.operation.Op.{Op}
-use Rattle.walkx.specs.Scripts.{Script, asks, behind, first_op, op_with, rest, heard_in}
+use Rattle.walkx.specs.Scripts.{Script, asks, rest_after, first_op, op_with, rest, heard_in}
 use Rattle.walkx.specs.Walk.{Then, AllAdmitted, HearsAdmitted}
 use Rattle.lawful_walk.specs.Moments.{afters}
 use Rattle.walkx.specs.Records.{Record, after}
@@ -17,7 +17,7 @@ use Rattle.pram_board.specs.Inner.Plays.{AllAsked, Driving, Plays}
 rest_more : (s : Script Then) (more before : List ℕ) → rest s (more ++ before) ≡ rest
     (rest s before) more
 rest_more s [] before = refl
-rest_more s (found ∷ more) before = ap (λ (t : Script Then). behind t found)
+rest_more s (found ∷ more) before = ap (λ (t : Script Then). rest_after t found)
     (rest_more s more before)
 
 heard_more : (s : Script Then) (more before : List ℕ) → heard_in s (more ++ before) ≡ heard_in

@@ -1,5 +1,6 @@
 -- What a later record has of an earlier one.
-use Rattle.std.proofs.Common.{◌≡◌, ℕ, ◌==◌, Option, IfSome, List, [], ◌∷◌, refl, sym, ap, subst, inl, inr, ◌∙◌}
+use Rattle.std.proofs.Common.{◌≡◌, ℕ, ◌==◌, Option, IfSome, List, []}
+use Rattle.std.proofs.Common.{◌∷◌, refl, sym, ap, subst, inl, inr, ◌∙◌}
 use Rattle.std.proofs.lemmas.Bool.{cases_Bool, eqb-false}
 use Rattle.pram_words.specs.declared.words.Word.TheVariants.{Conflict, Node}
 use Rattle.pram_words.specs.Words.{number_of}
@@ -14,13 +15,16 @@ use Rattle.lawful_walk.specs.Walks.{steps_of}
 use Rattle.lawful_walk.specs.Seen.{Heard, KnowsStep}
 use Rattle.pram_board.specs.declared.look.Progress.{Progress}
 use Rattle.pram_board.specs.declared.task.Task.{Task}
-use Rattle.pram_board.specs.Seats.{Desk, Place, hears_all, unites, HasLoaded, IsLater, KnowsConflict, Progressed, Remembers}
+use Rattle.pram_board.specs.Seats.{Desk, Place, hears_all, unites, HasLoaded}
+use Rattle.pram_board.specs.Seats.{IsLater, KnowsConflict, Progressed, Remembers}
 use Rattle.pram_board.specs.Worked.{Ran}
 use Rattle.pram_board.proofs.Begins.{has_afters}
 use Rattle.pram_board.proofs.Looking.{Looks}
 
-pub remembers_more : (p q : Place) (made : List (Op × ℕ)) → q ≡ hears_all p made → Remembers p.record_of q.record_of
-remembers_more p q made is = subst (λ (s : Place). Remembers p.record_of s.record_of) (sym is) (has_afters p.record_of made)
+pub remembers_more : (p q : Place) (made : List (Op × ℕ)) → q ≡ hears_all p made →
+    Remembers p.record_of q.record_of
+remembers_more p q made is =
+    subst (λ (s : Place). Remembers p.record_of s.record_of) (sym is) (has_afters p.record_of made)
 
 pub remembers_loads : (n : ℕ) (p q : Place) → HasLoaded n p q → Remembers p.record_of q.record_of
 remembers_loads n p q loads = remembers_more p q loads.steps loads.is
@@ -33,8 +37,10 @@ later_loads d n p q desk loads sound = record {
   sound = sound;
 }
 
-pub remembers_ran : (t : Task) (p : Place) (w : Walking) (n : ℕ) (q : Place) (now : Walking) → Ran t p w n q now → Remembers p.record_of q.record_of
-remembers_ran t p w n q now ran = remembers_more p q (steps_of t.job t.layout w ran.answers) ran.seat
+pub remembers_ran : (t : Task) (p : Place) (w : Walking) (n : ℕ) (q : Place) (now : Walking) →
+    Ran t p w n q now → Remembers p.record_of q.record_of
+remembers_ran t p w n q now ran =
+    remembers_more p q (steps_of t.job t.layout w ran.answers) ran.seat
 
 pub later_ran : (d : Desk) (p : Place) (w : Walking) (n : ℕ) (q : Place) (now : Walking) →
     q.desk ≡ d → Ran d.task p w n q now → Sound d.task.job d.task.layout q.record_of → IsLater d p q
@@ -44,32 +50,50 @@ later_ran d p w n q now desk ran sound = record {
   sound = sound;
 }
 
-pub remembers_first : (p q joined : Place) → joined ≡ unites p q → Remembers p.record_of joined.record_of
-remembers_first p q joined is = subst (λ (s : Place). Remembers p.record_of s.record_of) (sym is) (has_left p.record_of q.record_of)
+pub remembers_first : (p q joined : Place) → joined ≡ unites p q →
+    Remembers p.record_of joined.record_of
+remembers_first p q joined is = subst (λ (s : Place). Remembers p.record_of s.record_of) (sym is)
+    (has_left p.record_of q.record_of)
 
-pub remembers_second : (p q joined : Place) → joined ≡ unites p q → Remembers q.record_of joined.record_of
-remembers_second p q joined is = subst (λ (s : Place). Remembers q.record_of s.record_of) (sym is) (has_right p.record_of q.record_of)
+pub remembers_second : (p q joined : Place) → joined ≡ unites p q →
+    Remembers q.record_of joined.record_of
+remembers_second p q joined is = subst (λ (s : Place). Remembers q.record_of s.record_of) (sym is)
+    (has_right p.record_of q.record_of)
 
 -- ---- progress
 
-pub remembers_progress : (t : Task) (p q : Place) (progress : Progress) → Progressed t p q progress → Remembers p.record_of q.record_of
+pub remembers_progress : (t : Task) (p q : Place) (progress : Progress) →
+    Progressed t p q progress → Remembers p.record_of q.record_of
 remembers_progress t p q progress h =
-    remembers_more p q ((Load (number_of t.layout Conflict), h.named) ∷ (Load (number_of t.layout (Node 1)), h.root) ∷ []) h.is
+    remembers_more p q ((Load (number_of t.layout Conflict), h.named)
+    ∷ (Load (number_of t.layout (Node 1)), h.root) ∷ []) h.is
 
-pub progress_known : (t : Task) (p q : Place) (progress : Progress) → Progressed t p q progress → progress.step ≡ t.job.steps → KnowsStep t.layout q.record_of t.job.steps
-progress_known t p q progress h last = subst (λ (n : ℕ). KnowsStep t.layout q.record_of n) last (inl h.well.shows)
+pub progress_known : (t : Task) (p q : Place) (progress : Progress) → Progressed t p q progress →
+    progress.step ≡ t.job.steps → KnowsStep t.layout q.record_of t.job.steps
+progress_known t p q progress h last =
+    subst (λ (n : ℕ). KnowsStep t.layout q.record_of n) last (inl h.well.shows)
 
-pub progress_conflict : (t : Task) (p q : Place) (progress : Progress) → Progressed t p q progress → IfSome progress.conflict (λ step. KnowsConflict t.layout q.record_of)
+pub progress_conflict : (t : Task) (p q : Place) (progress : Progress) → Progressed t p q progress →
+    IfSome progress.conflict (λ step. KnowsConflict t.layout q.record_of)
 progress_conflict t p q progress h = elim (cases_Bool (h.named == 0)) [
-  | inl same ↦ subst (λ (o : Option ℕ). IfSome o (λ step. KnowsConflict t.layout q.record_of)) (sym (rw same at h.conflict)) tt
-  | inr apart ↦ subst (λ (o : Option ℕ). IfSome o (λ step. KnowsConflict t.layout q.record_of)) (sym (rw apart at h.conflict)) (record {
-    step = h.named;
-    some = eqb-false h.named 0 apart;
-    heard = subst (λ (s : Place). Heard t.layout s.record_of Conflict h.named) (sym h.is) (record { op = Load (number_of t.layout Conflict); hears = refl; has = inl (refl, tt) });
-  })
+  | inl same ↦ subst (λ (o : Option ℕ). IfSome o (λ step. KnowsConflict t.layout q.record_of))
+      (sym (rw same at h.conflict)) tt
+  | inr apart ↦ subst (λ (o : Option ℕ). IfSome o (λ step. KnowsConflict t.layout q.record_of))
+      (sym (rw apart at h.conflict)) (record {
+        step = h.named;
+        some = eqb-false h.named 0 apart;
+        heard =
+            subst (λ (s : Place). Heard t.layout s.record_of Conflict h.named) (sym h.is) (record {
+              op = Load (number_of t.layout Conflict);
+              hears = refl;
+              has = inl (refl, tt);
+            });
+      })
 ]
 
 -- ---- reads
 
-pub remembers_looks : (t : Task) (p q : Place) (c : ℕ) (x : Looking) → Looks t p q c x → Remembers p.record_of q.record_of
-remembers_looks t p q c x looks = remembers_more p q (heard_in (reader_script t.layout c) x.heard) looks.is
+pub remembers_looks : (t : Task) (p q : Place) (c : ℕ) (x : Looking) → Looks t p q c x →
+    Remembers p.record_of q.record_of
+remembers_looks t p q c x looks =
+    remembers_more p q (heard_in (reader_script t.layout c) x.heard) looks.is

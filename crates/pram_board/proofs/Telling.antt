@@ -8,7 +8,7 @@ use Rattle.walkx.specs.Bound.{told_all}
 use Rattle.walkx.specs.Inner.Posts.{PostData}
 use Rattle.walkx.specs.Records.{Record, Knows}
 use Rattle.walkx.specs.Rests.{leads, turn_of}
-use Rattle.walkx.specs.Scripts.{Script, asks, ends, behind, rest, first_op, heard_in}
+use Rattle.walkx.specs.Scripts.{Script, asks, ends, rest_after, rest, first_op, heard_in}
 use Rattle.walkx.specs.Turns.{beginning, turning}
 use Rattle.walkx.specs.Walk.{Then, begins, turns, Walking, Fits, AllAdmitted, IsBoard, IsGoing}
 use Rattle.walkx.specs.Walk.{ask_of, goes_on, script_of, told, turn_script}
@@ -38,9 +38,9 @@ module _ (t : Task) (w : Walking) (fresh : w.heard ≡ []) (going : IsGoing w.no
   tells_on [] op all first = ap (λ (h : List ℕ). record w { heard = h }) fresh
   tells_on (found ∷ earlier) op all first =
       ap (λ (v : Walking). told t.job t.layout v found) (tells_on earlier all.0.0 all.1 all.0.1)
-      ∙ told_going w.now (hearing w earlier) found (behind (rest
+      ∙ told_going w.now (hearing w earlier) found (rest_after (rest
       (script_of t.job t.layout w) earlier) found) going
-      ∙ goes_on_asks (hearing w earlier) found (behind (rest
+      ∙ goes_on_asks (hearing w earlier) found (rest_after (rest
       (script_of t.job t.layout w) earlier) found) op first
 
   -- its steps are the script's
@@ -62,7 +62,7 @@ module _ (t : Task) (w : Walking) (fresh : w.heard ≡ []) (going : IsGoing w.no
       told_all t.job t.layout w (found ∷ earlier) ≡ goes_on (hearing w earlier) found (ends end)
   tells_end found earlier end all comes =
       ap (λ (v : Walking). told t.job t.layout v found) (tells_on earlier all.0.0 all.1 all.0.1)
-      ∙ told_going w.now (hearing w earlier) found (behind (rest
+      ∙ told_going w.now (hearing w earlier) found (rest_after (rest
       (script_of t.job t.layout w) earlier) found) going
       ∙ ap (goes_on (hearing w earlier) found) comes
 

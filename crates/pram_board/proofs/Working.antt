@@ -35,53 +35,58 @@ pub record Begun (b : Desk) (p : Place) (w : Walking) : Type 0 where
   pub fits : Fits b.task.job b.task.layout w
   pub knows : Knows b.task.job b.task.layout p.record_of w
 
-module _ (p : Place) (w : Walking) (d : Driving) (mid : Walking) (e : Driving) (now : Walking)
-    (begun : Begun d.desk p w) (ran : Ran d.desk.task p w d.made d.seat mid)
+module _ (p : Place) (w : Walking) (d : Driving) (mid : WorkerData) (e : Driving)
+    (now : WorkerData) (begun : Begun d.desk p w)
+    (ran : Ran d.desk.task p w d.made d.seat mid.walking)
     (sound : Sound d.desk.task.job d.desk.task.layout d.seat.record_of)
-    (going : end_of mid.now ≡ None) where
+    (going : end_of mid.walking.now ≡ None) where
   before : d.made < most_steps d.desk.task.job d.desk.task.layout
   before =
-      fewer d.desk.task p w d.made d.seat mid begun.board begun.fits begun.knows ran sound going
+      fewer d.desk.task p w d.made d.seat mid.walking begun.board begun.fits begun.knows ran sound
+      going
 
   module _ (limited : Bool) (goes : GoesOn limited d mid e now)
       (sound_too : Sound e.desk.task.job e.desk.task.layout e.seat.record_of) where
-    all : Ran d.desk.task p w (d.made + goes.0.ticks) e.seat now
-    all = ran_more d.desk.task p w d.made d.seat mid goes.0.ticks e.seat now ran goes.0.ran
+    all : Ran d.desk.task p w (d.made + goes.went.ticks) e.seat now.walking
+    all = ran_more d.desk.task p w d.made d.seat mid.walking goes.went.ticks e.seat now.walking ran
+        goes.went.ran
 
-    few : d.made + goes.0.ticks ≤ most_steps d.desk.task.job d.desk.task.layout
-    few = elim goes.2 [
+    few : d.made + goes.went.ticks ≤ most_steps d.desk.task.job d.desk.task.layout
+    few = elim goes.single [
       | inl one ↦ (let h = before in omega arith)
       | inr far ↦
-          (let h = fewer d.desk.task p w (d.made + goes.0.ticks) e.seat now begun.board begun.fits
-          begun.knows all (subst (λ (b : Desk). Sound b.task.job b.task.layout e.seat.record_of)
-          goes.0.desk sound_too) far.1 in omega arith)
+          (let h = fewer d.desk.task p w (d.made + goes.went.ticks) e.seat now.walking begun.board
+          begun.fits begun.knows all
+          (subst (λ (b : Desk). Sound b.task.job b.task.layout e.seat.record_of)
+          goes.went.desk sound_too) far.1 in omega arith)
     ]
 
     -- all ticks so far are counted exactly, since they are few
-    pub counted : e.made ≡ d.made + goes.0.ticks
+    pub counted : e.made ≡ d.made + goes.went.ticks
     counted =
         let h = few in
         let k = before in
         let bound : most_steps d.desk.task.job d.desk.task.layout < 2 ^ 63 =
         bound_small d.desk.task begun.board in
-        exactly d.made e.made goes.0.ticks goes.0.count (goes.0.small (omega arith)) (omega arith)
+        exactly d.made e.made goes.went.ticks goes.went.count
+        (goes.went.small (omega arith)) (omega arith)
 
-    pub ran_so_far : Ran e.desk.task p w e.made e.seat now
+    pub ran_so_far : Ran e.desk.task p w e.made e.seat now.walking
     ran_so_far =
-        subst (λ (x : Desk × ℕ). Ran x.0.task p w x.1 e.seat now)
-        (λ i. (sym goes.0.desk i, sym counted i)) all
+        subst (λ (x : Desk × ℕ). Ran x.0.task p w x.1 e.seat now.walking)
+        (λ i. (sym goes.went.desk i, sym counted i)) all
 
     pub most_so_far : e.made ≤ most_steps e.desk.task.job e.desk.task.layout
     most_so_far =
         subst (λ (x : Desk × ℕ). x.1 ≤ most_steps x.0.task.job x.0.task.layout)
-        (λ i. (sym goes.0.desk i, sym counted i)) few
+        (λ i. (sym goes.went.desk i, sym counted i)) few
 
     pub nearer : most_steps e.desk.task.job e.desk.task.layout - e.made <
         most_steps d.desk.task.job d.desk.task.layout - d.made
     nearer =
         subst (λ (b : Desk). most_steps b.task.job b.task.layout - e.made <
-        most_steps d.desk.task.job d.desk.task.layout - d.made) (sym goes.0.desk)
-        (let some = goes.1 in let h = before in let k = counted in omega arith)
+        most_steps d.desk.task.job d.desk.task.layout - d.made) (sym goes.went.desk)
+        (let some = goes.some in let h = before in let k = counted in omega arith)
 
 -- whole turns bring the count nearer to its bound
 pub turns_on : (t : Task) (p : Driving) (w : Walking) (q : Driving) (mid : Walking) (z : Driving)
@@ -112,45 +117,55 @@ sound_at t d here sound =
     (ap (λ (b : Desk). b.task) here.desk ∙ here.task) sound
 
 -- the limit is not passed
-pub within_limit : (limit : Option ℕ) (limited : Bool) (p q : Driving) (w now : Walking) →
+pub within_limit : (limit : Option ℕ) (limited : Bool) (p q : Driving) (w now : WorkerData) →
     limited ≡ is_some limit → option_eq eqb limit (Some p.made) ≡ false →
     IfSome limit (λ k. p.made ≤ k) → (goes : GoesOn limited p w q now) →
-    q.made ≡ p.made + goes.0.ticks → IfSome limit (λ k. q.made ≤ k)
+    q.made ≡ p.made + goes.went.ticks → IfSome limit (λ k. q.made ≤ k)
 within_limit None limited p q w now some apart within goes is = tt
-within_limit (Some k) limited p q w now some apart within goes is = elim goes.2 [
+within_limit (Some k) limited p q w now some apart within goes is = elim goes.single [
   | inl one ↦ (let h : p.made + 1 ≤ k = room (Some k) p.made apart within in omega arith)
   | inr far ↦ absurd (true≢false (sym some ∙ far.0))
 ]
 
 -- one tick goes on in any case, and whole turns where there is no limit
-pub goes_once : (p q : Driving) (w now : Walking) → Ticked p.desk.task p.seat w q.seat now →
+pub goes_once : (p q : Driving) (w now : WorkerData) →
+    Ticked p.desk.task p.seat w.walking q.seat now.walking → Works q.desk q.seat now →
     q.desk ≡ p.desk → q.made ≡ (p.made + 1) % 2 ^ 64 → GoesOn true p w q now
-goes_once p q w now ticked desk count = (
-  record {
+goes_once p q w now ticked works desk count = record {
+  went = record {
     ticks = 1;
-    ran = ran_on p.desk.task p.seat w 0 p.seat w q.seat now ticked (ran_none p.desk.task p.seat w);
+    ran = ran_on p.desk.task p.seat w.walking 0 p.seat w.walking q.seat now.walking ticked
+        (ran_none p.desk.task p.seat w.walking);
     desk = desk;
     count = count_once p.made q.made count;
     small = λ h. below_once p.made q.made count;
-  },
-  omega arith,
-  inl refl,
-)
+  };
+  some = omega arith;
+  single = inl refl;
+  works = works;
+}
 
-pub goes_any : (limited : Bool) (p q : Driving) (w now : Walking) → GoesOn true p w q now →
+pub goes_any : (limited : Bool) (p q : Driving) (w now : WorkerData) → GoesOn true p w q now →
     GoesOn limited p w q now
 goes_any limited p q w now goes =
-    (goes.0, goes.1, elim goes.2 [ inl one ↦ inl one | inr far ↦ absurd (true≢false far.0) ])
+    record {
+      went = goes.went;
+      some = goes.some;
+      single = elim goes.single [ inl one ↦ inl one | inr far ↦ absurd (true≢false far.0) ];
+      works = goes.works;
+    }
 
-pub goes_free : (limited : Bool) (p q : Driving) (w now : Walking) → limited ≡ false →
+pub goes_free : (limited : Bool) (p q : Driving) (w now : WorkerData) → limited ≡ false →
     GoesOn false p w q now → GoesOn limited p w q now
 goes_free limited p q w now is goes =
     subst (λ (b : Bool). GoesOn b p w q now) (sym is) goes
 
 -- whole turns, up to one that has the worker begin
-pub goes_far : (p q : Driving) (w now : Walking) → Led p.desk.task p w q now →
-    end_of now.now ≡ None → GoesOn false p w q now
-goes_far p q w now led none = (led.went, led.some, inr (refl, none))
+pub goes_far : (p q : Driving) (w now : WorkerData) →
+    Led p.desk.task p w.walking q now.walking → Works q.desk q.seat now →
+    end_of now.walking.now ≡ None → GoesOn false p w q now
+goes_far p q w now led works none =
+    record { went = led.went; some = led.some; single = inr (refl, none); works = works }
 
 pub led_more : (t : Task) (p : Driving) (w : Walking) (q : Driving) (mid : Walking) (z : Driving)
     (now : Walking) → Went t p w q mid → Led t q mid z now → Led t p w z now

@@ -1,5 +1,6 @@
 -- What ticks come to, one after the other.
-use Rattle.std.proofs.Common.{◌≡◌, ◌≢◌, ℕ, ◌+◌, ◌*◌, ◌^◌, ◌<◌, ◌≤◌, [], ◌∷◌, Option, Some, None, IfSome, refl, ap, ap₂, subst, ◌∙◌, eqb, false, arith, mul-le-mul}
+use Rattle.std.proofs.Common.{◌≡◌, ◌≢◌, ℕ, ◌+◌, ◌*◌, ◌^◌, ◌<◌, ◌≤◌, [], ◌∷◌, Option, Some, None}
+use Rattle.std.proofs.Common.{IfSome, refl, ap, ap₂, subst, ◌∙◌, eqb, false, arith, mul-le-mul}
 use Rattle.std.proofs.lemmas.Bool.{eqb-false}
 use Rattle.std.specs.Option.{option_eq}
 use Rattle.walkx.specs.Bound.{told_all, history_of, most_steps}
@@ -17,23 +18,31 @@ use Rattle.pram_board.proofs.Told.{going_of}
 pub ran_none : (t : Task) (p : Place) (w : Walking) → Ran t p w 0 p w
 ran_none t p w = record { answers = []; count = refl; seat = refl; worker = refl }
 
-pub ran_on : (t : Task) (p : Place) (w : Walking) (n : ℕ) (q : Place) (now : Walking) (q' : Place) (later : Walking) → Ticked t q now q' later → Ran t p w n q now → Ran t p w (n + 1) q' later
-ran_on t p w n q now q' later made ran =
-    record {
-      answers = made.found ∷ ran.answers;
-      count = (let e = ran.count in omega arith);
-      seat = made.seat ∙ ap₂ (λ (z : Place) (v : Walking). hears z (ask_of t.job t.layout v) made.found) ran.seat ran.worker;
-      worker = made.worker ∙ ap (λ (v : Walking). told t.job t.layout v made.found) ran.worker;
-    }
+pub ran_on : (t : Task) (p : Place) (w : Walking) (n : ℕ) (q : Place) (now : Walking) (q' : Place)
+    (later : Walking) → Ticked t q now q' later → Ran t p w n q now → Ran t p w (n + 1) q' later
+ran_on t p w n q now q' later made ran = record {
+  answers = made.found ∷ ran.answers;
+  count = (let e = ran.count in omega arith);
+  seat = made.seat ∙ ap₂ (λ (z : Place) (v : Walking). hears z (ask_of t.job t.layout v) made.found)
+      ran.seat ran.worker;
+  worker = made.worker ∙ ap (λ (v : Walking). told t.job t.layout v made.found) ran.worker;
+}
 
 -- a worker that is going has made fewer steps than the bound
-pub fewer : (t : Task) (p : Place) (w : Walking) (n : ℕ) (q : Place) (now : Walking) → IsBoard t.job t.layout → Fits t.job t.layout w → Knows t.job t.layout p.record_of w → Ran t p w n q now → Sound t.job t.layout q.record_of → end_of now.now ≡ None →
+pub fewer : (t : Task) (p : Place) (w : Walking) (n : ℕ) (q : Place) (now : Walking) →
+    IsBoard t.job t.layout → Fits t.job t.layout w → Knows t.job t.layout p.record_of w →
+    Ran t p w n q now → Sound t.job t.layout q.record_of → end_of now.now ≡ None →
     n < most_steps t.job t.layout
 fewer t p w n q now board fits knows ran sound none =
-    let going : IsGoing (told_all t.job t.layout w ran.answers).now = subst (λ (v : Walking). IsGoing v.now) ran.worker (going_of now.now none) in
-    let has : Has (afters p.record_of (steps_of t.job t.layout w ran.answers)) (history_of t.job t.layout w ran.answers) = history_known t.job t.layout p.record_of w ran.answers knows in
+    let going : IsGoing (told_all t.job t.layout w ran.answers).now =
+    subst (λ (v : Walking). IsGoing v.now) ran.worker (going_of now.now none) in
+    let has : Has (afters p.record_of (steps_of t.job t.layout w ran.answers))
+    (history_of t.job t.layout w ran.answers) =
+    history_known t.job t.layout p.record_of w ran.answers knows in
     subst (λ (k : ℕ). k < most_steps t.job t.layout) ran.count
-    (sound_steps t.job t.layout (afters p.record_of (steps_of t.job t.layout w ran.answers)) w ran.answers board.is fits (subst (λ (z : Place). Sound t.job t.layout z.record_of) ran.seat sound) has going)
+    (sound_steps t.job t.layout
+    (afters p.record_of (steps_of t.job t.layout w ran.answers)) w ran.answers board.is fits
+    (subst (λ (z : Place). Sound t.job t.layout z.record_of) ran.seat sound) has going)
 
 -- the bound fits 64 bits
 pub bound_small : (t : Task) → IsBoard t.job t.layout → most_steps t.job t.layout < 2 ^ 63
@@ -45,6 +54,7 @@ bound_small t board =
     omega arith
 
 -- a limit that is not reached leaves room
-pub room : (limit : Option ℕ) (n : ℕ) → option_eq eqb limit (Some n) ≡ false → IfSome limit (λ k. n ≤ k) → IfSome limit (λ k. n + 1 ≤ k)
+pub room : (limit : Option ℕ) (n : ℕ) → option_eq eqb limit (Some n) ≡ false →
+    IfSome limit (λ k. n ≤ k) → IfSome limit (λ k. n + 1 ≤ k)
 room None n e le = le
 room (Some k) n e le = let apart : k ≢ n = eqb-false k n e in omega arith

@@ -34,7 +34,7 @@ rule_from zero = Common
 rule_from (suc zero) = Priority
 rule_from (suc (suc n)) = Crew
 
-rule_again : (r : Rule) → rule_from (rule_number r) ≡ r
+rule_again : (rule : Rule) → rule_from (rule_number rule) ≡ rule
 unfolding rule_number rule_from
 rule_again Common = refl
 rule_again Priority = refl
@@ -53,14 +53,14 @@ parts_by (OnePlace r place) = (r, (place, 0))
 parts_by (Place place) = (place, (0, 0))
 
 made_by : Instructions.Form → ℕ × (ℕ × ℕ) → Instr
-made_by (bare instr) p = instr
-made_by (target make) p = make p.0
-made_by (target_number make) p = make p.0 p.1.0
-made_by (target_one make) p = make p.0 p.1.0
-made_by (target_two make) p = make p.0 p.1.0 p.1.1
-made_by (pair make) p = make p.0 p.1.0
-made_by (one_place make) p = make p.0 p.1.0
-made_by (at_place make) p = make p.0
+made_by (bare instr) parts = instr
+made_by (target make) parts = make parts.0
+made_by (target_number make) parts = make parts.0 parts.1.0
+made_by (target_one make) parts = make parts.0 parts.1.0
+made_by (target_two make) parts = make parts.0 parts.1.0 parts.1.1
+made_by (pair make) parts = make parts.0 parts.1.0
+made_by (one_place make) parts = make parts.0 parts.1.0
+made_by (at_place make) parts = make parts.0
 
 -- the first row of this name
 row_number : List (Word × Instructions.Form) → Word → ℕ
@@ -68,19 +68,19 @@ row_number [] name = 0
 row_number (row ∷ rows) name = if bytes_eq name row.0 then 0 else suc (row_number rows name)
 
 made_in : List (Word × Instructions.Form) → ℕ → ℕ × (ℕ × ℕ) → Instr
-made_in [] n p = Halt
-made_in (row ∷ rows) zero p = made_by row.1 p
-made_in (row ∷ rows) (suc n) p = made_in rows n p
+made_in [] number parts = Halt
+made_in (row ∷ rows) zero parts = made_by row.1 parts
+made_in (row ∷ rows) (suc number) parts = made_in rows number parts
 
 parts_of : Instr → ℕ × (ℕ × (ℕ × ℕ))
 parts_of instr = (row_number table (row_of instr).0, parts_by (row_of instr).1)
 
 instr_from : ℕ × (ℕ × (ℕ × ℕ)) → Instr
-instr_from p = made_in table p.0 p.1
+instr_from parts = made_in table parts.0 parts.1
 
-instr_again : (i : Instr) → instr_from (parts_of i) ≡ i
+instr_again : (instr : Instr) → instr_from (parts_of instr) ≡ instr
 unfolding parts_of instr_from parts_by made_by row_number made_in
-instr_again i = grind arith
+instr_again instr = grind arith
 
 -- ---- forms
 
@@ -92,7 +92,7 @@ form_from : ℕ → Form
 form_from zero = Compact
 form_from (suc n) = Wide
 
-form_again : (f : Form) → form_from (form_number f) ≡ f
+form_again : (form : Form) → form_from (form_number form) ≡ form
 unfolding form_number form_from
 form_again Compact = refl
 form_again Wide = refl
@@ -104,49 +104,56 @@ coded_rule = code_by ℕ coded_ℕ rule_number rule_from rule_again
 
 pub coded_instr : Coded Instr
 coded_instr =
-    code_by (ℕ × (ℕ
-    × (ℕ × ℕ))) (coded× coded_ℕ (coded× coded_ℕ (coded× coded_ℕ coded_ℕ))) parts_of instr_from
-    instr_again
+    code_by (ℕ × (ℕ × (ℕ × ℕ))) (coded× coded_ℕ (coded× coded_ℕ (coded× coded_ℕ coded_ℕ)))
+    parts_of instr_from instr_again
 
 pub coded_form : Coded Form
 coded_form = code_by ℕ coded_ℕ form_number form_from form_again
 
+abbrev pub JobParts : Type 0
+JobParts = Rule × (ℕ × (ℕ × (ℕ × (List ℕ × List Instr))))
+
+abbrev pub job_parts : JobData → JobParts
+job_parts job = (job.rule, (job.cells, (job.procs, (job.steps, (job.init, job.code)))))
+
+abbrev pub job_from : JobParts → JobData
+job_from (rule, (cells, (procs, (steps, (init, code))))) =
+    record { rule = rule; cells = cells; procs = procs; steps = steps; init = init; code = code }
+
 abbrev pub coded_job : Coded JobData
 coded_job =
-    code_by (Rule
-    × (ℕ × (ℕ × (ℕ × (List ℕ × List Instr)))))
+    code_by JobParts
     (coded× coded_rule
     (coded× coded_ℕ
     (coded× coded_ℕ (coded× coded_ℕ (coded× (coded_list coded_ℕ) (coded_list coded_instr))))))
-    (λ j. (j.rule, (j.cells, (j.procs, (j.steps, (j.init, j.code)))))) (λ p.
-    record {
-      rule = p.0;
-      cells = p.1.0;
-      procs = p.1.1.0;
-      steps = p.1.1.1.0;
-      init =
-          p.1.1.1.1.0;
-      code = p.1.1.1.1.1;
-    }) (λ _. refl)
+    job_parts job_from (λ _. refl)
+
+abbrev pub LayoutParts : Type 0
+LayoutParts = Form × (ℕ × (ℕ × (ℕ × (ℕ × Bool))))
+
+abbrev pub layout_parts : LayoutData → LayoutParts
+layout_parts layout =
+    (layout.form, (layout.leaves, (layout.cells, (layout.procs, (layout.workers, layout.claims)))))
+
+abbrev pub layout_from : LayoutParts → LayoutData
+layout_from (form, (leaves, (cells, (procs, (workers, claims))))) = record {
+  form = form;
+  leaves = leaves;
+  cells = cells;
+  procs = procs;
+  workers = workers;
+  claims = claims;
+}
 
 abbrev pub coded_layout : Coded LayoutData
 coded_layout =
-    code_by (Form
-    × (ℕ × (ℕ × (ℕ × (ℕ × Bool)))))
+    code_by LayoutParts
     (coded× coded_form
-    (coded× coded_ℕ (coded× coded_ℕ (coded× coded_ℕ (coded× coded_ℕ coded_bool))))) (λ y.
-    (y.form, (y.leaves, (y.cells, (y.procs, (y.workers, y.claims)))))) (λ p.
-    record {
-      form = p.0;
-      leaves = p.1.0;
-      cells = p.1.1.0;
-      procs = p.1.1.1.0;
-      workers =
-          p.1.1.1.1.0;
-      claims = p.1.1.1.1.1;
-    }) (λ _. refl)
+    (coded× coded_ℕ (coded× coded_ℕ (coded× coded_ℕ (coded× coded_ℕ coded_bool)))))
+    layout_parts layout_from (λ _. refl)
 
 abbrev pub coded_task : Coded Task
 coded_task =
-    code_by (JobData × LayoutData) (coded× coded_job coded_layout) (λ t. (t.job, t.layout)) (λ p.
-    record { job = p.0; layout = p.1 }) (λ _. refl)
+    code_by (JobData × LayoutData) (coded× coded_job coded_layout)
+    (λ task. (task.job, task.layout)) (λ parts. record { job = parts.0; layout = parts.1 })
+    (λ _. refl)

@@ -4,7 +4,9 @@ use mathlib.Core.Option.{some}
 use lib.ListN.{get_elem?}
 use Rattle.atomic_table.specs.Table.{State, Step, Me}
 use Rattle.pram_text.specs.declared.instr.Rule.TheVariants.{Common}
+use Rattle.pram_text.specs.Job.{JobData}
 use Rattle.pram_words.specs.declared.layout.Form.TheVariants.{Compact}
+use Rattle.pram_words.specs.Words.{layout_of}
 use Rattle.walkx.specs.declared.operation.Op.{Op}
 use Rattle.walkx.specs.declared.operation.Op.TheVariants.{Load, Store, Max, Swap}
 use Rattle.walkx.specs.Records.{Record, empty, after, both}
@@ -14,57 +16,46 @@ use Rattle.lawful_walk.specs.Moments.{Backed, Sound, Keeps}
 use Rattle.pram_board.specs.declared.task.Task.{Task}
 use Rattle.pram_board.specs.declared.task.View.{View}
 
--- the view of a seat of this task, and one that was joined to another
+-- the view of a seat of this task
 abbrev pub viewing : Task → Record → View
-viewing t r = record { live = true; task = t; heard = r }
+viewing task known = record { live = true; task = task; heard = known }
 
-abbrev pub nothing : Task
-nothing = record {
-  job = record {
-    rule = Common;
-    cells = 0;
-    procs = 0;
-    steps = 0;
-    init = [];
-    code =
-        [];
-  };
-  layout = record {
-    form = Compact;
-    leaves = 0;
-    cells = 0;
-    procs = 0;
-    workers = 0;
-    claims =
-        false;
-  };
-}
+-- the view of a seat that was joined to another: it is of no job, and of that nothing is said
+abbrev pub no_job : JobData
+no_job = record { rule = Common; cells = 0; procs = 0; steps = 0; init = []; code = [] }
 
 abbrev pub idle : View
-idle = record { live = false; task = nothing; heard = empty }
+idle = record {
+  live = false;
+  task = record { job = no_job; layout = layout_of no_job Compact 0 };
+  heard = empty;
+}
 
 abbrev pub opened : Task → View
-opened t = viewing t empty
+opened task = viewing task empty
 
 abbrev pub united : View → View → View
-united v w = record { live = v.live; task = v.task; heard = both v.heard w.heard }
+united first second =
+    record { live = first.live; task = first.task; heard = both first.heard second.heard }
 
--- the words bear out what a seat knows. Of a spent view nothing is said
+-- the words bear out what a seat knows
 abbrev pub Bears : Task → State (Unit {0}) View → View → Type 0
-Bears t s v = v.live ≡ true → (v.task ≡ t) × Backed t.job t.layout v.heard s.words
+Bears task state view = view.live ≡ true →
+    (view.task ≡ task) × Backed task.job task.layout view.heard state.words
 
-pub record Holds (t : Task) (s : State (Unit {0}) View) : Type 0 where
-  pub stands : Stands t.job t.layout s.words
-  pub seats : (id : ℕ) (v : View) → get_elem? s.views id ≡ some v → Bears t s v
+pub record Holds (task : Task) (state : State (Unit {0}) View) : Type 0 where
+  pub stands : Stands task.job task.layout state.words
+  pub seats : (id : ℕ) (view : View) → get_elem? state.views id ≡ some view →
+      Bears task state view
 
 -- ---- what an atomic step may be
 
 -- whatever standing words bear out the record, this step of its seat leaves words that stand and
 -- have grown
 abbrev pub May : Task → Record → Op → Type 0
-May t r op = IsStepOn t.layout op
-    × ((words : List ℕ) → Stands t.job t.layout words → Backed t.job t.layout r words →
-    Keeps t.job t.layout op words)
+May task known op = IsStepOn task.layout op
+    × ((words : List ℕ) → Stands task.job task.layout words →
+    Backed task.job task.layout known words → Keeps task.job task.layout op words)
 
 -- ---- what an atomic step tells
 

@@ -29,8 +29,8 @@ pub record Desk : Type 0 where
 
 abbrev pub coded_desk : Coded Desk
 coded_desk =
-    code_by (TableId × Task) (coded× table_id_coded coded_task) (λ d. (d.id, d.task)) (λ p.
-    record { id = p.0; task = p.1 }) (λ _. refl)
+    code_by (TableId × Task) (coded× table_id_coded coded_task) (λ desk. (desk.id, desk.task))
+    (λ parts. record { id = parts.0; task = parts.1 }) (λ _. refl)
 
 -- a seat of a board, with the record of its steps
 pub record Place : Type 0 where
@@ -39,8 +39,9 @@ pub record Place : Type 0 where
 
 abbrev pub coded_place : Coded Place
 coded_place =
-    code_by (Desk × Record) (coded× coded_desk coded_record) (λ p. (p.desk, p.record_of)) (λ p.
-    record { desk = p.0; record_of = p.1 }) (λ _. refl)
+    code_by (Desk × Record) (coded× coded_desk coded_record)
+    (λ place. (place.desk, place.record_of))
+    (λ parts. record { desk = parts.0; record_of = parts.1 }) (λ _. refl)
 
 -- a new board, with a seat of it that has seen nothing
 abbrev pub IsOpened : JobData → Form → ℕ → Desk × Place → Type 0
@@ -50,64 +51,67 @@ IsOpened job form workers made =
 
 -- the seat with one more step, and with more steps, the newest first
 abbrev pub hears : Place → Op → ℕ → Place
-hears p op found = record { desk = p.desk; record_of = after p.record_of op found }
+hears seat op found = record { desk = seat.desk; record_of = after seat.record_of op found }
 
 abbrev pub hears_all : Place → List (Op × ℕ) → Place
-hears_all p steps = record { desk = p.desk; record_of = afters p.record_of steps }
+hears_all seat steps = record { desk = seat.desk; record_of = afters seat.record_of steps }
 
 -- so many loads more
 abbrev pub IsLoad : Op → Type 0
-IsLoad (Load k) = Unit {0}
+IsLoad (Load word) = Unit {0}
 IsLoad _ = ⊥
 
-pub record HasLoaded (n : ℕ) (p q : Place) : Type 0 where
+pub record HasLoaded (loaded : ℕ) (before later : Place) : Type 0 where
   pub steps : List (Op × ℕ)
-  pub is : q ≡ hears_all p steps
-  pub loads : AllByRecursion (λ (e : Op × ℕ). IsLoad e.0) steps
-  pub count : length steps ≡ n
+  pub is : later ≡ hears_all before steps
+  pub loads : AllByRecursion (λ (step : Op × ℕ). IsLoad step.0) steps
+  pub count : length steps ≡ loaded
 
 -- the seat that has seen what two had seen
 abbrev pub unites : Place → Place → Place
-unites p q = record { desk = p.desk; record_of = both p.record_of q.record_of }
+unites first second =
+    record { desk = first.desk; record_of = both first.record_of second.record_of }
 
 -- the later record has what the earlier one had: each worker that it knew, for one
 abbrev pub Remembers : Record → Record → Type 0
 Remembers before later = (steps : List (Op × ℕ)) → Has before steps → Has later steps
 
 -- the seat later: it is of this board still, has what it had, and what it heard is sound
-pub record IsLater (d : Desk) (p q : Place) : Type 0 where
-  pub desk : q.desk ≡ d
-  pub keeps : Remembers p.record_of q.record_of
-  pub sound : Sound d.task.job d.task.layout q.record_of
+pub record IsLater (board : Desk) (before later : Place) : Type 0 where
+  pub desk : later.desk ≡ board
+  pub keeps : Remembers before.record_of later.record_of
+  pub sound : Sound board.task.job board.task.layout later.record_of
 
 -- the record heard word 0 as another value than 0
-pub record KnowsConflict (y : LayoutData) (r : Record) : Type 0 where
+pub record KnowsConflict (layout : LayoutData) (known : Record) : Type 0 where
   pub step : ℕ
   pub some : step ≢ 0
-  pub heard : Heard y r Conflict step
+  pub heard : Heard layout known Conflict step
 
 -- ---- progress
 
 -- a load of the root and then one of word 0, and what they show
-pub record Progressed (t : Task) (p q : Place) (progress : Progress) : Type 0 where
+pub record Progressed (task : Task) (before later : Place) (progress : Progress) : Type 0 where
   pub root : ℕ
   pub named : ℕ
-  pub is : q ≡ hears (hears p (Load (number_of t.layout (Node 1))) root)
-      (Load (number_of t.layout Conflict)) named
+  pub is : later ≡ hears (hears before (Load (number_of task.layout (Node 1))) root)
+      (Load (number_of task.layout Conflict)) named
   pub step : progress.step ≡ step_seen root named
   pub conflict : progress.conflict ≡ (if named == 0 then None else Some named)
-  pub well : ProgressWell t.job t.layout p.record_of q.record_of progress.step named
+  pub well : ProgressWell task.job task.layout before.record_of later.record_of progress.step named
 
 -- ---- reads
 
 abbrev pub IsReading : Task → Record → Record → ℕ → Reading → Type 0
-IsReading t before behind c (At step value) = IsLawfulRead t.job t.layout before behind c step value
+IsReading task before later cell (At step value) =
+    IsLawfulRead task.job task.layout before later cell step value
 
 -- the loads of a reader of the cell, at most five, what it then answers, and that this is a lawful
 -- read
-pub record WasRead (t : Task) (p q : Place) (c : ℕ) (reading : Reading) : Type 0 where
+pub record WasRead (task : Task) (before later : Place) (cell : ℕ)
+    (reading : Reading) : Type 0 where
   pub answers : List ℕ
-  pub is : q ≡ hears_all p (heard_in (reader_script t.layout c) answers)
-  pub over : rest (reader_script t.layout c) answers ≡ ends reading
-  pub few : length (heard_in (reader_script t.layout c) answers) ≤ 5
-  pub lawful : IsReading t p.record_of q.record_of c reading
+  pub is : later ≡ hears_all before (heard_in (reader_script task.layout cell) answers)
+  pub over : rest (reader_script task.layout cell) answers ≡ ends reading
+  pub few : length (heard_in (reader_script task.layout cell) answers) ≤ 5
+  pub lawful : IsReading task before.record_of later.record_of cell reading

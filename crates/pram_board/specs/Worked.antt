@@ -16,56 +16,59 @@ use Rattle.pram_board.specs.declared.work.Stay.TheVariants as stay
 use Rattle.pram_board.specs.Seats.{Desk, Place, hears, hears_all}
 
 -- the seat is of this board, the worker goes with the board, and the seat knows it
-pub record Works (d : Desk) (p : Place) (w : WorkerData) : Type 0 where
-  pub desk : p.desk ≡ d
-  pub serves : Serves d.task.job d.task.layout w
-  pub knows : Knows d.task.job d.task.layout p.record_of w.walking
+pub record Works (board : Desk) (seat : Place) (worker : WorkerData) : Type 0 where
+  pub desk : seat.desk ≡ board
+  pub serves : Serves board.task.job board.task.layout worker
+  pub knows : Knows board.task.job board.task.layout seat.record_of worker.walking
 
 -- one atomic step, the worker's next one: the record has it with its answer, which the worker was
 -- told
-pub record Ticked (t : Task) (p : Place) (w : Walking) (q : Place) (now : Walking) : Type 0 where
+pub record Ticked (task : Task) (before : Place) (walking : Walking) (later : Place)
+    (now : Walking) : Type 0 where
   pub found : ℕ
-  pub seat : q ≡ hears p (ask_of t.job t.layout w) found
-  pub worker : now ≡ told t.job t.layout w found
+  pub seat : later ≡ hears before (ask_of task.job task.layout walking) found
+  pub worker : now ≡ told task.job task.layout walking found
 
 -- a tick of a worker, which does nothing where the worker is over
-pub record IsTick (t : Task) (p : Place) (w : WorkerData) (q : Place) (now : WorkerData) :
-    Type 0 where
-  pub over : (e : Ended) → end_of w.walking.now ≡ Some e → (q ≡ p) × (now ≡ w)
-  pub step : end_of w.walking.now ≡ None → Ticked t p w.walking q now.walking
+pub record IsTick (task : Task) (before : Place) (worker : WorkerData) (later : Place)
+    (now : WorkerData) : Type 0 where
+  pub over : (ended : Ended) → end_of worker.walking.now ≡ Some ended →
+      (later ≡ before) × (now ≡ worker)
+  pub step : end_of worker.walking.now ≡ None → Ticked task before worker.walking later now.walking
 
 -- so many of them, one after the other, all in the record
-pub record Ran (t : Task) (p : Place) (w : Walking) (n : ℕ) (q : Place) (now : Walking) :
-    Type 0 where
+pub record Ran (task : Task) (before : Place) (walking : Walking) (ticks : ℕ) (later : Place)
+    (now : Walking) : Type 0 where
   pub answers : List ℕ
-  pub count : length answers ≡ n
-  pub seat : q ≡ hears_all p (steps_of t.job t.layout w answers)
-  pub worker : now ≡ told_all t.job t.layout w answers
+  pub count : length answers ≡ ticks
+  pub seat : later ≡ hears_all before (steps_of task.job task.layout walking answers)
+  pub worker : now ≡ told_all task.job task.layout walking answers
 
 -- what the record shows of how a worker ended: the last step, and word 0 as 0 after the root; or
 -- word 0 as the step of the first conflict
 abbrev pub EndShows : Task → Record → Option Ended → Type 0
-EndShows t r None = Unit {0}
-EndShows t r (Some Done) = DoneWell t.job t.layout r
-EndShows t r (Some (Conflict u)) = Heard t.layout r word.Conflict u × IsConflict t.job u
+EndShows task known None = Unit {0}
+EndShows task known (Some Done) = DoneWell task.job task.layout known
+EndShows task known (Some (Conflict step)) =
+    Heard task.layout known word.Conflict step × IsConflict task.job step
 
 -- how the worker ended, if it did
 abbrev pub end_in : Stay → Option Ended
-end_in (stay.Ended e) = Some e
+end_in (stay.Ended ended) = Some ended
 end_in stay.Stopped = None
 
 -- ended with the worker; or stopped at the limit, the worker being not over
 abbrev pub StaysAs : Option ℕ → ℕ → Walking → Stay → Type 0
-StaysAs limit n now (stay.Ended e) = end_of now.now ≡ Some e
-StaysAs limit n now stay.Stopped = (limit ≡ Some n) × (end_of now.now ≡ None)
+StaysAs limit ticks now (stay.Ended ended) = end_of now.now ≡ Some ended
+StaysAs limit ticks now stay.Stopped = (limit ≡ Some ticks) × (end_of now.now ≡ None)
 
 -- some ticks, all in the record, at most the limit and at most 300 L T + 8, how they ended, and
 -- what the record shows of that
-pub record Worked (t : Task) (p : Place) (w : Walking) (limit : Option ℕ) (q : Place) (now :
-    Walking) (stay : Stay) : Type 0 where
+pub record Worked (task : Task) (before : Place) (walking : Walking) (limit : Option ℕ)
+    (later : Place) (now : Walking) (stay : Stay) : Type 0 where
   pub ticks : ℕ
-  pub ran : Ran t p w ticks q now
-  pub most : ticks ≤ most_steps t.job t.layout
-  pub within : IfSome limit (λ k. ticks ≤ k)
+  pub ran : Ran task before walking ticks later now
+  pub most : ticks ≤ most_steps task.job task.layout
+  pub within : IfSome limit (λ bound. ticks ≤ bound)
   pub stays : StaysAs limit ticks now stay
-  pub shows : EndShows t q.record_of (end_in stay)
+  pub shows : EndShows task later.record_of (end_in stay)

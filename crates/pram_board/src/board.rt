@@ -71,9 +71,8 @@ impl Board {
     {
         let job = job.try_clone()?;
         let words = layout.start_words(alloc, &job)?;
-        // These tell the limits of the job and of the layout.
-        let _ = job.cells();
-        let _ = layout.leaves();
+        job.limits_hold();
+        layout.limits_hold();
         let task = Task { job, layout };
         let (table, seat) = Table::of_words(alloc, words.as_slice(), &task)?;
         Ok((Board { task, table }, Seat { seat }))
@@ -115,7 +114,7 @@ impl Board {
     pub fn facts(&self)
         ensures { IsBoard self.now.task.job self.now.task.layout }
     {
-        let _ = &self.task;
+        self.task();
     }
 
     // What the board is about.

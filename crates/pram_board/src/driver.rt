@@ -120,10 +120,7 @@ impl<'a, G: Gate> Driver<'a, G> {
         requires going { end_of worker.old.walking.now ≡ None }
         requires works { Works self.old.board.now self.old.seat.now worker.old }
         ensures same { self.new.seat.ghost_name ≡ self.old.seat.ghost_name }
-        ensures works { Works self.new.board.now self.new.seat.now worker.new }
-        ensures goes { GoesOn limited (driving self.old)
-            worker.old.walking (driving self.new)
-            worker.new.walking }
+        ensures goes { GoesOn limited (driving self.old) worker.old (driving self.new) worker.new }
     {
         if limited {
             return self.go_one(worker);
@@ -140,10 +137,7 @@ impl<'a, G: Gate> Driver<'a, G> {
         requires going { end_of worker.old.walking.now ≡ None }
         requires works { Works self.old.board.now self.old.seat.now worker.old }
         ensures same { self.new.seat.ghost_name ≡ self.old.seat.ghost_name }
-        ensures works { Works self.new.board.now self.new.seat.now worker.new }
-        ensures goes { GoesOn true (driving self.old)
-            worker.old.walking (driving self.new)
-            worker.new.walking }
+        ensures goes { GoesOn true (driving self.old) worker.old (driving self.new) worker.new }
     {
         self.gate.pass(worker.number(), self.made);
         self.made = self.made.wrapping_add(1);
@@ -157,10 +151,7 @@ impl<'a, G: Gate> Driver<'a, G> {
         requires turn { worker.old.walking ≡ turning worker.old.walking.number node phase }
         requires works { Works self.old.board.now self.old.seat.now worker.old }
         ensures same { self.new.seat.ghost_name ≡ self.old.seat.ghost_name }
-        ensures works { Works self.new.board.now self.new.seat.now worker.new }
-        ensures goes { GoesOn false (driving self.old)
-            worker.old.walking (driving self.new)
-            worker.new.walking }
+        ensures goes { GoesOn false (driving self.old) worker.old (driving self.new) worker.new }
     {
         let board = self.board;
         board.facts();

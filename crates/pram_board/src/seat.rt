@@ -35,6 +35,7 @@ impl Seat {
     pub fn facts(&self)
         ensures { Sound self.now.desk.task.job self.now.desk.task.layout self.now.record_of }
     {
+        // A read of the field brings what the type keeps.
         let _ = &self.seat;
     }
 }

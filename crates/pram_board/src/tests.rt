@@ -210,7 +210,7 @@ fn under_priority(text: &str) -> Row<'_> {
 }
 
 #[test]
-fn looks_before_and_behind_the_work(rt: HostRuntime) -> Result<(), Fail> {
+fn looks_before_and_after_the_work(rt: HostRuntime) -> Result<(), Fail> {
     let (board, mut seat) = opened(&rt, BELOW_ZERO, 1)?;
     board.facts();
     seat.facts();
@@ -310,7 +310,11 @@ fn a_position_that_was_stored_is_found(rt: HostRuntime) -> Result<(), Fail> {
 }
 
 // Step 5 is against the rule: the memory after step 4 stays readable.
-fn look_behind(rt: &(impl AllocGlobal + Abort), rule: &str, value: &str) -> Result<(), Fail> {
+fn look_after_conflict(
+    rt: &(impl AllocGlobal + Abort),
+    rule: &str,
+    value: &str,
+) -> Result<(), Fail> {
     let (board, seat) = opened(rt, one_cell(rt, rule, value)?.as_str(), 5)?;
     let (mut seat, mut other) = board.split(seat);
     let answer = finished(rt, &board, &mut seat, &mut Worker::start(0))?;
@@ -328,9 +332,9 @@ fn look_behind(rt: &(impl AllocGlobal + Abort), rule: &str, value: &str) -> Resu
 }
 
 #[test]
-fn looks_behind_a_conflict(rt: HostRuntime) -> Result<(), Fail> {
-    look_behind(&rt, "common", "r0")?;
-    look_behind(&rt, "crew", "r1")
+fn looks_after_a_conflict(rt: HostRuntime) -> Result<(), Fail> {
+    look_after_conflict(&rt, "common", "r0")?;
+    look_after_conflict(&rt, "crew", "r1")
 }
 
 // The cell is written in steps 3, 5, 7 and 8.

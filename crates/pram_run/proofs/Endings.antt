@@ -1,5 +1,7 @@
 -- Seats that go on, and what they show of the end of a job.
-use Rattle.std.proofs.Common.{◌≡◌, ◌≢◌, ◌⊎◌, ℕ, ◌<◌, ◌==◌, if◌then◌else◌, Option, ◌≤◌, List, [], ◌∷◌, ◌++◌, length, Some, None, true, false, refl, sym, ap, subst, ◌∙◌, inl, inr, arith}
+use Rattle.std.proofs.Common.{◌≡◌, ◌≢◌, ◌⊎◌, ℕ, ◌<◌, ◌==◌, if◌then◌else◌, Option}
+use Rattle.std.proofs.Common.{◌≤◌, List, [], ◌∷◌, ◌++◌, length, Some, None, true}
+use Rattle.std.proofs.Common.{false, refl, sym, ap, subst, ◌∙◌, inl, inr, arith}
 use Rattle.std.proofs.lemmas.Bool.{cases_Bool, eqb-true, eqb-false}
 use Rattle.std.specs.List.{AllByRecursion}
 use Rattle.std.specs.Prelude.{Result, Ok, Err, IfOk, is_some}
@@ -32,10 +34,12 @@ use Rattle.pram_board.specs.declared.look.Progress.{Progress}
 use Rattle.pram_board.specs.declared.task.Task.{Task}
 use Rattle.pram_board.specs.declared.work.Stay.{Stay}
 use Rattle.pram_board.specs.declared.work.Stay.TheVariants as stay
-use Rattle.pram_board.specs.Seats.{Desk, Place, Progressed, HasLoaded, IsLoad, KnowsConflict, hears_all, unites}
+use Rattle.pram_board.specs.Seats.{Desk, Place, Progressed, HasLoaded}
+use Rattle.pram_board.specs.Seats.{IsLoad, KnowsConflict, hears_all, unites}
 use Rattle.pram_board.specs.Worked.{EndShows, Worked, end_in}
 use Rattle.pram_run.specs.Inner.Obeying.{GoesOn, EndsOrStops, AllEndOrStop}
-use Rattle.pram_run.proofs.Records.{HasAll, begins_self, begins_trans, begins_afters, begins_all, left_all, right_all, heard_all, shows_all, shows_earlier}
+use Rattle.pram_run.proofs.Records.{HasAll, begins_self, begins_trans, begins_afters, begins_all}
+use Rattle.pram_run.proofs.Records.{left_all, right_all, heard_all, shows_all, shows_earlier}
 
 -- ---- a seat goes on
 
@@ -43,18 +47,24 @@ pub goes_self : (p : Place) → GoesOn p p
 goes_self p = record { desk = refl; begins = begins_self p.record_of }
 
 pub goes_trans : (p q r : Place) → GoesOn p q → GoesOn q r → GoesOn p r
-goes_trans p q r h k = record { desk = k.desk ∙ h.desk; begins = begins_trans p.record_of q.record_of r.record_of h.begins k.begins }
+goes_trans p q r h k = record {
+  desk = k.desk ∙ h.desk;
+  begins = begins_trans p.record_of q.record_of r.record_of h.begins k.begins;
+}
 
 pub goes_all : (p q : Place) (steps : List (Op × ℕ)) → q ≡ hears_all p steps → GoesOn p q
 goes_all p q steps is = record {
   desk = ap (λ (s : Place). s.desk) is;
-  begins = subst (λ (s : Place). BeginsWith p.record_of s.record_of) (sym is) (begins_afters p.record_of steps);
+  begins = subst (λ (s : Place). BeginsWith p.record_of s.record_of)
+      (sym is) (begins_afters p.record_of steps);
 }
 
-pub goes_united : (first p q later : Place) → later ≡ unites p q → GoesOn first p → GoesOn first q → GoesOn first later
+pub goes_united : (first p q later : Place) → later ≡ unites p q → GoesOn first p →
+    GoesOn first q → GoesOn first later
 goes_united first p q later is h k = record {
   desk = ap (λ (s : Place). s.desk) is ∙ h.desk;
-  begins = subst (λ (s : Place). BeginsWith first.record_of s.record_of) (sym is) (inr (h.begins, k.begins));
+  begins = subst (λ (s : Place). BeginsWith first.record_of s.record_of)
+      (sym is) (inr (h.begins, k.begins));
 }
 
 -- ---- the end
@@ -71,78 +81,105 @@ end_shown t r ended.Done h = inl h.shows
 end_shown t r (ended.Conflict u) h = inr (u, not_zero t.job u h.1, h.0)
 
 -- work without a limit ends with the worker
-pub unlimited_ends : (t : Task) (p : Place) (w : Walking) (q : Place) (now : Walking) (stay : Stay) → Worked t p w None q now stay →
+pub unlimited_ends : (t : Task) (p : Place) (w : Walking)
+    (q : Place) (now : Walking) (stay : Stay) → Worked t p w None q now stay →
     EndShows t q.record_of (end_in stay) → ShowsEnd t q.record_of
 unlimited_ends t p w q now (stay.Ended e) worked shows = end_shown t q.record_of e shows
 unlimited_ends t p w q now stay.Stopped worked shows = absurd (let e = worked.stays.0 in cc)
 
 -- ---- joined seats
 
-pub ends_front : (rows : List Row) (worker : ℕ) (p q later : Place) → later ≡ unites p q → EndsOrStops rows worker p → EndsOrStops rows worker later
-ends_front rows worker p q later is h = subst (λ (s : Place). EndsOrStops rows worker s) (sym is) (by h)
+pub ends_front : (rows : List Row) (worker : ℕ) (p q later : Place) → later ≡ unites p q →
+    EndsOrStops rows worker p → EndsOrStops rows worker later
+ends_front rows worker p q later is h =
+    subst (λ (s : Place). EndsOrStops rows worker s) (sym is) (by h)
   where
     by : EndsOrStops rows worker p → EndsOrStops rows worker (unites p q)
-    by (inl s) = inl (end_all p.desk.task p.record_of (both p.record_of q.record_of) (left_all p.record_of q.record_of) s)
+    by (inl s) = inl (end_all p.desk.task p.record_of (both p.record_of q.record_of)
+        (left_all p.record_of q.record_of) s)
     by (inr s) = inr s
 
-pub ends_back : (rows : List Row) (worker : ℕ) (p q later : Place) → q.desk ≡ p.desk → later ≡ unites p q → EndsOrStops rows worker q → EndsOrStops rows worker later
-ends_back rows worker p q later desk is h = subst (λ (s : Place). EndsOrStops rows worker s) (sym is) (by h)
+pub ends_back : (rows : List Row) (worker : ℕ) (p q later : Place) → q.desk ≡ p.desk →
+    later ≡ unites p q → EndsOrStops rows worker q → EndsOrStops rows worker later
+ends_back rows worker p q later desk is h =
+    subst (λ (s : Place). EndsOrStops rows worker s) (sym is) (by h)
   where
     by : EndsOrStops rows worker q → EndsOrStops rows worker (unites p q)
     by (inl s) = inl (subst (λ (d : Desk). ShowsEnd d.task (both p.record_of q.record_of)) desk
-        (end_all q.desk.task q.record_of (both p.record_of q.record_of) (right_all p.record_of q.record_of) s))
+        (end_all q.desk.task q.record_of (both p.record_of q.record_of)
+        (right_all p.record_of q.record_of) s))
     by (inr s) = inr s
 
 -- ---- progress
 
 -- after a load of word 0 as 0, no conflict was ever heard
-none_heard : (job : JobData) (y : LayoutData) (r : Record) (named u : ℕ) → Sound job y (after r (Load (number_of y Conflict)) named) → named ≡ 0 → u ≢ 0 →
+none_heard : (job : JobData) (y : LayoutData) (r : Record) (named u : ℕ) →
+    Sound job y (after r (Load (number_of y Conflict)) named) → named ≡ 0 → u ≢ 0 →
     Heard y (after r (Load (number_of y Conflict)) named) Conflict u → ⊥
 none_heard job y r named u sound zero some heard = by heard.has
   where
-    by : (◌≡◌ {A = Op × ℕ} (heard.op, u) (Load (number_of y Conflict), named) × Unit {0}) ⊎ Has r ((heard.op, u) ∷ []) → ⊥
+    by : (◌≡◌ {A = Op × ℕ} (heard.op, u) (Load (number_of y Conflict), named) × Unit {0})
+        ⊎ Has r ((heard.op, u) ∷ []) → ⊥
     by (inl now) = some (ap (λ (e : Op × ℕ). e.1) now.0 ∙ zero)
     by (inr earlier) =
         let m = sound.backed in
-        some (sym (m.heard ∙ conflict_now job y r u m.words m.earlier (record { op = heard.op; hears = heard.hears; has = earlier }) some) ∙ zero)
+        some (sym (m.heard ∙ conflict_now job y r u m.words m.earlier
+        (record { op = heard.op; hears = heard.hears; has = earlier }) some) ∙ zero)
 
-none_named : (n : ℕ) (o : Option ℕ) → o ≡ (if n == 0 then None else Some n) → is_some o ≡ false → n ≡ 0
+none_named : (n : ℕ) (o : Option ℕ) →
+    o ≡ (if n == 0 then None else Some n) → is_some o ≡ false → n ≡ 0
 none_named n o e f = elim (cases_Bool (n == 0)) [
   | inl same ↦ eqb-true n 0 same
   | inr apart ↦ absurd (let g : is_some o ≡ true = ap is_some (rw apart at e) in cc)
 ]
 
-some_named : (n : ℕ) (o : Option ℕ) → o ≡ (if n == 0 then None else Some n) → is_some o ≡ true → n ≢ 0
+some_named : (n : ℕ) (o : Option ℕ) →
+    o ≡ (if n == 0 then None else Some n) → is_some o ≡ true → n ≢ 0
 some_named n o e f = elim (cases_Bool (n == 0)) [
   | inl same ↦ absurd (let g : is_some o ≡ false = ap is_some (rw same at e) in cc)
   | inr apart ↦ eqb-false n 0 apart
 ]
 
-heard_named : (t : Task) (p q : Place) (progress : Progress) (h : Progressed t p q progress) → Heard t.layout q.record_of Conflict h.named
-heard_named t p q progress h = subst (λ (x : Place). Heard t.layout x.record_of Conflict h.named) (sym h.is)
+heard_named : (t : Task) (p q : Place) (progress : Progress) (h : Progressed t p q progress) →
+    Heard t.layout q.record_of Conflict h.named
+heard_named t p q progress h =
+    subst (λ (x : Place). Heard t.layout x.record_of Conflict h.named) (sym h.is)
     (record { op = Load (number_of t.layout Conflict); hears = refl; has = inl (refl, tt) })
 
 -- a conflict is heard
-pub progress_heard : (t : Task) (p q : Place) (progress : Progress) → Progressed t p q progress → is_some progress.conflict ≡ true → KnowsConflict t.layout q.record_of
+pub progress_heard : (t : Task) (p q : Place) (progress : Progress) → Progressed t p q progress →
+    is_some progress.conflict ≡ true → KnowsConflict t.layout q.record_of
 progress_heard t p q progress h some =
-    record { step = h.named; some = some_named h.named progress.conflict h.conflict some; heard = heard_named t p q progress h }
+    record {
+      step = h.named;
+      some = some_named h.named progress.conflict h.conflict some;
+      heard = heard_named t p q progress h;
+    }
 
-pub progress_goes : (t : Task) (p q : Place) (progress : Progress) → Progressed t p q progress → GoesOn p q
-progress_goes t p q progress h = goes_all p q ((Load (number_of t.layout Conflict), h.named) ∷ (Load (number_of t.layout (Node 1)), h.root) ∷ []) h.is
+pub progress_goes : (t : Task) (p q : Place) (progress : Progress) →
+    Progressed t p q progress → GoesOn p q
+progress_goes t p q progress h = goes_all p q ((Load (number_of t.layout Conflict), h.named)
+    ∷ (Load (number_of t.layout (Node 1)), h.root) ∷ []) h.is
 
 -- where no conflict is heard and the last step is not seen, the end is not shown
-unended : (t : Task) (p q : Place) (progress : Progress) → Progressed t p q progress → Sound t.job t.layout q.record_of →
+unended : (t : Task) (p q : Place) (progress : Progress) →
+    Progressed t p q progress → Sound t.job t.layout q.record_of →
     is_some progress.conflict ≡ false → progress.step < t.job.steps → ShowsEnd t q.record_of → ⊥
-unended t p q progress h sound none low (inl shows) = let most : t.job.steps ≤ progress.step = h.well.seen t.job.steps shows in absurd (omega arith)
+unended t p q progress h sound none low (inl shows) =
+    let most : t.job.steps ≤ progress.step = h.well.seen t.job.steps shows in absurd (omega arith)
 unended t p q progress h sound none low (inr s) =
-    none_heard t.job t.layout (after p.record_of (Load (number_of t.layout (Node 1))) h.root) h.named s.0
-    (subst (λ (x : Place). Sound t.job t.layout x.record_of) h.is sound) (none_named h.named progress.conflict h.conflict none) s.1
+    none_heard t.job t.layout
+    (after p.record_of (Load (number_of t.layout (Node 1))) h.root) h.named s.0
+    (subst (λ (x : Place). Sound t.job t.layout x.record_of) h.is sound)
+    (none_named h.named progress.conflict h.conflict none) s.1
     (subst (λ (x : Place). Heard t.layout x.record_of Conflict s.0) h.is s.2)
 
 -- ---- what a look at the board ends with
 
-pub worked_goes : (t : Task) (p : Place) (w : Walking) (limit : Option ℕ) (q : Place) (now : Walking) (stay : Stay) → Worked t p w limit q now stay → GoesOn p q
-worked_goes t p w limit q now stay h = goes_all p q (steps_of t.job t.layout w h.ran.answers) h.ran.seat
+pub worked_goes : (t : Task) (p : Place) (w : Walking) (limit : Option ℕ) (q : Place)
+    (now : Walking) (stay : Stay) → Worked t p w limit q now stay → GoesOn p q
+worked_goes t p w limit q now stay h =
+    goes_all p q (steps_of t.job t.layout w h.ran.answers) h.ran.seat
 
 pub loads_go : (n : ℕ) (p q : Place) → HasLoaded n p q → GoesOn p q
 loads_go n p q h = goes_all p q h.steps h.is
@@ -150,24 +187,33 @@ loads_go n p q h = goes_all p q h.steps h.is
 pub same_goes : (p q : Place) → q ≡ p → GoesOn p q
 same_goes p q is = subst (λ (x : Place). GoesOn p x) (sym is) (goes_self p)
 
-pub shows_goes : (y : LayoutData) (p q : Place) (t : ℕ) → GoesOn p q → Shows y p.record_of t → Shows y q.record_of t
-shows_goes y p q t goes s = shows_all y p.record_of q.record_of t (begins_all p.record_of q.record_of goes.begins) s
+pub shows_goes : (y : LayoutData) (p q : Place) (t : ℕ) → GoesOn p q →
+    Shows y p.record_of t → Shows y q.record_of t
+shows_goes y p q t goes s =
+    shows_all y p.record_of q.record_of t (begins_all p.record_of q.record_of goes.begins) s
 
 -- the last step is shown
-pub last_shown : (t : Task) (p q : Place) (progress : Progress) → Progressed t p q progress → t.job.steps ≤ progress.step → Shows t.layout q.record_of t.job.steps
-last_shown t p q progress h le = shows_earlier t.layout q.record_of progress.step t.job.steps le h.well.shows
+pub last_shown : (t : Task) (p q : Place) (progress : Progress) → Progressed t p q progress →
+    t.job.steps ≤ progress.step → Shows t.layout q.record_of t.job.steps
+last_shown t p q progress h le =
+    shows_earlier t.layout q.record_of progress.step t.job.steps le h.well.shows
 
 -- the conflict that was heard is the one that is answered
-pub conflict_shown : (t : Task) (p q later : Place) (progress : Progress) (fault : Fault) → Progressed t p q progress → is_some progress.conflict ≡ true →
+pub conflict_shown : (t : Task) (p q later : Place) (progress : Progress) (fault : Fault) →
+    Progressed t p q progress → is_some progress.conflict ≡ true →
     GoesOn q later → IsFault t.job fault → Heard t.layout later.record_of Conflict fault.step
 conflict_shown t p q later progress fault h some goes is =
     let c = h.well.conflict (some_named h.named progress.conflict h.conflict some) in
-    let same : h.named ≡ fault.step = sym c.step ∙ ap (λ (f : Fault). f.step) (one_conflict t.job c.fault fault c.is.first is.first) in
+    let same : h.named ≡ fault.step = sym c.step
+    ∙ ap (λ (f : Fault). f.step) (one_conflict t.job c.fault fault c.is.first is.first) in
     subst (λ (u : ℕ). Heard t.layout later.record_of Conflict u) same
-    (heard_all t.layout q.record_of later.record_of Conflict h.named (begins_all q.record_of later.record_of goes.begins) (heard_named t p q progress h))
+    (heard_all t.layout q.record_of later.record_of Conflict h.named
+    (begins_all q.record_of later.record_of goes.begins) (heard_named t p q progress h))
 
-pub unfinished_shown : (t : Task) (p q : Place) (progress : Progress) → Progressed t p q progress → Sound t.job t.layout q.record_of →
-    is_some progress.conflict ≡ false → progress.step < t.job.steps → Tells t q.record_of (Unfinished progress.step)
+pub unfinished_shown : (t : Task) (p q : Place) (progress : Progress) →
+    Progressed t p q progress → Sound t.job t.layout q.record_of →
+    is_some progress.conflict ≡ false → progress.step < t.job.steps →
+    Tells t q.record_of (Unfinished progress.step)
 unfinished_shown t p q progress h sound none low = record {
   seen = record { shows = h.well.shows; most = h.well.seen };
   reached = h.well.reached;
@@ -177,11 +223,14 @@ unfinished_shown t p q progress h sound none low = record {
 
 -- ---- loads of a look
 
-afters_both : (r : Record) (first next : List (Op × ℕ)) → afters (afters r first) next ≡ afters r (next ++ first)
+afters_both : (r : Record) (first next : List (Op × ℕ)) →
+    afters (afters r first) next ≡ afters r (next ++ first)
 afters_both r first [] = refl
 afters_both r first (e ∷ es) = ap (λ (s : Record). after s e.0 e.1) (afters_both r first es)
 
-loads_both : (xs ys : List (Op × ℕ)) → AllByRecursion (λ (e : Op × ℕ). IsLoad e.0) xs → AllByRecursion (λ (e : Op × ℕ). IsLoad e.0) ys → AllByRecursion (λ (e : Op × ℕ). IsLoad e.0) (xs ++ ys)
+loads_both : (xs ys : List (Op × ℕ)) → AllByRecursion (λ (e : Op × ℕ). IsLoad e.0) xs →
+    AllByRecursion (λ (e : Op × ℕ). IsLoad e.0) ys →
+    AllByRecursion (λ (e : Op × ℕ). IsLoad e.0) (xs ++ ys)
 loads_both [] ys h k = k
 loads_both (x ∷ xs) ys h k = (h.0, loads_both xs ys h.1 k)
 
@@ -191,7 +240,8 @@ looked_more p q r h k = (
   record {
     steps = k.1.steps ++ h.1.steps;
     is = k.1.is ∙ ap (λ (x : Place). hears_all x k.1.steps) h.1.is
-        ∙ ap (λ (s : Record). (let x : Place = record { desk = p.desk; record_of = s } in x)) (afters_both p.record_of h.1.steps k.1.steps);
+        ∙ ap (λ (s : Record). (let x : Place = record { desk = p.desk; record_of = s } in x))
+        (afters_both p.record_of h.1.steps k.1.steps);
     loads = loads_both k.1.steps h.1.steps k.1.loads h.1.loads;
     count = refl;
   },
@@ -203,11 +253,13 @@ looked_same p q is = (0, record { steps = []; is = is; loads = tt; count = refl 
 pub looked_goes : (p q : Place) → HasLooked p q → GoesOn p q
 looked_goes p q h = loads_go h.0 p q h.1
 
-pub progress_looks : (t : Task) (p q : Place) (progress : Progress) → Progressed t p q progress → HasLooked p q
+pub progress_looks : (t : Task) (p q : Place) (progress : Progress) →
+    Progressed t p q progress → HasLooked p q
 progress_looks t p q progress h = (
   2,
   record {
-    steps = (Load (number_of t.layout Conflict), h.named) ∷ (Load (number_of t.layout (Node 1)), h.root) ∷ [];
+    steps = (Load (number_of t.layout Conflict), h.named)
+        ∷ (Load (number_of t.layout (Node 1)), h.root) ∷ [];
     is = h.is;
     loads = (tt, (tt, tt));
     count = refl;
@@ -216,7 +268,8 @@ progress_looks t p q progress h = (
 
 -- ---- an act of a row
 
-pub acts_goes : (a : Act) (t : Task) (number ticks : ℕ) (p : Place) (w : Walking) (q : Place) (now : Walking) → Acts a t number ticks p w q now → GoesOn p q
+pub acts_goes : (a : Act) (t : Task) (number ticks : ℕ) (p : Place) (w : Walking) (q : Place)
+    (now : Walking) → Acts a t number ticks p w q now → GoesOn p q
 acts_goes act.Go t number ticks p w q now h = worked_goes t p w (Some ticks) q now h.0 h.1
 acts_goes act.Sleep t number ticks p w q now h = same_goes p q h.0
 acts_goes act.Back t number ticks p w q now h = same_goes p q h.0
@@ -224,26 +277,32 @@ acts_goes act.Stop t number ticks p w q now h = same_goes p q h.0
 
 -- ---- the answer of a run
 
-not_shown : (t : Task) (r : Record) (a : RunAnswer) → IsUnfinished a → Tells t r a → ShowsEnd t r → ⊥
+not_shown : (t : Task) (r : Record) (a : RunAnswer) → IsUnfinished a →
+    Tells t r a → ShowsEnd t r → ⊥
 not_shown t r (Final cells) un h shows = un
 not_shown t r (answer.Conflict fault) un h shows = un
 not_shown t r (Unfinished step) un h shows = h.unended shows
 
-pub run_at : (t : Task) (plan : PlanData) (p later : Place) (a : RunAnswer) → p.desk.task ≡ t → AllEndOrStop plan p → HasLooked p later → Tells t later.record_of a → IsRun t plan later.record_of a
+pub run_at : (t : Task) (plan : PlanData) (p later : Place) (a : RunAnswer) →
+    p.desk.task ≡ t → AllEndOrStop plan p → HasLooked p later → Tells t later.record_of a →
+    IsRun t plan later.record_of a
 run_at t plan p later a is all looked h = record {
   tells = h;
   stops = λ un worker lt. elim (all worker lt) [
     | inl shows ↦ absurd (not_shown t later.record_of a un h (end_all t p.record_of later.record_of
-        (begins_all p.record_of later.record_of (looked_goes p later looked).begins) (subst (λ (x : Task). ShowsEnd x p.record_of) is shows)))
+        (begins_all p.record_of later.record_of (looked_goes p later looked).begins)
+        (subst (λ (x : Task). ShowsEnd x p.record_of) is shows)))
     | inr stops ↦ stops
   ];
 }
 
-pub run_of : {E : Type 0} (t : Task) (plan : PlanData) (p later : Place) (r : Result RunAnswer E) → p.desk.task ≡ t → AllEndOrStop plan p → HasLooked p later →
+pub run_of : {E : Type 0} (t : Task) (plan : PlanData) (p later : Place) (r : Result RunAnswer E) →
+    p.desk.task ≡ t → AllEndOrStop plan p → HasLooked p later →
     IfOk r (Tells t later.record_of) → IfOk r (IsRun t plan later.record_of)
 run_of t plan p later (Ok a) is all looked h = run_at t plan p later a is all looked h
 run_of t plan p later (Err e) is all looked h = h
 
 -- all that ended or stopped did so to a seat that is joined
-pub all_front : (plan : PlanData) (p q later : Place) → later ≡ unites p q → AllEndOrStop plan p → AllEndOrStop plan later
+pub all_front : (plan : PlanData) (p q later : Place) → later ≡ unites p q →
+    AllEndOrStop plan p → AllEndOrStop plan later
 all_front plan p q later is all worker lt = ends_front plan.rows worker p q later is (all worker lt)

@@ -1,5 +1,7 @@
 -- The lines of a trace's rows and of sights, and that csv writes them without quotes.
-use Rattle.std.proofs.Common.{◌≡◌, ◌∙◌, ◌==◌, ◌||◌, ◌++◌, ◌+◌, ◌<◌, ◌≤◌, ◌^◌, ◌∷◌, [], ℕ, List, Option, Bool, false, refl, sym, ap, append_assoc, append-nil, add-one, length, take, get_or, drop, arith}
+use Rattle.std.proofs.Common.{◌≡◌, ◌∙◌, ◌++◌, ◌+◌, ◌<◌, ◌^◌, ◌∷◌, []}
+use Rattle.std.proofs.Common.{ℕ, List, Option, false, refl, sym, ap, append_assoc}
+use Rattle.std.proofs.Common.{append-nil, length, take, get_or, drop, arith}
 use Rattle.std.proofs.lemmas.List.{length-take-le, take-append-drop, take_more}
 use Rattle.std.proofs.lemmas.Bool.{ne_eqb}
 use Rattle.std.proofs.lemmas.Fmt.{decimal_is_IsNumeral}
@@ -7,46 +9,60 @@ use Rattle.std.proofs.lemmas.Str.Parse.{digit_at}
 use Rattle.std.specs.Prelude.{codes, decimal}
 use Rattle.std.specs.Char.{digit_value}
 use Rattle.std.specs.Str.Parse.{AllDigits}
-use Rattle.csv.specs.Writing.{default_writer, field_text, fields_text, is_blank, needs_byte, needs_quotes, row_text}
+use Rattle.csv.specs.Writing.{default_writer, field_text, fields_text}
+use Rattle.csv.specs.Writing.{is_blank, needs_byte, needs_quotes, row_text}
 use Rattle.pram_streams.specs.Transfer.{AppendsBeginning}
 use Rattle.pram_streams.proofs.Beginnings.{beginning-longer}
-use Rattle.pram_run.specs.Printed.{kind_word, row_line, row_lines, sight_line, sight_lines, sights_text, trace_text}
+use Rattle.pram_run.specs.Printed.{kind_word, row_line, row_lines, sight_line}
+use Rattle.pram_run.specs.Printed.{sight_lines, sights_text, trace_text}
 use Rattle.pram_run.specs.declared.sight.Sight.{Sight}
 use Rattle.pram_run.specs.declared.trace.StepKind.{StepKind}
 use Rattle.pram_run.specs.declared.trace.StepKind.TheVariants.{Load, Store, Max, Swap}
 use Rattle.pram_run.specs.declared.trace.TraceRow.{TraceRow}
 
 -- the lines of some rows, and then of others
-pub lines-append : (tick : ℕ) (rows more : List TraceRow) → row_lines tick (rows ++ more) ≡ row_lines tick rows ++ row_lines (tick + length rows) more
+pub lines-append : (tick : ℕ) (rows more : List TraceRow) →
+    row_lines tick (rows ++ more) ≡ row_lines tick rows ++ row_lines (tick + length rows) more
 lines-append tick [] more =
     let none : tick ≡ tick + 0 = omega arith in
     ap (λ n. row_lines n more) none
 lines-append tick (row ∷ rows) more =
     let count : tick + 1 + length rows ≡ tick + length (row ∷ rows) = omega arith in
-    ap (λ l. row_line (tick + 1) row ++ l) (lines-append (tick + 1) rows more ∙ ap (λ n. row_lines (tick + 1) rows ++ row_lines n more) count)
-    ∙ sym (append_assoc (row_line (tick + 1) row) (row_lines (tick + 1) rows) (row_lines (tick + length (row ∷ rows)) more))
+    ap (λ l. row_line (tick + 1) row ++ l) (lines-append (tick + 1) rows more
+    ∙ ap (λ n. row_lines (tick + 1) rows ++ row_lines n more) count)
+    ∙ sym (append_assoc (row_line (tick + 1) row) (row_lines (tick + 1) rows)
+    (row_lines (tick + length (row ∷ rows)) more))
 
 -- the lines of one row more
-pub lines-more : (rows : List TraceRow) (n : ℕ) (d : TraceRow) → n < length rows
-    → row_lines 0 (take (n + 1) rows) ≡ row_lines 0 (take n rows) ++ row_line (n + 1) (get_or rows n d)
+pub lines-more : (rows : List TraceRow) (n : ℕ) (d : TraceRow) → n < length rows →
+    row_lines 0 (take (n + 1) rows)
+    ≡ row_lines 0 (take n rows) ++ row_line (n + 1) (get_or rows n d)
 lines-more rows n d within =
-    let count : 0 + length (take n rows) ≡ n = omega (arith, length-take-le n rows (omega (arith, within))) in
+    let count : 0 + length (take n rows) ≡ n =
+    omega (arith, length-take-le n rows (omega (arith, within))) in
     ap (λ l. row_lines 0 l) (take_more rows n d within)
     ∙ lines-append 0 (take n rows) (get_or rows n d ∷ [])
     ∙ ap (λ k. row_lines 0 (take n rows) ++ row_lines k (get_or rows n d ∷ [])) count
     ∙ ap (λ l. row_lines 0 (take n rows) ++ l) (append-nil (row_line (n + 1) (get_or rows n d)))
 
 -- a beginning of the trace of the first rows is one of the whole trace
-pub trace-begins : (a b : Option (List ℕ)) (rows : List TraceRow) (n : ℕ) → AppendsBeginning a b (trace_text (take n rows)) → AppendsBeginning a b (trace_text rows)
+pub trace-begins : (a b : Option (List ℕ)) (rows : List TraceRow) (n : ℕ) →
+    AppendsBeginning a b (trace_text (take n rows)) → AppendsBeginning a b (trace_text rows)
 trace-begins a b rows n begins =
     let all = lines-append 0 (take n rows) (drop n rows) in
     let whole = ap (λ l. trace_text l) (take-append-drop n rows) in
-    rw (sym whole, all) (beginning-longer a b (trace_text (take n rows)) (row_lines (0 + length (take n rows)) (drop n rows)) begins)
+    rw (sym whole, all) (beginning-longer a b (trace_text (take n rows))
+    (row_lines (0 + length (take n rows)) (drop n rows)) begins)
 
 digit-plain : (byte : ℕ) → digit_value byte < 10 → needs_byte default_writer byte ≡ false
 digit-plain byte digit =
     let within = digit_at (byte ∷ []) 0 (digit, tt) (omega arith) in
-    rw (ne_eqb byte 44 (λ is. omega (arith, is, within)), ne_eqb byte 34 (λ is. omega (arith, is, within)), ne_eqb byte 13 (λ is. omega (arith, is, within)), ne_eqb byte 10 (λ is. omega (arith, is, within))) refl
+    rw (
+      ne_eqb byte 44 (λ is. omega (arith, is, within)),
+      ne_eqb byte 34 (λ is. omega (arith, is, within)),
+      ne_eqb byte 13 (λ is. omega (arith, is, within)),
+      ne_eqb byte 10 (λ is. omega (arith, is, within)),
+    ) refl
 
 digits-plain : (digits : List ℕ) → AllDigits 10 digits → needs_quotes default_writer digits ≡ false
 digits-plain [] all = refl
@@ -66,36 +82,44 @@ abbrev pub IsPlain : List ℕ → Type 0
 IsPlain field = field_text default_writer field ≡ field
 
 -- a row of such fields as csv writes it
-pub row-text : (tick worker word before after : List ℕ) (kind : StepKind) → IsPlain tick → IsPlain worker → IsPlain word → IsPlain before → IsPlain after
-    → row_text default_writer (tick ∷ worker ∷ kind_word kind ∷ word ∷ before ∷ after ∷ [])
-    ≡ tick ++ codes "," ++ worker ++ codes "," ++ kind_word kind ++ codes "," ++ word ++ codes "," ++ before ++ codes "," ++ after ++ codes "\n"
+pub row-text : (tick worker word before after : List ℕ) (kind : StepKind) →
+    IsPlain tick → IsPlain worker → IsPlain word → IsPlain before → IsPlain after →
+    row_text default_writer (tick ∷ worker ∷ kind_word kind ∷ word ∷ before ∷ after ∷ [])
+    ≡ tick ++ codes "," ++ worker ++ codes "," ++ kind_word kind ++ codes "," ++ word ++ codes ","
+    ++ before ++ codes "," ++ after ++ codes "\n"
 unfolding fields_text is_blank
 row-text tick worker word before after kind ticks workers words befores afters =
     rw (ticks, workers, kind-plain kind, words, befores, afters) (simp append_assoc)
 
 -- the lines of some sights, and then of others
-pub sights-append : (sights more : List Sight) → sight_lines (sights ++ more) ≡ sight_lines sights ++ sight_lines more
+pub sights-append : (sights more : List Sight) →
+    sight_lines (sights ++ more) ≡ sight_lines sights ++ sight_lines more
 sights-append [] more = refl
 sights-append (sight ∷ sights) more =
-    ap (λ l. sight_line sight ++ l) (sights-append sights more) ∙ sym (append_assoc (sight_line sight) (sight_lines sights) (sight_lines more))
+    ap (λ l. sight_line sight ++ l) (sights-append sights more)
+    ∙ sym (append_assoc (sight_line sight) (sight_lines sights) (sight_lines more))
 
 -- the lines of one sight more
-pub sights-more : (sights : List Sight) (n : ℕ) (d : Sight) → n < length sights
-    → sight_lines (take (n + 1) sights) ≡ sight_lines (take n sights) ++ sight_line (get_or sights n d)
+pub sights-more : (sights : List Sight) (n : ℕ) (d : Sight) → n < length sights →
+    sight_lines (take (n + 1) sights)
+    ≡ sight_lines (take n sights) ++ sight_line (get_or sights n d)
 sights-more sights n d within =
     ap (λ l. sight_lines l) (take_more sights n d within)
     ∙ sights-append (take n sights) (get_or sights n d ∷ [])
     ∙ ap (λ l. sight_lines (take n sights) ++ l) (append-nil (sight_line (get_or sights n d)))
 
 -- a beginning of the text of the first sights is one of the whole text
-pub sights-begin : (a b : Option (List ℕ)) (sights : List Sight) (n : ℕ) → AppendsBeginning a b (sights_text (take n sights)) → AppendsBeginning a b (sights_text sights)
+pub sights-begin : (a b : Option (List ℕ)) (sights : List Sight) (n : ℕ) →
+    AppendsBeginning a b (sights_text (take n sights)) → AppendsBeginning a b (sights_text sights)
 sights-begin a b sights n begins =
     let all = sights-append (take n sights) (drop n sights) in
     let whole = ap (λ l. sights_text l) (take-append-drop n sights) in
-    rw (sym whole, all) (beginning-longer a b (sights_text (take n sights)) (sight_lines (drop n sights)) begins)
+    rw (sym whole, all)
+    (beginning-longer a b (sights_text (take n sights)) (sight_lines (drop n sights)) begins)
 
 -- a row of three such fields as csv writes it
-pub three-text : (step cell value : List ℕ) → IsPlain step → IsPlain cell → IsPlain value
-    → row_text default_writer (step ∷ cell ∷ value ∷ []) ≡ step ++ codes "," ++ cell ++ codes "," ++ value ++ codes "\n"
+pub three-text : (step cell value : List ℕ) → IsPlain step → IsPlain cell → IsPlain value →
+    row_text default_writer (step ∷ cell ∷ value ∷ [])
+    ≡ step ++ codes "," ++ cell ++ codes "," ++ value ++ codes "\n"
 unfolding fields_text is_blank
 three-text step cell value steps cells values = rw (steps, cells, values) (simp append_assoc)

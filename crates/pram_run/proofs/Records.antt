@@ -1,5 +1,6 @@
 -- Records that begin with other ones: what was heard stays heard.
-use Rattle.std.proofs.Common.{◌≡◌, ℕ, ◌*◌, ◌≤◌, ◌<◌, List, [], ◌∷◌, refl, sym, subst, inl, inr, arith}
+use Rattle.std.proofs.Common.{◌≡◌, ℕ, ◌*◌, ◌≤◌, ◌<◌, List, [], ◌∷◌}
+use Rattle.std.proofs.Common.{refl, sym, subst, inl, inr, arith}
 use Rattle.std.proofs.lemmas.Bool.{cases_lt}
 use Rattle.pram_words.specs.declared.words.Word.{Word}
 use Rattle.pram_words.specs.declared.words.Word.TheVariants.{Conflict, Node, Stored}
@@ -46,26 +47,41 @@ left_all r s e es h = inl h
 pub right_all : (r s : Record) → HasAll s (both r s)
 right_all r s e es h = inr h
 
-pub heard_all : (y : LayoutData) (r later : Record) (word : Word) (a : ℕ) → HasAll r later → Heard y r word a → Heard y later word a
-heard_all y r later word a all h = record { op = h.op; hears = h.hears; has = all (h.op, a) [] h.has }
+pub heard_all : (y : LayoutData) (r later : Record) (word : Word) (a : ℕ) → HasAll r later →
+    Heard y r word a → Heard y later word a
+heard_all y r later word a all h =
+    record { op = h.op; hears = h.hears; has = all (h.op, a) [] h.has }
 
-then_all : (y : LayoutData) (r later : Record) (word other : Word) (a b : ℕ) → HasAll r later → HeardThen y r word a other b → HeardThen y later word a other b
+then_all : (y : LayoutData) (r later : Record) (word other : Word) (a b : ℕ) → HasAll r later →
+    HeardThen y r word a other b → HeardThen y later word a other b
 then_all y r later word other a b all h =
-    record { op = h.op; next = h.next; hears = h.hears; hears_next = h.hears_next; has = all (h.next, b) ((h.op, a) ∷ []) h.has }
+    record {
+      op = h.op;
+      next = h.next;
+      hears = h.hears;
+      hears_next = h.hears_next;
+      has = all (h.next, b) ((h.op, a) ∷ []) h.has;
+    }
 
-pub shows_all : (y : LayoutData) (r later : Record) (t : ℕ) → HasAll r later → Shows y r t → Shows y later t
+pub shows_all : (y : LayoutData) (r later : Record) (t : ℕ) →
+    HasAll r later → Shows y r t → Shows y later t
 shows_all y r later t all (inl s) = inl (s.0, s.1, heard_all y r later (Node 1) s.0 all s.2)
-shows_all y r later t all (inr (inl s)) = inr (inl (s.0, s.1, then_all y r later (Node 1) Conflict (3 * t) s.0 all s.2))
+shows_all y r later t all (inr (inl s)) =
+    inr (inl (s.0, s.1, then_all y r later (Node 1) Conflict (3 * t) s.0 all s.2))
 shows_all y r later t all (inr (inr s)) = inr (inr (s.0, heard_all y r later (Node 1) 0 all s.1))
 
-pub knows_all : (y : LayoutData) (r later : Record) (t : ℕ) → HasAll r later → KnowsStep y r t → KnowsStep y later t
+pub knows_all : (y : LayoutData) (r later : Record) (t : ℕ) → HasAll r later →
+    KnowsStep y r t → KnowsStep y later t
 knows_all y r later t all (inl s) = inl (shows_all y r later t all s)
-knows_all y r later t all (inr s) = inr (s.0, s.1, s.2, s.3, s.4, heard_all y r later (Stored s.0 s.1) s.2 all s.5)
+knows_all y r later t all (inr s) =
+    inr (s.0, s.1, s.2, s.3, s.4, heard_all y r later (Stored s.0 s.1) s.2 all s.5)
 
 -- ---- an earlier step is shown, too
 
-first_of : (y : LayoutData) (r : Record) (word other : Word) (a b : ℕ) → HeardThen y r word a other b → Heard y r word a
-first_of y r word other a b h = record { op = h.op; hears = h.hears; has = has_earlier r (h.next, b) ((h.op, a) ∷ []) h.has }
+first_of : (y : LayoutData) (r : Record) (word other : Word) (a b : ℕ) →
+    HeardThen y r word a other b → Heard y r word a
+first_of y r word other a b h =
+    record { op = h.op; hears = h.hears; has = has_earlier r (h.next, b) ((h.op, a) ∷ []) h.has }
 
 pub shows_earlier : (y : LayoutData) (r : Record) (s t : ℕ) → t ≤ s → Shows y r s → Shows y r t
 shows_earlier y r s t le shows = elim (cases_lt t s) [
@@ -75,5 +91,6 @@ shows_earlier y r s t le shows = elim (cases_lt t s) [
   where
     by : Shows y r s → t < s → Shows y r t
     by (inl h) low = inl (h.0, (omega arith), h.2)
-    by (inr (inl h)) low = inl (3 * s, (omega arith), first_of y r (Node 1) Conflict (3 * s) h.0 h.2)
+    by (inr (inl h)) low =
+        inl (3 * s, (omega arith), first_of y r (Node 1) Conflict (3 * s) h.0 h.2)
     by (inr (inr h)) low = absurd (omega arith)

@@ -1,5 +1,7 @@
 -- Reads one after the other.
-use Rattle.std.proofs.Common.{◌≡◌, ℕ, zero, suc, ◌<◌, ◌≤◌, List, [], ◌∷◌, ◌++◌, length, get_or, map, refl, sym, ap, subst, ◌∙◌, inr, arith, append_assoc, add-one, take, ◌+◌, ◌*◌}
+use Rattle.std.proofs.Common.{◌≡◌, ℕ, zero, suc, ◌<◌, ◌≤◌, List, [], ◌∷◌, ◌++◌}
+use Rattle.std.proofs.Common.{length, get_or, map, refl, sym, ap, subst, ◌∙◌}
+use Rattle.std.proofs.Common.{arith, append_assoc, add-one, take, ◌+◌, ◌*◌}
 use Rattle.std.specs.List.{All, repeat}
 use Rattle.std.specs.List.Sorted.{IsNonDecreasingBy}
 use Rattle.std.proofs.Math.Nat.{suc-mul}
@@ -18,7 +20,7 @@ use Rattle.pram_run.specs.declared.watcher.Watched.{Watched}
 use Rattle.stop_plan.specs.Plan.{PlanData}
 use Rattle.pram_run.specs.Obeyed.{AllObeyed, HasLooked}
 use Rattle.pram_run.specs.Watching.{HasRead, IsTrueSight, IsWatch, HasWatched}
-use Rattle.pram_run.specs.Inner.Obeying.{GoesOn}
+use Rattle.pram_run.specs.Inner.Obeying.{GoesOn, IsToWatch}
 use Rattle.pram_run.proofs.Records.{begins_all, knows_all}
 use Rattle.pram_run.proofs.Endings.{goes_self, goes_trans, goes_all, looked_more, looked_same}
 
@@ -26,7 +28,8 @@ abbrev Read : Task → Place → Place → Sight → Type 0
 Read t p q s = WasRead t p q s.cell (At s.step s.value)
 
 -- one read more, after the others
-pub has_read_more : (t : Task) (p q next : Place) (ss : List Sight) (s : Sight) → HasRead t p ss q → Read t q next s → HasRead t p (ss ++ s ∷ []) next
+pub has_read_more : (t : Task) (p q next : Place) (ss : List Sight) (s : Sight) → HasRead t p ss q →
+    Read t q next s → HasRead t p (ss ++ s ∷ []) next
 has_read_more t p q next [] s h r = (next, subst (λ (x : Place). Read t x next s) h r, refl)
 has_read_more t p q next (first ∷ ss) s h r = (h.0, h.1, has_read_more t h.0 q next ss s h.2 r)
 
@@ -37,36 +40,45 @@ pub reads_go : (t : Task) (p q : Place) (ss : List Sight) → HasRead t p ss q �
 reads_go t p q [] h = subst (λ (x : Place). GoesOn p x) (sym h) (goes_self p)
 reads_go t p q (s ∷ ss) h = goes_trans p h.0 q (read_goes t p h.0 s h.1) (reads_go t h.0 q ss h.2)
 
-all_tell : (t : Task) (p q : Place) (ss : List Sight) → HasRead t p ss q → All (λ s. IsTrueSight t s) ss
+all_tell : (t : Task) (p q : Place) (ss : List Sight) →
+    HasRead t p ss q → All (λ s. IsTrueSight t s) ss
 all_tell t p q [] h = All-nil (λ s. IsTrueSight t s)
 all_tell t p q (s ∷ ss) h =
     let lawful = h.1.lawful in
-    All-cons (λ x. IsTrueSight t x) s ss (record { reached = lawful.reached; value = lawful.holds }) (all_tell t h.0 q ss h.2)
+    All-cons (λ x. IsTrueSight t x) s ss
+    (record { reached = lawful.reached; value = lawful.holds }) (all_tell t h.0 q ss h.2)
 
 -- no step is below one that was known before
-all_least : (t : Task) (p q : Place) (ss : List Sight) (known : ℕ) → HasRead t p ss q → KnowsStep t.layout p.record_of known → All (λ s. known ≤ s.step) ss
+all_least : (t : Task) (p q : Place) (ss : List Sight) (known : ℕ) → HasRead t p ss q →
+    KnowsStep t.layout p.record_of known → All (λ s. known ≤ s.step) ss
 all_least t p q [] known h k = All-nil (λ s. known ≤ s.step)
 all_least t p q (s ∷ ss) known h k =
     let next = h.0 in
     let goes : GoesOn p next = read_goes t p next s h.1 in
     All-cons (λ (x : Sight). known ≤ x.step) s ss (h.1.lawful.lasts known k)
-    (all_least t next q ss known h.2 (knows_all t.layout p.record_of next.record_of known (begins_all p.record_of next.record_of goes.begins) k))
+    (all_least t next q ss known h.2 (knows_all t.layout p.record_of next.record_of known
+    (begins_all p.record_of next.record_of goes.begins) k))
 
-rises_more : (s : Sight) (ss : List Sight) → All (λ x. s.step ≤ x.step) ss → IsNonDecreasingBy (λ x. x.step) ss → IsNonDecreasingBy (λ x. x.step) (s ∷ ss)
+rises_more : (s : Sight) (ss : List Sight) → All (λ x. s.step ≤ x.step) ss →
+    IsNonDecreasingBy (λ x. x.step) ss → IsNonDecreasingBy (λ x. x.step) (s ∷ ss)
 rises_more s ss all rises zero zero d le lt = omega arith
 rises_more s ss all rises zero (suc j) d le lt = all j d (omega arith)
 rises_more s ss all rises (suc i) zero d le lt = absurd (omega arith)
 rises_more s ss all rises (suc i) (suc j) d le lt = rises i j d (omega arith) (omega arith)
 
-all_rise : (t : Task) (p q : Place) (ss : List Sight) → HasRead t p ss q → IsNonDecreasingBy (λ x. x.step) ss
+all_rise : (t : Task) (p q : Place) (ss : List Sight) → HasRead t p ss q →
+    IsNonDecreasingBy (λ x. x.step) ss
 all_rise t p q [] h = λ i j d le lt. absurd (omega arith)
 all_rise t p q (s ∷ ss) h =
     let next = h.0 in
     let known = h.1.lawful.known in
-    let least : All (λ (x : Sight). known.0 ≤ x.step) ss = all_least t next q ss known.0 h.2 known.1 in
-    rises_more s ss (λ k d lt. let low : known.0 ≤ (get_or ss k d).step = least k d lt in let near : s.step ≤ known.0 = known.2 in omega arith) (all_rise t next q ss h.2)
+    let least : All (λ (x : Sight). known.0 ≤ x.step) ss =
+    all_least t next q ss known.0 h.2 known.1 in
+    rises_more s ss (λ k d lt. let low : known.0 ≤ (get_or ss k d).step = least k d lt in
+    let near : s.step ≤ known.0 = known.2 in omega arith) (all_rise t next q ss h.2)
 
-pub is_watch : (t : Task) (cells : List ℕ) (rounds : ℕ) (p : Place) (ss : List Sight) (q : Place) → map (λ (s : Sight). s.cell) ss ≡ repeat rounds cells → HasRead t p ss q →
+pub is_watch : (t : Task) (cells : List ℕ) (rounds : ℕ) (p : Place) (ss : List Sight) (q : Place) →
+    map (λ (s : Sight). s.cell) ss ≡ repeat rounds cells → HasRead t p ss q →
     IsWatch t cells rounds p ss q
 is_watch t cells rounds p ss q listed reads = record {
   listed = listed;
@@ -77,46 +89,69 @@ is_watch t cells rounds p ss q listed reads = record {
 }
 
 -- the cell of one read more
-pub listed_more : (first cells : List ℕ) (k : ℕ) (old new : List Sight) (s : Sight) → k < length cells → new ≡ old ++ s ∷ [] → s.cell ≡ get_or cells k 0 →
-    map (λ (x : Sight). x.cell) old ≡ first ++ take k cells → map (λ (x : Sight). x.cell) new ≡ first ++ take (k + 1) cells
+pub listed_more : (first cells : List ℕ) (k : ℕ) (old new : List Sight) (s : Sight) →
+    k < length cells → new ≡ old ++ s ∷ [] → s.cell ≡ get_or cells k 0 →
+    map (λ (x : Sight). x.cell) old ≡ first ++ take k cells →
+    map (λ (x : Sight). x.cell) new ≡ first ++ take (k + 1) cells
 listed_more first cells k old new s lt is cell listed =
-    let longer : take (k + 1) cells ≡ take k cells ++ (get_or cells k 0 ∷ []) = ap (λ (n : ℕ). take n cells) (add-one k) ∙ take-suc cells k 0 lt in
-    ap (map (λ (x : Sight). x.cell)) is ∙ (map-append (λ (x : Sight). x.cell) old (s ∷ []) ∙ (ap (λ (l : List ℕ). l ++ s.cell ∷ []) listed
-    ∙ (append_assoc first (take k cells) (s.cell ∷ []) ∙ ap (λ (l : List ℕ). first ++ l) (ap (λ (v : ℕ). take k cells ++ v ∷ []) cell ∙ sym longer))))
+    let longer : take (k + 1) cells ≡ take k cells ++ (get_or cells k 0 ∷ []) =
+    ap (λ (n : ℕ). take n cells) (add-one k) ∙ take-suc cells k 0 lt in
+    ap (map (λ (x : Sight). x.cell)) is ∙ (map-append (λ (x : Sight). x.cell) old (s ∷ [])
+    ∙ (ap (λ (l : List ℕ). l ++ s.cell ∷ []) listed
+    ∙ (append_assoc first (take k cells) (s.cell ∷ [])
+    ∙ ap (λ (l : List ℕ). first ++ l) (ap (λ (v : ℕ). take k cells ++ v ∷ []) cell ∙ sym longer))))
 
 -- one round more, after the others
 repeat_more : (n : ℕ) (cells : List ℕ) → repeat n cells ++ cells ≡ repeat (suc n) cells
 repeat_more zero cells = sym (append-nil cells)
-repeat_more (suc n) cells = append_assoc cells (repeat n cells) cells ∙ ap (λ (l : List ℕ). cells ++ l) (repeat_more n cells)
+repeat_more (suc n) cells = append_assoc cells (repeat n cells) cells
+    ∙ ap (λ (l : List ℕ). cells ++ l) (repeat_more n cells)
 
-pub round_more : (n : ℕ) (cells old new : List ℕ) → new ≡ old ++ cells → old ≡ repeat n cells → new ≡ repeat (n + 1) cells
+pub round_more : (n : ℕ) (cells old new : List ℕ) → new ≡ old ++ cells →
+    old ≡ repeat n cells → new ≡ repeat (n + 1) cells
 round_more n cells old new is listed =
-    is ∙ (ap (λ (l : List ℕ). l ++ cells) listed ∙ (repeat_more n cells ∙ ap (λ (k : ℕ). repeat k cells) (sym (add-one n))))
+    is ∙ (ap (λ (l : List ℕ). l ++ cells) listed
+    ∙ (repeat_more n cells ∙ ap (λ (k : ℕ). repeat k cells) (sym (add-one n))))
 
 pub count_more : (n l : ℕ) → (n + 1) * l ≡ n * l + l
 count_more n l = ap (λ (k : ℕ). k * l) (add-one n) ∙ suc-mul n l
 
 -- there is room for one round more
 pub room_more : (n rounds l room : ℕ) → n < rounds → rounds * l ≤ room → n * l + l ≤ room
-room_more n rounds l room lt all = let low : (n + 1) * l ≤ rounds * l = mul-le (n + 1) l rounds l (omega arith) (omega arith) in omega (arith, count_more n l)
+room_more n rounds l room lt all =
+    let low : (n + 1) * l ≤ rounds * l = mul-le (n + 1) l rounds l (omega arith) (omega arith) in
+    omega (arith, count_more n l)
 
 -- what the reader's thread kept, of the seat that it was given
-pub watch_of : (t : Task) (cells : List ℕ) (rounds : ℕ) (first : Place) (promise : Watched) (sights : List Sight) (p : Place) → promise.before.value ≡ first →
-    promise.cells.now ≡ cells → promise.rounds ≡ rounds → first.desk.task ≡ t → GoesOn promise.before.value p
-    × IsWatch promise.before.value.desk.task promise.cells.now promise.rounds promise.before.value sights p → GoesOn first p × IsWatch t cells rounds first sights p
-watch_of t cells rounds first promise sights p before named count task h =
-    let h1 = subst (λ (x : Place). GoesOn x p × IsWatch x.desk.task promise.cells.now promise.rounds x sights p) before h in
-    let h2 = subst (λ (x : List ℕ). GoesOn first p × IsWatch first.desk.task x promise.rounds first sights p) named h1 in
-    let h3 = subst (λ (x : ℕ). GoesOn first p × IsWatch first.desk.task cells x first sights p) count h2 in
-    subst (λ (x : Task). GoesOn first p × IsWatch x cells rounds first sights p) task h3
+pub watch_of : (t : Task) (cells : List ℕ) (rounds : ℕ) (first : Place) (promise : Watched)
+    (sights : List Sight) (p : Place) → IsToWatch cells rounds first promise →
+    first.desk.task ≡ t → GoesOn promise.before.value p
+    × IsWatch promise.before.value.desk.task promise.cells.now promise.rounds promise.before.value
+    sights p → IsWatch t cells rounds first sights p
+watch_of t cells rounds first promise sights p asked task h =
+    let h1 = subst (λ (x : Place).
+    IsWatch x.desk.task promise.cells.now promise.rounds x sights p) asked.seat h.1 in
+    let h2 = subst (λ (x : List ℕ). IsWatch first.desk.task x promise.rounds first sights p)
+    asked.cells h1 in
+    let h3 = subst (λ (x : ℕ). IsWatch first.desk.task cells x first sights p) asked.rounds h2 in
+    subst (λ (x : Task). IsWatch x cells rounds first sights p) task h3
 
 -- the seat of the reader is joined last
-pub watched_of : (t : Task) (plan : PlanData) (cells : List ℕ) (rounds : ℕ) (first p q later : Place) (sights : List Sight) →
-    AllObeyed t plan.rows first plan.workers p → IsWatch t cells rounds first sights q → later ≡ unites p q → HasWatched t plan cells rounds first sights later
+pub watched_of : (t : Task) (plan : PlanData)
+    (cells : List ℕ) (rounds : ℕ) (first p q later : Place) (sights : List Sight) →
+    AllObeyed t plan.rows first plan.workers p → IsWatch t cells rounds first sights q →
+    later ≡ unites p q → HasWatched t plan cells rounds first sights later
 watched_of t plan cells rounds first p q later sights obeyed watch is =
-    record { seat = p; obeyed = obeyed; reader = q; watch = watch; looked = looked_same (unites p q) later is }
+    record {
+      seat = p;
+      obeyed = obeyed;
+      reader = q;
+      watch = watch;
+      looked = looked_same (unites p q) later is;
+    }
 
-pub watched_later : (t : Task) (plan : PlanData) (cells : List ℕ) (rounds : ℕ) (first p q : Place) (sights : List Sight) → HasWatched t plan cells rounds first sights p → HasLooked p q →
+pub watched_later : (t : Task) (plan : PlanData) (cells : List ℕ) (rounds : ℕ) (first p q : Place)
+    (sights : List Sight) → HasWatched t plan cells rounds first sights p → HasLooked p q →
     HasWatched t plan cells rounds first sights q
 watched_later t plan cells rounds first p q sights h looked = record {
   seat = h.seat;

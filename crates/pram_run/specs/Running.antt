@@ -1,5 +1,6 @@
 -- What a run on threads answers.
-use Rattle.std.specs.Prelude.{◌≢◌, ◌<◌, ◌≤◌, ◌⊎◌, ℕ}
+use Rattle.std.specs.Prelude.{◌≡◌, ◌≢◌, ◌<◌, ◌≤◌, ◌⊎◌, ℕ}
+use Rattle.pram_text.specs.Job.{JobData}
 use Rattle.pram_step.specs.declared.answer.RunAnswer.{RunAnswer}
 use Rattle.pram_step.specs.declared.answer.RunAnswer.TheVariants.{Final, Conflict, Unfinished}
 use Rattle.pram_step.specs.Runs.{IsReached, IsAnswer}
@@ -9,6 +10,12 @@ use Rattle.walkx.specs.Records.{Record}
 use Rattle.lawful_walk.specs.Seen.{Heard, Shows}
 use Rattle.stop_plan.specs.Plan.{PlanData, StopsAll}
 use Rattle.pram_board.specs.declared.task.Task.{Task}
+use Rattle.pram_board.specs.Seats.{Desk, Place}
+
+-- The board is for this job and for the workers of the plan, and the seat is one of it.
+abbrev pub IsBoardFor : JobData → PlanData → Desk → Place → Type 0
+IsBoardFor job plan desk seat = (desk.task.job ≡ job)
+    × (desk.task.layout.workers ≡ plan.workers) × (seat.desk ≡ desk)
 
 -- what the record has seen: the greatest step that it shows
 pub record HasSeen (y : LayoutData) (r : Record) (step : ℕ) : Type 0 where

@@ -11,6 +11,10 @@ use Rattle.pram_board.specs.Seats.{Place, WasRead, unites}
 use Rattle.pram_run.specs.Obeyed.{AllObeyed, HasLooked}
 use Rattle.pram_run.specs.declared.sight.Sight.{Sight}
 
+-- the cells that were read, in order
+abbrev pub cells_of : List Sight → List ℕ
+cells_of sights = map (λ sight. sight.cell) sights
+
 -- the reads of a list, one after the other, each lawful, from one seat's record to the one after
 -- them
 abbrev pub HasRead : Task → Place → List Sight → Place → Type 0
@@ -28,7 +32,7 @@ pub record IsTrueSight (t : Task) (sight : Sight) : Type 0 where
 -- knew, and the steps never fall.
 pub record IsWatch (t : Task) (cells : List ℕ) (rounds : ℕ) (p : Place) (sights : List Sight) (q :
     Place) : Type 0 where
-  pub listed : map (λ sight. sight.cell) sights ≡ repeat rounds cells
+  pub listed : cells_of sights ≡ repeat rounds cells
   pub reads : HasRead t p sights q
   pub tells : All (λ sight. IsTrueSight t sight) sights
   pub least : All (λ sight. (known : ℕ) → KnowsStep t.layout p.record_of known →

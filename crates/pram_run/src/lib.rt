@@ -1,6 +1,7 @@
 //! Runs of a job under a plan: on one thread in the plan's order, and on threads.
 #![tactic(auto)]
 
+mod crew;
 mod ending;
 mod print;
 mod runner;

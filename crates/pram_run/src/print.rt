@@ -9,7 +9,7 @@ ghost use Rattle.pram_run.specs.Printed.{kind_word, row_line, row_lines, sight_l
 ghost use Rattle.pram_run.specs.Printed.{sight_lines, sights_text, trace_text};
 
 use crate::sight::Sight;
-use crate::trace::{StepKind, Trace, TraceRow};
+use crate::trace::{Trace, TraceRow};
 use csv::{Error, Writer};
 use itoa::Buffer;
 use pram_streams::{IntoWrite, PrintFault, Sink, put};
@@ -91,17 +91,14 @@ fn write_row<W: Write + Drop>(
     let mut words = Buffer::new();
     let mut befores = Buffer::new();
     let mut afters = Buffer::new();
-    write_record(
-        writer,
-        &[
-            number_text(&mut ticks, tick),
-            number_text(&mut workers, u64::from(row.worker)),
-            kind_name(row.kind).as_bytes(),
-            number_text(&mut words, u64::from(row.word)),
-            number_text(&mut befores, row.before),
-            number_text(&mut afters, row.after),
-        ],
-    )
+    writer.write_fields(&[
+        number_text(&mut ticks, tick),
+        number_text(&mut workers, u64::from(row.worker)),
+        row.kind.word().as_bytes(),
+        number_text(&mut words, u64::from(row.word)),
+        number_text(&mut befores, row.before),
+        number_text(&mut afters, row.after),
+    ])
 }
 
 /// Prints sights below a header, in order. They go out piece by piece, as the rows of a trace do.
@@ -163,24 +160,11 @@ fn write_sight<W: Write + Drop>(writer: &mut Writer<W>, sight: &Sight) -> Result
     let mut steps = Buffer::new();
     let mut cells = Buffer::new();
     let mut values = Buffer::new();
-    write_record(
-        writer,
-        &[
-            number_text(&mut steps, u64::from(sight.step)),
-            number_text(&mut cells, u64::from(sight.cell)),
-            number_text(&mut values, u64::from(sight.value)),
-        ],
-    )
-}
-
-fn write_record<W: Write + Drop>(writer: &mut Writer<W>, fields: &[&[u8]]) -> Result<(), Error>
-    requires { IsBetweenRecords writer.old }
-    ensures between { OnOk result (IsBetweenRecords writer.new) }
-    ensures text { OnOk result (Appends (text_written W.contents writer.old)
-        (text_written W.contents writer.new)
-        (row_text default_writer (map (λ f. f.now) fields.now))) }
-{
-    writer.write_fields(fields)
+    writer.write_fields(&[
+        number_text(&mut steps, u64::from(sight.step)),
+        number_text(&mut cells, u64::from(sight.cell)),
+        number_text(&mut values, u64::from(sight.value)),
+    ])
 }
 
 fn number_text(buffer: &mut Buffer, number: u64) -> &[u8]
@@ -188,17 +172,6 @@ fn number_text(buffer: &mut Buffer, number: u64) -> &[u8]
     ensures plain { field_text default_writer result.now ≡ result.now }
 {
     buffer.format(number).as_bytes()
-}
-
-fn kind_name(kind: StepKind) -> &'static str
-    ensures { result.now ≡ kind_word kind }
-{
-    match kind {
-        StepKind::Load => "load",
-        StepKind::Store => "store",
-        StepKind::Max => "max",
-        StepKind::Swap => "swap",
-    }
 }
 
 /// Why a trace was not written.

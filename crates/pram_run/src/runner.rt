@@ -4,11 +4,12 @@ ghost use Rattle.std.specs.Prelude.{vec_capacity, slice_index_or};
 ghost use Rattle.pram_board.specs.Worked.{Works};
 ghost use Rattle.walkx.specs.Walk.{started};
 ghost use Rattle.lawful_walk.specs.Seen.{BeginsWith};
-ghost use Rattle.pram_run.specs.Inner.Obeying.{AllEndOrStop, EndsOrStops, GoesOn, HasObeyed};
+ghost use Rattle.pram_run.specs.Inner.Obeying.{AllWorked, EndsOrStops, GoesOn, HasObeyed};
 ghost use Rattle.pram_run.specs.Inner.Obeying.{WasAsked};
 ghost use Rattle.pram_run.specs.Obeyed.{AllObeyed, DoesRow, HasRun, Obeys};
-ghost use Rattle.pram_run.specs.Running.{IsRun};
+ghost use Rattle.pram_run.specs.Running.{IsBoardFor, IsRun};
 
+use crate::crew::Crew;
 use crate::ending::answer;
 use pram_board::{Board, Seat};
 use pram_step::RunAnswer;
@@ -35,15 +36,26 @@ pub fn run<R: Threads + Wait, G: Gate + Sync>(
     plan: &Plan,
     gate: &G,
 ) -> (Seat, Result<RunAnswer, AllocError>)
-    requires job { board.now.task.job ≡ job.now }
-    requires workers { board.now.task.layout.workers ≡ plan.now.workers }
-    requires seat { seat.desk ≡ board.now }
+    requires given { IsBoardFor job.now plan.now board.now seat }
     ensures answer { IfOk result.1 (IsRun board.now.task plan.now result.0.record_of) }
     ensures ran { OnOk result.1 (HasRun board.now.task plan.now seat result.0) }
     ensures begins { BeginsWith seat.record_of result.0.record_of }
     ensures desk { result.0.desk ≡ board.now }
 {
-    let (mut seat, worked) = run_workers(rt, alloc, board, seat, plan, gate);
+    let (mut seat, worked) = thread::scope(
+        thread::scope_env(),
+        rt,
+        |scope| -> (Seat, Result<(), AllocError>)
+            requires workers { board.now.task.layout.workers ≡ plan.now.workers }
+            requires seat { seat.desk ≡ board.now }
+            ensures worked { OnOk result.1
+                (AllWorked board.entry.now.task plan.entry.now seat result.0) }
+            ensures goes_on { GoesOn seat result.0 }
+        {
+            let crew = Crew { board, plan, gate };
+            work_in(scope, rt, alloc, &crew, seat)
+        },
+    );
     if let Err(refused) = worked {
         return (seat, Err(refused));
     }
@@ -51,58 +63,24 @@ pub fn run<R: Threads + Wait, G: Gate + Sync>(
     (seat, answer)
 }
 
-// Starts a thread for each worker, and joins them all.
-fn run_workers<R: Threads + Wait, G: Gate + Sync>(
-    rt: &R,
-    alloc: Global,
-    board: &Board,
-    seat: Seat,
-    plan: &Plan,
-    gate: &G,
-) -> (Seat, Result<(), AllocError>)
-    requires workers { board.now.task.layout.workers ≡ plan.now.workers }
-    requires seat { seat.desk ≡ board.now }
-    ensures ends { OnOk result.1 (AllEndOrStop plan.now result.0) }
-    ensures obeyed { OnOk result.1 (AllObeyed board.now.task plan.now.rows seat plan.now.workers
-        result.0) }
-    ensures goes_on { GoesOn seat result.0 }
-{
-    thread::scope(
-        thread::scope_env(),
-        rt,
-        |scope| -> (Seat, Result<(), AllocError>)
-            requires workers { board.now.task.layout.workers ≡ plan.now.workers }
-            requires seat { seat.desk ≡ board.now }
-            ensures ends { OnOk result.1 (AllEndOrStop plan.entry.now result.0) }
-            ensures obeyed { OnOk result.1 (AllObeyed board.entry.now.task plan.entry.now.rows seat
-                plan.entry.now.workers result.0) }
-            ensures goes_on { GoesOn seat result.0 }
-        { work_in(scope, rt, alloc, board, seat, plan, gate) },
-    )
-}
-
 /// Starts a thread of the scope for each worker, and joins them all.
 pub(crate) fn work_in<'s, E, R: Threads, G: Gate + Sync>(
     scope: &Scope<'s, E>,
     rt: &R,
     alloc: Global,
-    board: &'s Board,
+    crew: &Crew<'s, G>,
     seat: Seat,
-    plan: &'s Plan,
-    gate: &'s G,
 ) -> (Seat, Result<(), AllocError>)
-    requires workers { board.now.task.layout.workers ≡ plan.now.workers }
-    requires seat { seat.desk ≡ board.now }
-    ensures ends { OnOk result.1 (AllEndOrStop plan.now result.0) }
-    ensures obeyed { OnOk result.1 (AllObeyed board.now.task plan.now.rows seat plan.now.workers
-        result.0) }
+    requires seat { seat.desk ≡ crew.now.board.now }
+    ensures worked { OnOk result.1
+        (AllWorked crew.now.board.now.task crew.now.plan.now seat result.0) }
     ensures goes_on { GoesOn seat result.0 }
 {
-    let Ok(mut threads) = Vec::with_capacity(alloc, plan.workers() as usize) else {
+    let Ok(mut threads) = Vec::with_capacity(alloc, crew.plan.workers() as usize) else {
         return (seat, Err(AllocError));
     };
-    let (seat, started) = start_all(scope, board, seat, plan, gate, &mut threads);
-    (join_all(rt, board, seat, plan, threads), started)
+    let (seat, started) = start_all(scope, crew, seat, &mut threads);
+    (join_all(rt, crew.board, seat, crew.plan, threads), started)
 }
 
 /// What a worker's thread gives back: the seat that comes of obeying its rows from the one that the
@@ -121,21 +99,19 @@ impl<'a> Promise<Seat> for Obeyed<'a> {
 // Starts a thread for each worker, until one is refused.
 fn start_all<'s, E, G: Gate + Sync>(
     scope: &Scope<'s, E>,
-    board: &'s Board,
+    crew: &Crew<'s, G>,
     mut seat: Seat,
-    plan: &'s Plan,
-    gate: &'s G,
     threads: &mut Vec<PromisedHandle<Seat, Obeyed<'s>>>,
 ) -> (Seat, Result<(), AllocError>)
-    requires workers { board.now.task.layout.workers ≡ plan.now.workers }
-    requires seat { seat.desk ≡ board.now }
+    requires seat { seat.desk ≡ crew.now.board.now }
     requires empty { vec_len threads.old ≡ 0 }
-    requires room { plan.now.workers ≤ vec_capacity threads.old }
+    requires room { crew.now.plan.now.workers ≤ vec_capacity threads.old }
     ensures seat { result.0 ≡ seat }
     ensures asked { (k : ℕ) (d : _) → k < vec_len threads.new →
-        WasAsked plan.now.rows k seat (slice_index_or threads.new.items k d).promise }
-    ensures all { OnOk result.1 (vec_len threads.new ≡ plan.now.workers) }
+        WasAsked crew.now.plan.now.rows k seat (slice_index_or threads.new.items k d).promise }
+    ensures all { OnOk result.1 (vec_len threads.new ≡ crew.now.plan.now.workers) }
 {
+    let (board, plan, gate) = (crew.board, crew.plan, crew.gate);
     for worker in 0..plan.workers() {
         let (mine, theirs) = board.split(seat);
         seat = mine;

@@ -25,7 +25,7 @@ pub fn replay(
     requires plan { plan.now.workers ≡ workers }
     ensures { IfOk result (λ r. IsReplay job.now plan.now r.0 r.1) }
 {
-    let _ = job.steps();
+    job.limits_hold();
     let mut world = World::new(alloc, job, workers)?;
     let mut trace = Trace::new(alloc);
     for row in plan.rows() {

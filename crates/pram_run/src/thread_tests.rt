@@ -234,12 +234,12 @@ fn late_swap(rt: HostRuntime) -> Result<(), Fail> {
     Ok(())
 }
 
-// What a watch of cell 0 lists, beside one worker.
-fn watched<G: Gate + Sync>(
+// What a watch of cell 0 lists, beside one worker, at a gate whose holds are kept.
+fn watched<C: Clock + Sync>(
     rt: &(impl AllocGlobal + Abort + Threads + Wait),
     text: &str,
     rounds: u32,
-    gate: &G,
+    gate: &Holds<C>,
 ) -> Result<Vec<Sight>, Fail> {
     let alloc = rt.alloc();
     let job = read_job(alloc, text.as_bytes())?;
@@ -247,6 +247,7 @@ fn watched<G: Gate + Sync>(
     let (board, seat) = Board::open(alloc, &job, 1)?;
     let (_seat, answer) = watch(rt, alloc, &job, &board, seat, &plan, &[0], rounds, gate);
     let (answer, sights) = answer?;
+    assert!(rt; gate.were_kept());
     match answer {
         RunAnswer::Final(_) => Ok(sights),
         _ => panic!(rt; "{text}"),
@@ -265,9 +266,7 @@ fn sight(step: u32, value: u32) -> Sight {
 #[test]
 fn the_reader_reads_beside_the_workers(rt: HostRuntime) -> Result<(), Fail> {
     let gate = Holds::new(rt.clone()?, [holding(0, 0, 1, 0), holding(1, 0, 0, 0)]);
-    let sights = watched(&rt, LATER, 1, &gate)?;
-    assert_eq!(rt; sights.len(), 1);
-    assert!(rt; gate.were_kept());
+    assert_eq!(rt; watched(&rt, LATER, 1, &gate)?.len(), 1);
     Ok(())
 }
 
@@ -280,7 +279,6 @@ fn read_before(rt: HostRuntime) -> Result<(), Fail> {
     for seen in sights.iter().take(3) {
         assert_eq!(rt; *seen, sight(0, 0));
     }
-    assert!(rt; gate.were_kept());
     Ok(())
 }
 
@@ -294,7 +292,6 @@ fn read_between(rt: HostRuntime) -> Result<(), Fail> {
     };
     assert_eq!(rt; *first, sight(1, 4));
     assert!(rt; *second == sight(1, 4) || *second == sight(2, 7));
-    assert!(rt; gate.were_kept());
     Ok(())
 }
 

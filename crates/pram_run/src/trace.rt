@@ -16,6 +16,22 @@ pub enum StepKind {
     Swap,
 }
 
+impl StepKind {
+    ghost use Rattle.pram_run.specs.Printed.{kind_word};
+
+    /// Its word in a printed trace.
+    pub(crate) fn word(self) -> &'static str
+        ensures { result.now ≡ kind_word self }
+    {
+        match self {
+            StepKind::Load => "load",
+            StepKind::Store => "store",
+            StepKind::Max => "max",
+            StepKind::Swap => "swap",
+        }
+    }
+}
+
 /// One atomic step: its worker, its kind, the number of its word, and the whole word before it and
 /// after it.
 #[derive(Clone, Copy, Debug, PartialEq, Eq)]

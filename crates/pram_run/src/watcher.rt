@@ -1,13 +1,14 @@
 //! A reader beside the workers of a plan.
-ghost use Rattle.std.specs.Prelude.{◌≡◌, ◌≤◌, ◌<◌, ◌+◌, ◌*◌, ◌++◌, All, IfOk, length, map, vec_len};
+ghost use Rattle.std.specs.Prelude.{◌≡◌, ◌≤◌, ◌<◌, ◌+◌, ◌*◌, ◌++◌, All, IfOk, length, vec_len};
 ghost use Rattle.std.specs.Prelude.{vec_capacity};
 ghost use Rattle.walkx.specs.declared.operation.Reading.TheVariants.{At};
 ghost use Rattle.lawful_walk.specs.Seen.{BeginsWith};
 ghost use Rattle.pram_board.specs.Seats.{Place};
-ghost use Rattle.pram_run.specs.Inner.Obeying.{AllEndOrStop, GoesOn};
-ghost use Rattle.pram_run.specs.Running.{IsRun};
-ghost use Rattle.pram_run.specs.Watching.{HasRead, HasWatched, IsWatch};
+ghost use Rattle.pram_run.specs.Inner.Obeying.{AllEndOrStop, GoesOn, IsToWatch};
+ghost use Rattle.pram_run.specs.Running.{IsBoardFor, IsRun};
+ghost use Rattle.pram_run.specs.Watching.{HasRead, HasWatched, IsWatch, cells_of};
 
+use crate::crew::Crew;
 use crate::ending::answer;
 use crate::runner::work_in;
 use crate::sight::Sight;
@@ -18,7 +19,7 @@ use std::alloc::{AllocError, Global};
 use std::snapshot::Snapshot;
 use std::sync::Wait;
 use std::thread;
-use std::thread::{Promise, Scope, Threads};
+use std::thread::{Promise, PromisedHandle, Scope, Threads};
 use stop_plan::{Gate, Plan};
 use walkx::Reading;
 
@@ -37,9 +38,7 @@ pub fn watch<R: Threads + Wait, G: Gate + Sync>(
     rounds: u32,
     gate: &G,
 ) -> (Seat, Result<(RunAnswer, Vec<Sight>), AllocError>)
-    requires job { board.now.task.job ≡ job.now }
-    requires workers { board.now.task.layout.workers ≡ plan.now.workers }
-    requires seat { seat.desk ≡ board.now }
+    requires given { IsBoardFor job.now plan.now board.now seat }
     requires cells { All (λ c. c < board.now.task.job.cells) cells.now }
     ensures answer { IfOk result.1 (λ r. IsRun board.now.task plan.now result.0.record_of r.0) }
     ensures sights { IfOk result.1 (λ r. HasWatched board.now.task plan.now cells.now rounds seat
@@ -47,7 +46,13 @@ pub fn watch<R: Threads + Wait, G: Gate + Sync>(
     ensures begins { BeginsWith seat.record_of result.0.record_of }
     ensures desk { result.0.desk ≡ board.now }
 {
-    let (mut seat, watched) = watch_workers(rt, alloc, board, seat, plan, cells, rounds, gate);
+    let crew = Crew { board, plan, gate };
+    let lookout = Lookout {
+        crew,
+        cells,
+        rounds,
+    };
+    let (mut seat, watched) = watch_workers(rt, alloc, &lookout, seat);
     let sights = match watched {
         Ok(sights) => sights,
         Err(refused) => return (seat, Err(refused)),
@@ -58,37 +63,52 @@ pub fn watch<R: Threads + Wait, G: Gate + Sync>(
     }
 }
 
+// A crew, and what a reader beside it reads: so many rounds through cells of the job.
+#[derive(Drop)]
+struct Lookout<'c, 'a, G> {
+    crew: Crew<'c, G>,
+    cells: &'a [u32],
+    rounds: u32,
+    ghost within: { All (λ c. c < crew.board.now.task.job.cells) cells.now },
+}
+
 // Starts the reader and the workers, and joins them all.
 fn watch_workers<R: Threads + Wait, G: Gate + Sync>(
     rt: &R,
     alloc: Global,
-    board: &Board,
+    lookout: &Lookout<'_, '_, G>,
     seat: Seat,
-    plan: &Plan,
-    cells: &[u32],
-    rounds: u32,
-    gate: &G,
 ) -> (Seat, Result<Vec<Sight>, AllocError>)
-    requires workers { board.now.task.layout.workers ≡ plan.now.workers }
-    requires seat { seat.desk ≡ board.now }
-    requires cells { All (λ c. c < board.now.task.job.cells) cells.now }
-    ensures ends { IfOk result.1 (λ sights. AllEndOrStop plan.now result.0) }
-    ensures sights { IfOk result.1 (λ sights. HasWatched board.now.task plan.now cells.now rounds
-        seat sights.items result.0) }
+    requires seat { seat.desk ≡ lookout.now.crew.board.now }
+    ensures ends { IfOk result.1 (λ sights. AllEndOrStop lookout.now.crew.plan.now result.0) }
+    ensures sights { IfOk result.1 (λ sights. HasWatched lookout.now.crew.board.now.task
+        lookout.now.crew.plan.now lookout.now.cells.now lookout.now.rounds seat sights.items
+        result.0) }
     ensures goes_on { GoesOn seat result.0 }
 {
+    let crew = &lookout.crew;
+    let (board, plan, gate) = (crew.board, crew.plan, crew.gate);
+    let (cells, rounds) = (lookout.cells, lookout.rounds);
     thread::scope(
         thread::scope_env(),
         rt,
         |scope| -> (Seat, Result<Vec<Sight>, AllocError>)
             requires workers { board.now.task.layout.workers ≡ plan.now.workers }
             requires seat { seat.desk ≡ board.now }
-            requires cells { All (λ c. c < board.now.task.job.cells) cells.now }
+            requires within { All (λ c. c < board.now.task.job.cells) cells.now }
             ensures ends { IfOk result.1 (λ sights. AllEndOrStop plan.entry.now result.0) }
             ensures sights { IfOk result.1 (λ sights. HasWatched board.entry.now.task
                 plan.entry.now cells.entry.now rounds seat sights.items result.0) }
             ensures goes_on { GoesOn seat result.0 }
-        { watch_in(scope, rt, alloc, board, seat, plan, cells, rounds, gate) },
+        {
+            let crew = Crew { board, plan, gate };
+            let lookout = Lookout {
+                crew,
+                cells,
+                rounds,
+            };
+            watch_in(scope, rt, alloc, &lookout, seat)
+        },
     )
 }
 
@@ -110,50 +130,68 @@ fn watch_in<'s, E, R: Threads, G: Gate + Sync>(
     scope: &Scope<'s, E>,
     rt: &R,
     alloc: Global,
-    board: &'s Board,
+    lookout: &Lookout<'s, 's, G>,
     seat: Seat,
-    plan: &'s Plan,
-    cells: &'s [u32],
-    rounds: u32,
-    gate: &'s G,
 ) -> (Seat, Result<Vec<Sight>, AllocError>)
-    requires workers { board.now.task.layout.workers ≡ plan.now.workers }
-    requires seat { seat.desk ≡ board.now }
-    requires cells { All (λ c. c < board.now.task.job.cells) cells.now }
-    ensures ends { IfOk result.1 (λ sights. AllEndOrStop plan.now result.0) }
-    ensures sights { IfOk result.1 (λ sights. HasWatched board.now.task plan.now cells.now rounds
-        seat sights.items result.0) }
+    requires seat { seat.desk ≡ lookout.now.crew.board.now }
+    ensures ends { IfOk result.1 (λ sights. AllEndOrStop lookout.now.crew.plan.now result.0) }
+    ensures sights { IfOk result.1 (λ sights. HasWatched lookout.now.crew.board.now.task
+        lookout.now.crew.plan.now lookout.now.cells.now lookout.now.rounds seat sights.items
+        result.0) }
     ensures goes_on { GoesOn seat result.0 }
 {
-    let Ok(sights) = room_for(alloc, cells, rounds) else {
+    let crew = &lookout.crew;
+    let (seat, theirs) = crew.board.split(seat);
+    let Ok(reader) = start_reader(scope, alloc, lookout, theirs) else {
         return (seat, Err(AllocError));
     };
-    let (seat, theirs) = board.split(seat);
-    let number = plan.workers();
-    let promise = Watched {
-        before: Snapshot::of(&theirs),
-        cells,
-        rounds,
-    };
-    let reads = move || -> (Seat, Vec<Sight>)
-        requires seat { theirs.desk ≡ board.now }
-        requires cells { All (λ c. c < board.now.task.job.cells) cells.now }
-        requires empty { vec_len sights ≡ 0 }
-        requires room { rounds * length cells.now ≤ vec_capacity sights }
-        ensures goes_on { GoesOn theirs result.0 }
-        ensures watch { IsWatch board.entry.now.task cells.entry.now rounds theirs result.1.items
-            result.0 }
-    { read_all(board, theirs, number, cells, rounds, gate, sights) };
-    let Ok(reader) = scope.spawn_with(promise, reads) else {
-        return (seat, Err(AllocError));
-    };
-    let (seat, worked) = work_in(scope, rt, alloc, board, seat, plan, gate);
+    let (seat, worked) = work_in(scope, rt, alloc, crew, seat);
     let (theirs, sights) = reader.join(rt);
-    let seat = board.join(seat, theirs);
+    let seat = crew.board.join(seat, theirs);
     match worked {
         Ok(()) => (seat, Ok(sights)),
         Err(refused) => (seat, Err(refused)),
     }
+}
+
+// Starts a thread of the scope that reads from this seat.
+fn start_reader<'s, E, G: Gate + Sync>(
+    scope: &Scope<'s, E>,
+    alloc: Global,
+    lookout: &Lookout<'s, 's, G>,
+    seat: Seat,
+) -> Result<PromisedHandle<(Seat, Vec<Sight>), Watched<'s>>, AllocError>
+    requires { seat.desk ≡ lookout.now.crew.board.now }
+    ensures { IfOk result (λ reader. IsToWatch lookout.now.cells.now lookout.now.rounds seat
+        reader.promise) }
+{
+    let (cells, rounds) = (lookout.cells, lookout.rounds);
+    let (board, gate) = (lookout.crew.board, lookout.crew.gate);
+    let number = lookout.crew.plan.workers();
+    let sights = room_for(alloc, cells, rounds)?;
+    let promise = Watched {
+        before: Snapshot::of(&seat),
+        cells,
+        rounds,
+    };
+    let reads = move || -> (Seat, Vec<Sight>)
+        requires seat { seat.desk ≡ board.now }
+        requires within { All (λ c. c < board.now.task.job.cells) cells.now }
+        requires empty { vec_len sights ≡ 0 }
+        requires room { rounds * length cells.now ≤ vec_capacity sights }
+        ensures goes_on { GoesOn seat result.0 }
+        ensures watch { IsWatch board.entry.now.task cells.entry.now rounds seat result.1.items
+            result.0 }
+    {
+        let round = Round {
+            board,
+            gate,
+            number,
+            cells,
+        };
+        read_all(&round, rounds, seat, sights)
+    };
+    Ok(scope.spawn_with(promise, reads)?)
 }
 
 // An empty list with room for all that is read.
@@ -167,53 +205,52 @@ fn room_for(alloc: Global, cells: &[u32], rounds: u32) -> Result<Vec<Sight>, All
     Vec::with_capacity(alloc, count)
 }
 
+// A round of the reader: a read of each of the cells, after it passed the gate as the worker of
+// this number.
+#[derive(Drop)]
+struct Round<'a, G> {
+    board: &'a Board,
+    gate: &'a G,
+    number: u32,
+    cells: &'a [u32],
+    ghost within: { All (λ c. c < board.now.task.job.cells) cells.now },
+}
+
 // Goes so many rounds through the cells.
 fn read_all<G: Gate>(
-    board: &Board,
-    mut seat: Seat,
-    number: u32,
-    cells: &[u32],
+    round: &Round<'_, G>,
     rounds: u32,
-    gate: &G,
+    mut seat: Seat,
     mut sights: Vec<Sight>,
 ) -> (Seat, Vec<Sight>)
-    requires seat { seat.desk ≡ board.now }
-    requires cells { All (λ c. c < board.now.task.job.cells) cells.now }
+    requires seat { seat.desk ≡ round.now.board.now }
     requires empty { vec_len sights ≡ 0 }
-    requires room { rounds * length cells.now ≤ vec_capacity sights }
+    requires room { rounds * length round.now.cells.now ≤ vec_capacity sights }
     ensures goes_on { GoesOn seat result.0 }
-    ensures watch { IsWatch board.now.task cells.now rounds seat result.1.items result.0 }
+    ensures watch { IsWatch round.now.board.now.task round.now.cells.now rounds seat
+        result.1.items result.0 }
 {
     for _ in 0..rounds {
-        read_round(board, &mut seat, number, cells, gate, &mut sights);
+        read_round(round, &mut seat, &mut sights);
     }
     (seat, sights)
 }
 
 // Reads each of the cells, and notes what was read.
-fn read_round<G: Gate>(
-    board: &Board,
-    seat: &mut Seat,
-    number: u32,
-    cells: &[u32],
-    gate: &G,
-    sights: &mut Vec<Sight>,
-)
-    requires seat { seat.old.desk ≡ board.now }
-    requires cells { All (λ c. c < board.now.task.job.cells) cells.now }
-    requires room { vec_len sights.old + length cells.now ≤ vec_capacity sights.old }
-    ensures desk { seat.new.desk ≡ board.now }
-    ensures reads { (p : Place) → HasRead board.now.task p sights.old.items seat.old →
-        HasRead board.now.task p sights.new.items seat.new }
-    ensures cells { map (λ sight. sight.cell) sights.new.items
-        ≡ map (λ sight. sight.cell) sights.old.items ++ cells.now }
-    ensures len { vec_len sights.new ≡ vec_len sights.old + length cells.now }
+fn read_round<G: Gate>(round: &Round<'_, G>, seat: &mut Seat, sights: &mut Vec<Sight>)
+    requires seat { seat.old.desk ≡ round.now.board.now }
+    requires room { vec_len sights.old + length round.now.cells.now ≤ vec_capacity sights.old }
+    ensures desk { seat.new.desk ≡ round.now.board.now }
+    ensures reads { (p : Place) → HasRead round.now.board.now.task p sights.old.items seat.old →
+        HasRead round.now.board.now.task p sights.new.items seat.new }
+    ensures cells { cells_of sights.new.items ≡ cells_of sights.old.items ++ round.now.cells.now }
+    ensures len { vec_len sights.new ≡ vec_len sights.old + length round.now.cells.now }
     ensures capacity { vec_capacity sights.new ≡ vec_capacity sights.old }
 {
-    for cell in cells {
+    for cell in round.cells {
         let cell = *cell;
-        gate.pass(number, sights.len() as u64);
-        let sight = sight_of(cell, board.read(seat, cell));
+        round.gate.pass(round.number, sights.len() as u64);
+        let sight = sight_of(cell, round.board.read(seat, cell));
         sights.push_reserved(sight);
     }
 }

@@ -1,54 +1,72 @@
 use Rattle.std.proofs.Common.{◌≤◌, ◌<◌, sym, ap, ◌∙◌, inl, arith}
 use Rattle.pram_text.specs.Job.{JobData}
-use Rattle.pram_run.proofs.Endings.{progress_heard, progress_looks, looked_more, looked_same, loads_go, last_shown, conflict_shown, unfinished_shown, shows_goes}
+use Rattle.pram_run.proofs.Endings.{progress_heard, progress_looks, looked_more}
+use Rattle.pram_run.proofs.Endings.{looked_same, loads_go, last_shown}
+use Rattle.pram_run.proofs.Endings.{conflict_shown, unfinished_shown, shows_goes}
 use Rattle.pram_run.proofs.ending.answer.Goals as goal
 
 pub fault-requires-clause-knows : goal.fault-requires-clause-knows
-fault-requires-clause-knows c = progress_heard _ _ _ _ c.progress-progress.ensures.progressed (sym c.is_some.ensures ∙ c.if-is_some.true)
+fault-requires-clause-knows c = progress_heard _ _ _ _ c.progress-progress.ensures.progressed
+    (sym c.is_some.ensures ∙ c.if-is_some.true)
 
 pub returns-in_err-fault-clause-looked : goal.returns-in_err-fault-clause-looked
 returns-in_err-fault-clause-looked c =
-    looked_more c.args.seat.now c.progress-progress.new.seat c.fault.new.seat (progress_looks _ _ _ _ c.progress-progress.ensures.progressed) (_, c.in_err-fault.ensures.refused.1)
+    looked_more c.args.seat.now c.progress-progress.new.seat c.fault.new.seat
+    (progress_looks _ _ _ _ c.progress-progress.ensures.progressed)
+    (_, c.in_err-fault.ensures.refused.1)
 
 pub returns-then-is_some-clause-answer : goal.returns-then-is_some-clause-answer
 returns-then-is_some-clause-answer c = (
   c.in_ok-fault.ensures.fault,
-  conflict_shown c.args.board.now.task c.args.seat.now c.progress-progress.new.seat c.fault.new.seat c.progress-progress.result c.in_ok-fault.fault
-      c.progress-progress.ensures.progressed (sym c.is_some.ensures ∙ c.if-is_some.true) (loads_go _ _ _ c.in_ok-fault.ensures.loads) c.in_ok-fault.ensures.fault,
+  conflict_shown c.args.board.now.task c.args.seat.now c.progress-progress.new.seat
+      c.fault.new.seat c.progress-progress.result c.in_ok-fault.fault
+      c.progress-progress.ensures.progressed (sym c.is_some.ensures ∙ c.if-is_some.true)
+      (loads_go _ _ _ c.in_ok-fault.ensures.loads) c.in_ok-fault.ensures.fault,
 )
 
 pub returns-then-is_some-clause-looked : goal.returns-then-is_some-clause-looked
 returns-then-is_some-clause-looked c =
-    looked_more c.args.seat.now c.progress-progress.new.seat c.fault.new.seat (progress_looks _ _ _ _ c.progress-progress.ensures.progressed) (_, c.in_ok-fault.ensures.loads)
+    looked_more c.args.seat.now c.progress-progress.new.seat c.fault.new.seat
+    (progress_looks _ _ _ _ c.progress-progress.ensures.progressed) (_, c.in_ok-fault.ensures.loads)
 
 pub returns-then-progress-steps-clause-answer : goal.returns-then-progress-steps-clause-answer
 returns-then-progress-steps-clause-answer c =
-    let low : c.progress-progress.result.step < c.args.board.now.task.job.steps = omega (arith, c.steps.ensures.value, ap (λ (j : JobData). j.steps) c.requires.job) in
-    unfinished_shown c.args.board.now.task c.args.seat.now c.progress-progress.new.seat c.progress-progress.result
-    c.progress-progress.ensures.progressed c.progress-progress.ensures.later.sound (sym c.is_some.ensures ∙ c.if-is_some.false) low
+    let low : c.progress-progress.result.step < c.args.board.now.task.job.steps =
+    omega (arith, c.steps.ensures.value, ap (λ (j : JobData). j.steps) c.requires.job) in
+    unfinished_shown c.args.board.now.task
+    c.args.seat.now c.progress-progress.new.seat c.progress-progress.result
+    c.progress-progress.ensures.progressed c.progress-progress.ensures.later.sound
+    (sym c.is_some.ensures ∙ c.if-is_some.false) low
 
 pub returns-then-progress-steps-clause-looked : goal.returns-then-progress-steps-clause-looked
-returns-then-progress-steps-clause-looked c = progress_looks _ _ _ _ c.progress-progress.ensures.progressed
+returns-then-progress-steps-clause-looked c =
+    progress_looks _ _ _ _ c.progress-progress.ensures.progressed
 
 pub memory-requires-clause-knows : goal.memory-requires-clause-knows
 memory-requires-clause-knows c =
-    let high : c.args.board.now.task.job.steps ≤ c.progress-progress.result.step = omega (arith, c.steps.ensures.value, ap (λ (j : JobData). j.steps) c.requires.job) in
+    let high : c.args.board.now.task.job.steps ≤ c.progress-progress.result.step =
+    omega (arith, c.steps.ensures.value, ap (λ (j : JobData). j.steps) c.requires.job) in
     inl (last_shown _ _ _ _ c.progress-progress.ensures.progressed high)
 
 pub returns-in_err-cells-clause-looked : goal.returns-in_err-cells-clause-looked
 returns-in_err-cells-clause-looked c =
-    looked_more c.args.seat.now c.progress-progress.new.seat c.memory.new.seat (progress_looks _ _ _ _ c.progress-progress.ensures.progressed)
+    looked_more c.args.seat.now c.progress-progress.new.seat c.memory.new.seat
+    (progress_looks _ _ _ _ c.progress-progress.ensures.progressed)
     (looked_same c.progress-progress.new.seat c.memory.new.seat c.in_err-cells.ensures.refused)
 
 pub returns-clause-answer : goal.returns-clause-answer
 returns-clause-answer c =
-    let high : c.args.board.now.task.job.steps ≤ c.progress-progress.result.step = omega (arith, c.steps.ensures.value, ap (λ (j : JobData). j.steps) c.requires.job) in
+    let high : c.args.board.now.task.job.steps ≤ c.progress-progress.result.step =
+    omega (arith, c.steps.ensures.value, ap (λ (j : JobData). j.steps) c.requires.job) in
     let cells = c.in_ok-cells.ensures.cells in (
       (cells.0, cells.1, c.new.ensures ∙ cells.2),
-      shows_goes c.args.board.now.task.layout c.progress-progress.new.seat c.memory.new.seat c.args.board.now.task.job.steps
-          (loads_go _ _ _ c.in_ok-cells.ensures.loads) (last_shown _ _ _ _ c.progress-progress.ensures.progressed high),
+      shows_goes c.args.board.now.task.layout
+          c.progress-progress.new.seat c.memory.new.seat c.args.board.now.task.job.steps
+          (loads_go _ _ _ c.in_ok-cells.ensures.loads)
+          (last_shown _ _ _ _ c.progress-progress.ensures.progressed high),
     )
 
 pub returns-clause-looked : goal.returns-clause-looked
 returns-clause-looked c =
-    looked_more c.args.seat.now c.progress-progress.new.seat c.memory.new.seat (progress_looks _ _ _ _ c.progress-progress.ensures.progressed) (_, c.in_ok-cells.ensures.loads)
+    looked_more c.args.seat.now c.progress-progress.new.seat c.memory.new.seat
+    (progress_looks _ _ _ _ c.progress-progress.ensures.progressed) (_, c.in_ok-cells.ensures.loads)

@@ -1,4 +1,5 @@
-use Rattle.std.proofs.Common.{◌∙◌, ◌++◌, ◌+◌, ◌<◌, sym, ap, append_assoc, take, get_or, length, arith}
+use Rattle.std.proofs.Common.{◌∙◌, ◌++◌, ◌+◌, ◌<◌, sym, ap}
+use Rattle.std.proofs.Common.{append_assoc, take, get_or, length, arith}
 use Rattle.csv.specs.Writing.{writer_pending, writer_under}
 use Rattle.pram_run.specs.Printed.{row_line, row_lines}
 use Rattle.pram_run.specs.declared.trace.TraceRow.{TraceRow}
@@ -20,5 +21,6 @@ loop-place-preserved c =
     record {
       between = c.in-Ok.ensures.between;
       text = ap (λ text. front ++ text) c.in-Ok.ensures.text ∙ sym (append_assoc front old line)
-          ∙ ap (λ text. text ++ line) c.loop-place.invariant.text ∙ sym (lines-more rows place no_row within);
+          ∙ ap (λ text. text ++ line) c.loop-place.invariant.text
+          ∙ sym (lines-more rows place no_row within);
     }

@@ -8,5 +8,7 @@ use Rattle.pram_run.proofs.print.lines_between.Given as goal
 abbrev pub invariant-loop-place : goal.invariant-loop-place
 invariant-loop-place l = record {
   between : IsBetweenRecords l.writer;
-  text : row_lines 0 (take l.start l.rows) ++ ((writer_under l.writer).items ++ writer_pending l.writer) ≡ row_lines 0 (take l.place l.rows);
+  text : row_lines 0 (take l.start l.rows)
+      ++ ((writer_under l.writer).items ++ writer_pending l.writer)
+      ≡ row_lines 0 (take l.place l.rows);
 }

@@ -1,4 +1,4 @@
-use Rattle.std.proofs.Common.{◌≡◌, ◌≤◌, ◌-◌, ◌++◌, false, codes, length, take}
+use Rattle.std.proofs.Common.{◌≡◌, ◌≤◌, ◌-◌, false, length, take}
 use Rattle.std.specs.Io.KnownBytes.{Appends}
 use Rattle.pram_run.specs.Printed.{sights_text}
 use Rattle.pram_run.proofs.print.print_sights.Given as goal
@@ -8,7 +8,8 @@ abbrev pub invariant-loop-done : goal.invariant-loop-done
 invariant-loop-done g l = record {
   unfailed : g.W.Sink.has_failed l.sink ≡ false;
   within : l.done ≤ length l.sights;
-  put : Appends (g.W.Sink.taken l.fn.sink) (g.W.Sink.taken l.sink) (sights_text (take l.done l.sights));
+  put : Appends (g.W.Sink.taken l.fn.sink)
+      (g.W.Sink.taken l.sink) (sights_text (take l.done l.sights));
 }
 
 abbrev pub decreases-loop-done : goal.decreases-loop-done

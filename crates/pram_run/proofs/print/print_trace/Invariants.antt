@@ -8,7 +8,8 @@ abbrev pub invariant-loop-done : goal.invariant-loop-done
 invariant-loop-done g l = record {
   unfailed : g.W.Sink.has_failed l.sink ≡ false;
   within : l.done ≤ length l.rows;
-  put : Appends (g.W.Sink.taken l.fn.sink) (g.W.Sink.taken l.sink) (trace_text (take l.done l.rows));
+  put : Appends (g.W.Sink.taken l.fn.sink)
+      (g.W.Sink.taken l.sink) (trace_text (take l.done l.rows));
 }
 
 abbrev pub decreases-loop-done : goal.decreases-loop-done

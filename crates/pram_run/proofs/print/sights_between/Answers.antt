@@ -1,4 +1,5 @@
-use Rattle.std.proofs.Common.{◌≡◌, ◌∙◌, ◌++◌, ◌+◌, ◌<◌, ℕ, sym, ap, append_assoc, take, get_or, length, arith}
+use Rattle.std.proofs.Common.{◌∙◌, ◌++◌, ◌<◌, sym, ap}
+use Rattle.std.proofs.Common.{append_assoc, take, get_or, length, arith}
 use Rattle.csv.specs.Writing.{writer_pending, writer_under}
 use Rattle.pram_run.specs.Printed.{sight_line, sight_lines}
 use Rattle.pram_run.specs.declared.sight.Sight.{Sight}
@@ -19,5 +20,6 @@ loop-place-preserved c =
     record {
       between = c.in-Ok.ensures.between;
       text = ap (λ text. front ++ text) c.in-Ok.ensures.text ∙ sym (append_assoc front old line)
-          ∙ ap (λ text. text ++ line) c.loop-place.invariant.text ∙ sym (sights-more sights place no_sight within);
+          ∙ ap (λ text. text ++ line) c.loop-place.invariant.text
+          ∙ sym (sights-more sights place no_sight within);
     }

@@ -8,5 +8,7 @@ use Rattle.pram_run.proofs.print.sights_between.Given as goal
 abbrev pub invariant-loop-place : goal.invariant-loop-place
 invariant-loop-place l = record {
   between : IsBetweenRecords l.writer;
-  text : sight_lines (take l.start l.sights) ++ ((writer_under l.writer).items ++ writer_pending l.writer) ≡ sight_lines (take l.place l.sights);
+  text : sight_lines (take l.start l.sights)
+      ++ ((writer_under l.writer).items ++ writer_pending l.writer)
+      ≡ sight_lines (take l.place l.sights);
 }

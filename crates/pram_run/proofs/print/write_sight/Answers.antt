@@ -1,13 +1,17 @@
-use Rattle.std.proofs.Common.{◌≡◌, ◌∙◌}
+use Rattle.std.proofs.Common.{◌≢◌}
 use Rattle.std.proofs.lemmas.Result.{on_ok_weaker}
+use Rattle.csv.specs.declared.writer.QuoteStyle.TheVariants as style
 use Rattle.pram_run.proofs.Lines.{three-text}
 use Rattle.pram_run.proofs.print.write_sight.Goals as goal
 
 pub returns-clause-text : goal.returns-clause-text
 returns-clause-text g c =
-    let same = three-text c.number_text.result.now c.number_text-2.result.now c.number_text-3.result.now c.number_text.ensures.plain c.number_text-2.ensures.plain c.number_text-3.ensures.plain in
-    on_ok_weaker c.write_record.result (λ written.
-    rw (
+    let same =
+    three-text c.number_text.result.now c.number_text-2.result.now c.number_text-3.result.now
+    c.number_text.ensures.plain c.number_text-2.ensures.plain c.number_text-3.ensures.plain in
+    let quotes : c.args.writer.now.cfg.style ≢ style.NonNumeric = rw c.requires.setup (λ e. cc e) in
+    on_ok_weaker c.write_fields.result (λ written. rw (
+      c.requires.setup,
       same,
       c.number_text.ensures.value,
       c.number_text-2.ensures.value,
@@ -15,4 +19,4 @@ returns-clause-text g c =
       c.from.ensures,
       c.from-2.ensures,
       c.from-3.ensures,
-    ) at written) c.write_record.ensures.text
+    ) at (written c.requires.fields c.requires.clean quotes)) c.write_fields.ensures.bytes

@@ -1,4 +1,5 @@
-use Rattle.std.proofs.Common.{◌≡◌, ◌+◌, ◌++◌, ◌<◌, ℕ, List, [], ◌∷◌, refl, sym, ap, subst, ◌∙◌, arith, vec_items, append_assoc, length, length-append}
+use Rattle.std.proofs.Common.{◌≡◌, ◌+◌, ◌++◌, ℕ, List, [], ◌∷◌, refl, sym, ap, subst}
+use Rattle.std.proofs.Common.{◌∙◌, arith, vec_items, append_assoc, length, length-append}
 use Rattle.std.specs.Vec.Iter.{into_iter_items}
 use Rattle.pram_board.specs.Seats.{Desk}
 use Rattle.pram_run.specs.Inner.Obeying.{HasObeyed}
@@ -21,9 +22,13 @@ join-seat-requires-clause-first g c = c.loop-thread.invariant.goes_on.desk ∙ c
 
 pub join-seat-requires-clause-second : goal.join-seat-requires-clause-second
 join-seat-requires-clause-second g c =
-    let asked = asked_next c.args.plan.now.rows c.args.seat (vec_items c.args.threads) c.loop-thread.yielded c.in-Some.thread (into_iter_items c.next.new.self) _ c.in-Some.ensures.steps.0
-    c.loop-thread.invariant.order (λ k d lt. c.requires.asked k d (omega (arith, c.args.threads.ok))) in
-    (kept_as c.args.plan.now.rows (length c.loop-thread.yielded) c.args.seat c.join.result c.in-Some.thread.promise asked c.join.ensures).0.desk ∙ c.requires.seat
+    let asked =
+    asked_next c.args.plan.now.rows c.args.seat (vec_items c.args.threads) c.loop-thread.yielded
+    c.in-Some.thread (into_iter_items c.next.new.self) _ c.in-Some.ensures.steps.0
+    c.loop-thread.invariant.order
+    (λ k d lt. c.requires.asked k d (omega (arith, c.args.threads.ok))) in
+    (kept_as c.args.plan.now.rows (length c.loop-thread.yielded) c.args.seat c.join.result
+    c.in-Some.thread.promise asked c.join.ensures).0.desk ∙ c.requires.seat
 
 pub loop-thread-preserved : goal.loop-thread-preserved
 loop-thread-preserved g c =
@@ -33,22 +38,34 @@ loop-thread-preserved g c =
     let thread = c.in-Some.thread in
     let done = c.loop-thread.yielded in
     let rows = c.args.plan.now.rows in
-    let asked = asked_next rows c.args.seat (vec_items c.args.threads) done thread rest _ step.0 was.order (λ k d lt. c.requires.asked k d (omega (arith, c.args.threads.ok))) in
-    let theirs : HasObeyed rows (length done) c.args.seat c.join.result = kept_as rows (length done) c.args.seat c.join.result thread.promise asked c.join.ensures in
-    let order : done ++ (thread ∷ rest) ≡ vec_items c.args.threads = ap (λ (l : List Thread). done ++ l) (sym step.0) ∙ was.order in
-    let more : length (done ++ thread ∷ []) ≡ length done + 1 = length-append done (thread ∷ []) in record {
-      goes_on = goes_united c.args.seat c.loop-thread.seat c.join.result c.join-seat.result c.join-seat.ensures.unites was.goes_on theirs.0;
+    let asked = asked_next rows c.args.seat (vec_items c.args.threads) done thread rest _
+    step.0 was.order (λ k d lt. c.requires.asked k d (omega (arith, c.args.threads.ok))) in
+    let theirs : HasObeyed rows (length done) c.args.seat c.join.result =
+    kept_as rows (length done) c.args.seat c.join.result thread.promise asked c.join.ensures in
+    let order : done ++ (thread ∷ rest) ≡ vec_items c.args.threads =
+    ap (λ (l : List Thread). done ++ l) (sym step.0) ∙ was.order in
+    let more : length (done ++ thread ∷ []) ≡ length done + 1 = length-append done (thread ∷ []) in
+    record {
+      goes_on = goes_united c.args.seat c.loop-thread.seat
+          c.join.result c.join-seat.result c.join-seat.ensures.unites was.goes_on theirs.0;
       order = append_assoc done (thread ∷ []) rest ∙ order;
-      ends = ends_more rows c.loop-thread.seat c.join.result c.join-seat.result (length done) (length (done ++ thread ∷ [])) more (theirs.0.desk ∙ sym was.goes_on.desk) c.join-seat.ensures.unites was.ends theirs.1;
-      obeyed = obeyed_more c.args.board.now.task rows c.args.seat c.loop-thread.seat c.join.result c.join-seat.result (length done) (length (done ++ thread ∷ [])) more
-          (ap (λ (d : Desk). d.task) c.requires.seat) c.join-seat.ensures.unites was.obeyed theirs.2;
+      ends = ends_more rows c.loop-thread.seat c.join.result c.join-seat.result
+          (length done) (length (done ++ thread ∷ [])) more
+          (theirs.0.desk ∙ sym was.goes_on.desk) c.join-seat.ensures.unites was.ends theirs.1;
+      obeyed = obeyed_more c.args.board.now.task rows c.args.seat c.loop-thread.seat
+          c.join.result c.join-seat.result (length done) (length (done ++ thread ∷ [])) more
+          (ap (λ (d : Desk). d.task) c.requires.seat)
+          c.join-seat.ensures.unites was.obeyed theirs.2;
       count = omega (arith, more);
     }
 
 pub returns-clause-ends : goal.returns-clause-ends
-returns-clause-ends g c k lt = c.loop-thread.invariant.ends k (omega (arith, c.loop-thread.invariant.count, c.in-None.ensures.steps.0))
+returns-clause-ends g c k lt = c.loop-thread.invariant.ends k
+    (omega (arith, c.loop-thread.invariant.count, c.in-None.ensures.steps.0))
 
 pub returns-clause-obeyed : goal.returns-clause-obeyed
 returns-clause-obeyed g c =
     let was = c.loop-thread.invariant in
-    subst (λ (n : ℕ). AllObeyed c.args.board.now.task c.args.plan.now.rows c.args.seat n c.loop-thread.seat) (omega (arith, was.count, c.in-None.ensures.steps.0)) was.obeyed
+    subst (λ (n : ℕ).
+    AllObeyed c.args.board.now.task c.args.plan.now.rows c.args.seat n c.loop-thread.seat)
+    (omega (arith, was.count, c.in-None.ensures.steps.0)) was.obeyed

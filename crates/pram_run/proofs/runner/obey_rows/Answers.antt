@@ -1,10 +1,10 @@
-use Rattle.std.proofs.Common.{ap, sym, subst, drop, refl}
+use Rattle.std.proofs.Common.{ap, sym, subst}
 use Rattle.walkx.specs.Walk.{started}
 use Rattle.pram_board.specs.declared.task.Task.{Task}
 use Rattle.pram_board.specs.Seats.{Desk}
 use Rattle.pram_run.specs.Obeyed.{Obeys}
 use Rattle.pram_run.proofs.Endings.{goes_self, goes_trans, worked_goes, acts_goes}
-use Rattle.pram_run.proofs.Obeying.{other_row, own_row, stop_row, no_row}
+use Rattle.pram_run.proofs.Obeying.{other_row, own_row, no_row}
 use Rattle.pram_run.proofs.runner.obey_rows.Goals as goal
 use Rattle.pram_run.proofs.runner.obey_rows.Goals.{then-row-number+else-eq, else-row-number}
 
@@ -13,32 +13,40 @@ loop-row-init g c = record {
   goes_on = goes_self c.args.seat;
   works = record {
     desk = c.requires.seat;
-    serves = c.start-worker.ensures.serves c.args.board.now.task.job c.args.board.now.task.layout c.requires.worker;
-    knows = c.start-worker.ensures.known c.args.board.now.task.job c.args.board.now.task.layout c.args.seat.record_of;
+    serves = c.start-worker.ensures.serves c.args.board.now.task.job
+        c.args.board.now.task.layout c.requires.worker;
+    knows = c.start-worker.ensures.known c.args.board.now.task.job
+        c.args.board.now.task.layout c.args.seat.record_of;
   };
   obeys = λ q h. rw (← c.start-worker.ensures.value) h;
 }
 
 pub loop-row-preserved : goal.loop-row-preserved
-loop-row-preserved g c =
-    elim c.if-row-number.branch [
-      | then-row-number+else-eq w ↦ record {
-        goes_on = rw w.seat-is (goes_trans c.args.seat c.loop-row.seat w.obey_row.new.seat c.loop-row.invariant.goes_on (acts_goes _ _ _ _ _ _ _ _ w.obey_row.ensures.does));
-        works = rw (w.seat-is, w.worker-is) w.obey_row.ensures.works;
-        obeys = rw (w.seat-is, w.worker-is) (λ q h. c.loop-row.invariant.obeys q (own_row _ _ _ _ _ _ _ _ _ q c.loop-row-test.true w.if-row-number.true
-            (λ stops. let same = rw stops at w.eq.ensures in absurd (cc)) w.obey_row.ensures.does h));
-      }
-      | else-row-number w ↦ record {
-        goes_on = rw w.seat-is c.loop-row.invariant.goes_on;
-        works = rw (w.seat-is, w.worker-is) c.loop-row.invariant.works;
-        obeys = rw (w.seat-is, w.worker-is) (λ q h. c.loop-row.invariant.obeys q (other_row _ _ _ _ _ _ _ q c.loop-row-test.true w.if-row-number.false h));
-      }
-    ]
+loop-row-preserved g c = elim c.if-row-number.branch [
+  | then-row-number+else-eq w ↦ record {
+    goes_on = rw w.seat-is
+        (goes_trans c.args.seat c.loop-row.seat w.obey_row.new.seat c.loop-row.invariant.goes_on
+        (acts_goes _ _ _ _ _ _ _ _ w.obey_row.ensures.does));
+    works = rw (w.seat-is, w.worker-is) w.obey_row.ensures.works;
+    obeys = rw (w.seat-is, w.worker-is) (λ q h. c.loop-row.invariant.obeys q
+        (own_row _ _ _ _ _ _ _ _ _ q c.loop-row-test.true w.if-row-number.true
+        (λ stops. let same = rw stops at w.eq.ensures in absurd (cc)) w.obey_row.ensures.does h));
+  }
+  | else-row-number w ↦ record {
+    goes_on = rw w.seat-is c.loop-row.invariant.goes_on;
+    works = rw (w.seat-is, w.worker-is) c.loop-row.invariant.works;
+    obeys = rw (w.seat-is, w.worker-is) (λ q h. c.loop-row.invariant.obeys q
+        (other_row _ _ _ _ _ _ _ q c.loop-row-test.true w.if-row-number.false h));
+  }
+]
 
 pub returns-clause-goes_on : goal.returns-clause-goes_on
-returns-clause-goes_on g c = goes_trans c.args.seat c.loop-row.seat c.work.new.seat c.loop-row.invariant.goes_on (worked_goes _ _ _ _ _ _ _ c.work.ensures.worked)
+returns-clause-goes_on g c = goes_trans c.args.seat c.loop-row.seat c.work.new.seat
+    c.loop-row.invariant.goes_on (worked_goes _ _ _ _ _ _ _ c.work.ensures.worked)
 
 pub returns-clause-obeys : goal.returns-clause-obeys
 returns-clause-obeys g c =
-    subst (λ (t : Task). Obeys t c.args.number c.args.rows.now c.args.seat (started c.args.number) c.work.new.seat) (sym (ap (λ (d : Desk). d.task) c.requires.seat))
-    (c.loop-row.invariant.obeys c.work.new.seat (no_row _ _ _ _ _ _ _ _ _ c.loop-row-test.false c.work.ensures.worked))
+    subst (λ (t : Task). Obeys t c.args.number c.args.rows.now c.args.seat
+    (started c.args.number) c.work.new.seat) (sym (ap (λ (d : Desk). d.task) c.requires.seat))
+    (c.loop-row.invariant.obeys c.work.new.seat
+    (no_row _ _ _ _ _ _ _ _ _ c.loop-row-test.false c.work.ensures.worked))

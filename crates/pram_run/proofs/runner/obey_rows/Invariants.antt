@@ -11,5 +11,7 @@ abbrev pub invariant-loop-row : goal.invariant-loop-row
 invariant-loop-row g l = record {
   goes_on : GoesOn l.fn.seat l.seat;
   works : Works l.board l.seat l.worker;
-  obeys : (q : Place) → Obeys l.board.task l.number (drop l.row-index l.rows) l.seat l.worker.walking q → Obeys l.board.task l.number l.rows l.fn.seat (started l.number) q;
+  obeys : (q : Place) →
+      Obeys l.board.task l.number (drop l.row-index l.rows) l.seat l.worker.walking q →
+      Obeys l.board.task l.number l.rows l.fn.seat (started l.number) q;
 }

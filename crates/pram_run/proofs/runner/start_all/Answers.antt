@@ -14,16 +14,23 @@ pub loop-worker-preserved : goal.loop-worker-preserved
 loop-worker-preserved g c =
     let was = c.loop-worker.invariant in
     let ok = c.in-Ok.ensures.ok in
-    let asked : WasAsked c.args.plan.now.rows c.loop-worker.worker c.args.seat c.in-Ok.thread.promise = record {
+    let asked : WasAsked c.args.crew.now.plan.now.rows c.loop-worker.worker c.args.seat
+    c.in-Ok.thread.promise = record {
       rows = ap (λ (p : Obeyed). p.rows.now) ok ∙ c.rows-rows.ensures;
       worker = ap (λ (p : Obeyed). p.worker) ok;
-      seat = ap (λ (p : Obeyed). p.before.value) ok ∙ (c.of.ensures ∙ (c.split-mine.ensures.second ∙ was.seat));
+      seat = ap (λ (p : Obeyed). p.before.value) ok
+          ∙ (c.of.ensures ∙ (c.split-mine.ensures.second ∙ was.seat));
     } in
-    let count : length c.loop-worker.threads.items ≡ c.loop-worker.worker = omega (arith, was.len, c.loop-worker.threads.ok) in
-    let P : ℕ → Thread → Type 0 = λ k t. WasAsked c.args.plan.now.rows k c.args.seat t.promise in
-    let Q : List Thread → Type 0 = λ l. (k : ℕ) (d : Thread) → k < c.loop-worker.worker + 1 → P k (get_or l k d) in record {
+    let count : length c.loop-worker.threads.items ≡ c.loop-worker.worker =
+    omega (arith, was.len, c.loop-worker.threads.ok) in
+    let P : ℕ → Thread → Type 0 =
+    λ k t. WasAsked c.args.crew.now.plan.now.rows k c.args.seat t.promise in
+    let Q : List Thread → Type 0 =
+    λ l. (k : ℕ) (d : Thread) → k < c.loop-worker.worker + 1 → P k (get_or l k d) in record {
       seat = c.split-mine.ensures.first ∙ was.seat;
       len = omega (arith, c.push_reserved.ensures.len);
       capacity = c.push_reserved.ensures.capacity ∙ was.capacity;
-      asked = subst Q (sym c.push_reserved.ensures.items) (numbered_more P c.loop-worker.threads.items c.in-Ok.thread c.loop-worker.worker count was.asked asked);
+      asked = subst Q (sym c.push_reserved.ensures.items)
+          (numbered_more P c.loop-worker.threads.items
+          c.in-Ok.thread c.loop-worker.worker count was.asked asked);
     }

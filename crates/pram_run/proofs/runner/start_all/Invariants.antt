@@ -7,5 +7,6 @@ invariant-loop-worker g l = record {
   seat : l.seat ≡ l.fn.seat;
   len : vec_len l.threads ≡ l.worker;
   capacity : vec_capacity l.threads ≡ vec_capacity l.initial.threads;
-  asked : (k : ℕ) (d : _) → k < l.worker → WasAsked l.plan.rows k l.fn.seat (get_or (vec_items l.threads) k d).promise;
+  asked : (k : ℕ) (d : _) → k < l.worker →
+      WasAsked l.crew.plan.now.rows k l.fn.seat (get_or (vec_items l.threads) k d).promise;
 }

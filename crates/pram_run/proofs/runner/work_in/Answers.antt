@@ -3,7 +3,7 @@ use Rattle.pram_board.specs.Seats.{Place}
 use Rattle.pram_run.specs.Inner.Obeying.{GoesOn, WasAsked}
 use Rattle.pram_run.specs.Obeyed.{AllObeyed}
 use Rattle.pram_run.proofs.Endings.{goes_self}
-use Rattle.pram_run.proofs.Joining.{Thread, on_ok}
+use Rattle.pram_run.proofs.Joining.{on_ok}
 use Rattle.pram_run.proofs.runner.work_in.Goals as goal
 
 pub returns-in_default-clause-goes_on : goal.returns-in_default-clause-goes_on
@@ -11,22 +11,23 @@ returns-in_default-clause-goes_on g c = goes_self c.args.seat
 
 pub join_all-requires-clause-asked : goal.join_all-requires-clause-asked
 join_all-requires-clause-asked g c k d lt =
-    subst (λ (p : Place). WasAsked c.args.plan.now.rows k p (get_or c.start_all-seat.new.threads.items k d).promise) (sym c.start_all-seat.ensures.seat) (c.start_all-seat.ensures.asked k d lt)
+    subst (λ (p : Place). WasAsked c.args.crew.now.plan.now.rows k p
+    (get_or c.start_all-seat.new.threads.items k d).promise)
+    (sym c.start_all-seat.ensures.seat) (c.start_all-seat.ensures.asked k d lt)
 
-pub returns-clause-ends : goal.returns-clause-ends
-returns-clause-ends g c =
+pub returns-clause-worked : goal.returns-clause-worked
+returns-clause-worked g c =
+    let task = c.args.crew.now.board.now.task in
+    let rows = c.args.crew.now.plan.now.rows in
     on_ok c.start_all-seat.result.1
-    (λ (count : vec_len c.start_all-seat.new.threads ≡ c.args.plan.now.workers) worker lt. c.join_all.ensures.ends worker (omega (arith, count)))
-    c.start_all-seat.ensures.all
-
-pub returns-clause-obeyed : goal.returns-clause-obeyed
-returns-clause-obeyed g c =
-    let task = c.args.board.now.task in
-    let rows = c.args.plan.now.rows in
-    on_ok c.start_all-seat.result.1
-    (λ (count : vec_len c.start_all-seat.new.threads ≡ c.args.plan.now.workers). subst (λ (n : ℕ). AllObeyed task rows c.args.seat n c.join_all.result) count
-    (subst (λ (p : Place). AllObeyed task rows p (vec_len c.start_all-seat.new.threads) c.join_all.result) c.start_all-seat.ensures.seat c.join_all.ensures.obeyed))
+    (λ (count : vec_len c.start_all-seat.new.threads ≡ c.args.crew.now.plan.now.workers). record {
+      ends = λ worker lt. c.join_all.ensures.ends worker (omega (arith, count));
+      obeyed = subst (λ (n : ℕ). AllObeyed task rows c.args.seat n c.join_all.result) count
+          (subst (λ (p : Place). AllObeyed task rows p (vec_len c.start_all-seat.new.threads)
+          c.join_all.result) c.start_all-seat.ensures.seat c.join_all.ensures.obeyed);
+    })
     c.start_all-seat.ensures.all
 
 pub returns-clause-goes_on : goal.returns-clause-goes_on
-returns-clause-goes_on g c = subst (λ (p : Place). GoesOn p c.join_all.result) c.start_all-seat.ensures.seat c.join_all.ensures.goes_on
+returns-clause-goes_on g c = subst (λ (p : Place). GoesOn p c.join_all.result)
+    c.start_all-seat.ensures.seat c.join_all.ensures.goes_on

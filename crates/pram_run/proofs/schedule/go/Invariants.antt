@@ -4,4 +4,5 @@ use Rattle.pram_run.specs.Inner.Progress.{Makes}
 use Rattle.pram_run.proofs.schedule.go.Given as goal
 
 abbrev pub invariant-loop : goal.invariant-loop
-invariant-loop l = Makes l.initial.world l.initial.trace l.world l.trace (λ job of events. events ++ replicate l.counter (Go l.worker))
+invariant-loop l = Makes l.initial.world l.initial.trace l.world l.trace
+    (λ job of events. events ++ replicate l.counter (Go l.worker))

@@ -4,4 +4,5 @@ use Rattle.pram_run.specs.Replays.{running, world_events}
 use Rattle.pram_run.proofs.schedule.make_round.Given as goal
 
 abbrev pub invariant-loop-worker : goal.invariant-loop-worker
-invariant-loop-worker l = Makes l.initial.world l.initial.trace l.world l.trace (λ job of events. after_turns world_events (running job of) 0 l.worker events)
+invariant-loop-worker l = Makes l.initial.world l.initial.trace l.world l.trace
+    (λ job of events. after_turns world_events (running job of) 0 l.worker events)

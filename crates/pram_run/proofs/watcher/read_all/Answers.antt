@@ -1,4 +1,5 @@
-use Rattle.std.proofs.Common.{◌≡◌, ℕ, List, [], length, map, vec_capacity, refl, sym, ap, subst, ◌∙◌, arith}
+use Rattle.std.proofs.Common.{◌≡◌, ℕ, List, [], length, map, vec_capacity}
+use Rattle.std.proofs.Common.{refl, sym, ap, subst, ◌∙◌, arith}
 use Rattle.std.specs.List.{repeat}
 use Rattle.std.proofs.lemmas.List.{nil_from_length}
 use Rattle.pram_run.specs.Watching.{HasRead}
@@ -8,9 +9,12 @@ use Rattle.pram_run.proofs.watcher.read_all.Goals as goal
 
 pub loop-init : goal.loop-init
 loop-init g c =
-    let none : c.args.sights.items ≡ [] = nil_from_length c.args.sights.items (omega (arith, c.requires.empty, c.args.sights.ok)) in record {
+    let none : c.args.sights.items ≡ [] =
+    nil_from_length c.args.sights.items (omega (arith, c.requires.empty, c.args.sights.ok)) in
+    record {
       desk = c.requires.seat;
-      reads = subst (λ (ss : List Sight). HasRead c.args.board.now.task c.args.seat ss c.args.seat) (sym none) refl;
+      reads = subst (λ (ss : List Sight).
+          HasRead c.args.round.now.board.now.task c.args.seat ss c.args.seat) (sym none) refl;
       listed = ap (map (λ (s : Sight). s.cell)) none;
       len = omega arith;
       capacity = refl;
@@ -19,7 +23,8 @@ loop-init g c =
 pub read_round-requires-clause-room : goal.read_round-requires-clause-room
 read_round-requires-clause-room g c =
     let was = c.loop.invariant in
-    let more = room_more c.loop.counter c.args.rounds (length c.args.cells.now) (vec_capacity c.args.sights) c.loop-test.true c.requires.room in
+    let more = room_more c.loop.counter c.args.rounds (length c.args.round.now.cells.now)
+    (vec_capacity c.args.sights) c.loop-test.true c.requires.room in
     omega (arith, was.len, was.capacity)
 
 pub loop-preserved : goal.loop-preserved
@@ -28,17 +33,25 @@ loop-preserved g c =
     let now = c.read_round.ensures in record {
       desk = now.desk;
       reads = now.reads c.args.seat was.reads;
-      listed = round_more c.loop.counter c.args.cells.now _ _ now.cells was.listed;
-      len = omega (arith, count_more c.loop.counter (length c.args.cells.now), was.len, now.len);
+      listed = round_more c.loop.counter c.args.round.now.cells.now _ _ now.cells was.listed;
+      len = omega (
+        arith,
+        count_more c.loop.counter (length c.args.round.now.cells.now),
+        was.len,
+        now.len,
+      );
       capacity = now.capacity ∙ was.capacity;
     }
 
 pub returns-clause-goes_on : goal.returns-clause-goes_on
-returns-clause-goes_on g c = reads_go c.args.board.now.task c.args.seat c.loop.seat _ c.loop.invariant.reads
+returns-clause-goes_on g c =
+    reads_go c.args.round.now.board.now.task c.args.seat c.loop.seat _ c.loop.invariant.reads
 
 pub returns-clause-watch : goal.returns-clause-watch
 returns-clause-watch g c =
     let was = c.loop.invariant in
     let all : c.loop.counter ≡ c.args.rounds = omega arith in
-    is_watch c.args.board.now.task c.args.cells.now c.args.rounds c.args.seat c.loop.sights.items c.loop.seat
-    (subst (λ (n : ℕ). map (λ (s : Sight). s.cell) c.loop.sights.items ≡ repeat n c.args.cells.now) all was.listed) was.reads
+    is_watch c.args.round.now.board.now.task
+    c.args.round.now.cells.now c.args.rounds c.args.seat c.loop.sights.items c.loop.seat
+    (subst (λ (n : ℕ). map (λ (s : Sight). s.cell) c.loop.sights.items
+    ≡ repeat n c.args.round.now.cells.now) all was.listed) was.reads

@@ -20,18 +20,22 @@ loop-cell-init g c = record {
 pub loop-cell-preserved : goal.loop-cell-preserved
 loop-cell-preserved g c =
     let was = c.loop-cell.invariant in
-    let task = c.args.board.now.task in
+    let task = c.args.round.now.board.now.task in
     let seat = c.loop-cell.seat in
     let next = c.read.new.seat in
     let sight : Sight = c.sight_of-sight.result in
-    let cell : sight.cell ≡ get_or c.args.cells.now c.loop-cell.cell-index 0 = c.sight_of-sight.ensures.cell in
+    let cell : sight.cell ≡ get_or c.args.round.now.cells.now c.loop-cell.cell-index 0 =
+    c.sight_of-sight.ensures.cell in
     let read : WasRead task seat next sight.cell (At sight.step sight.value) =
     subst (λ (r : Reading). WasRead task seat next sight.cell r) c.sight_of-sight.ensures.tells
     (subst (λ (n : ℕ). WasRead task seat next n c.read.result) (sym cell) c.read.ensures.read) in
     let items = c.push_reserved.ensures.items in record {
       desk = c.read.ensures.later.desk;
-      reads = λ p h. subst (λ (ss : List Sight). HasRead task p ss next) (sym items) (has_read_more task p seat next c.loop-cell.sights.items sight (was.reads p h) read);
-      listed = listed_more _ c.args.cells.now c.loop-cell.cell-index c.loop-cell.sights.items c.push_reserved.new.self.items sight c.loop-cell-test.true items cell was.listed;
+      reads = λ p h. subst (λ (ss : List Sight). HasRead task p ss next) (sym items)
+          (has_read_more task p seat next c.loop-cell.sights.items sight (was.reads p h) read);
+      listed =
+          listed_more _ c.args.round.now.cells.now c.loop-cell.cell-index c.loop-cell.sights.items
+          c.push_reserved.new.self.items sight c.loop-cell-test.true items cell was.listed;
       len = omega (arith, c.push_reserved.ensures.len, was.len);
       capacity = c.push_reserved.ensures.capacity ∙ was.capacity;
     }

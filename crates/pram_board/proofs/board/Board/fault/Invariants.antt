@@ -12,7 +12,9 @@ abbrev pub invariant-loop-processor : goal.invariant-loop-processor
 invariant-loop-processor l = record {
   loads : HasLoaded (1 + 3 * l.processor) l.fn.seat l.seat;
   sound : Sound l.self.task.job l.self.task.layout l.seat.record_of;
-  requests : (s : ℕ) → Heard l.self.task.layout l.fn.seat.record_of Conflict (suc s) → l.requests.items ≡ map (request_in l.self.task.job (state_after l.self.task.job s)) (range_with_len 0 l.processor);
+  requests : (s : ℕ) → Heard l.self.task.layout l.fn.seat.record_of Conflict (suc s) →
+      l.requests.items ≡ map (request_in l.self.task.job (state_after l.self.task.job s))
+      (range_with_len 0 l.processor);
   room : l.self.task.job.procs ≤ l.requests.cap;
   len : l.requests.len ≡ l.processor;
 }

@@ -8,22 +8,31 @@ use Rattle.pram_board.proofs.Steps.{may_load}
 use Rattle.pram_board.proofs.board.Board.last_value.Goals as goal
 
 pub step-first-requires-clause-allowed : goal.step-first-requires-clause-allowed
-step-first-requires-clause-allowed c = let h : c.cell_word-word.result + 1 < length_of c.args.self.now.task.layout = c.cell_word-word.ensures.below in may_load c.args.self.now.task _ c.cell_word-word.result (omega arith)
+step-first-requires-clause-allowed c =
+    let h : c.cell_word-word.result + 1 < length_of c.args.self.now.task.layout =
+    c.cell_word-word.ensures.below in
+    may_load c.args.self.now.task _ c.cell_word-word.result (omega arith)
 
 pub step-second-requires-clause-allowed : goal.step-second-requires-clause-allowed
-step-second-requires-clause-allowed c = may_load c.args.self.now.task _ (c.cell_word-word.result + 1) c.cell_word-word.ensures.below
+step-second-requires-clause-allowed c =
+    may_load c.args.self.now.task _ (c.cell_word-word.result + 1) c.cell_word-word.ensures.below
 
 pub returns-clause-loads : goal.returns-clause-loads
-returns-clause-loads c = two_loads c.cell_word-word.result c.step-first.result (c.cell_word-word.result + 1) c.step-second.result c.args.seat.now c.step-first.new.seat c.step-second.new.seat c.step-first.ensures.grows c.step-second.ensures.grows
+returns-clause-loads c = two_loads c.cell_word-word.result c.step-first.result
+    (c.cell_word-word.result + 1) c.step-second.result c.args.seat.now c.step-first.new.seat
+    c.step-second.new.seat c.step-first.ensures.grows c.step-second.ensures.grows
 
 pub returns-clause-value : goal.returns-clause-value
 returns-clause-value c =
-    c.newer_payload.ensures
-    ∙ loaded c.args.self.now.task c.args.seat.now c.step-second.new.seat c.args.cell c.cell_word-word.result c.step-first.result c.step-second.result c.requires.knows c.cell_word-word.ensures.place c.cell_word-word.ensures.first c.cell_word-word.ensures.second
-    (c.step-second.ensures.grows ∙ ap (λ (z : Place). hears z (Load (c.cell_word-word.result + 1)) c.step-second.result) c.step-first.ensures.grows) c.step-second.ensures.sound
+    c.newer_payload.ensures ∙ loaded c.args.self.now.task c.args.seat.now c.step-second.new.seat
+    c.args.cell c.cell_word-word.result c.step-first.result c.step-second.result c.requires.knows
+    c.cell_word-word.ensures.place c.cell_word-word.ensures.first c.cell_word-word.ensures.second
+    (c.step-second.ensures.grows ∙ ap (λ (z : Place). hears z (Load (c.cell_word-word.result + 1))
+    c.step-second.result) c.step-first.ensures.grows) c.step-second.ensures.sound
 
 pub overflow_add-word : goal.overflow_add-word
 overflow_add-word c =
-    let h : c.cell_word-word.result + 1 < length_of c.args.self.now.task.layout = c.cell_word-word.ensures.below in
+    let h : c.cell_word-word.result + 1 < length_of c.args.self.now.task.layout =
+    c.cell_word-word.ensures.below in
     let s = length_small c.args.self.now.task.layout (c.facts.ensures).layout in
     omega arith

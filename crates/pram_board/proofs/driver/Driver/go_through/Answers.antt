@@ -12,18 +12,6 @@ turns-requires-clause-walks g c =
     (c.requires.turn ∙ ap (λ k. turning k c.args.node c.args.phase) (sym c.number.ensures))
     works.desk c.facts.ensures works.serves.fits works.knows
 
-pub returns-clause-works : goal.returns-clause-works
-returns-clause-works g c =
-    let led = led_as _ _ (driving c.args.self.now) (driving c.turns.new.self) _ _ _ _
-    c.task.ensures.value
-    (sym (c.requires.turn ∙ ap (λ k. turning k c.args.node c.args.phase)
-    (sym c.number.ensures)))
-    (sym (c.begin_at.ensures.value ∙ ap (λ k. beginning k 1) (sym c.number.ensures)))
-    c.turns.ensures.led in
-    let leaves = c.facts.ensures.layout.leaves in
-    works_on _ _ _ _ led
-    (c.begin_at.ensures.serves _ _ c.requires.works.serves (omega arith) (omega arith))
-
 pub returns-clause-goes : goal.returns-clause-goes
 returns-clause-goes g c =
     let led = led_as _ _ (driving c.args.self.now) (driving c.turns.new.self) _ _ _ _
@@ -32,4 +20,7 @@ returns-clause-goes g c =
     (sym c.number.ensures)))
     (sym (c.begin_at.ensures.value ∙ ap (λ k. beginning k 1) (sym c.number.ensures)))
     c.turns.ensures.led in
-    goes_far _ _ _ _ led (ap (λ (w : Walking). end_of w.now) c.begin_at.ensures.value)
+    let leaves = c.facts.ensures.layout.leaves in
+    let works = works_on _ _ _ _ led
+    (c.begin_at.ensures.serves _ _ c.requires.works.serves (omega arith) (omega arith)) in
+    goes_far _ _ _ _ led works (ap (λ (w : Walking). end_of w.now) c.begin_at.ensures.value)

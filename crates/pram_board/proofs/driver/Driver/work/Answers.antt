@@ -14,20 +14,20 @@ loop-ended-preserved g c =
     let p = c.args.self.now.seat.now in
     let w = c.args.worker.now.walking in
     let d = driving c.loop-ended.self in
-    let mid = c.loop-ended.worker.walking in
+    let mid = c.loop-ended.worker in
     let e = driving c.go_on.new.self in
-    let now = c.go_on.new.worker.walking in
+    let now = c.go_on.new.worker in
     let works = c.requires.works in
     let begun : Begun d.desk p w = subst (λ (b : Desk). Begun b p w) (sym i.board)
     (record { board = c.facts.ensures; fits = works.serves.fits; knows = works.knows }) in
-    let none : end_of mid.now ≡ None = sym c.ended.ensures ∙ c.in_default.is in
+    let none : end_of mid.walking.now ≡ None = sym c.ended.ensures ∙ c.in_default.is in
     let goes = c.go_on.ensures.goes in
     let sound = subst (λ (b : Desk). Sound b.task.job b.task.layout e.seat.record_of)
-    c.go_on.ensures.works.desk c.facts-in-loop-ended.ensures in
+    c.go_on.ensures.goes.works.desk c.facts-in-loop-ended.ensures in
     record {
       same = c.go_on.ensures.same ∙ i.same;
-      board = goes.0.desk ∙ i.board;
-      works = c.go_on.ensures.works;
+      board = goes.went.desk ∙ i.board;
+      works = c.go_on.ensures.goes.works;
       sound = sound;
       ran = ran_so_far p w d mid e now begun i.ran i.sound none _ goes sound;
       most = most_so_far p w d mid e now begun i.ran i.sound none _ goes sound;
@@ -42,16 +42,16 @@ loop-ended-smaller g c =
     let p = c.args.self.now.seat.now in
     let w = c.args.worker.now.walking in
     let d = driving c.loop-ended.self in
-    let mid = c.loop-ended.worker.walking in
+    let mid = c.loop-ended.worker in
     let e = driving c.go_on.new.self in
-    let now = c.go_on.new.worker.walking in
+    let now = c.go_on.new.worker in
     let works = c.requires.works in
     let begun : Begun d.desk p w = subst (λ (b : Desk). Begun b p w) (sym i.board)
     (record { board = c.facts.ensures; fits = works.serves.fits; knows = works.knows }) in
-    let none : end_of mid.now ≡ None = sym c.ended.ensures ∙ c.in_default.is in
+    let none : end_of mid.walking.now ≡ None = sym c.ended.ensures ∙ c.in_default.is in
     let goes = c.go_on.ensures.goes in
     let sound = subst (λ (b : Desk). Sound b.task.job b.task.layout e.seat.record_of)
-    c.go_on.ensures.works.desk c.facts-in-loop-ended.ensures in
+    c.go_on.ensures.goes.works.desk c.facts-in-loop-ended.ensures in
     nearer p w d mid e now begun i.ran i.sound none _ goes sound
 
 pub returns-in-Some : goal.returns-in-Some

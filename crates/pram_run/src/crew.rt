@@ -1,0 +1,14 @@
+//! What the threads of a run share.
+ghost use Rattle.std.specs.Prelude.{◌≡◌};
+
+use pram_board::Board;
+use stop_plan::Plan;
+
+/// A board, a plan for all of its workers, and the gate that each passes before an atomic step.
+#[derive(Drop)]
+pub(crate) struct Crew<'a, G> {
+    pub board: &'a Board,
+    pub plan: &'a Plan,
+    pub gate: &'a G,
+    pub ghost workers: { board.now.task.layout.workers ≡ plan.now.workers },
+}
