@@ -1,22 +1,25 @@
 -- What printing came to makes what a command did, and that makes what a line did.
-use Rattle.std.proofs.Common.{◌≡◌, ◌⊎◌, ℕ, Bool, true, false, List, [], ◌++◌, Option, None, Some, Result, Ok, Err, IsTrue, MatchOption, refl, sym, ap, subst, inl, inr}
+use Rattle.std.proofs.Common.{◌≡◌, ◌⊎◌, ℕ, Bool, true, false, List, [], ◌++◌, Option, None, Some}
+use Rattle.std.proofs.Common.{Result, Ok, Err, IsTrue, MatchOption, refl, sym, ap, subst, inl, inr}
 use Rattle.std.proofs.KnownBytes.{Appends-trans}
 use Rattle.std.specs.Io.KnownBytes.{Appends}
 use Rattle.std.specs.Prelude.{◌↔◌, IsErrOf, ⊤}
 use Rattle.std.specs.Result.{IsErr, IsErrAnd}
 use Rattle.pram_text.specs.Job.{JobData}
 use Rattle.pram_step.specs.declared.answer.RunAnswer.{RunAnswer}
-use Rattle.pram_streams.proofs.Beginnings.{beginning-behind, beginning-longer}
+use Rattle.pram_streams.proofs.Beginnings.{beginning-after, beginning-longer}
 use Rattle.pram_streams.specs.Printed.{printed}
 use Rattle.pram_streams.specs.Transfer.{AppendsBeginning, GivesSome}
 use Rattle.pram_streams.specs.declared.print.PrintFault.{PrintFault}
 use Rattle.pram_streams.specs.declared.print.PrintFault.TheVariants as print
 use Rattle.stop_plan.specs.Plan.{PlanData}
-use Rattle.pram_commands.specs.Did.{Answering, Command, Did, Given, Writing, ends_with, tells, tells_status}
+use Rattle.pram_commands.specs.Did.{Answering, Command, Did, Given, Writing}
+use Rattle.pram_commands.specs.Did.{ends_with, tells, tells_status}
 use Rattle.pram_commands.specs.Inner.Puts.{PutBeginning, Puts, printed_as, status_result}
-use Rattle.pram_commands.specs.Inputs.{Reading}
+use Rattle.pram_commands.specs.Inputs.{Taking}
 use Rattle.pram_commands.specs.declared.fault.CommandFault.{CommandFault}
-use Rattle.pram_commands.specs.declared.fault.CommandFault.TheVariants.{JobDevice, PlanDevice, OutDevice, Memory}
+use Rattle.pram_commands.specs.declared.fault.CommandFault.TheVariants.{JobDevice, PlanDevice}
+use Rattle.pram_commands.specs.declared.fault.CommandFault.TheVariants.{OutDevice, Memory}
 
 pub ok_not_err : {T E : Type 0} (value : T) (e : E) → IsErrOf (Ok value) e → ⊥
 ok_not_err value e is = cc is
@@ -50,7 +53,8 @@ memory_out : OutDevice ≡ Memory → ⊥
 memory_out is = cc is
 
 -- what `?` answers where it passes an error on
-pub err_is : {A E : Type 0} (result : Result A E) (e : E) → IsErr result × IsErrAnd result (λ made. made ≡ e) → result ≡ Err e
+pub err_is : {A E : Type 0} (result : Result A E) (e : E) →
+    IsErr result × IsErrAnd result (λ made. made ≡ e) → result ≡ Err e
 err_is (Ok value) e is = cc is.0
 err_is (Err made) e is = ap (λ (x : _). Err x) is.1
 
@@ -64,9 +68,12 @@ gives_none None = ([], tt)
 gives_none (Some bytes) = ([], refl)
 
 -- where a call that prints fails, what it printed is a beginning
-pub put_failed : {A : Type 0} (Comes : List ℕ → Option RunAnswer → Type 0) (InPieces : Type 0) (w : Writing) (Tells : A → Option RunAnswer → Type 0) (result : Result A PrintFault)
-    (e : PrintFault) → result ≡ Err e → PutBeginning Comes w → (e ≡ print.Memory → w.Unwritten ⊎ InPieces)
-    → (IsTrue w.failed ↔ IsErrOf {T = Unit {0}} (Err e) print.Device) → Puts Comes InPieces w Tells result
+pub put_failed : {A : Type 0} (Comes : List ℕ → Option RunAnswer → Type 0) (InPieces : Type 0)
+    (w : Writing) (Tells : A → Option RunAnswer → Type 0) (result : Result A PrintFault)
+    (e : PrintFault) → result ≡ Err e →
+    PutBeginning Comes w → (e ≡ print.Memory → w.Unwritten ⊎ InPieces) →
+    (IsTrue w.failed ↔ IsErrOf {T = Unit {0}} (Err e) print.Device) →
+    Puts Comes InPieces w Tells result
 put_failed {A} Comes InPieces w Tells result print.Device is begins memory failed =
     subst (λ (x : Result A PrintFault). Puts Comes InPieces w Tells x) (sym is)
     (record { done = tt; wrote = begins; failed = ((λ _. refl), (λ _. failed.1 refl)) })
@@ -74,36 +81,57 @@ put_failed {A} Comes InPieces w Tells result print.Memory is begins memory faile
     subst (λ (x : Result A PrintFault). Puts Comes InPieces w Tells x) (sym is)
     (record {
       done = tt;
-      wrote = elim (memory refl) [ inl unwritten ↦ inl unwritten | inr pieces ↦ inr (pieces, begins) ];
+      wrote =
+          elim (memory refl) [ inl unwritten ↦ inl unwritten | inr pieces ↦ inr (pieces, begins) ];
       failed = ((λ f. absurd (other_fault (failed.0 f))), (λ e. absurd (other_fault e)));
     })
 
-module _ {A : Type 0} (command : Command) (r : Reading) (w : Writing) (Unread : Type 0) (Tells : A → Option RunAnswer → Type 0) where
+module _ {A : Type 0} (command : Command) (taken : Taking) (w : Writing)
+    (Tells : A → Option RunAnswer → Type 0) where
   -- a command whose last act is to print, where its job and its plan were given
-  pub printed_did : (job : JobData) (plan : PlanData) → Given command r job plan → MatchOption command.workers Unread (λ _. ⊤)
-      → (IsTrue r.job_failed → ⊥) → (IsTrue r.plan_failed → ⊥) → GivesSome r.job r.job' → GivesSome r.plan r.plan'
-      → (put : Result A PrintFault) → Puts (command.Comes job plan) command.InPieces w Tells put
-      → (result : Result A CommandFault) → result ≡ printed_as put → Did command r w Unread Tells result
-  printed_did job plan given alone job_well plan_well job_reads plan_reads (Ok told) puts result is =
+  pub printed_did : (job : JobData) (plan : PlanData) → Given command taken.reads job plan →
+      MatchOption command.workers taken.Unread (λ _. ⊤) → (IsTrue taken.reads.job_failed → ⊥) →
+      (IsTrue taken.reads.plan_failed → ⊥) → GivesSome taken.reads.job taken.reads.job' →
+      GivesSome taken.reads.plan taken.reads.plan' →
+      (put : Result A PrintFault) → Puts (command.Comes job plan) command.InPieces w Tells put →
+      (result : Result A CommandFault) → result ≡ printed_as put →
+      Did command taken w Tells result
+  printed_did job plan given alone
+      job_well plan_well job_reads plan_reads (Ok told) puts result is =
       let all = puts.done in
-      subst (λ (x : Result A CommandFault). Did command r w Unread Tells x) (sym is) (record {
-        done = record { job = job; plan = plan; text = all.text; answer = all.answer; given = given; comes = all.comes; takes = all.takes; is = all.is };
+      subst (λ (x : Result A CommandFault). Did command taken w Tells x) (sym is) (record {
+        done = record {
+          text = all.text;
+          answer = all.answer;
+          work = record { job = job; plan = plan; given = given; comes = all.comes };
+          takes = all.takes;
+          is = all.is;
+        };
         explains = tt;
         wrote = tt;
         job_first = tt;
         alone = alone;
         job_failed = ((λ f. absurd (job_well f)), (λ e. absurd (ok_not_err told JobDevice e)));
         plan_failed = ((λ f. absurd (plan_well f)), (λ e. absurd (ok_not_err told PlanDevice e)));
-        out_failed = ((λ f. absurd (ok_not_err told print.Device (puts.failed.0 f))), (λ e. absurd (ok_not_err told OutDevice e)));
+        out_failed = (
+          (λ f. absurd (ok_not_err told print.Device (puts.failed.0 f))),
+          (λ e. absurd (ok_not_err told OutDevice e)),
+        );
         job_reads = job_reads;
         plan_reads = plan_reads;
       })
-  printed_did job plan given alone job_well plan_well job_reads plan_reads (Err print.Device) puts result is =
+  printed_did job plan given alone job_well
+      plan_well job_reads plan_reads (Err print.Device) puts result is =
       let some = puts.wrote in
-      subst (λ (x : Result A CommandFault). Did command r w Unread Tells x) (sym is) (record {
+      subst (λ (x : Result A CommandFault). Did command taken w Tells x) (sym is) (record {
         done = tt;
         explains = puts.failed.1 refl;
-        wrote = record { job = job; plan = plan; text = some.text; answer = some.answer; given = given; comes = some.comes; takes = some.takes };
+        wrote = record {
+          text = some.text;
+          answer = some.answer;
+          work = record { job = job; plan = plan; given = given; comes = some.comes };
+          takes = some.takes;
+        };
         job_first = λ never. absurd never;
         alone = alone;
         job_failed = ((λ f. absurd (job_well f)), (λ e. absurd (no_job e)));
@@ -112,58 +140,99 @@ module _ {A : Type 0} (command : Command) (r : Reading) (w : Writing) (Unread : 
         job_reads = job_reads;
         plan_reads = plan_reads;
       })
-  printed_did job plan given alone job_well plan_well job_reads plan_reads (Err print.Memory) puts result is =
-      subst (λ (x : Result A CommandFault). Did command r w Unread Tells x) (sym is) (record {
+  printed_did job plan given alone job_well plan_well
+      job_reads plan_reads (Err print.Memory) puts result is =
+      subst (λ (x : Result A CommandFault). Did command taken w Tells x) (sym is) (record {
         done = tt;
         explains = tt;
         wrote = elim puts.wrote [
           | inl unwritten ↦ inl unwritten
-          | inr some ↦ inr (some.0, record { job = job; plan = plan; text = some.1.text; answer = some.1.answer; given = given; comes = some.1.comes; takes = some.1.takes })
+          | inr some ↦ inr (
+            some.0,
+            record {
+              text = some.1.text;
+              answer = some.1.answer;
+              work = record { job = job; plan = plan; given = given; comes = some.1.comes };
+              takes = some.1.takes;
+            },
+          )
         ];
         job_first = λ never. absurd never;
         alone = alone;
         job_failed = ((λ f. absurd (job_well f)), (λ e. absurd (no_device JobDevice memory_job e)));
-        plan_failed = ((λ f. absurd (plan_well f)), (λ e. absurd (no_device PlanDevice memory_plan e)));
-        out_failed = ((λ f. absurd (other_fault (puts.failed.0 f))), (λ e. absurd (no_device OutDevice memory_out e)));
+        plan_failed =
+            ((λ f. absurd (plan_well f)), (λ e. absurd (no_device PlanDevice memory_plan e)));
+        out_failed = (
+          (λ f. absurd (other_fault (puts.failed.0 f))),
+          (λ e. absurd (no_device OutDevice memory_out e)),
+        );
         job_reads = job_reads;
         plan_reads = plan_reads;
       })
 
-module _ (command : Command) (r : Reading) (w : Writing) (Unread : Type 0) where
+module _ (command : Command) (taken : Taking) (w : Writing) where
   -- a line, by the answer of its command
-  pub ended_did : (done : Result RunAnswer CommandFault) → Did command r w Unread tells done → (result : Result ℕ CommandFault)
-      → result ≡ status_result done → Did command r w Unread tells_status result
+  pub ended_did : (done : Result RunAnswer CommandFault) → Did command taken w tells done →
+      (result : Result ℕ CommandFault) → result ≡ status_result done →
+      Did command taken w tells_status result
   ended_did (Ok answer) did result is =
       let all = did.done in
-      subst (λ (x : Result ℕ CommandFault). Did command r w Unread tells_status x) (sym is) (record {
-        done = record { job = all.job; plan = all.plan; text = all.text; answer = all.answer; given = all.given; comes = all.comes; takes = all.takes; is = sym (ap ends_with all.is) };
+      subst (λ (x : Result ℕ CommandFault). Did command taken w tells_status x) (sym is)
+      (record {
+        done = record {
+          text = all.text;
+          answer = all.answer;
+          work = all.work;
+          takes = all.takes;
+          is = sym (ap ends_with all.is);
+        };
         explains = tt;
         wrote = tt;
         job_first = tt;
         alone = did.alone;
-        job_failed = ((λ f. absurd (ok_not_err answer JobDevice (did.job_failed.0 f))), (λ e. absurd (ok_not_err _ JobDevice e)));
-        plan_failed = ((λ f. absurd (ok_not_err answer PlanDevice (did.plan_failed.0 f))), (λ e. absurd (ok_not_err _ PlanDevice e)));
-        out_failed = ((λ f. absurd (ok_not_err answer OutDevice (did.out_failed.0 f))), (λ e. absurd (ok_not_err _ OutDevice e)));
+        job_failed = (
+          (λ f. absurd (ok_not_err answer JobDevice (did.job_failed.0 f))),
+          (λ e. absurd (ok_not_err _ JobDevice e)),
+        );
+        plan_failed = (
+          (λ f. absurd (ok_not_err answer PlanDevice (did.plan_failed.0 f))),
+          (λ e. absurd (ok_not_err _ PlanDevice e)),
+        );
+        out_failed = (
+          (λ f. absurd (ok_not_err answer OutDevice (did.out_failed.0 f))),
+          (λ e. absurd (ok_not_err _ OutDevice e)),
+        );
         job_reads = did.job_reads;
         plan_reads = did.plan_reads;
       })
   ended_did (Err fault) did result is =
-      subst (λ (x : Result ℕ CommandFault). Did command r w Unread tells_status x) (sym is) (record {
+      subst (λ (x : Result ℕ CommandFault). Did command taken w tells_status x) (sym is)
+      (record {
         done = tt;
         explains = did.explains;
         wrote = did.wrote;
         job_first = did.job_first;
         alone = did.alone;
-        job_failed = ((λ f. err_as fault JobDevice (did.job_failed.0 f)), (λ e. did.job_failed.1 (err_as fault JobDevice e)));
-        plan_failed = ((λ f. err_as fault PlanDevice (did.plan_failed.0 f)), (λ e. did.plan_failed.1 (err_as fault PlanDevice e)));
-        out_failed = ((λ f. err_as fault OutDevice (did.out_failed.0 f)), (λ e. did.out_failed.1 (err_as fault OutDevice e)));
+        job_failed = (
+          (λ f. err_as fault JobDevice (did.job_failed.0 f)),
+          (λ e. did.job_failed.1 (err_as fault JobDevice e)),
+        );
+        plan_failed = (
+          (λ f. err_as fault PlanDevice (did.plan_failed.0 f)),
+          (λ e. did.plan_failed.1 (err_as fault PlanDevice e)),
+        );
+        out_failed = (
+          (λ f. err_as fault OutDevice (did.out_failed.0 f)),
+          (λ e. did.out_failed.1 (err_as fault OutDevice e)),
+        );
         job_reads = did.job_reads;
         plan_reads = did.plan_reads;
       })
 
 -- the answer after nothing, or after what was printed before it
-pub begins_answer : (Ends : RunAnswer → List ℕ → Type 0) (job : JobData) (w : Writing) (ended : RunAnswer) (steps : ℕ) → Ends ended [] → steps ≡ job.steps
-    → AppendsBeginning w.out w.out' (printed ended steps) → PutBeginning (Answering Ends job) w
+pub begins_answer : (Ends : RunAnswer → List ℕ → Type 0) (job : JobData)
+    (w : Writing) (ended : RunAnswer) (steps : ℕ) → Ends ended [] → steps ≡ job.steps →
+    AppendsBeginning w.out w.out' (printed ended steps) → PutBeginning (Answering Ends job) w
 begins_answer Ends job w ended steps ends same takes = record {
   text = printed ended job.steps;
   answer = Some ended;
@@ -171,8 +240,9 @@ begins_answer Ends job w ended steps ends same takes = record {
   takes = subst (λ (n : ℕ). AppendsBeginning w.out w.out' (printed ended n)) same takes;
 }
 
-pub begins_front : (Ends : RunAnswer → List ℕ → Type 0) (job : JobData) (w : Writing) (ended : RunAnswer) (front : List ℕ) → Ends ended front
-    → AppendsBeginning w.out w.out' front → PutBeginning (Answering Ends job) w
+pub begins_front : (Ends : RunAnswer → List ℕ → Type 0) (job : JobData) (w : Writing)
+    (ended : RunAnswer) (front : List ℕ) → Ends ended front → AppendsBeginning w.out w.out' front →
+    PutBeginning (Answering Ends job) w
 begins_front Ends job w ended front ends takes = record {
   text = front ++ printed ended job.steps;
   answer = Some ended;
@@ -180,27 +250,37 @@ begins_front Ends job w ended front ends takes = record {
   takes = beginning-longer _ _ front (printed ended job.steps) takes;
 }
 
-pub begins_behind : (Ends : RunAnswer → List ℕ → Type 0) (job : JobData) (w : Writing) (ended : RunAnswer) (steps : ℕ) (front : List ℕ) (between : Option (List ℕ))
-    → Ends ended front → steps ≡ job.steps → Appends w.out between front → AppendsBeginning between w.out' (printed ended steps) → PutBeginning (Answering Ends job) w
-begins_behind Ends job w ended steps front between ends same put takes = record {
+pub begins_after : (Ends : RunAnswer → List ℕ → Type 0) (job : JobData)
+    (w : Writing) (ended : RunAnswer) (steps : ℕ) (front : List ℕ) (between : Option (List ℕ)) →
+    Ends ended front → steps ≡ job.steps → Appends w.out between front →
+    AppendsBeginning between w.out' (printed ended steps) → PutBeginning (Answering Ends job) w
+begins_after Ends job w ended steps front between ends same put takes = record {
   text = front ++ printed ended job.steps;
   answer = Some ended;
   comes = record { ended = ended; front = front; ends = ends; prints = refl; gives = refl };
-  takes = beginning-behind _ _ _ front (printed ended job.steps) put (subst (λ (n : ℕ). AppendsBeginning between w.out' (printed ended n)) same takes);
+  takes = beginning-after _ _ _ front (printed ended job.steps) put
+      (subst (λ (n : ℕ). AppendsBeginning between w.out' (printed ended n)) same takes);
 }
 
 -- all of it
-pub put_both : (Ends : RunAnswer → List ℕ → Type 0) (InPieces : Type 0) (job : JobData) (w : Writing) (ended : RunAnswer) (steps : ℕ) (front : List ℕ) (between : Option (List ℕ))
-    → Ends ended front → steps ≡ job.steps → Appends w.out between front → Appends between w.out' (printed ended steps)
-    → (IsTrue w.failed ↔ IsErrOf {T = Unit {0}} (Ok tt) print.Device) → Puts (Answering Ends job) InPieces w tells (Ok ended)
+pub put_both : (Ends : RunAnswer → List ℕ → Type 0) (InPieces : Type 0) (job : JobData)
+    (w : Writing) (ended : RunAnswer) (steps : ℕ) (front : List ℕ) (between : Option (List ℕ)) →
+    Ends ended front → steps ≡ job.steps → Appends w.out between front →
+    Appends between w.out' (printed ended steps) →
+    (IsTrue w.failed ↔ IsErrOf {T = Unit {0}} (Ok tt) print.Device) →
+    Puts (Answering Ends job) InPieces w tells (Ok ended)
 put_both Ends InPieces job w ended steps front between ends same put takes failed = record {
   done = record {
     text = front ++ printed ended job.steps;
     answer = Some ended;
     comes = record { ended = ended; front = front; ends = ends; prints = refl; gives = refl };
-    takes = Appends-trans _ _ _ front (printed ended job.steps) put (subst (λ (n : ℕ). Appends between w.out' (printed ended n)) same takes);
+    takes = Appends-trans _ _ _ front (printed ended job.steps) put
+        (subst (λ (n : ℕ). Appends between w.out' (printed ended n)) same takes);
     is = refl;
   };
   wrote = tt;
-  failed = ((λ f. absurd (ok_not_err tt print.Device (failed.0 f))), (λ e. absurd (ok_not_err ended print.Device e)));
+  failed = (
+    (λ f. absurd (ok_not_err tt print.Device (failed.0 f))),
+    (λ e. absurd (ok_not_err ended print.Device e)),
+  );
 }

@@ -13,23 +13,30 @@ use Rattle.pram_run.specs.declared.sight.Sight.{Sight}
 use Rattle.pram_commands.specs.Threads.{HasSights, IsTrueOf}
 
 -- what an opened board is
-pub job_of : (job : JobData) (workers : ℕ) (made : Desk × Place) → IsOpened job Wide workers made → made.0.task.job ≡ job
+pub job_of : (job : JobData) (workers : ℕ) (made : Desk × Place) →
+    IsOpened job Wide workers made → made.0.task.job ≡ job
 job_of job workers made opened = opened.0
 
 -- the same board with a seat of the same value
-pub opened_as : (job : JobData) (workers : ℕ) (desk : Desk) (p q : Place) → q ≡ p → IsOpened job Wide workers (desk, p) → IsOpened job Wide workers (desk, q)
+pub opened_as : (job : JobData) (workers : ℕ) (desk : Desk) (p q : Place) → q ≡ p →
+    IsOpened job Wide workers (desk, p) → IsOpened job Wide workers (desk, q)
 opened_as job workers desk p q is opened = (opened.0, opened.1, is ∙ opened.2)
 
-is_true : (t : Task) (job : JobData) (sight : Sight) → t.job ≡ job → IsTrueSight t sight → IsTrueOf job sight
+is_true : (t : Task) (job : JobData) (sight : Sight) → t.job ≡ job →
+    IsTrueSight t sight → IsTrueOf job sight
 is_true t job sight same told = record {
   reached = subst (λ (j : JobData). IsReached j sight.step) same told.reached;
-  value = subst (λ (j : JobData). sight.value ≡ slice_index (state_after j sight.step) sight.cell) same told.value;
+  value = subst (λ (j : JobData). sight.value ≡ slice_index (state_after j sight.step) sight.cell)
+      same told.value;
 }
 
-pub has_sights : (t : Task) (job : JobData) (plan : PlanData) (cells : List ℕ) (rounds : ℕ) (p : Place) (sights : List Sight) (later : Place) → t.job ≡ job
-    → HasWatched t plan cells rounds p sights later → HasSights job cells rounds sights
+pub has_sights : (t : Task) (job : JobData) (plan : PlanData)
+    (cells : List ℕ) (rounds : ℕ) (p : Place) (sights : List Sight) (later : Place) → t.job ≡ job →
+    HasWatched t plan cells rounds p sights later → HasSights job cells rounds sights
 has_sights t job plan cells rounds p sights later same watched = record {
   listed = watched.watch.listed;
-  tells = All-weaker (λ (sight : Sight). IsTrueSight t sight) (λ (sight : Sight). IsTrueOf job sight) (λ sight told. is_true t job sight same told) sights watched.watch.tells;
+  tells =
+      All-weaker (λ (sight : Sight). IsTrueSight t sight) (λ (sight : Sight). IsTrueOf job sight)
+      (λ sight told. is_true t job sight same told) sights watched.watch.tells;
   rises = watched.watch.rises;
 }

@@ -1,17 +1,22 @@
 -- The status of a line: that of what was done, or of the refusal that was told.
-use Rattle.std.proofs.Common.{Result, Ok, Err, IfOk, IfErr, IsTrue, ap, ◌≡◌, ◌≢◌, ◌⊎◌, ◌∙◌, ◌<◌, ◌≤◌, ℕ, Option, Some, None, refl, sym, subst, inl, inr, arith}
+use Rattle.std.proofs.Common.{Result, Ok, Err, IfOk, IfErr, IsTrue, ap, ◌≡◌, ◌≢◌, ◌⊎◌, ◌∙◌, ◌<◌}
+use Rattle.std.proofs.Common.{◌≤◌, ℕ, Option, Some, None, refl, sym, subst, inl, inr, arith}
 use Rattle.std.specs.Prelude.{is_some}
 use Rattle.pram_text.specs.Job.{JobData}
 use Rattle.pram_step.specs.Runs.{IsAnswer}
 use Rattle.pram_step.specs.declared.answer.RunAnswer.{RunAnswer}
 use Rattle.pram_step.specs.declared.answer.RunAnswer.TheVariants as answer
-use Rattle.pram_commands.specs.Did.{Begins, Command, Did, Prints, Wrote, Writing, ends_with, tells_status}
+use Rattle.pram_commands.specs.Did.{Begins, Command, Did, Prints, Wrote}
+use Rattle.pram_commands.specs.Did.{Writing, ends_with, tells_status}
 use Rattle.pram_commands.specs.Faults.{fault_status}
-use Rattle.pram_commands.specs.Inputs.{Reading}
+use Rattle.pram_commands.specs.Inputs.{Reading, Taking}
 use Rattle.pram_commands.specs.Line.{command_of}
 use Rattle.pram_commands.specs.Served.{Served}
 use Rattle.pram_commands.specs.declared.fault.CommandFault.{CommandFault}
-use Rattle.pram_commands.specs.declared.fault.CommandFault.TheVariants.{Text, Plan, OutsideCell, JobDevice, PlanDevice, OutDevice, JobTooLarge, PlanTooLarge, Memory}
+use Rattle.pram_commands.specs.declared.fault.CommandFault.TheVariants.{Text, Plan, OutsideCell}
+use Rattle.pram_commands.specs.declared.fault.CommandFault.TheVariants.{JobDevice, PlanDevice}
+use Rattle.pram_commands.specs.declared.fault.CommandFault.TheVariants.{OutDevice, JobTooLarge}
+use Rattle.pram_commands.specs.declared.fault.CommandFault.TheVariants.{PlanTooLarge, Memory}
 use Rattle.pram_commands.specs.declared.line.Line.{Line}
 use Rattle.pram_commands.specs.declared.line.Line.TheVariants as line
 use Rattle.pram_commands.proofs.Doing.{err_same, ok_not_err}
@@ -28,23 +33,35 @@ record IsFaultStatus (n : ℕ) : Type 0 where
   other : n ≢ 3
 
 fault-status : (f : CommandFault) → IsFaultStatus (fault_status f)
-fault-status (Text line kind) = record { least = omega arith; most = omega arith; other = λ e. omega (arith, e) }
-fault-status (Plan row kind) = record { least = omega arith; most = omega arith; other = λ e. omega (arith, e) }
-fault-status (OutsideCell cell) = record { least = omega arith; most = omega arith; other = λ e. omega (arith, e) }
-fault-status JobDevice = record { least = omega arith; most = omega arith; other = λ e. omega (arith, e) }
-fault-status PlanDevice = record { least = omega arith; most = omega arith; other = λ e. omega (arith, e) }
-fault-status OutDevice = record { least = omega arith; most = omega arith; other = λ e. omega (arith, e) }
-fault-status JobTooLarge = record { least = omega arith; most = omega arith; other = λ e. omega (arith, e) }
-fault-status PlanTooLarge = record { least = omega arith; most = omega arith; other = λ e. omega (arith, e) }
-fault-status Memory = record { least = omega arith; most = omega arith; other = λ e. omega (arith, e) }
+fault-status (Text line kind) =
+    record { least = omega arith; most = omega arith; other = λ e. omega (arith, e) }
+fault-status (Plan row kind) =
+    record { least = omega arith; most = omega arith; other = λ e. omega (arith, e) }
+fault-status (OutsideCell cell) =
+    record { least = omega arith; most = omega arith; other = λ e. omega (arith, e) }
+fault-status JobDevice =
+    record { least = omega arith; most = omega arith; other = λ e. omega (arith, e) }
+fault-status PlanDevice =
+    record { least = omega arith; most = omega arith; other = λ e. omega (arith, e) }
+fault-status OutDevice =
+    record { least = omega arith; most = omega arith; other = λ e. omega (arith, e) }
+fault-status JobTooLarge =
+    record { least = omega arith; most = omega arith; other = λ e. omega (arith, e) }
+fault-status PlanTooLarge =
+    record { least = omega arith; most = omega arith; other = λ e. omega (arith, e) }
+fault-status Memory =
+    record { least = omega arith; most = omega arith; other = λ e. omega (arith, e) }
 
 -- what was told has one, too
-told-status : (f : CommandFault) (status : ℕ) → (status ≡ 5) ⊎ (status ≡ fault_status f) → IsFaultStatus status
-told-status f status (inl memory) = record { least = omega arith; most = omega arith; other = λ e. omega (arith, e, memory) }
+told-status : (f : CommandFault) (status : ℕ) →
+    (status ≡ 5) ⊎ (status ≡ fault_status f) → IsFaultStatus status
+told-status f status (inl memory) =
+    record { least = omega arith; most = omega arith; other = λ e. omega (arith, e, memory) }
 told-status f status (inr same) = subst IsFaultStatus (sym same) (fault-status f)
 
 -- where a device failed, the status says so
-told-failed : (f : CommandFault) (status : ℕ) → (status ≡ 5) ⊎ (status ≡ fault_status f) → fault_status f ≡ 4 → 4 ≤ status
+told-failed : (f : CommandFault) (status : ℕ) → (status ≡ 5) ⊎ (status ≡ fault_status f) →
+    fault_status f ≡ 4 → 4 ≤ status
 told-failed f status (inl memory) four = omega arith
 told-failed f status (inr same) four = omega arith
 
@@ -55,18 +72,25 @@ record IsAnswerStatus (n : ℕ) : Type 0 where
 
 answer-status : (given : Option RunAnswer) → IsAnswerStatus (ends_with given)
 answer-status None = record { most = omega arith; other = λ e. omega (arith, e) }
-answer-status (Some (answer.Final cells)) = record { most = omega arith; other = λ e. omega (arith, e) }
-answer-status (Some (answer.Conflict fault)) = record { most = omega arith; other = λ e. omega (arith, e) }
-answer-status (Some (answer.Unfinished step)) = record { most = omega arith; other = λ e. omega (arith, e) }
+answer-status (Some (answer.Final cells)) =
+    record { most = omega arith; other = λ e. omega (arith, e) }
+answer-status (Some (answer.Conflict fault)) =
+    record { most = omega arith; other = λ e. omega (arith, e) }
+answer-status (Some (answer.Unfinished step)) =
+    record { most = omega arith; other = λ e. omega (arith, e) }
 
 -- where a job on the plain machine has an answer, it is done
-ended-plain : (job : JobData) (ended : RunAnswer) (given : Option RunAnswer) → IsAnswer job ended → given ≡ Some ended → ends_with given ≡ 3 → ⊥
-ended-plain job (answer.Final cells) given is same three = let status = ap ends_with same in omega (arith, three, status)
-ended-plain job (answer.Conflict fault) given is same three = let status = ap ends_with same in omega (arith, three, status)
+ended-plain : (job : JobData) (ended : RunAnswer) (given : Option RunAnswer) → IsAnswer job ended →
+    given ≡ Some ended → ends_with given ≡ 3 → ⊥
+ended-plain job (answer.Final cells) given is same three =
+    let status = ap ends_with same in omega (arith, three, status)
+ended-plain job (answer.Conflict fault) given is same three =
+    let status = ap ends_with same in omega (arith, three, status)
 ended-plain job (answer.Unfinished step) given is same three = is
 
 -- what a fault wrote with the status of a refused text, and with another
-wrote-none : (command : Command) (r : Reading) (w : Writing) (fault : CommandFault) → fault_status fault ≡ 2 → Wrote command r w fault → w.Unwritten
+wrote-none : (command : Command) (r : Reading) (w : Writing) (fault : CommandFault) →
+    fault_status fault ≡ 2 → Wrote command r w fault → w.Unwritten
 wrote-none command r w OutDevice two wrote = absurd (omega (arith, two))
 wrote-none command r w Memory two wrote = absurd (omega (arith, two))
 wrote-none command r w (Text number kind) two wrote = wrote
@@ -77,7 +101,8 @@ wrote-none command r w PlanDevice two wrote = wrote
 wrote-none command r w JobTooLarge two wrote = wrote
 wrote-none command r w PlanTooLarge two wrote = wrote
 
-wrote-some : (command : Command) (r : Reading) (w : Writing) (fault : CommandFault) → Wrote command r w fault → w.Unwritten ⊎ Begins command r w
+wrote-some : (command : Command) (r : Reading) (w : Writing) (fault : CommandFault) →
+    Wrote command r w fault → w.Unwritten ⊎ Begins command r w
 wrote-some command r w OutDevice wrote = inr wrote
 wrote-some command r w Memory wrote = elim wrote [ inl none ↦ inl none | inr some ↦ inr some.1 ]
 wrote-some command r w (Text number kind) wrote = inl wrote
@@ -88,21 +113,29 @@ wrote-some command r w PlanDevice wrote = inl wrote
 wrote-some command r w JobTooLarge wrote = inl wrote
 wrote-some command r w PlanTooLarge wrote = inl wrote
 
-module _ (r : Reading) (w : Writing) (Unread : Type 0) where
+module _ (taken : Taking) (w : Writing) where
   -- a line whose command follows no plan ends
-  stops : (l : Line) (status : ℕ) → Prints (command_of l) r w (tells_status status) → status ≡ 3 → IsTrue (is_some (command_of l).workers)
-  stops (line.Check file) status prints three = let none = ap ends_with prints.comes.1 in absurd (omega (arith, prints.is, three, none))
+  stops : (l : Line) (status : ℕ) →
+      Prints (command_of l) taken.reads w (tells_status status) → status ≡ 3 →
+      IsTrue (is_some (command_of l).workers)
+  stops (line.Check file) status prints three =
+      let none = ap ends_with prints.work.comes.1 in absurd (omega (arith, prints.is, three, none))
   stops (line.Plain file) status prints three =
-      absurd (ended-plain prints.job prints.comes.ended prints.answer prints.comes.ends.0 prints.comes.gives (sym prints.is ∙ three))
+      let comes = prints.work.comes in
+      absurd (ended-plain prints.work.job comes.ended prints.answer comes.ends.0
+      comes.gives (sym prints.is ∙ three))
   stops (line.Steps file from to) status prints three =
-      absurd (ended-plain prints.job prints.comes.ended prints.answer prints.comes.ends.0 prints.comes.gives (sym prints.is ∙ three))
+      let comes = prints.work.comes in
+      absurd (ended-plain prints.work.job comes.ended prints.answer comes.ends.0
+      comes.gives (sym prints.is ∙ three))
   stops (line.Run file workers name progress pace) status prints three = refl
   stops (line.Watch file workers cells rounds name progress pace) status prints three = refl
   stops (line.Replay file workers name) status prints three = refl
 
   module _ (line : Line) where
     -- a line that was done
-    served-done : (status : ℕ) → Did (command_of line) r w Unread tells_status (Ok status) → Served line r w status
+    served-done : (status : ℕ) →
+        Did (command_of line) taken w tells_status (Ok status) → Served line taken.reads w status
     served-done status did =
         let prints = did.done in
         let ends = subst IsAnswerStatus (sym prints.is) (answer-status prints.answer) in
@@ -121,26 +154,39 @@ module _ (r : Reading) (w : Writing) (Unread : Type 0) where
         }
 
     -- one that was not
-    served-fault : (fault : CommandFault) (status : ℕ) → Did {A = ℕ} (command_of line) r w Unread tells_status (Err fault)
-        → (status ≡ 5) ⊎ (status ≡ fault_status fault) → Served line r w status
+    served-fault : (fault : CommandFault) (status : ℕ) →
+        Did {A = ℕ} (command_of line) taken w tells_status (Err fault) →
+        (status ≡ 5) ⊎ (status ≡ fault_status fault) → Served line taken.reads w status
     served-fault fault status did is =
         let low = told-status fault status is in
         record {
-          done = λ ends. elim ends [ inl less ↦ absurd (omega (arith, less, low.least)) | inr three ↦ absurd (low.other three) ];
+          done = λ ends. elim ends [
+            | inl less ↦ absurd (omega (arith, less, low.least))
+            | inr three ↦ absurd (low.other three)
+          ];
           most = low.most;
           stops = λ three. absurd (low.other three);
-          refused = λ two. let same = told status (fault_status fault) 2 is (omega arith) two in
-              ((fault, same, did.explains), wrote-none (command_of line) r w fault same did.wrote);
-          failed = λ four. (fault, told status (fault_status fault) 4 is (omega arith) four, did.explains);
-          job = λ failed. told-failed fault status is (ap fault_status (err_same fault JobDevice (did.job_failed.0 failed)));
-          plan = λ failed. told-failed fault status is (ap fault_status (err_same fault PlanDevice (did.plan_failed.0 failed)));
-          out = λ failed. told-failed fault status is (ap fault_status (err_same fault OutDevice (did.out_failed.0 failed)));
-          begins = λ _. wrote-some (command_of line) r w fault did.wrote;
+          refused = λ two. let same = told status (fault_status fault) 2 is (omega arith) two in (
+            (fault, same, did.explains),
+            wrote-none (command_of line) taken.reads w fault same did.wrote,
+          );
+          failed = λ four.
+              (fault, told status (fault_status fault) 4 is (omega arith) four, did.explains);
+          job = λ failed. told-failed fault status is
+              (ap fault_status (err_same fault JobDevice (did.job_failed.0 failed)));
+          plan = λ failed. told-failed fault status is
+              (ap fault_status (err_same fault PlanDevice (did.plan_failed.0 failed)));
+          out = λ failed. told-failed fault status is
+              (ap fault_status (err_same fault OutDevice (did.out_failed.0 failed)));
+          begins = λ _. wrote-some (command_of line) taken.reads w fault did.wrote;
           job_reads = did.job_reads;
           plan_reads = did.plan_reads;
         }
 
-    pub served : (done : Result ℕ CommandFault) (status : ℕ) → Did (command_of line) r w Unread tells_status done → IfOk done (λ s. status ≡ s)
-        → IfErr done (λ fault. (status ≡ 5) ⊎ (status ≡ fault_status fault)) → Served line r w status
-    served (Ok s) status did same is = subst (λ (n : ℕ). Served line r w n) (sym same) (served-done s did)
+    pub served : (done : Result ℕ CommandFault) (status : ℕ) →
+        Did (command_of line) taken w tells_status done → IfOk done (λ s. status ≡ s) →
+        IfErr done (λ fault. (status ≡ 5) ⊎ (status ≡ fault_status fault)) →
+        Served line taken.reads w status
+    served (Ok s) status did same is =
+        subst (λ (n : ℕ). Served line taken.reads w n) (sym same) (served-done s did)
     served (Err fault) status did same is = served-fault fault status did is

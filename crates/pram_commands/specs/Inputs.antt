@@ -1,11 +1,13 @@
 -- What reading a job and a plan says of their sources, by their bytes before and after.
-use Rattle.std.specs.Prelude.{◌≢◌, ◌↔◌, ℕ, Bool, List, Option, Result, ⊤, find, nat_le}
-use Rattle.std.specs.Prelude.{IfOk, IfErr, IsErrOf, IsTrue}
+use Rattle.std.specs.Prelude.{◌≡◌, ◌≢◌, ◌↔◌, ℕ, Bool, false, List, Option, Result, ⊤}
+use Rattle.std.specs.Prelude.{IfOk, IfErr, IsErrOf, IsTrue, find, nat_le}
 use Rattle.pram_text.specs.Job.{JobData}
 use Rattle.pram_text.specs.Text.{Bears, Spells}
 use Rattle.pram_text.specs.declared.fault.TextKind.{TextKind}
 use Rattle.pram_text.specs.declared.fault.TextKind.TheVariants as text_kind
 use Rattle.pram_streams.specs.Transfer.{Gives, GivesMoreThan, GivesSome}
+use Rattle.pram_streams.specs.declared.device.Sink as a_sink
+use Rattle.pram_streams.specs.declared.device.Source as a_source
 use Rattle.pram_streams.specs.declared.transfer.TheConstants.{MOST}
 use Rattle.stop_plan.specs.Plan.{PlanData}
 use Rattle.stop_plan.specs.Records.{FirstFault, SpellsPlan, records_of}
@@ -15,6 +17,7 @@ use Rattle.pram_commands.specs.declared.fault.CommandFault.TheVariants.{Text, Pl
 use Rattle.pram_commands.specs.declared.fault.CommandFault.TheVariants.{PlanDevice, JobTooLarge}
 use Rattle.pram_commands.specs.declared.fault.CommandFault.TheVariants.{PlanTooLarge, Memory}
 use Rattle.pram_commands.specs.declared.sources.Inputs.{Inputs}
+use Rattle.pram_commands.specs.declared.sources.Sources.{Sources}
 
 -- What a call did with its sources: the bytes that the job's and the plan's have before and after,
 -- where they are known, and which of them have failed after it.
@@ -26,16 +29,35 @@ pub record Reading : Type 0 where
   pub job_failed : Bool
   pub plan_failed : Bool
 
-abbrev pub reading : {J P : Type 0} → (J → Option (List ℕ)) → (J → Bool) → (P → Option (List ℕ))
-    → (P → Bool) → (job job' : J) → (plan plan' : P) → Reading
-reading of_job job_failed of_plan plan_failed job job' plan plan' = record {
-  job = of_job job;
-  job' = of_job job';
-  plan = of_plan plan;
-  plan' = of_plan plan';
-  job_failed = job_failed job';
-  plan_failed = plan_failed plan';
+abbrev pub reading : {J P : Type 0} → a_source.Ghosts J → a_source.Ghosts P
+    → (before after : Sources J P) → Reading
+reading of_job of_plan before after = record {
+  job = of_job.remaining before.job;
+  job' = of_job.remaining after.job;
+  plan = of_plan.remaining before.plan;
+  plan' = of_plan.remaining after.plan;
+  job_failed = of_job.has_failed after.job;
+  plan_failed = of_plan.has_failed after.plan;
 }
+
+-- The same, and that nothing was read of the plan.
+pub record Taking : Type 1 where
+  pub reads : Reading
+  pub Unread : Type 0
+
+abbrev pub taking : {J P : Type 0} → a_source.Ghosts J → a_source.Ghosts P
+    → (before after : Sources J P) → Taking
+taking of_job of_plan before after = record {
+  reads = reading of_job of_plan before after;
+  Unread = after.plan ≡ before.plan;
+}
+
+-- Neither source has failed, nor has the output.
+pub record AreReady {J P O : Type 0} (of_job : a_source.Ghosts J) (of_plan : a_source.Ghosts P)
+    (of_out : a_sink.Ghosts O) (sources : Sources J P) (out : O) : Type 0 where
+  pub job : of_job.has_failed sources.job ≡ false
+  pub plan : of_plan.has_failed sources.plan ≡ false
+  pub output : of_out.has_failed out ≡ false
 
 -- The source gave a text that spells the job.
 pub record GivesJob (source source' : Option (List ℕ)) (job : JobData) : Type 0 where
@@ -69,10 +91,10 @@ pub record GivesPlanFault (source source' : Option (List ℕ)) (workers row : �
   pub fault : FirstFault workers (records_of text) row kind
 
 -- The sources gave the job and the plan.
-pub record GivesBoth (job_source job_source' plan_source plan_source' : Option (List ℕ))
-    (workers : ℕ) (job : JobData) (plan : PlanData) : Type 0 where
-  pub gives_job : GivesJob job_source job_source' job
-  pub gives_plan : GivesPlan plan_source plan_source' workers plan
+pub record GivesBoth (reads : Reading) (workers : ℕ) (job : JobData) (plan : PlanData)
+    : Type 0 where
+  pub gives_job : GivesJob reads.job reads.job' job
+  pub gives_plan : GivesPlan reads.plan reads.plan' workers plan
 
 -- What a fault says of the source of a plan. Those of a job and of an output are never answered.
 abbrev pub ExplainsPlan : Option (List ℕ) → Option (List ℕ) → ℕ → CommandFault → Type 0
@@ -100,29 +122,28 @@ IsOfJob _ = ⊥
 
 -- What a fault says where a job is read, and then its plan.
 abbrev pub ExplainsBoth : ℕ → Reading → CommandFault → Type 0
-ExplainsBoth workers r (Text line kind) = GivesFault r.job r.job' line kind
-ExplainsBoth workers r JobTooLarge = GivesMoreThan MOST r.job r.job'
-ExplainsBoth workers r JobDevice = ⊤
-ExplainsBoth workers r (Plan row kind) =
-    GivesSomeJob r.job r.job' × GivesPlanFault r.plan r.plan' workers row kind
-ExplainsBoth workers r PlanTooLarge =
-    GivesSomeJob r.job r.job' × GivesMoreThan MOST r.plan r.plan'
-ExplainsBoth workers r PlanDevice = GivesSomeJob r.job r.job'
-ExplainsBoth workers r Memory = ⊤
-ExplainsBoth workers r _ = ⊥
+ExplainsBoth workers reads (Text line kind) = GivesFault reads.job reads.job' line kind
+ExplainsBoth workers reads JobTooLarge = GivesMoreThan MOST reads.job reads.job'
+ExplainsBoth workers reads JobDevice = ⊤
+ExplainsBoth workers reads (Plan row kind) =
+    GivesSomeJob reads.job reads.job' × GivesPlanFault reads.plan reads.plan' workers row kind
+ExplainsBoth workers reads PlanTooLarge =
+    GivesSomeJob reads.job reads.job' × GivesMoreThan MOST reads.plan reads.plan'
+ExplainsBoth workers reads PlanDevice = GivesSomeJob reads.job reads.job'
+ExplainsBoth workers reads Memory = ⊤
+ExplainsBoth workers reads _ = ⊥
 
 -- The sources gave a job, and then a plan for so many workers; or this fault says why not. Whether
 -- a source failed is answered truly, and they stand after the bytes read so far.
-pub record Took (workers : ℕ) (r : Reading) (Unread : Type 0) (result : Result Inputs CommandFault)
+pub record Took (workers : ℕ) (taken : Taking) (result : Result Inputs CommandFault)
     : Type 0 where
-  pub both : IfOk result (λ inputs.
-      GivesBoth r.job r.job' r.plan r.plan' workers inputs.job inputs.plan)
-  pub explains : IfErr result (ExplainsBoth workers r)
-  pub job_first : IfErr result (λ fault. IsOfJob fault → Unread)
-  pub job_failed : IsTrue r.job_failed ↔ IsErrOf result JobDevice
-  pub plan_failed : IsTrue r.plan_failed ↔ IsErrOf result PlanDevice
-  pub job_reads : GivesSome r.job r.job'
-  pub plan_reads : GivesSome r.plan r.plan'
+  pub both : IfOk result (λ inputs. GivesBoth taken.reads workers inputs.job inputs.plan)
+  pub explains : IfErr result (ExplainsBoth workers taken.reads)
+  pub job_first : IfErr result (λ fault. IsOfJob fault → taken.Unread)
+  pub job_failed : IsTrue taken.reads.job_failed ↔ IsErrOf result JobDevice
+  pub plan_failed : IsTrue taken.reads.plan_failed ↔ IsErrOf result PlanDevice
+  pub job_reads : GivesSome taken.reads.job taken.reads.job'
+  pub plan_reads : GivesSome taken.reads.plan taken.reads.plan'
 
 -- The first of the cells that the job does not have.
 abbrev pub first_outside : JobData → List ℕ → Option ℕ

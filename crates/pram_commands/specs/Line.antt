@@ -12,7 +12,7 @@ use Rattle.pram_commands.specs.declared.line.Line.TheVariants.{Check, Plain, Ste
 use Rattle.pram_commands.specs.declared.line.Line.TheVariants.{Run, Watch, Replay}
 
 abbrev pub text_of : Option (Bor (List ℕ)) → Option (List ℕ)
-text_of = option_map (λ s. s.now)
+text_of = option_map (λ text. text.now)
 
 abbrev pub file_of : Line → List ℕ
 file_of (Check file) = file.now

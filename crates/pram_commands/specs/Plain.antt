@@ -1,6 +1,8 @@
 -- What the commands come to that run a job on the plain machine, or only judge it.
-use Rattle.std.specs.Prelude.{◌≡◌, [], None}
+use Rattle.std.specs.Prelude.{◌≡◌, ℕ, List, [], Option, None}
+use Rattle.pram_text.specs.Job.{JobData}
 use Rattle.pram_step.specs.Runs.{IsAnswer}
+use Rattle.pram_step.specs.declared.answer.RunAnswer.{RunAnswer}
 use Rattle.pram_streams.specs.Printed.{summary}
 use Rattle.stop_plan.specs.Plan.{PlanData}
 use Rattle.pram_commands.specs.Did.{Answering, Command}
@@ -9,20 +11,19 @@ use Rattle.pram_commands.specs.Did.{Answering, Command}
 abbrev pub no_plan : PlanData
 no_plan = record { workers = 0; rows = [] }
 
--- it prints the summary of the job
-abbrev pub checking : Command
-checking = record {
+-- follows no plan, and prints at once what it comes to on the job
+abbrev pub on_job : (JobData → List ℕ → Option RunAnswer → Type 0) → Command
+on_job Comes = record {
   workers = None;
   cells = [];
   InPieces = ⊥;
-  Comes = λ job plan text answer. (text ≡ summary job) × (answer ≡ None);
+  Comes = λ job plan. Comes job;
 }
+
+-- it prints the summary of the job
+abbrev pub checking : Command
+checking = on_job (λ job text answer. (text ≡ summary job) × (answer ≡ None))
 
 -- it prints the answer of the job
 abbrev pub plainly : Command
-plainly = record {
-  workers = None;
-  cells = [];
-  InPieces = ⊥;
-  Comes = λ job plan. Answering (λ answer front. IsAnswer job answer × (front ≡ [])) job;
-}
+plainly = on_job (λ job. Answering (λ answer front. IsAnswer job answer × (front ≡ [])) job)

@@ -11,23 +11,24 @@ use Rattle.pram_commands.specs.declared.refusal.TheConstants.{REFUSED, UNFINISHE
 
 -- There is a fault with this status, of which all is true that a fault says.
 abbrev pub HasFault : Command → Reading → Writing → ℕ → Type 0
-HasFault command r w status =
-    (fault : CommandFault) × (fault_status fault ≡ status) × Explains command r w fault
+HasFault command reads writes status =
+    (fault : CommandFault) × (fault_status fault ≡ status) × Explains command reads writes fault
 
 -- What the status of a line says. Below 2, or 3: it was done. 2: a text bears a fault, or the job
 -- lacks a cell that is to be watched, and nothing was written. 4: a device failed or a source is
 -- too large; 4 or more wherever one failed, and then nothing was written, or a beginning of what
 -- the line prints. The sources stand after the bytes read so far.
-pub record Served (line : Line) (r : Reading) (w : Writing) (status : ℕ) : Type 0 where
+pub record Served (line : Line) (reads : Reading) (writes : Writing) (status : ℕ) : Type 0 where
   pub done : (status < REFUSED) ⊎ (status ≡ UNFINISHED)
-      → Prints (command_of line) r w (tells_status status)
+      → Prints (command_of line) reads writes (tells_status status)
   pub most : status ≤ MEMORY
   pub stops : status ≡ UNFINISHED → IsTrue (is_some (command_of line).workers)
-  pub refused : status ≡ REFUSED → HasFault (command_of line) r w REFUSED × w.Unwritten
-  pub failed : status ≡ FAILED → HasFault (command_of line) r w FAILED
-  pub job : IsTrue r.job_failed → FAILED ≤ status
-  pub plan : IsTrue r.plan_failed → FAILED ≤ status
-  pub out : IsTrue w.failed → FAILED ≤ status
-  pub begins : FAILED ≤ status → w.Unwritten ⊎ Begins (command_of line) r w
-  pub job_reads : GivesSome r.job r.job'
-  pub plan_reads : GivesSome r.plan r.plan'
+  pub refused : status ≡ REFUSED
+      → HasFault (command_of line) reads writes REFUSED × writes.Unwritten
+  pub failed : status ≡ FAILED → HasFault (command_of line) reads writes FAILED
+  pub job : IsTrue reads.job_failed → FAILED ≤ status
+  pub plan : IsTrue reads.plan_failed → FAILED ≤ status
+  pub out : IsTrue writes.failed → FAILED ≤ status
+  pub begins : FAILED ≤ status → writes.Unwritten ⊎ Begins (command_of line) reads writes
+  pub job_reads : GivesSome reads.job reads.job'
+  pub plan_reads : GivesSome reads.plan reads.plan'

@@ -14,6 +14,7 @@ use Rattle.pram_run.specs.Running.{IsRun}
 use Rattle.pram_run.specs.Watching.{HasWatched}
 use Rattle.pram_run.specs.declared.sight.Sight.{Sight}
 use Rattle.pram_commands.specs.Did.{Answering, Command}
+use Rattle.pram_commands.specs.declared.sources.Inputs.{Inputs}
 
 -- The seat is the one that a run of the plan's workers came to, from the first seat of a new board
 -- of the job; and its record tells the answer.
@@ -57,6 +58,12 @@ pub record WatchEndsAt (job : JobData) (plan : PlanData) (cells : List ℕ) (rou
   pub opened : IsOpened job Wide plan.workers made
   pub ran : HasWatched made.0.task plan cells rounds made.1 sights later
   pub told : IsRun made.0.task plan later.record_of answer
+
+-- The same, and what each sight says is true.
+pub record IsWatched (inputs : Inputs) (cells : List ℕ) (rounds : ℕ) (later : Place)
+    (sights : List Sight) (answer : RunAnswer) : Type 0 where
+  pub saw : HasSights inputs.job cells rounds sights
+  pub ends : WatchEndsAt inputs.job inputs.plan cells rounds later sights answer
 
 -- some run came to the sights and the answer
 pub record IsWatchEnd (job : JobData) (plan : PlanData) (cells : List ℕ) (rounds : ℕ)

@@ -2,7 +2,7 @@
 ghost use Rattle.std.specs.Prelude.{◌≡◌, false};
 ghost use Rattle.pram_commands.specs.Did.{Did, status_of, tells_status, writing};
 ghost use Rattle.pram_commands.specs.Inner.Puts.{printed_as, status_result};
-ghost use Rattle.pram_commands.specs.Inputs.{reading};
+ghost use Rattle.pram_commands.specs.Inputs.{AreReady, taking};
 ghost use Rattle.pram_commands.specs.Line.{StartsNoThread, command_of};
 
 mod checks;
@@ -39,13 +39,9 @@ pub(crate) fn do_alone<J: Source, P: Source, O: Sink>(
     out: &mut O,
 ) -> Result<u8, CommandFault>
     requires alone { StartsNoThread line.now }
-    requires job { J.has_failed sources.old.job ≡ false }
-    requires plan { P.has_failed sources.old.plan ≡ false }
-    requires out { O.has_failed out.old ≡ false }
-    ensures { Did (command_of line.now) (reading J.remaining J.has_failed P.remaining P.has_failed
-        sources.old.job sources.new.job sources.old.plan sources.new.plan)
-        (writing O.taken O.has_failed out.old out.new) (sources.new.plan ≡ sources.old.plan)
-        tells_status result }
+    requires ready { AreReady J.Source P.Source O.Sink sources.old out.old }
+    ensures { Did (command_of line.now) (taking J.Source P.Source sources.old sources.new)
+        (writing O.Sink out.old out.new) tells_status result }
 {
     match *line {
         Line::Check { .. } => {
@@ -73,13 +69,9 @@ pub(crate) fn do_on_threads<
     out: &mut O,
 ) -> Result<u8, CommandFault>
     requires threads { ¬ StartsNoThread line.now }
-    requires job { J.has_failed sources.old.job ≡ false }
-    requires plan { P.has_failed sources.old.plan ≡ false }
-    requires out { O.has_failed out.old ≡ false }
-    ensures { Did (command_of line.now) (reading J.remaining J.has_failed P.remaining P.has_failed
-        sources.old.job sources.new.job sources.old.plan sources.new.plan)
-        (writing O.taken O.has_failed out.old out.new) (sources.new.plan ≡ sources.old.plan)
-        tells_status result }
+    requires ready { AreReady J.Source P.Source O.Sink sources.old out.old }
+    ensures { Did (command_of line.now) (taking J.Source P.Source sources.old sources.new)
+        (writing O.Sink out.old out.new) tells_status result }
 {
     match *line {
         Line::Run {
@@ -88,11 +80,7 @@ pub(crate) fn do_on_threads<
             pace,
             ..
         } => {
-            let manner = Manner {
-                workers,
-                progress,
-                pace,
-            };
+            let manner = Manner::new(workers, progress, pace);
             ended(run(rt, alloc, manner, sources, out))
         }
         Line::Watch {
@@ -103,11 +91,7 @@ pub(crate) fn do_on_threads<
             pace,
             ..
         } => {
-            let manner = Manner {
-                workers,
-                progress,
-                pace,
-            };
+            let manner = Manner::new(workers, progress, pace);
             let reads = Reads {
                 manner,
                 cells,
@@ -115,9 +99,7 @@ pub(crate) fn do_on_threads<
             };
             ended(watch(rt, alloc, reads, sources, out))
         }
-        Line::Check { .. } | Line::Plain { .. } | Line::Steps { .. } | Line::Replay { .. } => {
-            unreachable!()
-        }
+        _ => unreachable!(),
     }
 }
 

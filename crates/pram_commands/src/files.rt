@@ -37,7 +37,7 @@ pub fn serve_files<R: Threads + Wait + Clock + Eprint + Sync, F: Folder, O: Sink
     requires out { O.has_failed console.old.out ≡ false }
     requires err { E.has_failed console.old.err ≡ false }
     ensures { ServesFiles (F.holds folder.now) line.now
-        (writing O.taken O.has_failed console.old.out console.new.out) result }
+        (writing O.Sink console.old.out console.new.out) result }
 {
     let job = folder.open(line.file());
     match line.plan() {

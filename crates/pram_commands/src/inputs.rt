@@ -3,7 +3,7 @@ ghost use Rattle.std.specs.Prelude.{◌≡◌, ◌↔◌, false, IfOk, IfErr, Is
 ghost use Rattle.pram_streams.specs.Transfer.{GivesSome};
 ghost use Rattle.pram_commands.specs.Faults.{fault_of_job_source, fault_of_plan_source};
 ghost use Rattle.pram_commands.specs.Inputs.{ExplainsJob, ExplainsPlan, GivesJob, GivesPlan, Took};
-ghost use Rattle.pram_commands.specs.Inputs.{reading};
+ghost use Rattle.pram_commands.specs.Inputs.{taking};
 
 use crate::fault::CommandFault;
 use crate::sources::{Inputs, Sources};
@@ -22,9 +22,7 @@ pub fn take_inputs<J: Source, P: Source>(
 ) -> Result<Inputs, CommandFault>
     requires job { J.has_failed sources.old.job ≡ false }
     requires plan { P.has_failed sources.old.plan ≡ false }
-    ensures { Took workers.count (reading J.remaining J.has_failed P.remaining P.has_failed
-        sources.old.job sources.new.job sources.old.plan sources.new.plan)
-        (sources.new.plan ≡ sources.old.plan) result }
+    ensures { Took workers.count (taking J.Source P.Source sources.old sources.new) result }
 {
     let job = take_job(alloc, &mut sources.job)?;
     let plan = take_plan(alloc, &mut sources.plan, workers)?;
@@ -41,10 +39,7 @@ pub fn take_job<J: Source>(alloc: Global, source: &mut J) -> Result<Job, Command
         ↔ IsErrOf result CommandFault.JobDevice }
     ensures reads { GivesSome (J.remaining source.old) (J.remaining source.new) }
 {
-    let text = match take(alloc, source) {
-        Ok(text) => text,
-        Err(fault) => return Err(job_fault(fault)),
-    };
+    let text = take(alloc, source).map_err(job_fault)?;
     match read_job(alloc, text.as_slice()) {
         Ok(job) => Ok(job),
         Err(
@@ -72,10 +67,7 @@ pub fn take_plan<P: Source>(
         ↔ IsErrOf result CommandFault.PlanDevice }
     ensures reads { GivesSome (P.remaining source.old) (P.remaining source.new) }
 {
-    let text = match take(alloc, source) {
-        Ok(text) => text,
-        Err(fault) => return Err(plan_fault(fault)),
-    };
+    let text = take(alloc, source).map_err(plan_fault)?;
     match read_plan(alloc, text.as_slice(), workers.count) {
         Ok(plan) => Ok(plan),
         Err(

@@ -27,7 +27,7 @@ pub const FAILED: u8 = 4;
 /// Memory ran out.
 pub const MEMORY: u8 = 5;
 
-/// What is told of want of memory, and needs none.
+/// What is told where the program is out of memory, and needs none.
 const MEMORY_LINE: &str = "memory\n";
 
 /// Why a line was not done, as standard error tells it.

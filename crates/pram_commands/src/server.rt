@@ -4,7 +4,7 @@ ghost use Rattle.pram_commands.specs.Did.{writing};
 ghost use Rattle.pram_commands.specs.Faults.{fault_status};
 ghost use Rattle.pram_commands.specs.Inner.Refusals.{cell_at_fault, file_at_fault, refusal_status};
 ghost use Rattle.pram_commands.specs.Inner.Refusals.{told_cell, told_file};
-ghost use Rattle.pram_commands.specs.Inputs.{reading};
+ghost use Rattle.pram_commands.specs.Inputs.{AreReady, reading};
 ghost use Rattle.pram_commands.specs.Line.{StartsNoThread};
 ghost use Rattle.pram_commands.specs.Served.{Served};
 
@@ -31,13 +31,10 @@ pub fn serve<R: Threads + Wait + Clock + Eprint + Sync, J: Source, P: Source, O:
     sources: &mut Sources<J, P>,
     console: &mut Console<O, E>,
 ) -> u8
-    requires job { J.has_failed sources.old.job ≡ false }
-    requires plan { P.has_failed sources.old.plan ≡ false }
-    requires out { O.has_failed console.old.out ≡ false }
+    requires ready { AreReady J.Source P.Source O.Sink sources.old console.old.out }
     requires err { E.has_failed console.old.err ≡ false }
-    ensures { Served line.now (reading J.remaining J.has_failed P.remaining P.has_failed
-        sources.old.job sources.new.job sources.old.plan sources.new.plan)
-        (writing O.taken O.has_failed console.old.out console.new.out) result }
+    ensures { Served line.now (reading J.Source P.Source sources.old sources.new)
+        (writing O.Sink console.old.out console.new.out) result }
 {
     if line.starts_no_thread() {
         return serve_alone(alloc, line, sources, console);
@@ -54,13 +51,10 @@ pub fn serve_alone<J: Source, P: Source, O: Sink, E: Sink>(
     console: &mut Console<O, E>,
 ) -> u8
     requires alone { StartsNoThread line.now }
-    requires job { J.has_failed sources.old.job ≡ false }
-    requires plan { P.has_failed sources.old.plan ≡ false }
-    requires out { O.has_failed console.old.out ≡ false }
+    requires ready { AreReady J.Source P.Source O.Sink sources.old console.old.out }
     requires err { E.has_failed console.old.err ≡ false }
-    ensures { Served line.now (reading J.remaining J.has_failed P.remaining P.has_failed
-        sources.old.job sources.new.job sources.old.plan sources.new.plan)
-        (writing O.taken O.has_failed console.old.out console.new.out) result }
+    ensures { Served line.now (reading J.Source P.Source sources.old sources.new)
+        (writing O.Sink console.old.out console.new.out) result }
 {
     let done = do_alone(alloc, line, sources, &mut console.out);
     status_after(alloc, line, done, &mut console.err)

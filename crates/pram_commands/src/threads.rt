@@ -3,7 +3,7 @@ ghost use Rattle.std.specs.Prelude.{◌≡◌, ◌<◌, ◌*◌, All, IfOk};
 ghost use Rattle.std.specs.Duration.{as_nanos};
 ghost use Rattle.pram_words.specs.declared.layout.Form.TheVariants.{Wide};
 ghost use Rattle.pram_board.specs.Seats.{IsOpened};
-ghost use Rattle.pram_commands.specs.Threads.{EndsAt, HasSights, WatchEndsAt};
+ghost use Rattle.pram_commands.specs.Threads.{EndsAt, IsWatched};
 
 use crate::progress::{Teller, start_teller};
 use crate::sources::Inputs;
@@ -29,6 +29,18 @@ pub struct Manner {
     pub pace: Option<u32>,
 }
 
+impl Manner {
+    pub(crate) fn new(workers: Workers, progress: bool, pace: Option<u32>) -> Manner
+        ensures { result ≡ record { workers = workers; progress = progress; pace = pace } }
+    {
+        Manner {
+            workers,
+            progress,
+            pace,
+        }
+    }
+}
+
 /// A job and its plan, with what a reader beside the workers reads: so many rounds through cells of
 /// the job.
 #[derive(Drop)]
@@ -36,7 +48,7 @@ pub(crate) struct Watched<'a> {
     pub inputs: &'a Inputs,
     pub cells: &'a [u32],
     pub rounds: u32,
-    pub ghost within: { All (λ c. c < inputs.now.job.cells) cells.now },
+    pub ghost within: { All (λ cell. cell < inputs.now.job.cells) cells.now },
 }
 
 /// What workers go over: a board, past a gate, while a teller tells how far it is.
@@ -63,7 +75,7 @@ pub(crate) fn run_job<R: Threads + Wait + Clock + Eprint + Sync>(
     inputs: &Inputs,
     manner: Manner,
 ) -> Result<(RunAnswer, Seat), AllocError>
-    ensures { IfOk result (λ r. EndsAt inputs.now.job inputs.now.plan r.1 r.0) }
+    ensures { IfOk result (λ ended. EndsAt inputs.now.job inputs.now.plan ended.1 ended.0) }
 {
     match manner.pace {
         None => run_past(rt, alloc, inputs, manner.progress, &Open),
@@ -79,11 +91,11 @@ fn run_past<R: Threads + Wait + Clock + Eprint + Sync, G: Gate + Sync>(
     progress: bool,
     gate: &G,
 ) -> Result<(RunAnswer, Seat), AllocError>
-    ensures { IfOk result (λ r. EndsAt inputs.now.job inputs.now.plan r.1 r.0) }
+    ensures { IfOk result (λ ended. EndsAt inputs.now.job inputs.now.plan ended.1 ended.0) }
 {
     let (board, seat) = Board::open_wide(alloc, &inputs.job, inputs.plan.workers())?;
-    let board = &board;
-    let teller = &Teller::new(progress, inputs.job.steps());
+    let teller = Teller::new(progress, inputs.job.steps());
+    let (board, teller) = (&board, &teller);
     thread::scope(
         thread::scope_env(),
         rt,
@@ -91,7 +103,8 @@ fn run_past<R: Threads + Wait + Clock + Eprint + Sync, G: Gate + Sync>(
             requires opened { IsOpened inputs.now.job Wide inputs.now.plan.workers
                 (board.now, seat) }
             requires steps { teller.now.steps ≡ board.now.task.job.steps }
-            ensures { IfOk result (λ r. EndsAt inputs.entry.now.job inputs.entry.now.plan r.1 r.0) }
+            ensures { IfOk result
+                (λ ended. EndsAt inputs.entry.now.job inputs.entry.now.plan ended.1 ended.0) }
         {
             let floor = Floor {
                 alloc,
@@ -113,12 +126,12 @@ fn run_on<'s, E, R: Threads + Wait + Clock + Eprint + Sync, G: Gate + Sync>(
     seat: Seat,
 ) -> Result<(RunAnswer, Seat), AllocError>
     requires { IsOpened inputs.now.job Wide inputs.now.plan.workers (floor.now.board.now, seat) }
-    ensures { IfOk result (λ r. EndsAt inputs.now.job inputs.now.plan r.1 r.0) }
+    ensures { IfOk result (λ ended. EndsAt inputs.now.job inputs.now.plan ended.1 ended.0) }
 {
-    let (board, teller) = (floor.board, floor.teller);
+    let (board, gate, teller) = (floor.board, floor.gate, floor.teller);
     let (job, plan) = (&inputs.job, &inputs.plan);
     let seat = start_teller(scope, rt, board, seat, teller)?;
-    let (seat, answer) = pram_run::run(rt, floor.alloc, job, board, seat, plan, floor.gate);
+    let (seat, answer) = pram_run::run(rt, floor.alloc, job, board, seat, plan, gate);
     teller.end();
     Ok((answer?, seat))
 }
@@ -131,10 +144,8 @@ pub(crate) fn watch_job<R: Threads + Wait + Clock + Eprint + Sync>(
     watched: &Watched<'_>,
     manner: Manner,
 ) -> Result<(RunAnswer, Vec<Sight>, Seat), AllocError>
-    ensures ends { IfOk result (λ r. WatchEndsAt watched.now.inputs.now.job
-        watched.now.inputs.now.plan watched.now.cells.now watched.now.rounds r.2 r.1.items r.0) }
-    ensures sights { IfOk result (λ r. HasSights watched.now.inputs.now.job watched.now.cells.now
-        watched.now.rounds r.1.items) }
+    ensures { IfOk result (λ ended. IsWatched watched.now.inputs.now watched.now.cells.now
+        watched.now.rounds ended.2 ended.1.items ended.0) }
 {
     match manner.pace {
         None => watch_past(rt, alloc, watched, manner.progress, &Open),
@@ -150,43 +161,34 @@ fn watch_past<R: Threads + Wait + Clock + Eprint + Sync, G: Gate + Sync>(
     progress: bool,
     gate: &G,
 ) -> Result<(RunAnswer, Vec<Sight>, Seat), AllocError>
-    ensures ends { IfOk result (λ r. WatchEndsAt watched.now.inputs.now.job
-        watched.now.inputs.now.plan watched.now.cells.now watched.now.rounds r.2 r.1.items r.0) }
-    ensures sights { IfOk result (λ r. HasSights watched.now.inputs.now.job watched.now.cells.now
-        watched.now.rounds r.1.items) }
+    ensures { IfOk result (λ ended. IsWatched watched.now.inputs.now watched.now.cells.now
+        watched.now.rounds ended.2 ended.1.items ended.0) }
 {
-    let Watched {
-        inputs,
-        cells,
-        rounds,
-        ..
-    } = *watched;
+    let (inputs, cells, rounds) = (watched.inputs, watched.cells, watched.rounds);
     let (board, seat) = Board::open_wide(alloc, &inputs.job, inputs.plan.workers())?;
-    let board = &board;
-    let teller = &Teller::new(progress, inputs.job.steps());
+    let teller = Teller::new(progress, inputs.job.steps());
+    let (board, teller) = (&board, &teller);
     thread::scope(
         thread::scope_env(),
         rt,
         |scope| -> Result<(RunAnswer, Vec<Sight>, Seat), AllocError>
             requires opened { IsOpened inputs.now.job Wide inputs.now.plan.workers
                 (board.now, seat) }
-            requires within { All (λ c. c < inputs.now.job.cells) cells.now }
+            requires within { All (λ cell. cell < inputs.now.job.cells) cells.now }
             requires steps { teller.now.steps ≡ board.now.task.job.steps }
-            ensures ends { IfOk result (λ r. WatchEndsAt inputs.entry.now.job inputs.entry.now.plan
-                cells.entry.now rounds r.2 r.1.items r.0) }
-            ensures sights { IfOk result (λ r. HasSights inputs.entry.now.job cells.entry.now rounds
-                r.1.items) }
+            ensures { IfOk result (λ ended. IsWatched inputs.entry.now cells.entry.now rounds
+                ended.2 ended.1.items ended.0) }
         {
+            let watched = Watched {
+                inputs,
+                cells,
+                rounds,
+            };
             let floor = Floor {
                 alloc,
                 board,
                 gate,
                 teller,
-            };
-            let watched = Watched {
-                inputs,
-                cells,
-                rounds,
             };
             watch_on(scope, rt, &floor, &watched, seat)
         },
@@ -203,17 +205,23 @@ fn watch_on<'s, E, R: Threads + Wait + Clock + Eprint + Sync, G: Gate + Sync>(
 ) -> Result<(RunAnswer, Vec<Sight>, Seat), AllocError>
     requires { IsOpened watched.now.inputs.now.job Wide watched.now.inputs.now.plan.workers
         (floor.now.board.now, seat) }
-    ensures ends { IfOk result (λ r. WatchEndsAt watched.now.inputs.now.job
-        watched.now.inputs.now.plan watched.now.cells.now watched.now.rounds r.2 r.1.items r.0) }
-    ensures sights { IfOk result (λ r. HasSights watched.now.inputs.now.job watched.now.cells.now
-        watched.now.rounds r.1.items) }
+    ensures { IfOk result (λ ended. IsWatched watched.now.inputs.now watched.now.cells.now
+        watched.now.rounds ended.2 ended.1.items ended.0) }
 {
-    let (alloc, board, teller) = (floor.alloc, floor.board, floor.teller);
+    let (board, gate, teller) = (floor.board, floor.gate, floor.teller);
     let (job, plan) = (&watched.inputs.job, &watched.inputs.plan);
     let (cells, rounds) = (watched.cells, watched.rounds);
     let seat = start_teller(scope, rt, board, seat, teller)?;
     let (seat, done) = pram_run::watch(
-        rt, alloc, job, board, seat, plan, cells, rounds, floor.gate,
+        rt,
+        floor.alloc,
+        job,
+        board,
+        seat,
+        plan,
+        cells,
+        rounds,
+        gate,
     );
     teller.end();
     let (answer, sights) = done?;

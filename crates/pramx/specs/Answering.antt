@@ -8,13 +8,13 @@ use Rattle.pram_commands.specs.declared.refusal.TheConstants.{MEMORY}
 use Rattle.pramx.specs.CommandLine.{AreRefused, IsMet, pramx}
 
 -- The words mean a line, and it was served from the files that it names.
-pub record ServesWords (Holds : List ℕ → Option (List ℕ) → Type 0) (words : List Text) (w : Writing)
-    (status : ℕ) : Type 0 where
+pub record ServesWords (Holds : List ℕ → Option (List ℕ) → Type 0) (words : List Text)
+    (writes : Writing) (status : ℕ) : Type 0 where
   pub line : Line
   pub met : IsMet (subcommand_of pramx words) line
-  pub serves : ServesFiles Holds line w status
+  pub serves : ServesFiles Holds line writes status
 
 -- So it is, unless the command refuses the words, or memory ran out.
 abbrev pub AnswersWords : (List ℕ → Option (List ℕ) → Type 0) → List Text → Writing → ℕ → Type 0
-AnswersWords Holds words w status =
-    ServesWords Holds words w status ⊎ (AreRefused words ⊎ (status ≡ MEMORY))
+AnswersWords Holds words writes status =
+    ServesWords Holds words writes status ⊎ (AreRefused words ⊎ (status ≡ MEMORY))

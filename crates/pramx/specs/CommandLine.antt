@@ -17,96 +17,44 @@ use Rattle.pram_commands.specs.declared.line.Line.{Line}
 use Rattle.pram_commands.specs.declared.line.Line.TheVariants.{Check, Plain, Steps}
 use Rattle.pram_commands.specs.declared.line.Line.TheVariants.{Run, Watch, Replay}
 
--- FILE
-abbrev pub file_rule : Rule
-file_rule = record (new_rule (codes "file")) { value_names = 1; required = true; action = Some Set }
+-- an option with a value
+abbrev pub option_rule : Text → Rule
+option_rule name =
+    record (new_rule name) { long = Some name; value_names = 1; action = Some Set }
 
--- --workers W
-abbrev pub workers_rule : Rule
-workers_rule = record (new_rule (codes "workers")) {
-  long = Some (codes "workers");
-  value_names = 1;
-  required = true;
-  action = Some Set;
-  parser = Some (Signed (pos 1) (pos 64));
-}
+-- one whose value is a number from one to another
+abbrev pub number_rule : Text → (least most : ℕ) → Rule
+number_rule name least most =
+    record (option_rule name) { parser = Some (Signed (pos least) (pos most)) }
 
--- --plan P
-abbrev pub plan_rule : Rule
-plan_rule = record (new_rule (codes "plan")) {
-  long = Some (codes "plan");
-  value_names = 1;
-  action = Some Set;
-}
+-- the same argument, which has to stand
+abbrev pub needed : Rule → Rule
+needed rule = record rule { required = true }
 
--- --cells C,C,..
-abbrev pub cells_rule : Rule
-cells_rule = record (new_rule (codes "cells")) {
-  long = Some (codes "cells");
-  value_names = 1;
-  required = true;
-  action = Some Set;
-}
-
--- --rounds R
-abbrev pub rounds_rule : Rule
-rounds_rule = record (new_rule (codes "rounds")) {
-  long = Some (codes "rounds");
-  value_names = 1;
-  required = true;
-  action = Some Set;
-  parser = Some (Signed (pos 1) (pos 1000000));
-}
-
--- --from A
-abbrev pub from_rule : Rule
-from_rule = record (new_rule (codes "from")) {
-  long = Some (codes "from");
-  value_names = 1;
-  action = Some Set;
-  parser = Some (Signed (pos 1) (pos 4294967295));
-}
-
--- --to B
-abbrev pub to_rule : Rule
-to_rule = record (new_rule (codes "to")) {
-  long = Some (codes "to");
-  value_names = 1;
-  action = Some Set;
-  parser = Some (Signed (pos 1) (pos 4294967295));
-}
-
--- --progress
-abbrev pub progress_rule : Rule
-progress_rule = record (new_rule (codes "progress")) {
-  long = Some (codes "progress");
-  action = Some SetTrue;
-}
-
--- --pace MICROSECONDS
-abbrev pub pace_rule : Rule
-pace_rule = record (new_rule (codes "pace")) {
-  long = Some (codes "pace");
-  value_names = 1;
-  action = Some Set;
-  parser = Some (Signed (pos 0) (pos 1000000));
-}
+-- an option that stands or does not
+abbrev pub flag_rule : Text → Rule
+flag_rule name = record (new_rule name) { long = Some name; action = Some SetTrue }
 
 -- NAME FILE
 abbrev pub on_file : Text → App
-on_file name = with_rule (new_app name) file_rule
+on_file name = with_rule (new_app name)
+    (needed (record (new_rule (codes "file")) { value_names = 1; action = Some Set }))
 
 -- steps FILE [--from A] [--to B]
 abbrev pub on_steps : App
-on_steps = with_rule (with_rule (on_file (codes "steps")) from_rule) to_rule
+on_steps = with_rule (with_rule (on_file (codes "steps")) (number_rule (codes "from") 1 4294967295))
+    (number_rule (codes "to") 1 4294967295)
 
 -- NAME FILE --workers W [--plan P]
 abbrev pub with_workers : Text → App
-with_workers name = with_rule (with_rule (on_file name) workers_rule) plan_rule
+with_workers name =
+    with_rule (with_rule (on_file name) (needed (number_rule (codes "workers") 1 64)))
+    (option_rule (codes "plan"))
 
--- what a run and a watch take last
+-- what a run and a watch take last: [--progress] [--pace MICROSECONDS]
 abbrev pub with_progress : App → App
-with_progress app = with_rule (with_rule app progress_rule) pace_rule
+with_progress app = with_rule (with_rule app (flag_rule (codes "progress")))
+    (number_rule (codes "pace") 0 1000000)
 
 -- run FILE --workers W [--plan P] [--progress] [--pace MICROSECONDS]
 abbrev pub on_run : App
@@ -114,14 +62,14 @@ on_run = with_progress (with_workers (codes "run"))
 
 -- watch FILE --workers W --cells C,C,.. --rounds R [--plan P] [--progress] [--pace MICROSECONDS]
 abbrev pub on_watch : App
-on_watch = with_progress (with_rule (with_rule (with_workers (codes "watch")) cells_rule)
-    rounds_rule)
+on_watch = with_progress (with_rule (with_rule (with_workers (codes "watch"))
+    (needed (option_rule (codes "cells")))) (needed (number_rule (codes "rounds") 1 1000000)))
 
 -- the program without its subcommands, of which one must stand
 abbrev pub bare : App
 bare =
-    let a = new_app (codes "pramx") in
-    record a { top = record a.top { has_version = true; subcommand_required = true } }
+    let app = new_app (codes "pramx") in
+    record app { top = record app.top { has_version = true; subcommand_required = true } }
 
 -- with those of the plain machine alone
 abbrev pub on_machine : App
@@ -231,7 +179,7 @@ AreRefused words = (takes pramx words ≡ false) ⊎ HasBadCells (subcommand_of 
 abbrev pub FailsByWords : {T : Type 0} → List Text → Result T Error → Type 0
 FailsByWords words result = FailsBy (fault_of pramx words) result
     ⊎ (HasBadCells (subcommand_of pramx words)
-    × IsErrAnd result (λ e. (kind_of e ≡ OutOfMemory) ⊎ (kind_of e ≡ ValueValidation)))
+    × IsErrAnd result (λ error. (kind_of error ≡ OutOfMemory) ⊎ (kind_of error ≡ ValueValidation)))
 
 -- Where the words are wrong, or ask for help or the version, the status is that of a failure, or
 -- help or the version was shown; or memory ran out.

@@ -5,12 +5,10 @@ ghost use Rattle.clap.specs.Words.{app_of, first_of, found_of, kind_of};
 ghost use Rattle.clap.specs.Words.{rows_of, rule_of, subcommand_of, subcommand_rows_of};
 ghost use Rattle.pramx.specs.CommandLine.{AreRefused, FailsByWords, HasBadCells, IsMet};
 ghost use Rattle.pramx.specs.CommandLine.{IsNumberIfSet, IsNumberOf, IsNumberOr, pramx};
-ghost use Rattle.pramx.specs.CommandLine.{cells_rule, file_rule, pace_rule, plan_rule};
-ghost use Rattle.pramx.specs.CommandLine.{progress_rule, rounds_rule};
-ghost use Rattle.pramx.specs.CommandLine.{from_rule, on_file, on_machine, on_run, on_steps};
-ghost use Rattle.pramx.specs.CommandLine.{on_watch, to_rule};
-ghost use Rattle.pramx.specs.CommandLine.{with_workers, workers_rule};
+ghost use Rattle.pramx.specs.CommandLine.{needed, on_file, on_machine, on_run, on_steps, on_watch};
+ghost use Rattle.pramx.specs.CommandLine.{option_rule, with_progress, with_workers};
 
+use clap::builder::ValueParser;
 use clap::error::ErrorKind;
 use clap::{Arg, ArgAction, ArgMatches, Command, Error, value_parser};
 use pram_commands::{CellList, Line, Workers};
@@ -38,10 +36,11 @@ const MOST_PACE: i64 = 1_000_000;
 /// The line that the words make, of which the first is the program's name. A call for help or for
 /// the version is an error too, as `clap` has it.
 pub fn read_line<'a>(alloc: Global, words: &'a [&'a str]) -> Result<Line<'a>, Error>
-    ensures met { IfOk result (IsMet (subcommand_of pramx (map (λ w. w.now) words.entry.now))) }
-    ensures refused { IfErr result (λ e. kind_of e ≢ ErrorKind.OutOfMemory
-        → AreRefused (map (λ w. w.now) words.entry.now)) }
-    ensures kinds { FailsByWords (map (λ w. w.now) words.entry.now) result }
+    ensures met { IfOk result
+        (IsMet (subcommand_of pramx (map (λ word. word.now) words.entry.now))) }
+    ensures refused { IfErr result (λ error. kind_of error ≢ ErrorKind.OutOfMemory
+        → AreRefused (map (λ word. word.now) words.entry.now)) }
+    ensures kinds { FailsByWords (map (λ word. word.now) words.entry.now) result }
 {
     let matches = command(alloc)?.try_get_matches_from(words)?;
     if let Some(text) = bad_cells(&matches) {
@@ -70,7 +69,7 @@ fn bad_cells<'a>(matches: &ArgMatches<'a>) -> Option<&'a str>
 }
 
 fn cells_error(alloc: Global, text: &str) -> Result<Error, AllocError>
-    ensures { IfOk result (λ e. kind_of e ≡ ErrorKind.ValueValidation) }
+    ensures { IfOk result (λ error. kind_of error ≡ ErrorKind.ValueValidation) }
 {
     let message = format!(in alloc;
         "invalid value '{text}' for '--cells <C,C,..>': cells are numbers with commas between"
@@ -80,7 +79,7 @@ fn cells_error(alloc: Global, text: &str) -> Result<Error, AllocError>
 }
 
 fn command<'a>(alloc: Global) -> Result<Command<'a>, AllocError>
-    ensures { IfOk result (λ c. app_of c ≡ pramx) }
+    ensures { IfOk result (λ command. app_of command ≡ pramx) }
 {
     let machine = machine_command(alloc)?;
     let run = run_command(alloc)?;
@@ -98,7 +97,7 @@ fn command<'a>(alloc: Global) -> Result<Command<'a>, AllocError>
 
 // The program with the subcommands of the plain machine alone.
 fn machine_command<'a>(alloc: Global) -> Result<Command<'a>, AllocError>
-    ensures { IfOk result (λ c. app_of c ≡ on_machine) }
+    ensures { IfOk result (λ command. app_of command ≡ on_machine) }
 {
     let check = file_command(
         alloc,
@@ -118,37 +117,78 @@ fn machine_command<'a>(alloc: Global) -> Result<Command<'a>, AllocError>
 }
 
 fn steps_command<'a>(alloc: Global) -> Result<Command<'a>, AllocError>
-    ensures { IfOk result (λ c. app_of c ≡ on_steps) }
+    ensures { IfOk result (λ command. app_of command ≡ on_steps) }
 {
+    let from = option(
+        alloc,
+        "from",
+        "A",
+        "The first step to print, from 1; 1 if it is left out",
+    );
+    let to = option(
+        alloc,
+        "to",
+        "B",
+        "The last step to print, from 1; the job's last if it is left out",
+    );
     file_command(
         alloc,
         "steps",
         "Run a job on the plain machine, and print what each processor asks for in each step",
     )?
-    .arg(from_arg(alloc))?
-    .arg(to_arg(alloc))
+    .arg(numbered(from, value_parser!(u32).range(1..=MOST_STEPS)))?
+    .arg(numbered(to, value_parser!(u32).range(1..=MOST_STEPS)))
 }
 
 fn run_command<'a>(alloc: Global) -> Result<Command<'a>, AllocError>
-    ensures { IfOk result (λ c. app_of c ≡ on_run) }
+    ensures { IfOk result (λ command. app_of command ≡ on_run) }
 {
-    workers_command(alloc, "run", "Run a job on threads")?
-        .arg(progress_arg(alloc))?
-        .arg(pace_arg(alloc))
+    let command = workers_command(alloc, "run", "Run a job on threads")?;
+    with_progress(alloc, command)
 }
 
 fn watch_command<'a>(alloc: Global) -> Result<Command<'a>, AllocError>
-    ensures { IfOk result (λ c. app_of c ≡ on_watch) }
+    ensures { IfOk result (λ command. app_of command ≡ on_watch) }
 {
-    workers_command(
+    let cells = option(
+        alloc,
+        "cells",
+        "C,C,..",
+        "The cells that are read, by their numbers",
+    );
+    let rounds = option(
+        alloc,
+        "rounds",
+        "R",
+        "How often they are read, from 1 to 1000000",
+    );
+    let command = workers_command(
         alloc,
         "watch",
         "Run a job on threads, and read cells while they run",
     )?
-    .arg(cells_arg(alloc))?
-    .arg(rounds_arg(alloc))?
-    .arg(progress_arg(alloc))?
-    .arg(pace_arg(alloc))
+    .arg(needed(cells))?
+    .arg(needed(numbered(rounds, value_parser!(u32).range(1..=MOST_ROUNDS))))?;
+    with_progress(alloc, command)
+}
+
+// The command with what a run and a watch take last.
+fn with_progress<'a>(alloc: Global, command: Command<'a>) -> Result<Command<'a>, AllocError>
+    ensures { IfOk result (λ made. app_of made ≡ with_progress (app_of command.entry)) }
+{
+    let progress = Arg::new(alloc, "progress")
+        .long("progress")
+        .help("Tell on standard error how far the workers are")
+        .action(ArgAction::SetTrue);
+    let pace = option(
+        alloc,
+        "pace",
+        "MICROSECONDS",
+        "The pause before each atomic step, from 0 to 1000000; none if it is left out",
+    );
+    command
+        .arg(progress)?
+        .arg(numbered(pace, value_parser!(u32).range(0..=MOST_PACE)))
 }
 
 fn workers_command<'a>(
@@ -156,123 +196,61 @@ fn workers_command<'a>(
     name: &'a str,
     about: &'a str,
 ) -> Result<Command<'a>, AllocError>
-    ensures { IfOk result (λ c. app_of c ≡ with_workers name.entry.now) }
+    ensures { IfOk result (λ command. app_of command ≡ with_workers name.entry.now) }
 {
+    let workers = option(
+        alloc,
+        "workers",
+        "W",
+        "How many workers there are, from 1 to 64",
+    );
+    let plan = option(
+        alloc,
+        "plan",
+        "P",
+        "The plan that the workers follow, as CSV",
+    );
     file_command(alloc, name, about)?
-        .arg(workers_arg(alloc))?
-        .arg(plan_arg(alloc))
+        .arg(needed(numbered(workers, value_parser!(u32).range(1..=64))))?
+        .arg(plan)
 }
 
 fn file_command<'a>(alloc: Global, name: &'a str, about: &'a str) -> Result<Command<'a>, AllocError>
-    ensures { IfOk result (λ c. app_of c ≡ on_file name.entry.now) }
+    ensures { IfOk result (λ command. app_of command ≡ on_file name.entry.now) }
 {
-    Command::new(alloc, name).about(about).arg(file_arg(alloc))
-}
-
-fn file_arg<'a>(alloc: Global) -> Arg<'a>
-    ensures rule { rule_of result ≡ file_rule }
-    ensures local { result.global ≡ false }
-{
-    Arg::new(alloc, "file")
+    let file = Arg::new(alloc, "file")
         .value_name("FILE")
         .help("The text of the job")
-        .required(true)
+        .action(ArgAction::Set);
+    Command::new(alloc, name).about(about).arg(needed(file))
+}
+
+// An option with a value.
+fn option<'a>(alloc: Global, name: &'a str, value: &'a str, help: &'a str) -> Arg<'a>
+    ensures rule { rule_of result ≡ option_rule name.entry.now }
+    ensures local { result.global ≡ false }
+{
+    Arg::new(alloc, name)
+        .long(name)
+        .value_name(value)
+        .help(help)
         .action(ArgAction::Set)
 }
 
-fn from_arg<'a>(alloc: Global) -> Arg<'a>
-    ensures rule { rule_of result ≡ from_rule }
-    ensures local { result.global ≡ false }
+// The same argument, whose value is a number within the bounds.
+fn numbered<'a>(arg: Arg<'a>, bounds: ValueParser<'a>) -> Arg<'a>
+    ensures rule { rule_of result ≡ record (rule_of arg.entry) { parser = Some bounds.entry } }
+    ensures local { result.global ≡ arg.entry.global }
 {
-    Arg::new(alloc, "from")
-        .long("from")
-        .value_name("A")
-        .help("The first step to print, from 1; 1 if it is left out")
-        .action(ArgAction::Set)
-        .value_parser(value_parser!(u32).range(1..=MOST_STEPS))
+    arg.value_parser(bounds)
 }
 
-fn to_arg<'a>(alloc: Global) -> Arg<'a>
-    ensures rule { rule_of result ≡ to_rule }
-    ensures local { result.global ≡ false }
+// The same argument, which has to stand.
+fn needed<'a>(arg: Arg<'a>) -> Arg<'a>
+    ensures rule { rule_of result ≡ needed (rule_of arg.entry) }
+    ensures local { result.global ≡ arg.entry.global }
 {
-    Arg::new(alloc, "to")
-        .long("to")
-        .value_name("B")
-        .help("The last step to print, from 1; the job's last if it is left out")
-        .action(ArgAction::Set)
-        .value_parser(value_parser!(u32).range(1..=MOST_STEPS))
-}
-
-fn workers_arg<'a>(alloc: Global) -> Arg<'a>
-    ensures rule { rule_of result ≡ workers_rule }
-    ensures local { result.global ≡ false }
-{
-    Arg::new(alloc, "workers")
-        .long("workers")
-        .value_name("W")
-        .help("How many workers there are, from 1 to 64")
-        .required(true)
-        .action(ArgAction::Set)
-        .value_parser(value_parser!(u32).range(1..=64))
-}
-
-fn plan_arg<'a>(alloc: Global) -> Arg<'a>
-    ensures rule { rule_of result ≡ plan_rule }
-    ensures local { result.global ≡ false }
-{
-    Arg::new(alloc, "plan")
-        .long("plan")
-        .value_name("P")
-        .help("The plan that the workers follow, as CSV")
-        .action(ArgAction::Set)
-}
-
-fn cells_arg<'a>(alloc: Global) -> Arg<'a>
-    ensures rule { rule_of result ≡ cells_rule }
-    ensures local { result.global ≡ false }
-{
-    Arg::new(alloc, "cells")
-        .long("cells")
-        .value_name("C,C,..")
-        .help("The cells that are read, by their numbers")
-        .required(true)
-        .action(ArgAction::Set)
-}
-
-fn rounds_arg<'a>(alloc: Global) -> Arg<'a>
-    ensures rule { rule_of result ≡ rounds_rule }
-    ensures local { result.global ≡ false }
-{
-    Arg::new(alloc, "rounds")
-        .long("rounds")
-        .value_name("R")
-        .help("How often they are read, from 1 to 1000000")
-        .required(true)
-        .action(ArgAction::Set)
-        .value_parser(value_parser!(u32).range(1..=MOST_ROUNDS))
-}
-
-fn progress_arg<'a>(alloc: Global) -> Arg<'a>
-    ensures rule { rule_of result ≡ progress_rule }
-    ensures local { result.global ≡ false }
-{
-    Arg::new(alloc, "progress")
-        .long("progress")
-        .help("Tell on standard error how far the workers are")
-        .action(ArgAction::SetTrue)
-}
-
-fn pace_arg<'a>(alloc: Global) -> Arg<'a>
-    ensures rule { rule_of result ≡ pace_rule }
-    ensures local { result.global ≡ false }
-{
-    Arg::new(alloc, "pace")
-        .long("pace")
-        .value_name("MICROSECONDS")
-        .help("The pause before each atomic step, from 0 to 1000000; none if it is left out")
-        .action(ArgAction::Set)
-        .value_parser(value_parser!(u32).range(0..=MOST_PACE))
+    arg.required(true)
 }
 
 fn line_of<'a>(matches: &ArgMatches<'a>) -> Option<Line<'a>>
@@ -328,10 +306,10 @@ fn line_of<'a>(matches: &ArgMatches<'a>) -> Option<Line<'a>>
 
 // The steps of a window.
 fn window_of(inner: &ArgMatches<'_>) -> Option<(u32, u32)>
-    ensures from { IfSome result (λ w. IsNumberOr (codes "from")
-        (rows_of (found_of inner.now)) 1 w.0) }
-    ensures to { IfSome result (λ w. IsNumberOr (codes "to")
-        (rows_of (found_of inner.now)) (2 ^ 32 - 1) w.1) }
+    ensures from { IfSome result (λ window. IsNumberOr (codes "from")
+        (rows_of (found_of inner.now)) 1 window.0) }
+    ensures to { IfSome result (λ window. IsNumberOr (codes "to")
+        (rows_of (found_of inner.now)) (2 ^ 32 - 1) window.1) }
 {
     let from = number_or(inner, "from", 1)?;
     let to = number_or(inner, "to", u32::MAX)?;
@@ -366,10 +344,10 @@ fn number_if_set(inner: &ArgMatches<'_>, option: &str) -> Option<Option<u32>>
 
 // The cells and the rounds of a watch.
 fn reads_of<'a>(inner: &ArgMatches<'a>) -> Option<(CellList<'a>, u32)>
-    ensures cells { IfSome result (λ r. first_of (codes "cells") (rows_of (found_of inner.now))
-        ≡ Some r.0.text.now) }
-    ensures rounds { IfSome result (λ r. IsNumberOf (codes "rounds")
-        (rows_of (found_of inner.now)) r.1) }
+    ensures cells { IfSome result (λ reads.
+        first_of (codes "cells") (rows_of (found_of inner.now)) ≡ Some reads.0.text.now) }
+    ensures rounds { IfSome result (λ reads. IsNumberOf (codes "rounds")
+        (rows_of (found_of inner.now)) reads.1) }
 {
     let text = inner.get_str("cells")?;
     let cells = CellList::read(text)?;

@@ -80,9 +80,9 @@ fn answer_words<'a, R: Eprint + Threads + Wait + Clock + Sync, F: Folder, O: Sin
     requires out { O.has_failed console.old.out ≡ false }
     requires err { E.has_failed console.old.err ≡ false }
     ensures status { result ≤ MEMORY }
-    ensures words { EndsByWords (map (λ w. w.now) words.entry.now) result }
-    ensures answers { AnswersWords (F.holds folder.now) (map (λ w. w.now) words.entry.now)
-        (writing O.taken O.has_failed console.old.out console.new.out) result }
+    ensures words { EndsByWords (map (λ word. word.now) words.entry.now) result }
+    ensures answers { AnswersWords (F.holds folder.now) (map (λ word. word.now) words.entry.now)
+        (writing O.Sink console.old.out console.new.out) result }
 {
     match read_line(alloc, words) {
         Ok(line) => serve_files(rt, alloc, folder, &line, console),

@@ -11,30 +11,31 @@ use Rattle.pram_commands.specs.Faults.{fault_of_print}
 use Rattle.pram_commands.specs.declared.fault.CommandFault.{CommandFault}
 
 -- The output took all that the relation tells, or a beginning of it.
-pub record PutAll (Comes : List ℕ → Option RunAnswer → Type 0) (w : Writing)
+pub record PutAll (Comes : List ℕ → Option RunAnswer → Type 0) (writes : Writing)
     (Is : Option RunAnswer → Type 0) : Type 0 where
   pub text : List ℕ
   pub answer : Option RunAnswer
   pub comes : Comes text answer
-  pub takes : Appends w.out w.out' text
+  pub takes : Appends writes.out writes.out' text
   pub is : Is answer
 
-pub record PutBeginning (Comes : List ℕ → Option RunAnswer → Type 0) (w : Writing) : Type 0 where
+pub record PutBeginning (Comes : List ℕ → Option RunAnswer → Type 0) (writes : Writing)
+    : Type 0 where
   pub text : List ℕ
   pub answer : Option RunAnswer
   pub comes : Comes text answer
-  pub takes : AppendsBeginning w.out w.out' text
+  pub takes : AppendsBeginning writes.out writes.out' text
 
 abbrev pub PutSome : (List ℕ → Option RunAnswer → Type 0) → Type 0 → Writing → PrintFault → Type 0
-PutSome Comes InPieces w Device = PutBeginning Comes w
-PutSome Comes InPieces w Memory = w.Unwritten ⊎ (InPieces × PutBeginning Comes w)
+PutSome Comes InPieces writes Device = PutBeginning Comes writes
+PutSome Comes InPieces writes Memory = writes.Unwritten ⊎ (InPieces × PutBeginning Comes writes)
 
 pub record Puts {A : Type 0} (Comes : List ℕ → Option RunAnswer → Type 0) (InPieces : Type 0)
-    (w : Writing) (Tells : A → Option RunAnswer → Type 0) (result : Result A PrintFault)
+    (writes : Writing) (Tells : A → Option RunAnswer → Type 0) (result : Result A PrintFault)
     : Type 0 where
-  pub done : IfOk result (λ told. PutAll Comes w (Tells told))
-  pub wrote : IfErr result (PutSome Comes InPieces w)
-  pub failed : IsTrue w.failed ↔ IsErrOf result Device
+  pub done : IfOk result (λ told. PutAll Comes writes (Tells told))
+  pub wrote : IfErr result (PutSome Comes InPieces writes)
+  pub failed : IsTrue writes.failed ↔ IsErrOf result Device
 
 -- what a command answers where printing is its last act
 abbrev pub printed_as : {A : Type 0} → Result A PrintFault → Result A CommandFault

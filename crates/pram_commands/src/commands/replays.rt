@@ -2,7 +2,7 @@
 ghost use Rattle.std.specs.Prelude.{◌≡◌, false};
 ghost use Rattle.pram_commands.specs.Did.{Did, tells, writing};
 ghost use Rattle.pram_commands.specs.Inner.Puts.{Puts};
-ghost use Rattle.pram_commands.specs.Inputs.{reading};
+ghost use Rattle.pram_commands.specs.Inputs.{AreReady, taking};
 ghost use Rattle.pram_commands.specs.Replayed.{replaying};
 
 use crate::commands::printed;
@@ -23,13 +23,9 @@ pub fn replay<J: Source, P: Source, O: Sink>(
     sources: &mut Sources<J, P>,
     out: &mut O,
 ) -> Result<RunAnswer, CommandFault>
-    requires job { J.has_failed sources.old.job ≡ false }
-    requires plan { P.has_failed sources.old.plan ≡ false }
-    requires out { O.has_failed out.old ≡ false }
-    ensures { Did (replaying workers.count) (reading J.remaining J.has_failed P.remaining
-        P.has_failed sources.old.job sources.new.job sources.old.plan sources.new.plan)
-        (writing O.taken O.has_failed out.old out.new) (sources.new.plan ≡ sources.old.plan)
-        tells result }
+    requires { AreReady J.Source P.Source O.Sink sources.old out.old }
+    ensures { Did (replaying workers.count) (taking J.Source P.Source sources.old sources.new)
+        (writing O.Sink out.old out.new) tells result }
 {
     let inputs = take_inputs(alloc, workers, sources)?;
     printed(put_replay(alloc, &inputs, out))
@@ -39,7 +35,7 @@ pub fn replay<J: Source, P: Source, O: Sink>(
 fn put_replay<O: Sink>(alloc: Global, inputs: &Inputs, out: &mut O) -> Result<RunAnswer, PrintFault>
     requires { O.has_failed out.old ≡ false }
     ensures { Puts ((replaying 0).Comes inputs.now.job inputs.now.plan) (replaying 0).InPieces
-        (writing O.taken O.has_failed out.old out.new) tells result }
+        (writing O.Sink out.old out.new) tells result }
 {
     let (job, plan) = (&inputs.job, &inputs.plan);
     let (answer, trace) = pram_run::replay(alloc, job, plan.workers(), plan)?;

@@ -2,7 +2,7 @@
 ghost use Rattle.std.specs.Prelude.{◌≡◌, false};
 ghost use Rattle.pram_commands.specs.Did.{Did, tells, writing};
 ghost use Rattle.pram_commands.specs.Inner.Puts.{Puts};
-ghost use Rattle.pram_commands.specs.Inputs.{reading};
+ghost use Rattle.pram_commands.specs.Inputs.{AreReady, taking};
 ghost use Rattle.pram_commands.specs.Threads.{running};
 
 use crate::commands::printed;
@@ -19,7 +19,7 @@ use std::thread::Threads;
 
 /// Reads a job, then its plan, runs the plan's workers on threads in this manner, and prints the
 /// job's answer. Where progress is asked for, that is one thread more. Where a thread is refused,
-/// that is want of memory.
+/// that is out of memory.
 pub fn run<R: Threads + Wait + Clock + Eprint + Sync, J: Source, P: Source, O: Sink>(
     rt: &R,
     alloc: Global,
@@ -27,13 +27,9 @@ pub fn run<R: Threads + Wait + Clock + Eprint + Sync, J: Source, P: Source, O: S
     sources: &mut Sources<J, P>,
     out: &mut O,
 ) -> Result<RunAnswer, CommandFault>
-    requires job { J.has_failed sources.old.job ≡ false }
-    requires plan { P.has_failed sources.old.plan ≡ false }
-    requires out { O.has_failed out.old ≡ false }
-    ensures { Did (running manner.workers.count) (reading J.remaining J.has_failed P.remaining
-        P.has_failed sources.old.job sources.new.job sources.old.plan sources.new.plan)
-        (writing O.taken O.has_failed out.old out.new) (sources.new.plan ≡ sources.old.plan)
-        tells result }
+    requires { AreReady J.Source P.Source O.Sink sources.old out.old }
+    ensures { Did (running manner.workers.count) (taking J.Source P.Source sources.old sources.new)
+        (writing O.Sink out.old out.new) tells result }
 {
     let inputs = take_inputs(alloc, manner.workers, sources)?;
     printed(put_run(rt, alloc, &inputs, manner, out))
@@ -49,7 +45,7 @@ fn put_run<R: Threads + Wait + Clock + Eprint + Sync, O: Sink>(
 ) -> Result<RunAnswer, PrintFault>
     requires { O.has_failed out.old ≡ false }
     ensures { Puts ((running 0).Comes inputs.now.job inputs.now.plan) (running 0).InPieces
-        (writing O.taken O.has_failed out.old out.new) tells result }
+        (writing O.Sink out.old out.new) tells result }
 {
     let (answer, _seat) = run_job(rt, alloc, inputs, manner)?;
     print_answer(alloc, out, &answer, inputs.job.steps())?;

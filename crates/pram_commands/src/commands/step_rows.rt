@@ -2,7 +2,7 @@
 ghost use Rattle.std.specs.Prelude.{◌≡◌, false};
 ghost use Rattle.pram_commands.specs.Did.{Did, tells, writing};
 ghost use Rattle.pram_commands.specs.Inner.Puts.{Puts};
-ghost use Rattle.pram_commands.specs.Inputs.{reading};
+ghost use Rattle.pram_commands.specs.Inputs.{AreReady, taking};
 ghost use Rattle.pram_commands.specs.Plain.{no_plan};
 ghost use Rattle.pram_commands.specs.Steps.{stepping};
 
@@ -24,13 +24,9 @@ pub fn steps<J: Source, P: Source, O: Sink>(
     sources: &mut Sources<J, P>,
     out: &mut O,
 ) -> Result<RunAnswer, CommandFault>
-    requires job { J.has_failed sources.old.job ≡ false }
-    requires plan { P.has_failed sources.old.plan ≡ false }
-    requires out { O.has_failed out.old ≡ false }
-    ensures { Did (stepping window) (reading J.remaining J.has_failed P.remaining P.has_failed
-        sources.old.job sources.new.job sources.old.plan sources.new.plan)
-        (writing O.taken O.has_failed out.old out.new) (sources.new.plan ≡ sources.old.plan)
-        tells result }
+    requires { AreReady J.Source P.Source O.Sink sources.old out.old }
+    ensures { Did (stepping window) (taking J.Source P.Source sources.old sources.new)
+        (writing O.Sink out.old out.new) tells result }
 {
     let job = take_job(alloc, &mut sources.job)?;
     printed(put_steps(alloc, &job, window, out))
@@ -44,7 +40,7 @@ fn put_steps<O: Sink>(
 ) -> Result<RunAnswer, PrintFault>
     requires { O.has_failed out.old ≡ false }
     ensures { Puts ((stepping window).Comes job.now no_plan) (stepping window).InPieces
-        (writing O.taken O.has_failed out.old out.new) tells result }
+        (writing O.Sink out.old out.new) tells result }
 {
     print_steps(alloc, out, job, window)
 }

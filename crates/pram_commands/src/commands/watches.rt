@@ -3,7 +3,7 @@ ghost use Rattle.std.specs.Prelude.{◌≡◌, [], false};
 ghost use Rattle.pram_commands.specs.CellLists.{cells_of};
 ghost use Rattle.pram_commands.specs.Did.{Did, tells, writing};
 ghost use Rattle.pram_commands.specs.Inner.Puts.{Puts};
-ghost use Rattle.pram_commands.specs.Inputs.{first_outside, reading};
+ghost use Rattle.pram_commands.specs.Inputs.{AreReady, first_outside, taking};
 ghost use Rattle.pram_commands.specs.Threads.{watching};
 
 use crate::cell_list::CellList;
@@ -39,14 +39,11 @@ pub fn watch<R: Threads + Wait + Clock + Eprint + Sync, J: Source, P: Source, O:
     sources: &mut Sources<J, P>,
     out: &mut O,
 ) -> Result<RunAnswer, CommandFault>
-    requires job { J.has_failed sources.old.job ≡ false }
-    requires plan { P.has_failed sources.old.plan ≡ false }
-    requires out { O.has_failed out.old ≡ false }
+    requires { AreReady J.Source P.Source O.Sink sources.old out.old }
     ensures { Did (watching reads.entry.manner.workers.count
-        (cells_of reads.entry.cells.text.now) reads.entry.rounds) (reading J.remaining J.has_failed
-        P.remaining P.has_failed sources.old.job sources.new.job sources.old.plan sources.new.plan)
-        (writing O.taken O.has_failed out.old out.new) (sources.new.plan ≡ sources.old.plan)
-        tells result }
+        (cells_of reads.entry.cells.text.now) reads.entry.rounds)
+        (taking J.Source P.Source sources.old sources.new)
+        (writing O.Sink out.old out.new) tells result }
 {
     let Reads {
         manner,
@@ -78,7 +75,7 @@ fn put_watch<R: Threads + Wait + Clock + Eprint + Sync, O: Sink>(
     requires { O.has_failed out.old ≡ false }
     ensures { Puts ((watching 0 watched.now.cells.now watched.now.rounds).Comes
         watched.now.inputs.now.job watched.now.inputs.now.plan) (watching 0 [] 0).InPieces
-        (writing O.taken O.has_failed out.old out.new) tells result }
+        (writing O.Sink out.old out.new) tells result }
 {
     let (answer, sights, _seat) = watch_job(rt, alloc, watched, manner)?;
     print_sights(alloc, out, sights.as_slice())?;

@@ -2,10 +2,12 @@ use Rattle.pram_commands.proofs.Doing.{ended_did}
 use Rattle.pram_commands.proofs.commands.do_alone.Goals as goal
 
 pub returns-in-Plain : goal.returns-in-Plain
-returns-in-Plain g c = rw c.in-Plain.is (ended_did _ _ _ _ _ c.plain.ensures _ c.ended.ensures)
+returns-in-Plain g c = rw c.in-Plain.is (ended_did _ _ _ _ c.plain.ensures _ c.ended.ensures)
 
 pub returns-in-Steps : goal.returns-in-Steps
-returns-in-Steps g c = rw c.in-Steps.is (ended_did _ _ _ _ _ c.steps.ensures _ c.ended-in-Steps.ensures)
+returns-in-Steps g c =
+    rw c.in-Steps.is (ended_did _ _ _ _ c.steps.ensures _ c.ended-in-Steps.ensures)
 
 pub returns-in-Replay : goal.returns-in-Replay
-returns-in-Replay g c = rw c.in-Replay.is (ended_did _ _ _ _ _ c.replay.ensures _ c.ended-in-Replay.ensures)
+returns-in-Replay g c =
+    rw c.in-Replay.is (ended_did _ _ _ _ c.replay.ensures _ c.ended-in-Replay.ensures)

@@ -15,7 +15,14 @@ returns g c =
     let seat = c.in_ok-seat.seat in
     let later = c.run-seat.result.0 in
     let ran : HasRun desk.task plan seat later =
-    subst (λ (r : Result RunAnswer AllocError). OnOk r (HasRun desk.task plan seat later)) (c.in_ok-answer.was {u = tt}) c.run-seat.ensures.ran in
+    subst (λ (r : Result RunAnswer AllocError). OnOk r (HasRun desk.task plan seat later))
+    (c.in_ok-answer.was {u = tt}) c.run-seat.ensures.ran in
     let told : IsRun desk.task plan later.record_of c.in_ok-answer.field-0 =
-    subst (λ (r : Result RunAnswer AllocError). IfOk r (IsRun desk.task plan later.record_of)) (c.in_ok-answer.was {u = tt}) c.run-seat.ensures.answer in
-    record { made = (desk, seat); opened = opened_as job plan.workers desk c.args.seat seat c.in_ok-seat.ensures c.requires; ran = ran; told = told }
+    subst (λ (r : Result RunAnswer AllocError). IfOk r (IsRun desk.task plan later.record_of))
+    (c.in_ok-answer.was {u = tt}) c.run-seat.ensures.answer in
+    record {
+      made = (desk, seat);
+      opened = opened_as job plan.workers desk c.args.seat seat c.in_ok-seat.ensures c.requires;
+      ran = ran;
+      told = told;
+    }

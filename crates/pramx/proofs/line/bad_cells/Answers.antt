@@ -10,7 +10,9 @@ returns-in-None c =
     record {
       rows = rows;
       cells = c.in_ok-text.text.now;
-      met = subst (λ (name : Text). subcommand_rows_of c.args.matches.now ≡ Some (name, rows)) c.in-watch.is (pair_of _ _ _ _ _ c.in_ok-name.ensures.name c.in_ok-name.ensures.rows);
-      has_cells = sym (c.in_ok-text.ensures ∙ first_value-rows (found_of c.in_ok-name.inner.now) (codes "cells"));
+      met = subst (λ (name : Text). subcommand_rows_of c.args.matches.now ≡ Some (name, rows))
+          c.in-watch.is (pair_of _ _ _ _ _ c.in_ok-name.ensures.name c.in_ok-name.ensures.rows);
+      has_cells = sym (c.in_ok-text.ensures
+          ∙ first_value-rows (found_of c.in_ok-name.inner.now) (codes "cells"));
       bad = c.read.ensures.none c.in-None.is;
     }

@@ -7,8 +7,12 @@ use Rattle.pramx.proofs.line.machine_command.Goals as goal
 
 pub returns : goal.returns
 returns c =
-    let bare_is : app_of c.subcommand_required.result ≡ bare = rw (c.subcommand_required.ensures, c.after_help.ensures, c.about.ensures, c.version.ensures)
-    (ap (λ (a : App). record a { top = record a.top { has_version = true; subcommand_required = true } }) c.new.ensures.app) in
+    let bare_is : app_of c.subcommand_required.result ≡ bare =
+    rw (c.subcommand_required.ensures, c.after_help.ensures, c.about.ensures, c.version.ensures)
+    (ap (λ (a : App). record a {
+      top = record a.top { has_version = true; subcommand_required = true };
+    }) c.new.ensures.app) in
     let one = added _ _ _ _ _ c.in_ok-subcommand.ensures.shape bare_is c.in_ok-check.ensures refl in
     let two = added _ _ _ _ _ c.in_ok-subcommand-2.ensures.shape one c.in_ok-plain.ensures refl in
-    IfOk-weaker c.subcommand-3.result _ _ (λ r last. added _ _ _ _ _ last.shape two c.in_ok-steps.ensures refl) c.subcommand-3.ensures
+    IfOk-weaker c.subcommand-3.result _ _
+    (λ r last. added _ _ _ _ _ last.shape two c.in_ok-steps.ensures refl) c.subcommand-3.ensures

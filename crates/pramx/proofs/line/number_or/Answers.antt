@@ -6,16 +6,22 @@ use Rattle.pramx.proofs.Matches.{number_of}
 use Rattle.pramx.proofs.line.number_or.Goals as goal
 
 abbrev Fact : ℕ → ℕ → Text → List Row → Option Text → Type 0
-Fact other number option rows first = MatchOption first (number ≡ other) (λ _. IsNumberOf option rows number)
+Fact other number option rows first =
+    MatchOption first (number ≡ other) (λ _. IsNumberOf option rows number)
 
 pub returns-in-None : goal.returns-in-None
 returns-in-None c =
     let rows = rows_of (found_of c.args.inner.now) in
-    subst (Fact c.args.other c.args.other c.args.option.now rows) (c.in-None.ensures ∙ first_value-rows (found_of c.args.inner.now) c.args.option.now) refl
+    subst (Fact c.args.other c.args.other c.args.option.now rows)
+    (c.in-None.ensures ∙ first_value-rows (found_of c.args.inner.now) c.args.option.now) refl
 
 pub returns-in_ok-number-in-Some : goal.returns-in_ok-number-in-Some
 returns-in_ok-number-in-Some c =
     let found = found_of c.args.inner.now in
     let option = c.args.option.now in
-    let number : IsNumberOf option (rows_of found) c.in_ok-number-in-Some.number = rw (← one_text-rows found option) (number_of (one_text found option) _ c.in_ok-number-in-Some.ensures.none (λ text is. (c.in_ok-number-in-Some.ensures.value text is).0.1)) in
-    subst (Fact c.args.other c.in_ok-number-in-Some.number option (rows_of found)) (c.in-Some.ensures ∙ first_value-rows found option) number
+    let number : IsNumberOf option (rows_of found) c.in_ok-number-in-Some.number =
+    rw (← one_text-rows found option)
+    (number_of (one_text found option) _ c.in_ok-number-in-Some.ensures.none
+    (λ text is. (c.in_ok-number-in-Some.ensures.value text is).0.1)) in
+    subst (Fact c.args.other c.in_ok-number-in-Some.number option (rows_of found))
+    (c.in-Some.ensures ∙ first_value-rows found option) number

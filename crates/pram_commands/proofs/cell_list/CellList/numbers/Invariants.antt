@@ -5,4 +5,5 @@ use Rattle.pram_commands.proofs.cell_list.CellList.numbers.Given as goal
 
 -- the cells so far
 abbrev pub invariant-loop-part : goal.invariant-loop-part
-invariant-loop-part l = vec_items l.cells ≡ map (λ (part : Bor (List ℕ)). cell_of part.now) l.yielded
+invariant-loop-part l =
+    vec_items l.cells ≡ map (λ (part : Bor (List ℕ)). cell_of part.now) l.yielded
