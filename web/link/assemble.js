@@ -1,5 +1,5 @@
 // assemble.js CORE.wasm EXAMPLES TABLE OUT.html: puts the page into one file. The modules of src/ are
-// written one behind the other, each as a function of its own behind those that it imports.
+// written one after the other, each as a function of its own after those that it imports.
 import { createHash } from 'node:crypto';
 import { readFileSync, readdirSync, writeFileSync } from 'node:fs';
 import { dirname, join } from 'node:path';
@@ -10,10 +10,10 @@ const read = (name) => readFileSync(join(source, name), 'utf8');
 const IMPORT = /^import \{([^}]*)\} from '\.\/([a-z_]+)\.js';\n/gm;
 const EXPORT = /^export (?:async )?(?:function|const|let|class) (\w+)/gm;
 
-// A module and those that it imports, each behind its own imports.
-function modulesBehind(name, found = new Set()) {
+// A module and those that it imports, each after its own imports.
+function modulesOf(name, found = new Set()) {
   for (const [, , imported] of read(`${name}.js`).matchAll(IMPORT)) {
-    if (!found.has(imported)) modulesBehind(imported, found);
+    if (!found.has(imported)) modulesOf(imported, found);
   }
   return found.add(name);
 }
@@ -34,7 +34,7 @@ function instructionsOf(file) {
   return [...rows].map(([, name, operands]) => [name, operands]);
 }
 
-const bundle = (table) => `\n${[...modulesBehind('main')].map(enclosed).join('\n')}`
+const bundle = (table) => `\n${[...modulesOf('main')].map(enclosed).join('\n')}`
   .replace('/*INSTRUCTIONS*/[]', JSON.stringify(instructionsOf(table)));
 
 function examplesOf(folder) {

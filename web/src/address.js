@@ -1,4 +1,4 @@
-// Program, workers and schedule in the address, behind `#`, so that a link carries a
+// Program, workers and schedule in the address, after `#`, so that a link carries a
 // demonstration. What comes from an address is never trusted: it is read within limits or refused.
 import { MOST_WORKERS, Schedule, readActs, writeActs } from './schedule.js';
 
@@ -57,7 +57,7 @@ async function unpackText(packed) {
   return new TextDecoder('utf-8', { fatal: true }).decode(bytes);
 }
 
-// The part behind `#`, or nothing where it would be too long for a link.
+// The part after `#`, or nothing where it would be too long for a link.
 export async function writeAddress(shown, examples) {
   const example = examples.find((candidate) => candidate.text === shown.text);
   if (!example && shown.text.length > 20 * MOST_ADDRESS) return undefined;

@@ -15,8 +15,9 @@ export const FAULT = {
   TOO_LONG: 11,
 };
 
-// The table of instructions, name and operands, which the page's maker reads from the core's source.
-const INSTRUCTIONS = /*INSTRUCTIONS*/[];
+// The table of instructions, name and operands, which the page's maker reads from the core's
+// source.
+export const INSTRUCTIONS = /*INSTRUCTIONS*/[];
 
 // The operands in words, and an example.
 const OPERANDS = {
@@ -30,10 +31,12 @@ const OPERANDS = {
   Place: ['one label', ' again'],
 };
 
-const USAGE = Object.fromEntries(INSTRUCTIONS.map(([name, operands]) => {
-  const [words, example] = OPERANDS[operands];
-  return [name, [words, `${name}${example}`]];
-}));
+function usageOf(name) {
+  const row = INSTRUCTIONS.find(([known]) => known === name);
+  if (!row) return undefined;
+  const [words, example] = OPERANDS[row[1]];
+  return { words, example: `${name}${example}` };
+}
 
 const LIMITS = {
   cells: 'There are 1 to 65,536 cells.',
@@ -45,7 +48,7 @@ const LIMITS = {
 const HEADER =
   'The lines before the program are, in this order: pram 1, cells M, procs N, steps T, ' +
   'any number of init CELL VALUE, code. With pram 2, a line rule common, rule priority or ' +
-  'rule crew stands behind steps.';
+  'rule crew stands after steps.';
 
 function wordsOf(line) {
   const words = line.split(';', 1)[0].split(/[ \t\r]+/).filter((word) => word !== '');
@@ -89,17 +92,18 @@ function badNumber(line) {
 
 function unknownInstruction(line) {
   const [name] = instructionOf(line);
-  if (name === undefined) return 'An instruction must stand behind the label, on the same line.';
+  if (name === undefined) return 'An instruction must stand after the label, on the same line.';
   const labelled = wordsOf(line)[0].endsWith(':') && !/^[A-Za-z_]\w*:$/.test(wordsOf(line)[0]);
   if (labelled) return 'A label is a letter or _, then letters, digits and _, then “:”.';
-  return `There is no instruction “${name}”. There are ${Object.keys(USAGE).join(', ')}.`;
+  const names = INSTRUCTIONS.map(([known]) => known).join(', ');
+  return `There is no instruction “${name}”. There are ${names}.`;
 }
 
 function wrongOperands(line) {
   const [name] = instructionOf(line);
-  const usage = Object.hasOwn(USAGE, name) ? USAGE[name] : undefined;
+  const usage = usageOf(name);
   if (!usage) return 'The number of operands is wrong.';
-  return `“${name}” needs ${usage[0]}, as in “${usage[1]}”.`;
+  return `“${name}” needs ${usage.words}, as in “${usage.example}”.`;
 }
 
 function badRegister(line) {

@@ -130,7 +130,7 @@ export class LockstepView {
     this.show();
   }
 
-  // What the processors ask for behind so many steps; nothing behind the last one.
+  // What the processors ask for after so many steps; nothing after the last one.
   requestsBehind(step) {
     const { app } = this;
     if (step < 0 || step >= app.job.steps) return { list: [], code: CODE.DONE };

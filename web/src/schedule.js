@@ -36,7 +36,7 @@ export class Schedule {
     this.at = Math.min(Math.max(moment, 0), this.acts.length);
   }
 
-  // What comes next takes the place of what came behind this moment.
+  // What comes next takes the place of what came after this moment.
   add(acts) {
     this.acts.length = this.at;
     for (const act of acts) if (!this.isFull) this.acts.push(act);

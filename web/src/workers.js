@@ -85,7 +85,7 @@ export class WorkersView {
     this.changed();
   }
 
-  // A schedule that has a future is played as it is; behind its end each worker goes in turn.
+  // A schedule that has a future is played as it is; after its end each worker goes in turn.
   play(beats) {
     const { schedule } = this.app;
     if (!schedule.isAtEnd) {

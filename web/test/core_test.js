@@ -6,7 +6,7 @@ import { readFileSync, readdirSync, writeFileSync } from 'node:fs';
 import { tmpdir } from 'node:os';
 import { join } from 'node:path';
 import { CODE, openCore } from '../src/core.js';
-import { FAULT, wordsOfFault } from '../src/faults.js';
+import { FAULT, INSTRUCTIONS, wordsOfFault } from '../src/faults.js';
 import { planOf } from '../src/plan.js';
 import { ACT, actOf, readActs, Schedule, writeActs } from '../src/schedule.js';
 import { readAddress, writeAddress } from '../src/address.js';
@@ -16,9 +16,17 @@ const MOST = 4294967295;
 const [pagePath, folder, pramx] = process.argv.slice(2);
 const { is, end } = report();
 
-function coreOfPage(path) {
-  const found = /<script type="text\/plain" id="core">([^<]*)</.exec(readFileSync(path, 'utf8'));
+const page = readFileSync(pagePath, 'utf8');
+
+function coreOfPage() {
+  const found = /<script type="text\/plain" id="core">([^<]*)</.exec(page);
   return openCore(Buffer.from(found[1], 'base64'));
+}
+
+// The table that the page's maker put into the page.
+function tableOfPage() {
+  const found = /const INSTRUCTIONS = (\[\[.*?\]\]);/.exec(page);
+  return JSON.parse(found[1]);
 }
 
 function printed(answer) {
@@ -186,14 +194,14 @@ const REFUSED = [
 const CODE_REFUSED = [
   ['ld r1', FAULT.WRONG_OPERANDS, '“ld” needs two registers, as in “ld r1 r0”'],
   ['again: ld r1', FAULT.WRONG_OPERANDS, '“ld” needs two registers, as in “ld r1 r0”'],
-  ['mov r1 r2', FAULT.UNKNOWN_INSTRUCTION, 'no instruction “mov”'],
+  ['mov r1 r2', FAULT.UNKNOWN_INSTRUCTION, 'no instruction “mov”. There are set, pid, add'],
   ['add r1 r2 r4', FAULT.BAD_REGISTER, '“r4” is no register'],
   ['a: halt\na: halt', FAULT.DUPLICATE_LABEL, '“a” is defined on an earlier line'],
   ['jmp nowhere', FAULT.UNKNOWN_LABEL, 'defines the label “nowhere”'],
   ['', FAULT.NO_CODE, 'no instruction follows'],
   ['halt\n'.repeat(4097), FAULT.TOO_LONG, 'at most 4,096'],
   ['3: halt', FAULT.UNKNOWN_INSTRUCTION, 'A label is a letter'],
-  ['a:', FAULT.UNKNOWN_INSTRUCTION, 'must stand behind the label'],
+  ['a:', FAULT.UNKNOWN_INSTRUCTION, 'must stand after the label'],
   ['set r1 4294967296', FAULT.OUT_OF_LIMITS, 'at most 4,294,967,295'],
   ['set r1 x', FAULT.BAD_NUMBER, '“x” must be a number'],
 ];
@@ -240,7 +248,8 @@ function testSpeed(core) {
   is('399,996 events in a second', took < 1000 || took, true);
 }
 
-const core = await coreOfPage(pagePath);
+INSTRUCTIONS.push(...tableOfPage());
+const core = await coreOfPage();
 const names = readdirSync(folder).filter((name) => name.endsWith('.pram')).sort();
 for (const name of names) testProgram(core, name.replace(/\.pram$/, ''));
 testActs();
