@@ -17,7 +17,7 @@ use Rattle.pram_text.specs.declared.instr.Instr.{Instr}
 use Rattle.pram_text.specs.declared.instr.Operands.{Operands}
 use Rattle.pram_text.specs.declared.instr.Operands.TheVariants.{Bare, Target, TargetNumber}
 use Rattle.pram_text.specs.declared.instr.Operands.TheVariants.{TargetOne, TargetTwo, Two}
-use Rattle.pram_text.specs.declared.instr.Operands.TheVariants.{OnePlace, Place}
+use Rattle.pram_text.specs.declared.instr.Operands.TheVariants.{RegisterIndex, Index}
 use Rattle.pram_text.specs.Instructions.{AreOperands, row_of}
 use Rattle.pram_step.specs.Instructions.{request_in}
 use Rattle.pram_step.specs.Machine.{IsDataPlace, State, counter, halted, register_place}
@@ -97,10 +97,10 @@ spelled-unquoted len name (TargetOne r a) short named (first, second) =
 spelled-unquoted len name (TargetTwo r a b) short named are = three-unquoted name r a b named are
 spelled-unquoted len name (Two a b) short named (first, second) =
     two-unquoted name a b named first second
-spelled-unquoted len name (OnePlace r place) short named (register, within) =
-    register_number-unquoted name r place named register (omega arith)
-spelled-unquoted len name (Place place) short named are =
-    number-unquoted name (codes " ") place named refl (omega arith)
+spelled-unquoted len name (RegisterIndex r index) short named (register, within) =
+    register_number-unquoted name r index named register (omega arith)
+spelled-unquoted len name (Index index) short named are =
+    number-unquoted name (codes " ") index named refl (omega arith)
 
 instruction-unquoted : (len : ℕ) (instr : Instr) → len < 2 ^ 32 → IsInstr len instr →
     IsUnquoted (instruction_text instr)
@@ -150,51 +150,51 @@ target-plain job i (Some (place, value)) is low own =
     (decimal-unquoted (place - register_place job i 0) (omega arith))))
 
 -- a row of such fields as csv writes it
-seven-text : (step processor place instruction target value next : List ℕ) →
+seven-text : (step processor index instruction target value next : List ℕ) →
     IsPlain step → IsPlain processor →
-    IsPlain place → IsPlain instruction → IsPlain target → IsPlain value → IsPlain next →
-    row_text default_writer (step ∷ processor ∷ place ∷ instruction ∷ target ∷ value ∷ next ∷ [])
-    ≡ step ++ codes "," ++ processor ++ codes "," ++ place ++ codes "," ++ instruction ++ codes ","
+    IsPlain index → IsPlain instruction → IsPlain target → IsPlain value → IsPlain next →
+    row_text default_writer (step ∷ processor ∷ index ∷ instruction ∷ target ∷ value ∷ next ∷ [])
+    ≡ step ++ codes "," ++ processor ++ codes "," ++ index ++ codes "," ++ instruction ++ codes ","
     ++ target ++ codes "," ++ value ++ codes "," ++ next ++ codes "\n"
 unfolding fields_text is_blank
-seven-text step processor place instruction target value next steps processors
-    places instructions targets values nexts =
-    rw (steps, processors, places, instructions, targets, values, nexts) (simp append_assoc)
+seven-text step processor index instruction target value next steps processors
+    indices instructions targets values nexts =
+    rw (steps, processors, indices, instructions, targets, values, nexts) (simp append_assoc)
 
 -- the fields of a row of the machine, each plain
 pub record AreFields (job : JobData) (s : State) (n i : ℕ)
-    (step processor place instruction target value next : List ℕ) : Type 0 where
+    (step processor index instruction target value next : List ℕ) : Type 0 where
   pub step_is : step ≡ decimal n
   pub processor_is : processor ≡ decimal i
-  pub place_is : place ≡ decimal (counter job s i)
+  pub index_is : index ≡ decimal (counter job s i)
   pub instruction_is : instruction ≡ instruction_at job (counter job s i)
   pub target_is : target ≡ target_text job i (request_in job s i).put
   pub value_is : value ≡ value_text (request_in job s i).put
   pub next_is : next ≡ decimal (request_in job s i).next
   pub steps : IsPlain step
   pub processors : IsPlain processor
-  pub places : IsPlain place
+  pub indices : IsPlain index
   pub values : IsPlain value
   pub nexts : IsPlain next
 
 pub row-is : (job : JobData) (s : State)
-    (n i : ℕ) (step processor place instruction target value next : List ℕ) → IsJob job →
+    (n i : ℕ) (step processor index instruction target value next : List ℕ) → IsJob job →
     i < job.procs → IfSome (request_in job s i).put (λ w. IsDataPlace job i w.0) →
-    AreFields job s n i step processor place instruction target value next →
-    row_text default_writer (step ∷ processor ∷ place ∷ instruction ∷ target ∷ value ∷ next ∷ [])
+    AreFields job s n i step processor index instruction target value next →
+    row_text default_writer (step ∷ processor ∷ index ∷ instruction ∷ target ∷ value ∷ next ∷ [])
     ≡ row_line job s n i
 unfolding row_line
-row-is job s n i step processor place instruction target value next is low own fields =
+row-is job s n i step processor index instruction target value next is low own fields =
     let instructions : IsPlain instruction = subst (λ l. IsPlain l)
     (sym fields.instruction_is) (instruction-plain job (counter job s i) is) in
     let targets : IsPlain target = subst (λ l. IsPlain l)
     (sym fields.target_is) (target-plain job i (request_in job s i).put is low own) in
-    seven-text step processor place instruction target value next
-    fields.steps fields.processors fields.places instructions targets fields.values fields.nexts
+    seven-text step processor index instruction target value next
+    fields.steps fields.processors fields.indices instructions targets fields.values fields.nexts
     ∙ rw (
       fields.step_is,
       fields.processor_is,
-      fields.place_is,
+      fields.index_is,
       fields.instruction_is,
       fields.target_is,
       fields.value_is,

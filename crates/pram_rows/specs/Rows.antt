@@ -24,26 +24,27 @@ instruction_at job counter = instruction_or_stop job counter (slice_get job.code
 -- what data of processor i goes to: nothing, a cell, or one of its own registers
 abbrev pub target_text : JobData → ℕ → Option (ℕ × ℕ) → List ℕ
 target_text job i None = []
-target_text job i (Some w) = if nat_lt w.0 job.cells then codes "cell " ++ decimal w.0
-    else codes "r" ++ decimal (w.0 - register_place job i 0)
+target_text job i (Some write) =
+    if nat_lt write.0 job.cells then codes "cell " ++ decimal write.0
+    else codes "r" ++ decimal (write.0 - register_place job i 0)
 
 -- the data, if there is any
 abbrev pub value_text : Option (ℕ × ℕ) → List ℕ
 value_text None = []
-value_text (Some w) = decimal w.1
+value_text (Some write) = decimal write.1
 
--- the row of processor i in step n, which is made in state s
+-- the row of processor i in this step, which is made in the state
 unfoldable pub row_line : JobData → State → ℕ → ℕ → List ℕ
-row_line job s n i =
-    decimal n ++ codes "," ++ decimal i ++ codes "," ++ decimal (counter job s i) ++ codes ","
-    ++ instruction_at job (counter job s i) ++ codes ","
-    ++ target_text job i (request_in job s i).put ++ codes ","
-    ++ value_text (request_in job s i).put ++ codes "," ++ decimal (request_in job s i).next
-    ++ codes "\n"
+row_line job state step i =
+    decimal step ++ codes "," ++ decimal i ++ codes "," ++ decimal (counter job state i)
+    ++ codes "," ++ instruction_at job (counter job state i) ++ codes ","
+    ++ target_text job i (request_in job state i).put ++ codes ","
+    ++ value_text (request_in job state i).put ++ codes ","
+    ++ decimal (request_in job state i).next ++ codes "\n"
 
--- the rows of step n, one of each processor
+-- the rows of this step, one of each processor
 abbrev pub rows_in : JobData → State → ℕ → List ℕ
-rows_in job s n = flat_map (row_line job s n) (range_with_len 0 job.procs)
+rows_in job state step = flat_map (row_line job state step) (range_with_len 0 job.procs)
 
 -- the rows of the step after t steps
 abbrev pub step_lines : JobData → ℕ → List ℕ

@@ -6,7 +6,7 @@ ghost use Rattle.pram_rows.specs.Instructions.{two_registers, three_registers};
 use pram_text::{Instr, Operands};
 use std::alloc::{AllocError, Global};
 
-/// The instruction as a text spells it, with one blank between its words. A jump names the place
+/// The instruction as a text spells it, with one blank between its words. A jump names the index
 /// that it goes to, counted from 0: the label that a text had for it is not kept.
 pub fn instruction_text(alloc: Global, instr: Instr) -> Result<String, AllocError>
     ensures { IfOk result (λ text. string_bytes text ≡ instruction_text instr) }
@@ -19,8 +19,8 @@ pub fn instruction_text(alloc: Global, instr: Instr) -> Result<String, AllocErro
         Operands::TargetOne(r, a) => two(alloc, name, r, a),
         Operands::TargetTwo(r, a, b) => three(alloc, name, r, a, b),
         Operands::Two(a, b) => two(alloc, name, a, b),
-        Operands::OnePlace(r, place) => numbered(alloc, name, r, place),
-        Operands::Place(place) => format!(in alloc; "{name} {place}"),
+        Operands::RegisterIndex(r, index) => numbered(alloc, name, r, index),
+        Operands::Index(index) => format!(in alloc; "{name} {index}"),
     }
 }
 

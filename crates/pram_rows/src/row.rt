@@ -53,13 +53,13 @@ fn write_row<W: Write + Drop>(
     let (job, state, made) = (moment.job, moment.state, moment.made);
     job.limits_hold();
     laws::states_have_all_places();
-    let place = counter(job, state, processor);
-    let asked = request_after(job, state, processor);
-    let instruction = instruction_in(alloc, job, place)?;
-    let target = target_in(alloc, job, processor, asked.put)?;
+    let index = counter(job, state, processor);
+    let request = request_after(job, state, processor);
+    let instruction = instruction_in(alloc, job, index)?;
+    let target = target_in(alloc, job, processor, request.put)?;
     let mut steps = Buffer::new();
     let mut processors = Buffer::new();
-    let mut places = Buffer::new();
+    let mut indices = Buffer::new();
     let mut values = Buffer::new();
     let mut nexts = Buffer::new();
     write_record(
@@ -67,11 +67,11 @@ fn write_row<W: Write + Drop>(
         &[
             number_text(&mut steps, u64::from(made) + 1),
             number_text(&mut processors, u64::from(processor)),
-            number_text(&mut places, u64::from(place)),
+            number_text(&mut indices, u64::from(index)),
             instruction.as_bytes(),
             target.as_bytes(),
-            value_in(&mut values, asked.put),
-            number_text(&mut nexts, u64::from(asked.next)),
+            value_in(&mut values, request.put),
+            number_text(&mut nexts, u64::from(request.next)),
         ],
     )
 }

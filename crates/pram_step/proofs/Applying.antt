@@ -78,15 +78,16 @@ module _ (job : JobData) where
   first_written_some : (p k : ℕ) (xs : List Request) (j v : ℕ) (r : Request) →
       slice_get xs j ≡ Some r → written job p (k + j) r ≡ Some v →
       (w : ℕ) × (first_written job p k xs ≡ Some w)
-  first_written_some p k [] j v r asked writes = absurd (none-some r asked)
-  first_written_some p k (x ∷ xs) zero v r asked writes =
+  first_written_some p k [] j v r request_is writes = absurd (none-some r request_is)
+  first_written_some p k (x ∷ xs) zero v r request_is writes =
       let here : written job p k x ≡ Some v = subst (λ q. written job p k q ≡ Some v)
-      (sym (same_Some x r asked)) (subst (λ n. written job p n r ≡ Some v) (add-zero k) writes) in
+      (sym (same_Some x r request_is)) (subst (λ n. written job p n r ≡ Some v) (add-zero k) writes)
+      in
       (v, ap (λ o. option_or o (first_written job p (k + 1) xs)) here)
-  first_written_some p k (x ∷ xs) (suc j) v r asked writes =
+  first_written_some p k (x ∷ xs) (suc j) v r request_is writes =
       let e : k + suc j ≡ k + 1 + j = omega arith in
       some_of_either (written job p k x) (first_written job p (k + 1) xs)
-      (first_written_some p (k + 1) xs j v r asked
+      (first_written_some p (k + 1) xs j v r request_is
       (subst (λ n. written job p n r ≡ Some v) e writes))
 
   -- ---- the state after some requests
@@ -118,17 +119,17 @@ module _ (job : JobData) (requests : List Request) (i : ℕ) (inside : i < lengt
   -- the request of an earlier processor
   earlier : (j : ℕ) (r : Request) → slice_get (take i requests) j ≡ Some r →
       (j < i) × (slice_get requests j ≡ Some r)
-  earlier j r asked = let below : j < i =
-      subst (λ n. j < n) front_len (slice_get_within (take i requests) j r asked) in
-      (below, sym (slice_get-take i requests j below) ∙ asked)
+  earlier j r request_is = let below : j < i =
+      subst (λ n. j < n) front_len (slice_get_within (take i requests) j r request_is) in
+      (below, sym (slice_get-take i requests j below) ∙ request_is)
 
   data_of : (j p v : ℕ) (r : Request) → slice_get requests j ≡ Some r →
       r.put ≡ Some (p, v) → Puts requests p j v
-  data_of j p v r asked puts = record { request = r; asked = asked; puts = puts }
+  data_of j p v r request_is puts = record { request = r; request_is = request_is; puts = puts }
 
   own_below : (j p v : ℕ) → Puts requests p j v → p < job.cells + 4 * job.procs
   own_below j p v puts =
-      let below = slice_get_within requests j puts.request puts.asked in
+      let below = slice_get_within requests j puts.request puts.request_is in
       elim (own.own j p v puts) [
         | inl cell ↦ omega arith
         | inr register ↦ omega (arith, register.1)
@@ -137,7 +138,7 @@ module _ (job : JobData) (requests : List Request) (i : ℕ) (inside : i < lengt
   mine : (p v : ℕ) → (request_at requests i).put ≡ Some (p, v) → Puts requests p i v
   mine p v puts = record {
     request = request_at requests i;
-    asked = slice_get-get_or requests i (record { put = None; next = 0 }) inside;
+    request_is = slice_get-get_or requests i (record { put = None; next = 0 }) inside;
     puts = puts;
   }
 
@@ -171,7 +172,7 @@ module _ (job : JobData) (requests : List Request) (i : ℕ) (inside : i < lengt
   some_to_place p j v low below puts =
       let n : 0 + j ≡ j = omega arith in
       first_written_some job p 0 (take i requests) j v puts.request
-      (slice_get-take i requests j below ∙ puts.asked)
+      (slice_get-take i requests j below ∙ puts.request_is)
       (subst (λ m. written job p m puts.request ≡ Some v) (sym n)
       (written_of_put job p j v puts.request (λ same. omega arith) puts.puts))
 
@@ -322,8 +323,8 @@ module _ (job : JobData) (requests : List Request) (i : ℕ)
   obeys_no_data puts = moves_after ∙ obeyed_no_data job requests i inside all own start places puts
 
   module _ (p v : ℕ) (puts : (request_at requests i).put ≡ Some (p, v)) where
-    asked : Puts requests p i v
-    asked = mine job requests i inside all own p v puts
+    request_is : Puts requests p i v
+    request_is = mine job requests i inside all own p v puts
 
     low : p < job.cells + 4 * job.procs
     low = data_inside job requests i inside all own p v puts
@@ -331,8 +332,8 @@ module _ (job : JobData) (requests : List Request) (i : ℕ)
     pub obeys_lost : p < job.cells → get_or marks p 0 ≢ i →
         moved ≡ after_requests job (take (i + 1) requests) start
     obeys_lost cell other =
-        let by = marked.writes p i v cell asked in
-        let least = marked.least p i v cell asked in
+        let by = marked.writes p i v cell request_is in
+        let least = marked.least p i v cell request_is in
         let first = some_to_place job requests i inside all own p
         (get_or marks p 0) by.0 low (omega arith) by.1 in
         moves_after
@@ -355,7 +356,7 @@ module _ (job : JobData) (requests : List Request) (i : ℕ)
         obeys_first (none_to_place job requests i inside all own p low (λ j u below data'.
         elim (own.own j p u data') [
           | inl cell ↦ omega arith
-          | inr theirs ↦ elim (own.own i p v asked) [
+          | inr theirs ↦ elim (own.own i p v request_is) [
             | inl cell ↦ omega arith
             | inr ours ↦ omega (arith, theirs.0, theirs.1, ours.0, ours.1)
           ]

@@ -48,7 +48,7 @@ module _ (requests : List Request) (m : ℕ) (inside : m < length requests) (job
       Writes job (take (m + 1) requests) p i v
   Writes_more p i v w = record {
     request = w.request;
-    asked = slice_get_more requests m inside i w.request w.asked;
+    request_is = slice_get_more requests m inside i w.request w.request_is;
     writes = w.writes;
   }
 
@@ -56,7 +56,7 @@ module _ (requests : List Request) (m : ℕ) (inside : m < length requests) (job
       Writes job (take (m + 1) requests) p m v
   Writes_last p v h = record {
     request = request_at requests m;
-    asked = slice_get_last requests m inside;
+    request_is = slice_get_last requests m inside;
     writes = h;
   }
 
@@ -65,8 +65,8 @@ module _ (requests : List Request) (m : ℕ) (inside : m < length requests) (job
       (Writes job (take m requests) p i v)
       ⊎ ((i ≡ m) × (written job p m (request_at requests m) ≡ Some v))
   Writes_split p i v w =
-      elim (slice_get_earlier requests m inside i w.request w.asked) [
-        | inl old ↦ inl (record { request = w.request; asked = old; writes = w.writes })
+      elim (slice_get_earlier requests m inside i w.request w.request_is) [
+        | inl old ↦ inl (record { request = w.request; request_is = old; writes = w.writes })
         | inr new ↦ inr (
           new.0,
           subst (λ k. written job p k (request_at requests m) ≡ Some v) new.0
@@ -75,7 +75,7 @@ module _ (requests : List Request) (m : ℕ) (inside : m < length requests) (job
       ]
 
   Writes_below : (p i v : ℕ) → Writes job (take m requests) p i v → i < m
-  Writes_below p i v w = slice_get_below requests m inside i w.request w.asked
+  Writes_below p i v w = slice_get_below requests m inside i w.request w.request_is
 
   Clashes_more : (cell i j : ℕ) → Clashes job (take m requests) cell i j →
       Clashes job (take (m + 1) requests) cell i j
@@ -211,7 +211,8 @@ module _ (requests : List Request) (m : ℕ) (inside : m < length requests) (job
         (sym puts ∙ put_of_written job cell' m now.value (request_at requests m) low now.now)
 
     first_below : first < m
-    first_below = slice_get_below requests m inside first earlier.puts.request earlier.puts.asked
+    first_below =
+        slice_get_below requests m inside first earlier.puts.request earlier.puts.request_is
 
     first_apart : first ≢ m
     first_apart e = omega (arith, first_below)

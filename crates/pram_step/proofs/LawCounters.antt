@@ -36,7 +36,7 @@ pub writes_next : (job : JobData) (s : State) (i : ℕ) → i < job.procs →
     Writes job (requests_in job s) (counter_place job i) i (request_in job s i).next
 writes_next job s i lt = record {
   request = request_in job s i;
-  asked = asks job s i lt;
+  request_is = asks job s i lt;
   writes = written_next job i (request_in job s i);
 }
 

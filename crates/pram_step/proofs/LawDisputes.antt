@@ -128,7 +128,7 @@ record Disputed (job : JobData) (requests : List Request) (cell : ℕ) : Type 0 
 clash_below : (job : JobData) (requests : List Request) (cell i j : ℕ) →
     Clashes job requests cell i j → j < length requests
 clash_below job requests cell i j c =
-    slice_get_within requests j c.writes_too.request c.writes_too.asked
+    slice_get_within requests j c.writes_too.request c.writes_too.request_is
 
 disputed_with : (job : JobData) (requests : List Request)
     (cell : ℕ) (f : HasFirst job requests cell) →

@@ -17,8 +17,8 @@ use Rattle.pram_step.proofs.Shapes.{instr_is}
 -- what processor i asks for in s it asks for in each state that holds the same in its own places
 -- and in one cell
 abbrev pub ReadsOneCell : JobData → State → ℕ → (State → Request) → Type 0
-ReadsOneCell job s i asked = (cell : ℕ) × (cell < job.cells) × ((t : State) → SameOwn job s t i →
-    slice_index s cell ≡ slice_index t cell → asked s ≡ asked t)
+ReadsOneCell job s i request = (cell : ℕ) × (cell < job.cells) × ((t : State) → SameOwn job s t i →
+    slice_index s cell ≡ slice_index t cell → request s ≡ request t)
 
 -- the registers that are read are the same
 abbrev SameRegisters : JobData → State → State → ℕ → List ℕ → Type 0

@@ -33,13 +33,13 @@ pub writes_from_by : (job : JobData) (requests : List Request) (p i v : ℕ) →
 writes_from_by job requests p i v e =
     let is : (request : Request) × (slice_get requests i ≡ Some request)
     × (written job p i request ≡ Some v) = by_cases job p i v (slice_get requests i) e in
-    record { request = is.0; asked = is.1; writes = is.2 }
+    record { request = is.0; request_is = is.1; writes = is.2 }
 
 pub by_from_writes : (job : JobData) (requests : List Request) (p i v : ℕ) →
     Writes job requests p i v → written_by job requests p i ≡ Some v
 by_from_writes job requests p i v w =
     ap (λ (o : Option Request). elim o [ None ↦ None | Some request ↦ written job p i request ])
-    w.asked ∙ w.writes
+    w.request_is ∙ w.writes
 
 pub not_by : (job : JobData) (requests : List Request) (p i v : ℕ) → Writes job requests p i v →
     written_by job requests p i ≡ None → ⊥

@@ -21,8 +21,8 @@ written_place job s p i v is_job e = elim (written_cases job p i v (request_in j
 pub writer_is : (job : JobData) (s : State) (p i v : ℕ) → Writes job (requests_in job s) p i v →
     (i < job.procs) × (written job p i (request_in job s i) ≡ Some v)
 writer_is job s p i v w =
-    let is : w.request ≡ request_in job s i = asked_is job s i w.request w.asked in (
-      asked_by job s i w.request w.asked,
+    let is : w.request ≡ request_in job s i = asked_is job s i w.request w.request_is in (
+      asked_by job s i w.request w.request_is,
       subst (λ (r : Request). written job p i r ≡ Some v) is w.writes,
     )
 

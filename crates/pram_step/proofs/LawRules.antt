@@ -93,7 +93,7 @@ asked_same job r n t = requests_same job r n (state_after (varied job r n) t)
 pub writes_same : (job : JobData) (r q : Rule) (n m : ℕ) (requests : List Request) (p i v : ℕ) →
     Writes (varied job r n) requests p i v → Writes (varied job q m) requests p i v
 writes_same job r q n m requests p i v w =
-    record { request = w.request; asked = w.asked; writes = w.writes }
+    record { request = w.request; request_is = w.request_is; writes = w.writes }
 
 clash_moves : (job : JobData) (r q : Rule) (n m : ℕ) (requests : List Request) (cell i j : ℕ) →
     ((v w : ℕ) → Writes job requests cell i v → Writes job requests cell j w →

@@ -14,7 +14,7 @@ use Rattle.pram_step.specs.Steps.{Writes, written, first_written}
 pub written_once : (job : JobData) (requests : List Request) (p i v w : ℕ) →
     Writes job requests p i v → Writes job requests p i w → v ≡ w
 written_once job requests p i v w a b =
-    let same : a.request ≡ b.request = same_Some _ _ (sym a.asked ∙ b.asked) in
+    let same : a.request ≡ b.request = same_Some _ _ (sym a.request_is ∙ b.request_is) in
     let one : written job p i a.request ≡ Some w =
     subst (λ (r : Request). written job p i r ≡ Some w) (sym same) b.writes in
     same_Some _ _ (sym a.writes ∙ one)
@@ -32,18 +32,18 @@ or_some (Some x) b v e = inl e
 
 none_from : (job : JobData) (p i : ℕ) (rs : List Request) → first_written job p i rs ≡ None →
     (k : ℕ) (r : Request) → slice_get rs k ≡ Some r → written job p (i + k) r ≡ None
-none_from job p i [] e k r asked = absurd (none-some r asked)
-none_from job p i (x ∷ rs) e zero r asked =
-    let is : x ≡ r = same_Some _ _ asked in
+none_from job p i [] e k r request_is = absurd (none-some r request_is)
+none_from job p i (x ∷ rs) e zero r request_is =
+    let is : x ≡ r = same_Some _ _ request_is in
     rw (add-zero, ← is) (or_none _ _ e).0
-none_from job p i (x ∷ rs) e (suc k) r asked =
+none_from job p i (x ∷ rs) e (suc k) r request_is =
     let there : i + suc k ≡ (i + 1) + k = omega arith in
-    rw there (none_from job p (i + 1) rs (or_none _ _ e).1 k r asked)
+    rw there (none_from job p (i + 1) rs (or_none _ _ e).1 k r request_is)
 
 record FirstFrom (job : JobData) (p i : ℕ) (rs : List Request) (v : ℕ) : Type 0 where
   pub at : ℕ
   pub request : Request
-  pub asked : slice_get rs at ≡ Some request
+  pub request_is : slice_get rs at ≡ Some request
   pub writes : written job p (i + at) request ≡ Some v
   pub none_before : (k : ℕ) (r : Request) → slice_get rs k ≡ Some r → k < at →
       written job p (i + k) r ≡ None
@@ -53,9 +53,9 @@ first_here : (job : JobData) (p i : ℕ) (x : Request) (rs : List Request) (v : 
 first_here job p i x rs v e = record {
   at = 0;
   request = x;
-  asked = refl;
+  request_is = refl;
   writes = rw add-zero e;
-  none_before = λ k r asked lt. absurd (omega arith);
+  none_before = λ k r request_is lt. absurd (omega arith);
 }
 
 none_before_tail : (job : JobData) (p i at : ℕ) (x : Request) (rs : List Request) →
@@ -63,12 +63,12 @@ none_before_tail : (job : JobData) (p i at : ℕ) (x : Request) (rs : List Reque
     ((k : ℕ) (r : Request) → slice_get rs k ≡ Some r → k < at →
     written job p ((i + 1) + k) r ≡ None) → (k : ℕ) (r : Request) → slice_get (x ∷ rs) k ≡ Some r →
     k < suc at → written job p (i + k) r ≡ None
-none_before_tail job p i at x rs e before zero r asked lt =
-    let is : x ≡ r = same_Some _ _ asked in
+none_before_tail job p i at x rs e before zero r request_is lt =
+    let is : x ≡ r = same_Some _ _ request_is in
     rw (add-zero, ← is) e
-none_before_tail job p i at x rs e before (suc k) r asked lt =
+none_before_tail job p i at x rs e before (suc k) r request_is lt =
     let there : i + suc k ≡ (i + 1) + k = omega arith in
-    rw there (before k r asked (omega arith))
+    rw there (before k r request_is (omega arith))
 
 first_later : (job : JobData) (p i : ℕ) (x : Request) (rs : List Request) (v : ℕ) →
     written job p i x ≡ None → FirstFrom job p (i + 1) rs v → FirstFrom job p i (x ∷ rs) v
@@ -77,7 +77,7 @@ first_later job p i x rs v e f =
     record {
       at = suc f.at;
       request = f.request;
-      asked = f.asked;
+      request_is = f.request_is;
       writes = rw there f.writes;
       none_before = none_before_tail job p i f.at x rs e f.none_before;
     }
@@ -102,7 +102,7 @@ pub no_writer : (job : JobData) (requests : List Request) (p : ℕ) →
     first_written job p 0 requests ≡ None → (i v : ℕ) → Writes job requests p i v → ⊥
 no_writer job requests p e i v w =
     let none : written job p (0 + i) w.request ≡ None =
-    none_from job p 0 requests e i w.request w.asked in
+    none_from job p 0 requests e i w.request w.request_is in
     let here : written job p i w.request ≡ None = rw zero-add at none in
     none-some v (sym here ∙ w.writes)
 
@@ -112,10 +112,10 @@ first_writer job requests p v e =
     let f : FirstFrom job p 0 requests v = first_from job p 0 requests v e in
     let there : written job p f.at f.request ≡ Some v = rw zero-add at f.writes in
     let first : IsFirstWriter job requests p f.at v = record {
-      writes = record { request = f.request; asked = f.asked; writes = there };
+      writes = record { request = f.request; request_is = f.request_is; writes = there };
       least = λ j w other. ⊎_elim (λ before.
           let none : written job p (0 + j) other.request ≡ None =
-          f.none_before j other.request other.asked before in
+          f.none_before j other.request other.request_is before in
           let here : written job p j other.request ≡ None = rw zero-add at none in
           absurd (none-some w (sym here ∙ other.writes)))
           (λ after. after) (cases_lt j f.at);

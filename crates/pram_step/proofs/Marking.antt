@@ -12,21 +12,22 @@ module _ (requests : List Request) (m : ℕ) (inside : m < length requests) wher
       Puts (take (m + 1) requests) place i v
   Puts_more place i v p = record {
     request = p.request;
-    asked = slice_get_more requests m inside i p.request p.asked;
+    request_is = slice_get_more requests m inside i p.request p.request_is;
     puts = p.puts;
   }
 
   Puts_last : (place v : ℕ) → (request_at requests m).put ≡ Some (place, v) →
       Puts (take (m + 1) requests) place m v
   Puts_last place v h =
-      record { request = request_at requests m; asked = slice_get_last requests m inside; puts = h }
+      record
+      { request = request_at requests m; request_is = slice_get_last requests m inside; puts = h }
 
   Puts_split : (place i v : ℕ) → Puts (take (m + 1) requests) place i v →
       (Puts (take m requests) place i v)
       ⊎ ((i ≡ m) × ((request_at requests m).put ≡ Some (place, v)))
   Puts_split place i v p =
-      elim (slice_get_earlier requests m inside i p.request p.asked) [
-        | inl old ↦ inl (record { request = p.request; asked = old; puts = p.puts })
+      elim (slice_get_earlier requests m inside i p.request p.request_is) [
+        | inl old ↦ inl (record { request = p.request; request_is = old; puts = p.puts })
         | inr new ↦ inr (new.0, subst (λ (q : Request). q.put ≡ Some (place, v)) (sym new.1) p.puts)
       ]
 
@@ -78,7 +79,8 @@ module _ (requests : List Request) (m : ℕ) (inside : m < length requests) wher
                 let most = marked.least cell first w low
                 (subst (λ c. Puts (take m requests) c first w) e earlier.puts) in
                 let below =
-                slice_get_below requests m inside first earlier.puts.request earlier.puts.asked in
+                slice_get_below requests m inside first earlier.puts.request earlier.puts.request_is
+                in
                 omega (arith, new.0)
           ];
     }

@@ -12,7 +12,7 @@ module _ (requests : List Request) (i : ℕ) (marks : List ℕ) (cell : ℕ)
   Puts_below : (j v : ℕ) → Puts (take i requests) cell j v → j < i
   Puts_below j v p =
       let short = length-take-le i requests inside in
-      let below = slice_get_within (take i requests) j p.request p.asked in omega arith
+      let below = slice_get_within (take i requests) j p.request p.request_is in omega arith
 
   pub PutsNone_by_mark : i ≤ get_or marks cell 0 → PutsNone (take i requests) cell
   PutsNone_by_mark late j v p =
@@ -24,9 +24,9 @@ module _ (requests : List Request) (i : ℕ) (marks : List ℕ) (cell : ℕ)
       (request_at requests (get_or marks cell 0)).put ≡ Some (cell, v)
   asked_by_mark v p =
       let below = Puts_below (get_or marks cell 0) v p in
-      let asked = sym (slice_get-take i requests (get_or marks cell 0) below) ∙ p.asked in
+      let request_is = sym (slice_get-take i requests (get_or marks cell 0) below) ∙ p.request_is in
       subst (λ (q : Request). q.put ≡ Some (cell, v)) (sym (get_or_from_slice_get requests
-      (get_or marks cell 0) p.request (record { put = None; next = 0 }) asked)) p.puts
+      (get_or marks cell 0) p.request (record { put = None; next = 0 }) request_is)) p.puts
 
   pub PutsNone_by_request :
       ((v : ℕ) → (request_at requests (get_or marks cell 0)).put ≡ Some (cell, v) → ⊥) →
@@ -40,7 +40,7 @@ module _ (requests : List Request) (i : ℕ) (marks : List ℕ) (cell : ℕ)
   PutsFirst_by_mark v below puts = record {
     puts = record {
       request = request_at requests (get_or marks cell 0);
-      asked = slice_get-take i requests (get_or marks cell 0) below ∙ slice_get-get_or requests
+      request_is = slice_get-take i requests (get_or marks cell 0) below ∙ slice_get-get_or requests
           (get_or marks cell 0) (record { put = None; next = 0 }) (omega arith);
       puts = puts;
     };

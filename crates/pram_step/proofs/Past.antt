@@ -188,7 +188,7 @@ data_write job s i p is proc e =
     ] in (
       record {
         request = r;
-        asked = asks job (state_after job s) i proc;
+        request_is = asks job (state_after job s) i proc;
         writes = written_of_put job p i (part_after job s i 1) r away put;
       },
       away,

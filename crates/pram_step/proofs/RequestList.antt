@@ -96,7 +96,7 @@ pub Puts-from_Writes : (job : JobData) (requests : List Request) (cell i v : ℕ
     Writes job requests cell i v → Puts requests cell i v
 Puts-from_Writes job requests cell i v low w = record {
   request = w.request;
-  asked = w.asked;
+  request_is = w.request_is;
   puts = put_of_written job cell i v w.request low w.writes;
 }
 
@@ -104,6 +104,6 @@ pub Writes-from_Puts : (job : JobData) (requests : List Request) (cell i v : ℕ
     Puts requests cell i v → Writes job requests cell i v
 Writes-from_Puts job requests cell i v low p = record {
   request = p.request;
-  asked = p.asked;
+  request_is = p.request_is;
   writes = written_of_put job cell i v p.request (λ same. omega arith) p.puts;
 }

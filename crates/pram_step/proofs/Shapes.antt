@@ -223,5 +223,5 @@ request_shape job s i is_job fits low inside = record {
 pub AreOwn-requests_in : (job : JobData) (s : State) → IsJob job → AreOwn job (requests_in job s)
 AreOwn-requests_in job s is_job = record {
   own = λ i place v p. request_place job s i place v is_job (subst
-      (λ (r : Request). r.put ≡ Some (place, v)) (asked_is job s i p.request p.asked) p.puts);
+      (λ (r : Request). r.put ≡ Some (place, v)) (asked_is job s i p.request p.request_is) p.puts);
 }

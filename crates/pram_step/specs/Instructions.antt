@@ -9,7 +9,7 @@ use Rattle.pram_text.specs.declared.instr.Instr.TheVariants.{Lt, Eq, Ld, St, Jz,
 use Rattle.pram_text.specs.declared.instr.Operands.{Operands}
 use Rattle.pram_text.specs.declared.instr.Operands.TheVariants.{Bare, Target, TargetNumber}
 use Rattle.pram_text.specs.declared.instr.Operands.TheVariants.{TargetOne, TargetTwo, Two}
-use Rattle.pram_text.specs.declared.instr.Operands.TheVariants.{OnePlace, Place}
+use Rattle.pram_text.specs.declared.instr.Operands.TheVariants.{RegisterIndex, Index}
 use Rattle.pram_text.specs.Instructions.{row_of}
 use Rattle.pram_text.specs.Job.{JobData}
 use Rattle.pram_step.specs.declared.instructions.Sources.{Sources}
@@ -23,21 +23,21 @@ use Rattle.pram_step.specs.Machine.{counter, halted, out_of_range}
 -- the registers that are read, in the order in which they are written
 abbrev pub read_by : Operands → List ℕ
 read_by Bare = []
-read_by (Target r) = []
-read_by (TargetNumber r k) = []
-read_by (TargetOne r a) = a ∷ []
-read_by (TargetTwo r a b) = a ∷ b ∷ []
-read_by (Two a b) = a ∷ b ∷ []
-read_by (OnePlace r place) = r ∷ []
-read_by (Place place) = []
+read_by (Target target) = []
+read_by (TargetNumber target number) = []
+read_by (TargetOne target register) = register ∷ []
+read_by (TargetTwo target first second) = first ∷ second ∷ []
+read_by (Two first second) = first ∷ second ∷ []
+read_by (RegisterIndex register index) = register ∷ []
+read_by (Index index) = []
 
 abbrev pub sources_of : Instr → List ℕ
 sources_of instr = read_by (row_of instr).1
 
--- the cell that an instruction reads, a being what its first operand holds
+-- the cell that an instruction reads, where its first operand holds this
 abbrev pub cell_read : JobData → Instr → ℕ → Option ℕ
-cell_read job (Ld r a') a = if nat_lt a job.cells then Some a else None
-cell_read job _ a = None
+cell_read job (Ld target register) first = if nat_lt first job.cells then Some first else None
+cell_read job _ first = None
 
 -- a register takes a value
 abbrev pub gives : JobData → ℕ → ℕ → ℕ → ℕ → Request
@@ -46,37 +46,46 @@ gives job i counter register value =
 
 -- no data, and this next counter
 abbrev pub goes_to : ℕ → Request
-goes_to place = record { put = None; next = place }
+goes_to next = record { put = None; next = next }
 
--- What processor i asks for by the instruction at its counter: its operands hold a and b, the cell
--- that it reads holds v.
+-- What processor i asks for by the instruction at its counter, where its first and its second
+-- operand hold these, and the cell that it reads holds this value.
 unfoldable pub decided : JobData → ℕ → ℕ → Instr → ℕ → ℕ → ℕ → Request
-decided job i counter (Set r k) a b v = gives job i counter r k
-decided job i counter (Pid r) a b v = gives job i counter r i
-decided job i counter (Add r _ _) a b v = gives job i counter r ((a + b) % 2 ^ 32)
-decided job i counter (Sub r _ _) a b v = gives job i counter r ((a + (2 ^ 32 - b)) % 2 ^ 32)
-decided job i counter (Mul r _ _) a b v = gives job i counter r ((a * b) % 2 ^ 32)
-decided job i counter (And r _ _) a b v = gives job i counter r (bit_and a b)
-decided job i counter (Or r _ _) a b v = gives job i counter r (bit_or a b)
-decided job i counter (Xor r _ _) a b v = gives job i counter r (bit_xor a b)
-decided job i counter (Lt r _ _) a b v = gives job i counter r (if nat_lt a b then 1 else 0)
-decided job i counter (Eq r _ _) a b v = gives job i counter r (if a == b then 1 else 0)
-decided job i counter (Ld r _) a b v = if nat_lt a job.cells then gives job i counter r v
+decided job i counter (Set target number) first second value = gives job i counter target number
+decided job i counter (Pid target) first second value = gives job i counter target i
+decided job i counter (Add target _ _) first second value =
+    gives job i counter target ((first + second) % 2 ^ 32)
+decided job i counter (Sub target _ _) first second value =
+    gives job i counter target ((first + (2 ^ 32 - second)) % 2 ^ 32)
+decided job i counter (Mul target _ _) first second value =
+    gives job i counter target ((first * second) % 2 ^ 32)
+decided job i counter (And target _ _) first second value =
+    gives job i counter target (bit_and first second)
+decided job i counter (Or target _ _) first second value =
+    gives job i counter target (bit_or first second)
+decided job i counter (Xor target _ _) first second value =
+    gives job i counter target (bit_xor first second)
+decided job i counter (Lt target _ _) first second value =
+    gives job i counter target (if nat_lt first second then 1 else 0)
+decided job i counter (Eq target _ _) first second value =
+    gives job i counter target (if first == second then 1 else 0)
+decided job i counter (Ld target _) first second value =
+    if nat_lt first job.cells then gives job i counter target value else goes_to (out_of_range job)
+decided job i counter (St _ _) first second value =
+    if nat_lt first job.cells then record { put = Some (first, second); next = counter + 1 }
     else goes_to (out_of_range job)
-decided job i counter (St _ _) a b v =
-    if nat_lt a job.cells then record { put = Some (a, b); next = counter + 1 }
-    else goes_to (out_of_range job)
-decided job i counter (Jz r place) a b v = goes_to (if a == 0 then place else counter + 1)
-decided job i counter (Jmp place) a b v = goes_to place
-decided job i counter Halt a b v = goes_to (halted job)
+decided job i counter (Jz _ index) first second value =
+    goes_to (if first == 0 then index else counter + 1)
+decided job i counter (Jmp index) first second value = goes_to index
+decided job i counter Halt first second value = goes_to (halted job)
 
 -- ---- in code, and in words
 
 -- the registers in order
 abbrev pub listed : Sources → List ℕ
 listed sources.None = []
-listed (sources.One a) = a ∷ []
-listed (sources.Two a b) = a ∷ b ∷ []
+listed (sources.One register) = register ∷ []
+listed (sources.Two first second) = first ∷ second ∷ []
 
 -- The parts of a request: the data place plus 1 or 0 for none, the data value, the next counter.
 abbrev pub place_part : Request → ℕ
@@ -114,7 +123,7 @@ decided_in job state i instr =
     (operand_held job state i instr 1)
     (cell_held job state instr (operand_held job state i instr 0))
 
--- A processor whose counter is no instruction's place asks for no data and stays.
+-- A processor whose counter is no instruction's index asks for no data and stays.
 unfoldable pub request_in : JobData → State → ℕ → Request
 request_in job state i =
     elim (slice_get job.code (counter job state i)) [

@@ -21,7 +21,7 @@ use Rattle.pram_step.specs.Orders.{HasAll, after_first_found, after_least_found,
 
 -- all processors have stopped
 abbrev pub AllStopped : JobData → State → Type 0
-AllStopped job s = (i : ℕ) → i < job.procs → IsStopped job s i
+AllStopped job state = (i : ℕ) → i < job.procs → IsStopped job state i
 
 -- the two states hold the same in the registers and the counter of processor i
 pub record SameOwn (job : JobData) (state other : State) (i : ℕ) : Type 0 where
@@ -38,10 +38,10 @@ RequestsHaveShape =
 
 abbrev pub DecisionsHaveShape : Type 0
 DecisionsHaveShape =
-    (job : JobData) (i counter a b v : ℕ) (instr : Instr)
-    → IsInstr (length job.code) instr → i < 2 ^ 32 → a < 2 ^ 32 → b < 2 ^ 32 → v < 2 ^ 32 →
-    counter < length job.code
-    → HasShape job i (decided job i counter instr a b v)
+    (job : JobData) (i counter first second value : ℕ) (instr : Instr)
+    → IsInstr (length job.code) instr → i < 2 ^ 32 → first < 2 ^ 32 → second < 2 ^ 32
+    → value < 2 ^ 32 → counter < length job.code
+    → HasShape job i (decided job i counter instr first second value)
 
 abbrev pub ReadsOneCell : Type 0
 ReadsOneCell =

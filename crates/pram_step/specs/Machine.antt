@@ -32,7 +32,7 @@ register job state i which = slice_index state (register_place job i which)
 abbrev pub counter : JobData → State → ℕ → ℕ
 counter job state i = slice_index state (counter_place job i)
 
--- A counter below K is the place of an instruction. K says that the processor has halted, K + 1
+-- A counter below K is the index of an instruction. K says that the processor has halted, K + 1
 -- that an address was out of range.
 abbrev pub halted : JobData → ℕ
 halted job = length job.code

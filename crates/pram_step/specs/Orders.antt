@@ -50,12 +50,12 @@ after_least_found job requests order state =
 
 -- ---- one processor after another
 
--- processor i has written what it asked for
+-- processor i has written what its request says
 unfoldable pub after_writes_of : JobData → List Request → ℕ → State → State
 after_writes_of job requests i state = given (λ place. written_by job requests place i) state
 
--- the processors of the order have written one after another, each what it asked for before all of
--- them
+-- the processors of the order have written one after another, each what its request says, which was
+-- made before all of them
 unfoldable pub after_in_turn : JobData → List Request → List ℕ → State → State
 after_in_turn job requests [] state = state
 after_in_turn job requests (i ∷ order) state =

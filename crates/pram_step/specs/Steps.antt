@@ -26,7 +26,7 @@ written job place i request = if place == counter_place job i then Some request.
 -- the writers of a place: processor i writes the value to it
 pub record Writes (job : JobData) (requests : List Request) (place i value : ℕ) : Type 0 where
   pub request : Request
-  pub asked : slice_get requests i ≡ Some request
+  pub request_is : slice_get requests i ≡ Some request
   pub writes : written job place i request ≡ Some value
 
 -- ---- when a step agrees

@@ -24,9 +24,9 @@ pub fn sources_of(instr: Instr) -> Sources
 {
     match instr.row().1 {
         Operands::Bare | Operands::Target(_) | Operands::TargetNumber(_, _) => Sources::None,
-        Operands::Place(_) => Sources::None,
+        Operands::Index(_) => Sources::None,
         Operands::TargetOne(_, a) => Sources::One(a),
-        Operands::OnePlace(r, _) => Sources::One(r),
+        Operands::RegisterIndex(r, _) => Sources::One(r),
         Operands::TargetTwo(_, a, b) => Sources::Two(a, b),
         Operands::Two(a, b) => Sources::Two(a, b),
     }
@@ -119,12 +119,12 @@ pub(crate) fn decide<H: Held>(
                 out_of_range
             }
         }
-        Instr::Jz(r, place) => goes_to(if held.first(r) == 0 {
-            place
+        Instr::Jz(r, index) => goes_to(if held.first(r) == 0 {
+            index
         } else {
             counter + 1
         }),
-        Instr::Jmp(place) => goes_to(place),
+        Instr::Jmp(index) => goes_to(index),
         Instr::Halt => goes_to(past_code),
     }
 }

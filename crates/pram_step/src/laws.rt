@@ -124,7 +124,7 @@ pub fn states_have_all_places()
     ensures { StatesHaveAllPlaces }
 {}
 
-/// A counter is an instruction's place, or says that the processor has halted or that an address
+/// A counter is an instruction's index, or says that the processor has halted or that an address
 /// was out of range.
 #[tactic(auto, using(crate::proofs::LawCounters::counter_within))]
 pub fn counters_stay_within()

@@ -6,7 +6,7 @@ ghost use Rattle.pram_step.specs.Instructions.{place_part, value_part, request_i
 use crate::instructions::{Held, decide, goes_to};
 use pram_text::Job;
 
-/// What a processor asks for in a step: at most one data write, and the place of its next
+/// What a processor asks for in a step: at most one data write, and the index of its next
 /// instruction.
 #[derive(Clone, Copy, Debug, PartialEq, Eq)]
 pub struct Request {

@@ -251,11 +251,11 @@ fn disputed_step_changes_nothing(rt: HostRuntime) -> Result<(), Fail> {
     let job = job(&rt, text)?;
     assert_eq!(rt; job.procs(), 2);
     let mut state = State::start(rt.alloc(), &job)?;
-    let asked = Request {
+    let wanted = Request {
         put: Some((0, 0)),
         next: 1,
     };
-    assert_eq!(rt; request(&job, &state, 1), asked);
+    assert_eq!(rt; request(&job, &state, 1), wanted);
     let conflict = StepFault::Conflict {
         cell: 0,
         first: 0,
@@ -288,11 +288,11 @@ fn steps_are_gone_through(rt: HostRuntime) -> Result<(), Fail> {
     match go_to(rt.alloc(), &job, 1, 1)? {
         Arrival::Reached(mut state) => {
             assert_eq!(rt; counter(&job, &state, 1), 1);
-            let asked = Request {
+            let wanted = Request {
                 put: Some((0, 1)),
                 next: 2,
             };
-            assert_eq!(rt; request_after(&job, &state, 1), asked);
+            assert_eq!(rt; request_after(&job, &state, 1), wanted);
             assert_eq!(rt; make_step(rt.alloc(), &job, &mut state, 1)?, Some(fault));
         }
         _ => panic!(rt; "step 1"),

@@ -9,12 +9,12 @@ use Rattle.pram_step.specs.declared.answer.RunAnswer.TheVariants.{Final, Conflic
 
 -- the line of a cell
 abbrev pub cell_line : ℕ → ℕ → List ℕ
-cell_line c v = decimal c ++ codes ": " ++ decimal v ++ codes "\n"
+cell_line cell value = decimal cell ++ codes ": " ++ decimal value ++ codes "\n"
 
--- a line for each cell, the first of them being cell c
+-- a line for each cell, from this one on
 abbrev pub cell_lines : ℕ → List ℕ → List ℕ
-cell_lines c [] = []
-cell_lines c (v ∷ vs) = cell_line c v ++ cell_lines (c + 1) vs
+cell_lines cell [] = []
+cell_lines cell (value ∷ values) = cell_line cell value ++ cell_lines (cell + 1) values
 
 -- the line of a conflict
 abbrev pub conflict_line : Fault → List ℕ

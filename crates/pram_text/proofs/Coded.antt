@@ -1,4 +1,4 @@
--- The instructions of a text, each label in its place.
+-- The instructions of a text, each label as its index.
 use Rattle.std.proofs.Common.{◌≡◌, ℕ, zero, suc, ◌+◌, ◌<◌, List, [], ◌∷◌, ◌++◌, length, map}
 use Rattle.std.proofs.Common.{take, get_or, Result, Ok, Err, None, refl, ap, ap₂, sym, ◌∙◌}
 use Rattle.std.specs.Result.{result_err}
@@ -7,10 +7,10 @@ use Rattle.pram_text.specs.declared.fault.TextKind.{TextKind}
 use Rattle.pram_text.specs.declared.instr.Instr.{Instr}
 use Rattle.pram_text.specs.declared.instr.Instr.TheVariants.{Halt}
 use Rattle.pram_text.specs.declared.program.Written.{Written}
-use Rattle.pram_text.specs.Inner.Reading.{fault_of_place}
+use Rattle.pram_text.specs.Inner.Reading.{fault_of_index}
 use Rattle.pram_text.specs.Text.{IsFirst}
 
-pub no_fault-Ok : (code : List Instr) (k : ℕ) → fault_of_place (map (λ i. Ok i) code) k ≡ None
+pub no_fault-Ok : (code : List Instr) (k : ℕ) → fault_of_index (map (λ i. Ok i) code) k ≡ None
 no_fault-Ok [] k = refl
 no_fault-Ok (i ∷ code) zero = refl
 no_fault-Ok (i ∷ code) (suc k) = no_fault-Ok code k
@@ -26,7 +26,7 @@ module _ (outcome : Written → Result Instr TextKind)
 
   -- the first statement that is wrong
   pub first_wrong : (kind : TextKind) → outcome (get_or written i d) ≡ Err kind →
-      IsFirst (fault_of_place (map outcome written)) (length written) i kind
+      IsFirst (fault_of_index (map outcome written)) (length written) i kind
   first_wrong kind e = record {
     within = here;
     here = ap result_err (get_or-map outcome written i d (Ok Halt) here ∙ e);

@@ -15,9 +15,9 @@ use Rattle.pram_text.specs.declared.program.Program.{Program}
 use Rattle.pram_text.specs.declared.reader.Reader.{Reader}
 use Rattle.pram_text.specs.Lines.{Line, is_filled}
 use Rattle.pram_text.specs.Judgement.{instr_of, unlabelled}
-use Rattle.pram_text.specs.Inner.Reading.{given, HoldsAt, HoldsCode, place_at, fault_of_place}
+use Rattle.pram_text.specs.Inner.Reading.{given, HoldsAt, HoldsCode, index_at, fault_of_index}
 use Rattle.pram_text.specs.Inner.Statement.{resolved}
-use Rattle.pram_text.specs.Text.{end_fault, has_code, place_of}
+use Rattle.pram_text.specs.Text.{end_fault, has_code, index_of}
 use Rattle.pram_text.specs.Text.{label_fault_at, IsFirst, SpellsLines}
 use Rattle.pram_text.proofs.Inits.{SpellsInit-held}
 use Rattle.pram_text.proofs.Labels.{length-held}
@@ -64,20 +64,20 @@ module _ (before : List Line) (reader : Reader) (h : HoldsAt Code before reader)
 
 -- what each line says is what its statement says
 outcomes-held : (body : List Line) (program : Program) → HoldsCode body program →
-    map (λ line. instr_of (place_of body) (unlabelled line)) body
-    ≡ map (λ w. resolved (place_at program.places) w.statement) program.written.items
-outcomes-held body program h = h.said (place_of body)
-    ∙ (λ i. map (λ w. resolved (λ name. sym (h.places name) i) w.statement) program.written.items)
+    map (λ line. instr_of (index_of body) (unlabelled line)) body
+    ≡ map (λ w. resolved (index_at program.indices) w.statement) program.written.items
+outcomes-held body program h = h.said (index_of body)
+    ∙ (λ i. map (λ w. resolved (λ name. sym (h.indices name) i) w.statement) program.written.items)
 
 -- the first statement that is wrong stands in the first line that is
 pub first_unknown : (body : List Line) (program : Program) (k : ℕ) (kind : TextKind) →
-    HoldsCode body program → IsFirst (fault_of_place
-    (map (λ w. resolved (place_at program.places) w.statement) program.written.items))
+    HoldsCode body program → IsFirst (fault_of_index
+    (map (λ w. resolved (index_at program.indices) w.statement) program.written.items))
     (length program.written.items) k kind → IsFirst (label_fault_at body) (length body) k kind
 first_unknown body program k kind h first =
     let len = length-held body program h in
     let same = λ (j : ℕ) (l : j < length body).
-    sym (get_or-map (λ line. instr_of (place_of body) (unlabelled line)) body j [] (Ok Halt) l)
+    sym (get_or-map (λ line. instr_of (index_of body) (unlabelled line)) body j [] (Ok Halt) l)
     ∙ ap (λ os. get_or os j (Ok Halt)) (outcomes-held body program h) in
     let here : k < length body = omega (arith, first.within) in
     record {
@@ -92,7 +92,7 @@ module _ (before : List Line) (reader : Reader)
     (init : List ℕ) (code : List Instr) (h : HoldsAt Code before reader)
     (values : init ≡ map (λ c. unwrap_or (given reader.start.items c) 0)
     (range_with_len 0 reader.head.cells))
-    (coded : map (λ w. resolved (place_at reader.program.places) w.statement)
+    (coded : map (λ w. resolved (index_at reader.program.indices) w.statement)
     reader.program.written.items ≡ map (λ i. Ok i) code)
     (some : 1 ≤ length reader.program.written.items) where
   pub SpellsLines-held : SpellsLines (record {

@@ -19,14 +19,14 @@ use Rattle.pram_text.specs.declared.program.Program.{Program}
 use Rattle.pram_text.specs.declared.program.Written.{Written}
 use Rattle.pram_text.specs.declared.statement.Statement.{Statement}
 use Rattle.pram_text.specs.Lines.{Line, Word}
-use Rattle.pram_text.specs.Judgement.{label_of, unlabelled, is_name, instr_of, place_in, ◌>>=◌}
-use Rattle.pram_text.specs.Inner.Reading.{HoldsCode, HoldsPlaces, place_at, define_fault}
+use Rattle.pram_text.specs.Judgement.{label_of, unlabelled, is_name, instr_of, index_in, ◌>>=◌}
+use Rattle.pram_text.specs.Inner.Reading.{HoldsCode, HoldsIndices, index_at, define_fault}
 use Rattle.pram_text.specs.Inner.Statement.{resolved, aimed, ReadsLine}
 use Rattle.pram_text.specs.declared.limits.TheConstants.{MAX_CODE}
 use Rattle.pram_text.specs.Text.{instr_fault, new_label_fault, label_fault}
 use Rattle.pram_text.specs.Text.{is_named, defines, IsLabelled}
 
--- ---- the first place that passes
+-- ---- the first index that passes
 
 position_or_len-none : {X : Type 0} (p : X → Bool) (xs : List X) → list_any p xs ≡ false →
     position_or_len p xs ≡ length xs
@@ -92,10 +92,10 @@ position-push_later p xs y e =
 
 -- ---- labels
 
-pub label_fault-held : (body : List Line) (places : BTreeMap (Bor (List ℕ)) ℕ) (line : Line) →
-    HoldsPlaces body places → label_fault body line ≡ define_fault places (label_of line)
+pub label_fault-held : (body : List Line) (indices : BTreeMap (Bor (List ℕ)) ℕ) (line : Line) →
+    HoldsIndices body indices → label_fault body line ≡ define_fault indices (label_of line)
 unfolding label_fault
-label_fault-held body places line h =
+label_fault-held body indices line h =
     ap (λ is_known. new_label_fault is_known (label_of line))
     (λ i name. (sym (is_some-position (defines name) body) ∙ ap is_some (sym (h name))) i)
 
@@ -123,17 +123,17 @@ named_label : (o : Option Word) (name : Word) → is_named o name ≡ true → o
 named_label None name e = cc
 named_label (Some label) name e = ap Some ((bytes_eq-Decides label name).0 e)
 
-pub HoldsPlaces-push : (body : List Line) (old new : BTreeMap (Bor (List ℕ)) ℕ) (line : Line) →
-    HoldsPlaces body old → label_fault body line ≡ None → ((name : Word) → place_at new name
-    ≡ (if is_named (label_of line) name then Some (length body) else place_at old name)) →
-    HoldsPlaces (body ++ line ∷ []) new
-HoldsPlaces-push body old new line h fine put name = ⊎_elim (λ yes.
+pub HoldsIndices-push : (body : List Line) (old new : BTreeMap (Bor (List ℕ)) ℕ) (line : Line) →
+    HoldsIndices body old → label_fault body line ≡ None → ((name : Word) → index_at new name
+    ≡ (if is_named (label_of line) name then Some (length body) else index_at old name)) →
+    HoldsIndices (body ++ line ∷ []) new
+HoldsIndices-push body old new line h fine put name = ⊎_elim (λ yes.
     let named = (label_is_new body line name fine (named_label (label_of line) name yes)).1 in
-    put name ∙ ap (λ b. if b then Some (length body) else place_at old name) yes
+    put name ∙ ap (λ b. if b then Some (length body) else index_at old name) yes
     ∙ sym (position-push_first (defines name) body line named
     ∙ ap (λ b. cond b (Some (length body)) None) yes))
     (λ no.
-    put name ∙ ap (λ b. if b then Some (length body) else place_at old name) no ∙ h name ∙ ⊎_elim
+    put name ∙ ap (λ b. if b then Some (length body) else index_at old name) no ∙ h name ∙ ⊎_elim
     (λ known. sym (position-push_later (defines name) body line known))
     (λ new. position-none (defines name) body new ∙ sym (position-push_first (defines name)
     body line new ∙ ap (λ b. cond b (Some (length body)) None) no))
@@ -179,11 +179,11 @@ IsLabelled-push body line h below fine = record {
 
 pub HoldsCode-push : (body : List Line) (old new : Program) (line : Line) (w : Written) →
     HoldsCode body old → length body < MAX_CODE → label_fault body line ≡ None →
-    HoldsPlaces (body ++ line ∷ []) new.places → ReadsLine (unlabelled line) (Ok w.statement) →
+    HoldsIndices (body ++ line ∷ []) new.indices → ReadsLine (unlabelled line) (Ok w.statement) →
     new.written.items ≡ old.written.items ++ w ∷ [] → HoldsCode (body ++ line ∷ []) new
-HoldsCode-push body old new line w h below fine places said items = record {
+HoldsCode-push body old new line w h below fine indices said items = record {
   labelled = IsLabelled-push body line h.labelled below fine;
-  places = places;
+  indices = indices;
   said = λ find. map-append (λ l. instr_of find (unlabelled l)) body (line ∷ []) ∙ ap₂ (λ xs r.
       xs ++ r ∷ []) (h.said find) (said find) ∙ sym (ap (map (λ w. resolved find w.statement)) items
       ∙ map-append (λ w. resolved find w.statement) old.written.items (w ∷ []));
@@ -210,7 +210,7 @@ instr_fault-rest body line l e = rw (lt-leb MAX_CODE (length body) l, e) refl
 pub resolved-known : (s : Statement) → result_err (resolved (λ label. Some 0) s) ≡ None
 resolved-known s = elim s.target as (λ t. result_err (elim t [
   | None ↦ Ok s.instr
-  | Some label ↦ place_in (λ label. Some 0) label.now >>= λ place. Ok (aimed s.instr place)
+  | Some label ↦ index_in (λ label. Some 0) label.now >>= λ index. Ok (aimed s.instr index)
 ]) ≡ None) [ None ↦ refl | Some label ↦ refl ]
 
 -- as many lines as statements

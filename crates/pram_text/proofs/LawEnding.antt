@@ -15,7 +15,7 @@ use Rattle.pram_text.specs.Job.{JobData}
 use Rattle.pram_text.specs.Lines.{Line, is_filled}
 use Rattle.pram_text.specs.Judgement.{version_of, cells_of, procs_of, steps_of}
 use Rattle.pram_text.specs.Judgement.{rule_of, is_code, unlabelled, instr_of}
-use Rattle.pram_text.specs.Text.{place_of, code_line, NamesCells, IsLabelled, SpellsHeader}
+use Rattle.pram_text.specs.Text.{index_of, code_line, NamesCells, IsLabelled, SpellsHeader}
 use Rattle.pram_text.specs.Text.{SpellsLines, init_fault, instr_fault, rest_fault, words_fault}
 use Rattle.pram_text.specs.Text.{names_rule, has_code, body_of, end_fault, label_fault_at}
 use Rattle.pram_text.proofs.Lists.{NonePasses, none_left, none_at, any_split, grown}
@@ -211,7 +211,7 @@ lines_spell lines passes e known =
     let end = ends lines e in
     let p = has_parts lines passes end.0 in
     let says : Line → Result Instr TextKind =
-    λ line. instr_of (place_of p.body) (unlabelled line) in
+    λ line. instr_of (index_of p.body) (unlabelled line) in
     let known' : (k : ℕ) → k < length p.body → label_fault_at p.body k ≡ None =
     subst (λ ls. (k : ℕ) → k < length ls → label_fault_at ls k ≡ None) p.is_body known in
     let code =

@@ -13,7 +13,7 @@ use Rattle.pram_text.specs.declared.fault.TextKind.TheVariants.{NotAscii, Unknow
 use Rattle.pram_text.specs.Job.{JobData}
 use Rattle.pram_text.specs.Lines.{Line, lines_of, words_of, worded, is_allowed, is_filled}
 use Rattle.pram_text.specs.Judgement.{unlabelled}
-use Rattle.pram_text.specs.Text.{place_of, Spells, words_fault, line_fault, body_of, numbered_body}
+use Rattle.pram_text.specs.Text.{index_of, Spells, words_fault, line_fault, body_of, numbered_body}
 use Rattle.pram_text.specs.Text.{end_fault, fault_at, label_fault_at, IsFirst, Bears}
 use Rattle.pram_text.proofs.Worded.{worded_at, words-numbered_body}
 use Rattle.pram_text.proofs.Labels.{instr_fault-none}
@@ -90,11 +90,11 @@ module _ (lines : List (List ℕ)) (some : 1 ≤ length lines)
   words_pass before line after e =
       let at = worded_at lines before line after e in
       let filled = subst (λ l. is_filled l ≡ true) (sym at.says) at.filled in
-      let one = sym (cond-true (is_filled (words_of (get_or lines at.place [])))
-      (words_fault (worded (take at.place lines)) (words_of (get_or lines at.place [])))
-      None filled) ∙ (line_parts at.place at.within).1 in
+      let one = sym (cond-true (is_filled (words_of (get_or lines at.index [])))
+      (words_fault (worded (take at.index lines)) (words_of (get_or lines at.index [])))
+      None filled) ∙ (line_parts at.index at.within).1 in
       subst (λ l. words_fault before l ≡ None) at.says
-      (subst (λ l. words_fault l (words_of (get_or lines at.place [])) ≡ None) at.front one)
+      (subst (λ l. words_fault l (words_of (get_or lines at.index [])) ≡ None) at.front one)
 
 has_line : (text : List ℕ) → 1 ≤ length (lines_of text)
 has_line text = omega (arith, length-slice_split (λ b. b == 10) text)
@@ -160,7 +160,7 @@ label_comes_last text line kind (inr label) none =
     ∙ ap (λ l. take k p.body ++ l) (drop_more p.body k [] within))) in
     let here : label_fault_at p.body k ≡ Some kind =
     subst (λ ls. label_fault_at ls k ≡ Some kind) body label.3.here in
-    elim (instr_follows (place_of p.body) (unlabelled (get_or p.body k []))).same [
+    elim (instr_follows (index_of p.body) (unlabelled (get_or p.body k []))).same [
       | inl same ↦ let known = fine.2 in cc
       | inr unknown ↦ let is = unknown.0 in cc
     ]

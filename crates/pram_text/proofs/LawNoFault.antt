@@ -13,8 +13,8 @@ use Rattle.pram_text.specs.declared.fault.TextKind.{TextKind}
 use Rattle.pram_text.specs.declared.fault.TextKind.TheVariants.{BadHeader, UnknownInstruction}
 use Rattle.pram_text.specs.declared.fault.TextKind.TheVariants.{DuplicateLabel, UnknownLabel}
 use Rattle.pram_text.specs.declared.instr.Instr.{Instr}
-use Rattle.pram_text.specs.Instructions.{Form, bare, target, target_number, target_one}
-use Rattle.pram_text.specs.Instructions.{target_two, pair, one_place, at_place, table}
+use Rattle.pram_text.specs.Instructions.{Form, bare, only_target, target_number, target_one}
+use Rattle.pram_text.specs.Instructions.{target_two, pair, register_index, only_index, table}
 use Rattle.pram_text.specs.declared.instr.Rule.{Rule}
 use Rattle.pram_text.specs.declared.limits.TheConstants.{MAX_CODE}
 use Rattle.pram_text.specs.Job.{JobData}
@@ -23,8 +23,8 @@ use Rattle.pram_text.specs.Judgement.{◌>>=◌, version_of, cells_of, procs_of,
 use Rattle.pram_text.specs.Judgement.{init_of, is_code, label_of, unlabelled, is_name}
 use Rattle.pram_text.specs.Judgement.{register_of, no_operand, one_register, two_registers}
 use Rattle.pram_text.specs.Judgement.{three_registers, register_number, one_label}
-use Rattle.pram_text.specs.Judgement.{register_label, place_in, instr_of, instr_by, made_of}
-use Rattle.pram_text.specs.Text.{is_named, new_label_fault, defines, place_of, code_line}
+use Rattle.pram_text.specs.Judgement.{register_label, index_in, instr_of, instr_by, made_of}
+use Rattle.pram_text.specs.Text.{is_named, new_label_fault, defines, index_of, code_line}
 use Rattle.pram_text.specs.Text.{NamesCells, SpellsInit, SpellsCode, SpellsRule}
 use Rattle.pram_text.specs.Text.{SpellsHeader, SpellsLines, names_rule, init_fault}
 use Rattle.pram_text.specs.Text.{label_fault, instr_fault, rest_fault, words_fault}
@@ -72,14 +72,14 @@ either : (b : Bool) (x y x' y' : Result Instr TextKind) → Follows x x' → Fol
 either true x y x' y' p q = p
 either false x y x' y' p q = q
 
-place_follows : (o : Option ℕ) (make : ℕ → Instr) →
-    Follows (ok_or o UnknownLabel >>= λ place. Ok (make place)) (Ok (make 0))
-place_follows None make = record { same = inr (refl, refl) }
-place_follows (Some place) make = record { same = inl refl }
+index_follows : (o : Option ℕ) (make : ℕ → Instr) →
+    Follows (ok_or o UnknownLabel >>= λ index. Ok (make index)) (Ok (make 0))
+index_follows None make = record { same = inr (refl, refl) }
+index_follows (Some index) make = record { same = inl refl }
 
 label_follows : (find : Word → Option ℕ) (make : ℕ → Instr) (operands : Line) →
     Follows (one_label find make operands) (one_label (λ label. Some 0) make operands)
-label_follows find make (label ∷ []) = place_follows (find label) make
+label_follows find make (label ∷ []) = index_follows (find label) make
 label_follows find make _ = follows_same _
 
 jump_follows : (find : Word → Option ℕ) (make : ℕ → ℕ → Instr) (operands : Line) →
@@ -87,16 +87,16 @@ jump_follows : (find : Word → Option ℕ) (make : ℕ → ℕ → Instr) (oper
 jump_follows find make (r ∷ label ∷ []) = go (register_of r)
   where
     go : (o : Result ℕ TextKind) →
-        Follows (o >>= λ r'. place_in find label >>= λ place. Ok (make r' place))
-        (o >>= λ r'. place_in (λ label. Some 0) label >>= λ place. Ok (make r' place))
-    go (Ok r') = place_follows (find label) (make r')
+        Follows (o >>= λ r'. index_in find label >>= λ index. Ok (make r' index))
+        (o >>= λ r'. index_in (λ label. Some 0) label >>= λ index. Ok (make r' index))
+    go (Ok r') = index_follows (find label) (make r')
     go (Err kind) = follows_same (Err kind)
 jump_follows find make _ = follows_same _
 
 form_follows : (find : Word → Option ℕ) (form : Form) (operands : Line) →
     Follows (made_of find form operands) (made_of (λ label. Some 0) form operands)
-form_follows find (one_place make) operands = jump_follows find make operands
-form_follows find (at_place make) operands = label_follows find make operands
+form_follows find (register_index make) operands = jump_follows find make operands
+form_follows find (only_index make) operands = label_follows find make operands
 form_follows find _ operands = follows_same _
 
 rows_follow : (find : Word → Option ℕ) (rows : List (Word × Form)) (name : Word) (operands : Line) →
@@ -111,7 +111,7 @@ unfolding instr_of
 instr_follows find [] = follows_same _
 instr_follows find (name ∷ operands) = rows_follow find table name operands
 
--- what is an instruction with these places has no fault with any
+-- what is an instruction with these indices has no fault with any
 known_passes : (find : Word → Option ℕ) (line : Line) (instr : Instr) →
     instr_of find line ≡ Ok instr → result_err (instr_of (λ label. Some 0) line) ≡ None
 known_passes find line instr e = elim (instr_follows find line).same [
@@ -162,12 +162,12 @@ label_passes before line after code s = go (label_of line) refl
 instr_passes : (before : List Line) (line : Line) (after : List Line) (code : List Instr) →
     SpellsCode (before ++ line ∷ after) code → instr_fault before line ≡ None
 instr_passes before line after code s =
-    let a = said_around (λ (l : Line). instr_of (place_of (before ++ line ∷ after)) (unlabelled l))
+    let a = said_around (λ (l : Line). instr_of (index_of (before ++ line ∷ after)) (unlabelled l))
     before line after code s.said in
     let few : length before < MAX_CODE =
     omega (arith, s.labelled.few, length-append before (line ∷ after)) in
     instr_fault-rest before line few (label_passes before line after code s)
-    ∙ known_passes (place_of (before ++ line ∷ after)) (unlabelled line) a.value a.said_value
+    ∙ known_passes (index_of (before ++ line ∷ after)) (unlabelled line) a.value a.said_value
 
 -- ---- all lines with words
 

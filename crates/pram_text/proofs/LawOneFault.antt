@@ -12,7 +12,7 @@ use Rattle.pram_text.specs.declared.instr.Instr.TheVariants.{Halt}
 use Rattle.pram_text.specs.Job.{JobData}
 use Rattle.pram_text.specs.Lines.{Line, lines_of, words_of, worded, is_allowed, is_filled}
 use Rattle.pram_text.specs.Judgement.{unlabelled, instr_of}
-use Rattle.pram_text.specs.Text.{place_of, SpellsLines, Spells, words_fault}
+use Rattle.pram_text.specs.Text.{index_of, SpellsLines, Spells, words_fault}
 use Rattle.pram_text.specs.Text.{line_fault, has_code, body_of, numbered_body}
 use Rattle.pram_text.specs.Text.{end_fault, fault_at, label_fault_at, IsFirst, Bears}
 use Rattle.pram_text.proofs.Coded.{no_fault-Ok}
@@ -38,7 +38,7 @@ labels_pass job lines s k =
     let body = ap body_of s.parts ∙ body_of-body _ _ _ _ _ s.header s.sizes s.inits s.body
     (none_named job.cells s.inits s.init.pairs s.init.named) in
     subst (λ ls. k < length ls → label_fault_at ls k ≡ None) (sym body) (λ lt.
-    ap result_err (sym (get_or-map (λ line. instr_of (place_of s.body) (unlabelled line)) s.body k
+    ap result_err (sym (get_or-map (λ line. instr_of (index_of s.body) (unlabelled line)) s.body k
     [] (Ok Halt) lt) ∙ ap (λ os. get_or os k (Ok Halt)) s.code.said) ∙ no_fault-Ok job.code k)
 
 -- ---- a line by itself

@@ -8,7 +8,7 @@ use Rattle.pram_text.specs.declared.instr.Rule.{Rule}
 use Rattle.pram_text.specs.Job.{JobData}
 use Rattle.pram_text.specs.Lines.{Line, lines_of, worded}
 use Rattle.pram_text.specs.Judgement.{rule_of, init_of, is_code, instr_of, unlabelled}
-use Rattle.pram_text.specs.Text.{place_of, code_line, SpellsInit, SpellsCode}
+use Rattle.pram_text.specs.Text.{index_of, code_line, SpellsInit, SpellsCode}
 use Rattle.pram_text.specs.Text.{SpellsRule, SpellsLines, Spells}
 use Rattle.pram_text.proofs.Lists.{cut_once}
 use Rattle.pram_text.proofs.Said.{said_once}
@@ -63,7 +63,7 @@ one_lines a b lines s t =
     let init = one_init b.cells t.inits a.init b.init
     (subst (λ cells. SpellsInit cells t.inits a.init) c
     (subst (λ inits. SpellsInit a.cells inits a.init) cut.0 s.init)) t.init in
-    let code = said_once (λ (line : Line). instr_of (place_of t.body) (unlabelled line)) t.body
+    let code = said_once (λ (line : Line). instr_of (index_of t.body) (unlabelled line)) t.body
     a.code b.code (subst (λ body. SpellsCode body a.code) cut.1 s.code).said t.code.said in λ i.
     record { rule = r.0 i; cells = c i; procs = p i; steps = n i; init = init i; code = code i }
 

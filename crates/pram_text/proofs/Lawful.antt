@@ -17,16 +17,16 @@ use Rattle.pram_text.specs.declared.fault.TextKind.TheVariants.{UnknownInstructi
 use Rattle.pram_text.specs.declared.fault.TextKind.TheVariants.{BadRegister, UnknownLabel}
 use Rattle.pram_text.specs.declared.instr.Instr.{Instr}
 use Rattle.pram_text.specs.declared.instr.Instr.TheVariants.{Halt}
-use Rattle.pram_text.specs.Instructions.{Form, bare, target, target_number, target_one}
-use Rattle.pram_text.specs.Instructions.{target_two, pair, one_place, at_place, table}
+use Rattle.pram_text.specs.Instructions.{Form, bare, only_target, target_number, target_one}
+use Rattle.pram_text.specs.Instructions.{target_two, pair, register_index, only_index, table}
 use Rattle.pram_text.specs.Job.{JobData, IsJob, IsInstr}
 use Rattle.pram_text.specs.Lines.{Word, Line, lines_of, worded}
 use Rattle.pram_text.specs.Judgement.{◌>>=◌, is_number, number_of, number_in, most, named_number}
 use Rattle.pram_text.specs.Judgement.{init_of, register_of, no_operand, one_register, two_registers}
-use Rattle.pram_text.specs.Judgement.{three_registers, register_number, place_in, one_label}
+use Rattle.pram_text.specs.Judgement.{three_registers, register_number, index_in, one_label}
 use Rattle.pram_text.specs.Judgement.{register_label, instr_of, instr_by, made_of, unlabelled}
 use Rattle.pram_text.proofs.Table.{IsRow, is_instr, table_is}
-use Rattle.pram_text.specs.Text.{place_of, defines, SpellsInit, SpellsCode, SpellsLines, Spells}
+use Rattle.pram_text.specs.Text.{index_of, defines, SpellsInit, SpellsCode, SpellsLines, Spells}
 
 -- the value, if there is one, is such
 pub record Keeps {A : Type 0} (P : A → Type 0) (r : Result A TextKind) : Type 0 where
@@ -130,33 +130,33 @@ module _ (len : ℕ) where
   keeps_number make h _ = err _ WrongOperands
 
   module _ (find : Word → Option ℕ)
-      (within : (label : Word) (place : ℕ) → find label ≡ Some place → place ≤ len) where
-    place_within : (label : Word) → Keeps (λ place. place ≤ len) (place_in find label)
-    place_within label = go (find label) (λ place e. within label place e)
+      (within : (label : Word) (index : ℕ) → find label ≡ Some index → index ≤ len) where
+    index_within : (label : Word) → Keeps (λ index. index ≤ len) (index_in find label)
+    index_within label = go (find label) (λ index e. within label index e)
       where
-        go : (o : Option ℕ) → ((place : ℕ) → o ≡ Some place → place ≤ len) →
-            Keeps (λ place. place ≤ len) (ok_or o UnknownLabel)
+        go : (o : Option ℕ) → ((index : ℕ) → o ≡ Some index → index ≤ len) →
+            Keeps (λ index. index ≤ len) (ok_or o UnknownLabel)
         go None h = err _ UnknownLabel
-        go (Some place) h = ok _ place (h place refl)
+        go (Some index) h = ok _ index (h index refl)
 
-    keeps_label : (make : ℕ → Instr) → ((place : ℕ) → place ≤ len → IsInstr len (make place)) →
+    keeps_label : (make : ℕ → Instr) → ((index : ℕ) → index ≤ len → IsInstr len (make index)) →
         (operands : Line) → Keeps (IsInstr len) (one_label find make operands)
     keeps_label make h (label ∷ []) =
-        then_ok _ _ (place_within label) (λ place p. ok _ (make place) (h place p))
+        then_ok _ _ (index_within label) (λ index p. ok _ (make index) (h index p))
     keeps_label make h _ = err _ WrongOperands
 
     keeps_jump : (make : ℕ → ℕ → Instr) →
-        ((r place : ℕ) → r < 4 → place ≤ len → IsInstr len (make r place)) → (operands : Line) →
+        ((r index : ℕ) → r < 4 → index ≤ len → IsInstr len (make r index)) → (operands : Line) →
         Keeps (IsInstr len) (register_label find make operands)
     keeps_jump make h (r ∷ label ∷ []) = then_ok _ _ (register_of-keeps r) (λ r' p.
-        then_ok _ _ (place_within label) (λ place q. ok _ (make r' place) (h r' place p q)))
+        then_ok _ _ (index_within label) (λ index q. ok _ (make r' index) (h r' index p q)))
     keeps_jump make h _ = err _ WrongOperands
 
     form_keeps : (name : Word) (form : Form) → IsRow name form → (operands : Line) →
         Keeps (IsInstr len) (made_of find form operands)
     form_keeps name (bare instr) is operands =
         keeps_none instr (is_instr len name _ _ is tt) operands
-    form_keeps name (target make) is operands =
+    form_keeps name (only_target make) is operands =
         keeps_one make (λ r p. is_instr len name _ _ (is r) p) operands
     form_keeps name (target_number make) is operands =
         keeps_number make (λ r k p q. is_instr len name _ _ (is r k) (p, q)) operands
@@ -166,10 +166,10 @@ module _ (len : ℕ) where
         keeps_three make (λ r a b o p q. is_instr len name _ _ (is r a b) (o, p, q)) operands
     form_keeps name (pair make) is operands =
         keeps_two make (λ a b p q. is_instr len name _ _ (is a b) (p, q)) operands
-    form_keeps name (one_place make) is operands =
-        keeps_jump make (λ r place p q. is_instr len name _ _ (is r place) (p, q)) operands
-    form_keeps name (at_place make) is operands =
-        keeps_label make (λ place p. is_instr len name _ _ (is place) p) operands
+    form_keeps name (register_index make) is operands =
+        keeps_jump make (λ r index p q. is_instr len name _ _ (is r index) (p, q)) operands
+    form_keeps name (only_index make) is operands =
+        keeps_label make (λ index p. is_instr len name _ _ (is index) p) operands
 
     rows_keep : (rows : List (Word × Form)) →
         AllByRecursion (λ (row : Word × Form). IsRow row.0 row.1) rows →
@@ -223,16 +223,16 @@ code_keeps : (body : List Line) (code : List Instr) → SpellsCode body code →
     All (IsInstr (length code)) code
 code_keeps body code s =
     let same =
-    said_length (λ (line : Line). instr_of (place_of body) (unlabelled line)) body code s.said in
-    let within = λ (label : Word) (place : ℕ) (e : place_of body label ≡ Some place). le_of_lt
-    (subst (λ n. place < n) (sym same) (position-Some (defines label) body place [] e).0) in
+    said_length (λ (line : Line). instr_of (index_of body) (unlabelled line)) body code s.said in
+    let within = λ (label : Word) (index : ℕ) (e : index_of body label ≡ Some index). le_of_lt
+    (subst (λ n. index < n) (sym same) (position-Some (defines label) body index [] e).0) in
     All-from_recursion (IsInstr (length code)) code
-    (said_all (IsInstr (length code)) (λ (line : Line). instr_of (place_of body) (unlabelled line))
-    (λ line. instr_keeps (length code) (place_of body) within (unlabelled line)) body code s.said)
+    (said_all (IsInstr (length code)) (λ (line : Line). instr_of (index_of body) (unlabelled line))
+    (λ line. instr_keeps (length code) (index_of body) within (unlabelled line)) body code s.said)
 
 pub lines_keep : (job : JobData) (lines : List Line) → SpellsLines job lines → IsJob job
 lines_keep job lines s =
-    let same = said_length (λ (line : Line). instr_of (place_of s.body) (unlabelled line))
+    let same = said_length (λ (line : Line). instr_of (index_of s.body) (unlabelled line))
     s.body job.code s.code.said in
     let steps =
     value_keeps job.steps (named_number-keeps _ _ _ s.sizes.steps_line) s.sizes.steps_said in

@@ -33,7 +33,7 @@ lines_some (x ∷ xs) (suc k) low is before =
     ∙ ap (onto_first x) (lines_some xs k (omega arith) is (λ j less. before (suc j) (omega arith)))
 lines_some [] k low is before = absurd (omega arith)
 
--- what is after the line feed at place k
+-- what is after the line feed at index k
 pub after_feed : (text : List ℕ) (k : ℕ) → k < length text →
     take (length (drop k text) - 1) (drop 1 (drop k text)) ≡ drop (suc k) text
 after_feed text k low =

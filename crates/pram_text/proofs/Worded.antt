@@ -29,10 +29,10 @@ worded_around (line ∷ lines) (suc k) lt e =
 
 -- the line that has these words
 pub record WordedAt (lines : List (List ℕ)) (before : List Line) (words : Line) : Type 0 where
-  pub place : ℕ
-  pub within : place < length lines
-  pub front : worded (take place lines) ≡ before
-  pub says : words_of (get_or lines place []) ≡ words
+  pub index : ℕ
+  pub within : index < length lines
+  pub front : worded (take index lines) ≡ before
+  pub says : words_of (get_or lines index []) ≡ words
   pub filled : is_filled words ≡ true
 
 pub worded_at : (lines : List (List ℕ)) (before : List Line) (words : Line) (after : List Line) →
@@ -49,7 +49,7 @@ worded_at (line ∷ lines) before words after e = go before (is_filled (words_of
     go [] true filled f more =
         let here : words_of line ≡ words = cc in
         record {
-          place = 0;
+          index = 0;
           within = omega arith;
           front = refl;
           says = here;
@@ -61,11 +61,11 @@ worded_at (line ∷ lines) before words after e = go before (is_filled (words_of
         let m = more front rest in
         let lt = m.within in
         record {
-          place = suc m.place;
+          index = suc m.index;
           within = omega arith;
           front =
-              cond-true (is_filled (words_of line)) (words_of line ∷ worded (take m.place lines))
-              (worded (take m.place lines)) filled ∙ (λ i. here i ∷ m.front i);
+              cond-true (is_filled (words_of line)) (words_of line ∷ worded (take m.index lines))
+              (worded (take m.index lines)) filled ∙ (λ i. here i ∷ m.front i);
           says = m.says;
           filled = m.filled;
         }
@@ -73,11 +73,11 @@ worded_at (line ∷ lines) before words after e = go before (is_filled (words_of
         let m = more front f in
         let lt = m.within in
         record {
-          place = suc m.place;
+          index = suc m.index;
           within = omega arith;
           front =
-              cond-false (is_filled (words_of line)) (words_of line ∷ worded (take m.place lines))
-              (worded (take m.place lines)) filled ∙ m.front;
+              cond-false (is_filled (words_of line)) (words_of line ∷ worded (take m.index lines))
+              (worded (take m.index lines)) filled ∙ m.front;
           says = m.says;
           filled = m.filled;
         }

@@ -6,27 +6,27 @@ use Rattle.pram_text.specs.declared.instr.Instr.TheVariants.{Lt, Eq, Ld, St, Jz,
 use Rattle.pram_text.specs.declared.instr.Operands.{Operands}
 use Rattle.pram_text.specs.declared.instr.Operands.TheVariants.{Bare, Target, TargetNumber}
 use Rattle.pram_text.specs.declared.instr.Operands.TheVariants.{TargetOne, TargetTwo, Two}
-use Rattle.pram_text.specs.declared.instr.Operands.TheVariants.{OnePlace, Place}
+use Rattle.pram_text.specs.declared.instr.Operands.TheVariants.{RegisterIndex, Index}
 use Rattle.pram_text.specs.declared.limits.TheConstants.{REGISTERS}
 use Rattle.pram_text.specs.Lines.{Word}
 
 -- ---- from an instruction to its text
 
 abbrev pub row_of : Instr → Word × Operands
-row_of (Set r k) = (codes "set", TargetNumber r k)
-row_of (Pid r) = (codes "pid", Target r)
-row_of (Add r a b) = (codes "add", TargetTwo r a b)
-row_of (Sub r a b) = (codes "sub", TargetTwo r a b)
-row_of (Mul r a b) = (codes "mul", TargetTwo r a b)
-row_of (And r a b) = (codes "and", TargetTwo r a b)
-row_of (Or r a b) = (codes "or", TargetTwo r a b)
-row_of (Xor r a b) = (codes "xor", TargetTwo r a b)
-row_of (Lt r a b) = (codes "lt", TargetTwo r a b)
-row_of (Eq r a b) = (codes "eq", TargetTwo r a b)
-row_of (Ld r a) = (codes "ld", TargetOne r a)
-row_of (St a b) = (codes "st", Two a b)
-row_of (Jz r place) = (codes "jz", OnePlace r place)
-row_of (Jmp place) = (codes "jmp", Place place)
+row_of (Set target number) = (codes "set", TargetNumber target number)
+row_of (Pid target) = (codes "pid", Target target)
+row_of (Add target first second) = (codes "add", TargetTwo target first second)
+row_of (Sub target first second) = (codes "sub", TargetTwo target first second)
+row_of (Mul target first second) = (codes "mul", TargetTwo target first second)
+row_of (And target first second) = (codes "and", TargetTwo target first second)
+row_of (Or target first second) = (codes "or", TargetTwo target first second)
+row_of (Xor target first second) = (codes "xor", TargetTwo target first second)
+row_of (Lt target first second) = (codes "lt", TargetTwo target first second)
+row_of (Eq target first second) = (codes "eq", TargetTwo target first second)
+row_of (Ld target register) = (codes "ld", TargetOne target register)
+row_of (St first second) = (codes "st", Two first second)
+row_of (Jz register index) = (codes "jz", RegisterIndex register index)
+row_of (Jmp index) = (codes "jmp", Index index)
 row_of Halt = (codes "halt", Bare)
 
 -- ---- from a text to the instruction
@@ -34,43 +34,44 @@ row_of Halt = (codes "halt", Bare)
 -- what the operands after a name make
 pub data Form : Type 0 where
   bare : Instr → Form
-  target : (ℕ → Instr) → Form
+  only_target : (ℕ → Instr) → Form
   target_number : (ℕ → ℕ → Instr) → Form
   target_one : (ℕ → ℕ → Instr) → Form
   target_two : (ℕ → ℕ → ℕ → Instr) → Form
   pair : (ℕ → ℕ → Instr) → Form
-  one_place : (ℕ → ℕ → Instr) → Form
-  at_place : (ℕ → Instr) → Form
+  register_index : (ℕ → ℕ → Instr) → Form
+  only_index : (ℕ → Instr) → Form
 
 abbrev pub table : List (Word × Form)
 table =
-    (codes "set", target_number (λ r k. Set r k))
-    ∷ (codes "pid", target (λ r. Pid r))
-    ∷ (codes "add", target_two (λ r a b. Add r a b))
-    ∷ (codes "sub", target_two (λ r a b. Sub r a b))
-    ∷ (codes "mul", target_two (λ r a b. Mul r a b))
-    ∷ (codes "and", target_two (λ r a b. And r a b))
-    ∷ (codes "or", target_two (λ r a b. Or r a b))
-    ∷ (codes "xor", target_two (λ r a b. Xor r a b))
-    ∷ (codes "lt", target_two (λ r a b. Lt r a b))
-    ∷ (codes "eq", target_two (λ r a b. Eq r a b))
-    ∷ (codes "ld", target_one (λ r a. Ld r a))
-    ∷ (codes "st", pair (λ a b. St a b))
-    ∷ (codes "jz", one_place (λ r place. Jz r place))
-    ∷ (codes "jmp", at_place (λ place. Jmp place))
+    (codes "set", target_number (λ target number. Set target number))
+    ∷ (codes "pid", only_target (λ target. Pid target))
+    ∷ (codes "add", target_two (λ target first second. Add target first second))
+    ∷ (codes "sub", target_two (λ target first second. Sub target first second))
+    ∷ (codes "mul", target_two (λ target first second. Mul target first second))
+    ∷ (codes "and", target_two (λ target first second. And target first second))
+    ∷ (codes "or", target_two (λ target first second. Or target first second))
+    ∷ (codes "xor", target_two (λ target first second. Xor target first second))
+    ∷ (codes "lt", target_two (λ target first second. Lt target first second))
+    ∷ (codes "eq", target_two (λ target first second. Eq target first second))
+    ∷ (codes "ld", target_one (λ target register. Ld target register))
+    ∷ (codes "st", pair (λ first second. St first second))
+    ∷ (codes "jz", register_index (λ register index. Jz register index))
+    ∷ (codes "jmp", only_index (λ index. Jmp index))
     ∷ (codes "halt", bare Halt)
     ∷ []
 
 -- ---- what operands there are
 
--- registers are those that there are, a number is below 2^32, and a place is in the code of this
--- length or at its end
+-- registers are those that there are, a number is below 2^32, and an index is that of an
+-- instruction in a code of this length, or of its end
 abbrev pub AreOperands : ℕ → Operands → Type 0
 AreOperands len Bare = Unit {0}
-AreOperands len (Target r) = r < REGISTERS
-AreOperands len (TargetNumber r k) = (r < REGISTERS) × (k < 2 ^ 32)
-AreOperands len (TargetOne r a) = (r < REGISTERS) × (a < REGISTERS)
-AreOperands len (TargetTwo r a b) = (r < REGISTERS) × (a < REGISTERS) × (b < REGISTERS)
-AreOperands len (Two a b) = (a < REGISTERS) × (b < REGISTERS)
-AreOperands len (OnePlace r place) = (r < REGISTERS) × (place ≤ len)
-AreOperands len (Place place) = place ≤ len
+AreOperands len (Target target) = target < REGISTERS
+AreOperands len (TargetNumber target number) = (target < REGISTERS) × (number < 2 ^ 32)
+AreOperands len (TargetOne target register) = (target < REGISTERS) × (register < REGISTERS)
+AreOperands len (TargetTwo target first second) =
+    (target < REGISTERS) × (first < REGISTERS) × (second < REGISTERS)
+AreOperands len (Two first second) = (first < REGISTERS) × (second < REGISTERS)
+AreOperands len (RegisterIndex register index) = (register < REGISTERS) × (index ≤ len)
+AreOperands len (Index index) = index ≤ len

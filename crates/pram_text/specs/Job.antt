@@ -34,6 +34,6 @@ pub record IsJob (job : JobData) : Type 0 where
   pub procs : (1 ≤ job.procs) × (job.procs ≤ MAX_PROCS)
   pub steps : job.steps < 2 ^ 32
   pub init_len : length job.init ≡ job.cells
-  pub init_fits : All (λ v. v < 2 ^ 32) job.init
+  pub init_fits : All (λ value. value < 2 ^ 32) job.init
   pub code_len : (1 ≤ length job.code) × (length job.code ≤ MAX_CODE)
   pub code_fits : All (IsInstr (length job.code)) job.code

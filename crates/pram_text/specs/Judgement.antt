@@ -17,15 +17,15 @@ use Rattle.pram_text.specs.declared.instr.Instr.{Instr}
 use Rattle.pram_text.specs.declared.instr.Rule.{Rule}
 use Rattle.pram_text.specs.declared.instr.Rule.TheVariants.{Common, Priority, Crew}
 use Rattle.pram_text.specs.declared.limits.TheConstants.{MAX_CELLS, MAX_PROCS}
-use Rattle.pram_text.specs.Instructions.{Form, table, bare, target, target_number, target_one}
-use Rattle.pram_text.specs.Instructions.{target_two, pair, one_place, at_place}
+use Rattle.pram_text.specs.Instructions.{Form, table, bare, only_target, target_number, target_one}
+use Rattle.pram_text.specs.Instructions.{target_two, pair, register_index, only_index}
 use Rattle.pram_text.specs.Lines.{Word, Line, is_filled}
 
 -- what the next part says of the value of the part before it, unless that part has a fault
 infixl 10 ◌>>=◌
 abbrev pub ◌>>=◌ : {A B : Type 0} → Result A TextKind → (A → Result B TextKind) → Result B TextKind
-(Ok x) >>= f = f x
-(Err k) >>= f = Err k
+(Ok value) >>= next = next value
+(Err kind) >>= next = Err kind
 
 -- ---- numbers and names
 
@@ -50,8 +50,9 @@ most = 4294967295
 -- a letter or `_`, then letters, digits or `_`
 unfoldable pub is_name : Word → Bool
 is_name [] = false
-is_name (b ∷ bs) =
-    (is_ascii_alphabetic b || (b == 95)) && list_all (λ c. is_ascii_alphanumeric c || (c == 95)) bs
+is_name (first ∷ rest) =
+    (is_ascii_alphabetic first || (first == 95))
+    && list_all (λ byte. is_ascii_alphanumeric byte || (byte == 95)) rest
 
 -- ---- header lines
 
@@ -90,10 +91,10 @@ rule_of _ = Err BadHeader
 
 -- `init c v`, where there are so many cells: the cell and its value
 unfoldable pub init_of : ℕ → Line → Result (ℕ × ℕ) TextKind
-init_of cells (first ∷ cell ∷ value ∷ []) =
+init_of cells (first ∷ cell_word ∷ value_word ∷ []) =
     if bytes_eq first (codes "init")
-    then (number_in 0 (cells - 1) cell >>= λ c. number_in 0 most value >>= λ v. Ok (c, v))
-    else Err BadHeader
+    then (number_in 0 (cells - 1) cell_word >>= λ cell. number_in 0 most value_word >>= λ value.
+    Ok (cell, value)) else Err BadHeader
 init_of cells _ = Err BadHeader
 
 unfoldable pub is_code : Line → Bool
@@ -127,46 +128,49 @@ no_operand instr [] = Ok instr
 no_operand instr (word ∷ words) = Err WrongOperands
 
 abbrev pub one_register : (ℕ → Instr) → Line → Result Instr TextKind
-one_register make (r ∷ []) = register_of r >>= λ r'. Ok (make r')
+one_register make (word ∷ []) = register_of word >>= λ register. Ok (make register)
 one_register make _ = Err WrongOperands
 
 abbrev pub two_registers : (ℕ → ℕ → Instr) → Line → Result Instr TextKind
-two_registers make (a ∷ b ∷ []) = register_of a >>= λ a'. register_of b >>= λ b'. Ok (make a' b')
+two_registers make (first_word ∷ second_word ∷ []) =
+    register_of first_word >>= λ first. register_of second_word >>= λ second. Ok (make first second)
 two_registers make _ = Err WrongOperands
 
 abbrev pub three_registers : (ℕ → ℕ → ℕ → Instr) → Line → Result Instr TextKind
-three_registers make (r ∷ a ∷ b ∷ []) =
-    register_of r >>= λ r'. register_of a >>= λ a'. register_of b >>= λ b'. Ok (make r' a' b')
+three_registers make (target_word ∷ first_word ∷ second_word ∷ []) =
+    register_of target_word >>= λ target. register_of first_word >>= λ first.
+    register_of second_word >>= λ second. Ok (make target first second)
 three_registers make _ = Err WrongOperands
 
 abbrev pub register_number : (ℕ → ℕ → Instr) → Line → Result Instr TextKind
-register_number make (r ∷ k ∷ []) =
-    register_of r >>= λ r'. number_in 0 most k >>= λ k'. Ok (make r' k')
+register_number make (register_word ∷ number_word ∷ []) =
+    register_of register_word >>= λ register. number_in 0 most number_word >>= λ number.
+    Ok (make register number)
 register_number make _ = Err WrongOperands
 
--- a label stands for its place, where `find` finds it
-abbrev pub place_in : (Word → Option ℕ) → Word → Result ℕ TextKind
-place_in find label = ok_or (find label) UnknownLabel
+-- a label stands for its index, where `find` finds it
+abbrev pub index_in : (Word → Option ℕ) → Word → Result ℕ TextKind
+index_in find label = ok_or (find label) UnknownLabel
 
 abbrev pub one_label : (Word → Option ℕ) → (ℕ → Instr) → Line → Result Instr TextKind
-one_label find make (label ∷ []) = place_in find label >>= λ place. Ok (make place)
+one_label find make (label ∷ []) = index_in find label >>= λ index. Ok (make index)
 one_label find make _ = Err WrongOperands
 
 abbrev pub register_label : (Word → Option ℕ) → (ℕ → ℕ → Instr) → Line → Result Instr TextKind
-register_label find make (r ∷ label ∷ []) =
-    register_of r >>= λ r'. place_in find label >>= λ place. Ok (make r' place)
+register_label find make (word ∷ label ∷ []) =
+    register_of word >>= λ register. index_in find label >>= λ index. Ok (make register index)
 register_label find make _ = Err WrongOperands
 
 -- the operands after a name, and the instruction that they make
 abbrev pub made_of : (Word → Option ℕ) → Form → Line → Result Instr TextKind
 made_of find (bare instr) operands = no_operand instr operands
-made_of find (target make) operands = one_register make operands
+made_of find (only_target make) operands = one_register make operands
 made_of find (target_number make) operands = register_number make operands
 made_of find (target_one make) operands = two_registers make operands
 made_of find (target_two make) operands = three_registers make operands
 made_of find (pair make) operands = two_registers make operands
-made_of find (one_place make) operands = register_label find make operands
-made_of find (at_place make) operands = one_label find make operands
+made_of find (register_index make) operands = register_label find make operands
+made_of find (only_index make) operands = one_label find make operands
 
 -- the first row of this name says what the operands are
 abbrev pub instr_by : List (Word × Form) → (Word → Option ℕ) → Word → Line → Result Instr TextKind

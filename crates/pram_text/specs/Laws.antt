@@ -19,10 +19,11 @@ LinesAreJoined = (text : List ℕ) → join_with_byte 10 (lines_of text) ≡ tex
 
 -- one line more than line feeds
 abbrev pub LinesAreCounted : Type 0
-LinesAreCounted = (text : List ℕ) → length (lines_of text) ≡ count_by (λ b. b == 10) text + 1
+LinesAreCounted = (text : List ℕ) → length (lines_of text) ≡ count_by (λ byte. byte == 10) text + 1
 
 abbrev pub OneJob : Type 0
-OneJob = (text : List ℕ) (a b : JobData) → Spells text a → Spells text b → a ≡ b
+OneJob =
+    (text : List ℕ) (job other : JobData) → Spells text job → Spells text other → job ≡ other
 
 abbrev pub SpelledJobIsLawful : Type 0
 SpelledJobIsLawful = (text : List ℕ) (job : JobData) → Spells text job → IsJob job
@@ -52,7 +53,7 @@ FaultIsWithin =
 abbrev pub UnknownLabelComesLast : Type 0
 UnknownLabelComesLast =
     (text : List ℕ) (line : ℕ) (kind : TextKind) → Bears text line kind
-    → ((k : ℕ) → k < length (lines_of text) → fault_at (lines_of text) k ≡ None) →
+    → ((index : ℕ) → index < length (lines_of text) → fault_at (lines_of text) index ≡ None) →
     kind ≡ UnknownLabel
 
 -- both texts spell the same jobs

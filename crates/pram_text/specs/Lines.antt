@@ -12,22 +12,22 @@ Line = List Word
 
 -- The lines lie between the line feeds.
 abbrev pub lines_of : List ℕ → List (List ℕ)
-lines_of text = slice_split (λ b. b == 10) text
+lines_of text = slice_split (λ byte. byte == 10) text
 
 -- tab, carriage return, and what can be printed
 unfoldable pub is_allowed : ℕ → Bool
-is_allowed b = (b == 9) || (b == 13) || (nat_le 32 b && nat_le b 126)
+is_allowed byte = (byte == 9) || (byte == 13) || (nat_le 32 byte && nat_le byte 126)
 
 abbrev pub is_blank : ℕ → Bool
-is_blank b = (b == 32) || (b == 9) || (b == 13)
+is_blank byte = (byte == 32) || (byte == 9) || (byte == 13)
 
 abbrev pub is_filled : {X : Type 0} → List X → Bool
 is_filled [] = false
-is_filled (x ∷ xs) = true
+is_filled (first ∷ rest) = true
 
 -- The words lie between the blanks before the first semicolon.
 unfoldable pub words_of : List ℕ → Line
-words_of line = filter is_filled (slice_split is_blank (before_first (λ b. b == 59) line))
+words_of line = filter is_filled (slice_split is_blank (before_first (λ byte. byte == 59) line))
 
 -- the lines that have words
 abbrev pub worded : List (List ℕ) → List Line
@@ -35,4 +35,4 @@ worded lines = filter is_filled (map words_of lines)
 
 -- the same lines, each with its number among all lines, counted from 1
 abbrev pub numbered : List (List ℕ) → List (ℕ × Line)
-numbered lines = filter (λ l. is_filled l.1) (enumerate_from 1 (map words_of lines))
+numbered lines = filter (λ entry. is_filled entry.1) (enumerate_from 1 (map words_of lines))

@@ -2,9 +2,9 @@
 -- the counter of each.
 use Rattle.std.specs.Prelude.{ℕ, ◌+◌, ◌*◌}
 
--- register r of processor i
+-- a register of processor i
 abbrev pub register_at : ℕ → ℕ → ℕ → ℕ
-register_at cells i r = cells + 4 * i + r
+register_at cells i register = cells + 4 * i + register
 
 -- the first counter: cells and registers lie before it
 abbrev pub counters_at : ℕ → ℕ → ℕ

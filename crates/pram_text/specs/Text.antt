@@ -36,36 +36,38 @@ is_named (Some label) name = bytes_eq label name
 abbrev pub defines : Word → Line → Bool
 defines name line = is_named (label_of line) name
 
--- a label's place is the number of the first instruction that it stands before
-abbrev pub place_of : List Line → Word → Option ℕ
-place_of body name = position (defines name) body
+-- a label's index is the number of the first instruction that it stands before, counted from 0
+abbrev pub index_of : List Line → Word → Option ℕ
+index_of body name = position (defines name) body
 
 -- ---- a text spells a job
 
 -- Each line names a cell and its value, and no two name one cell.
 pub record NamesCells (cells : ℕ) (inits : List Line) (pairs : List (ℕ × ℕ)) : Type 0 where
-  pub said : map (init_of cells) inits ≡ map (λ p. Ok p) pairs
-  pub once : AllPairs (λ (p q : ℕ × ℕ). p.0 ≢ q.0) pairs
+  pub said : map (init_of cells) inits ≡ map (λ pair. Ok pair) pairs
+  pub once : AllPairs (λ (pair other : ℕ × ℕ). pair.0 ≢ other.0) pairs
 
 -- A cell that is named holds the value beside it, and the other cells hold 0.
 pub record SpellsInit (cells : ℕ) (inits : List Line) (init : List ℕ) : Type 0 where
   pub pairs : List (ℕ × ℕ)
   pub named : NamesCells cells inits pairs
   pub len : length init ≡ cells
-  pub values : (c : ℕ) → c < cells → slice_index init c ≡ unwrap_or (lookup (λ d. d == c) pairs) 0
+  pub values : (cell : ℕ) → cell < cells →
+      slice_index init cell ≡ unwrap_or (lookup (λ other. other == cell) pairs) 0
 
 -- So many lines at most, whose labels are names, and no two define one label.
 pub record IsLabelled (body : List Line) : Type 0 where
   pub few : length body ≤ MAX_CODE
   pub names : All (λ line. IfSome (label_of line) (λ label. IsTrue (is_name label))) body
-  pub once : AllPairs (λ a b. (label : Word) → label_of a ≡ Some label →
-      label_of b ≢ Some label) body
+  pub once : AllPairs (λ line other. (label : Word) → label_of line ≡ Some label →
+      label_of other ≢ Some label) body
 
--- Each line says its instruction, a label standing for its place.
+-- Each line says its instruction, a label standing for its index.
 pub record SpellsCode (body : List Line) (code : List Instr) : Type 0 where
   pub some : 1 ≤ length body
   pub labelled : IsLabelled body
-  pub said : map (λ line. instr_of (place_of body) (unlabelled line)) body ≡ map (λ i. Ok i) code
+  pub said : map (λ line. instr_of (index_of body) (unlabelled line)) body
+      ≡ map (λ instr. Ok instr) code
 
 -- Version 1 has the rule common, and no line for it; version 2 has one line, which names its rule.
 abbrev pub SpellsRule : ℕ → Rule → List Line → Type 0
@@ -114,11 +116,12 @@ names_rule version = result_unwrap_or (version_of version) 0 == 2
 -- the cells that lines before have named
 abbrev pub named_cells : ℕ → List Line → List ℕ
 named_cells cells lines =
-    filter_map (λ line. option_map (λ p. p.0) (result_ok (init_of cells line))) lines
+    filter_map (λ line. option_map (λ pair. pair.0) (result_ok (init_of cells line))) lines
 
 -- After the header stand start values, of each cell at most once.
 abbrev pub new_cell_fault : List ℕ → Result (ℕ × ℕ) TextKind → Option TextKind
-new_cell_fault named (Ok p) = if list_any (λ c. c == p.0) named then Some BadHeader else None
+new_cell_fault named (Ok pair) =
+    if list_any (λ cell. cell == pair.0) named then Some BadHeader else None
 new_cell_fault named (Err kind) = Some kind
 
 unfoldable pub init_fault : ℕ → List Line → Line → Option TextKind
@@ -180,34 +183,34 @@ end_fault lines =
 
 -- The line's own fault; after it, on the last line, what the text lacks.
 unfoldable pub fault_at : List (List ℕ) → ℕ → Option TextKind
-fault_at lines k =
-    option_or (line_fault (worded (take k lines)) (slice_index_or lines k []))
-    (if (k + 1) == length lines then end_fault (worded lines) else None)
+fault_at lines index =
+    option_or (line_fault (worded (take index lines)) (slice_index_or lines index []))
+    (if (index + 1) == length lines then end_fault (worded lines) else None)
 
 -- the instruction lines of a text, each with its number
 abbrev pub numbered_body : List (List ℕ) → List (ℕ × Line)
-numbered_body lines = after_first (λ l. is_code l.1) (drop 4 (numbered lines))
+numbered_body lines = after_first (λ entry. is_code entry.1) (drop 4 (numbered lines))
 
 -- the fault of one of these instruction lines, whose own are none: its jump's label is not defined
 abbrev pub label_fault_at : List Line → ℕ → Option TextKind
-label_fault_at body k =
-    result_err (instr_of (place_of body) (unlabelled (slice_index_or body k [])))
+label_fault_at body index =
+    result_err (instr_of (index_of body) (unlabelled (slice_index_or body index [])))
 
 -- The first of so many with a fault has this one.
-pub record IsFirst (fault : ℕ → Option TextKind) (len place : ℕ) (kind : TextKind) : Type 0 where
-  pub within : place < len
-  pub here : fault place ≡ Some kind
-  pub earlier : (k : ℕ) → k < place → fault k ≡ None
+pub record IsFirst (fault : ℕ → Option TextKind) (len index : ℕ) (kind : TextKind) : Type 0 where
+  pub within : index < len
+  pub here : fault index ≡ Some kind
+  pub earlier : (earlier : ℕ) → earlier < index → fault earlier ≡ None
 
 -- Lines count from 1. An unknown label is looked for where no line has another fault.
 unfoldable pub Bears : List ℕ → ℕ → TextKind → Type 0
 Bears text line kind =
     let lines = lines_of text in
     let body = numbered_body lines in
-    ((k : ℕ) × (line ≡ k + 1) × IsFirst (fault_at lines) (length lines) k kind)
-    ⊎ (((j : ℕ) → j < length lines → fault_at lines j ≡ None)
-    × (k : ℕ) × (line ≡ slice_index (map (λ l. l.0) body) k)
-    × IsFirst (label_fault_at (map (λ l. l.1) body)) (length body) k kind)
+    ((index : ℕ) × (line ≡ index + 1) × IsFirst (fault_at lines) (length lines) index kind)
+    ⊎ (((other : ℕ) → other < length lines → fault_at lines other ≡ None)
+    × (index : ℕ) × (line ≡ slice_index (map (λ entry. entry.0) body) index)
+    × IsFirst (label_fault_at (map (λ entry. entry.1) body)) (length body) index kind)
 
 -- A refusal names a fault of the text. Out of memory it says nothing of it, and names line
 -- 0.

@@ -2,7 +2,7 @@
 ghost use Rattle.std.specs.Prelude.{◌≡◌};
 ghost use Rattle.pram_text.specs.Instructions.{row_of};
 
-/// What a processor does in a step. Registers have the numbers 0 to 3, places are those of
+/// What a processor does in a step. Registers have the numbers 0 to 3, indices are those of
 /// instructions, counted from 0. On the right, a register stands for what it holds. Arithmetic is
 /// modulo 2^32.
 #[derive(Clone, Copy, Debug, PartialEq, Eq)]
@@ -31,17 +31,17 @@ pub enum Instr {
     Ld(u8, u8),
     /// `st a b`: the cell of number a becomes b.
     St(u8, u8),
-    /// `jz r label`: goes to the label's place if r is 0.
+    /// `jz r label`: goes to the label's index if r is 0.
     Jz(u8, u32),
-    /// `jmp label`: goes to the label's place.
+    /// `jmp label`: goes to the label's index.
     Jmp(u32),
     /// `halt`: the processor stays where it is from now on.
     Halt,
 }
 
 /// What a text has after the name of an instruction, in the order in which it is written. A target
-/// is a register that takes a value, the other registers are read, and a place is where a label
-/// stands.
+/// is a register that takes a value, the other registers are read, and an index is that of
+/// the instruction that a label stands before.
 #[derive(Clone, Copy, Debug, PartialEq, Eq)]
 pub enum Operands {
     /// Nothing.
@@ -57,9 +57,9 @@ pub enum Operands {
     /// `a b`
     Two(u8, u8),
     /// `r label`
-    OnePlace(u8, u32),
+    RegisterIndex(u8, u32),
     /// `label`
-    Place(u32),
+    Index(u32),
 }
 
 impl Instr {
@@ -81,8 +81,8 @@ impl Instr {
             Instr::Eq(r, a, b) => ("eq", Operands::TargetTwo(r, a, b)),
             Instr::Ld(r, a) => ("ld", Operands::TargetOne(r, a)),
             Instr::St(a, b) => ("st", Operands::Two(a, b)),
-            Instr::Jz(r, place) => ("jz", Operands::OnePlace(r, place)),
-            Instr::Jmp(place) => ("jmp", Operands::Place(place)),
+            Instr::Jz(r, index) => ("jz", Operands::RegisterIndex(r, index)),
+            Instr::Jmp(index) => ("jmp", Operands::Index(index)),
             Instr::Halt => ("halt", Operands::Bare),
         }
     }

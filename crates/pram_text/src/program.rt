@@ -3,7 +3,7 @@ ghost use Rattle.std.specs.Prelude.{◌≡◌, ◌++◌, ◌∷◌, [], List, On
 ghost use Rattle.std.specs.Option.{option_copied};
 ghost use Rattle.pram_text.specs.Lines.{Line, words_of};
 ghost use Rattle.pram_text.specs.Inner.Reading.{HoldsCode, TakesCode, Defines, IsCoded};
-ghost use Rattle.pram_text.specs.Inner.Reading.{numbers_of, place_at};
+ghost use Rattle.pram_text.specs.Inner.Reading.{numbers_of, index_at};
 ghost use Rattle.pram_text.specs.Inner.Statement.{aimed, resolved};
 
 use crate::fault::{TextFault, TextKind};
@@ -20,11 +20,11 @@ pub(crate) struct Written<'t> {
     pub(crate) statement: Statement<'t>,
 }
 
-/// The instructions so far, and the places of the labels so far.
+/// The instructions so far, and the indices of the labels so far.
 #[derive(Drop)]
 pub(crate) struct Program<'t> {
     pub(crate) written: Vec<Written<'t>>,
-    pub(crate) places: BTreeMap<&'t [u8], u32>,
+    pub(crate) indices: BTreeMap<&'t [u8], u32>,
 }
 
 impl<'t> Program<'t> {
@@ -35,7 +35,7 @@ impl<'t> Program<'t> {
     {
         Program {
             written: Vec::new(alloc),
-            places: BTreeMap::new(alloc),
+            indices: BTreeMap::new(alloc),
         }
     }
 
@@ -45,12 +45,12 @@ impl<'t> Program<'t> {
             → TakesCode body (words_of line.now) result self.new }
         ensures number { OnOk result (numbers_of self.new ≡ numbers_of self.old ++ number ∷ []) }
     {
-        let place = self.written.len();
-        if place >= MAX_CODE {
+        let index = self.written.len();
+        if index >= MAX_CODE {
             return Err(TextKind::TooLong);
         }
         let (label, rest) = split_label(line);
-        define(&mut self.places, label, place as u32)?;
+        define(&mut self.indices, label, index as u32)?;
         let statement = statement_in(rest)?;
         self.written.push(Written {
             line: number,
@@ -59,15 +59,15 @@ impl<'t> Program<'t> {
         Ok(())
     }
 
-    /// The instructions, each jump with the place of its label.
+    /// The instructions, each jump with the index of its label.
     /// The fault is that of the first jump to an unknown one.
     pub(crate) fn code(&self) -> Result<Vec<Instr>, TextFault>
-        ensures told { IsCoded (place_at self.now.places) self.now.written.items result }
+        ensures told { IsCoded (index_at self.now.indices) self.now.written.items result }
         ensures memory { IfErr result (λ fault. fault.kind ≡ TextKind.Memory → fault.line ≡ 0) }
     {
         let mut code = Vec::with_capacity(*self.written.allocator(), self.written.len())?;
         for written in &self.written {
-            match resolve(&self.places, &written.statement) {
+            match resolve(&self.indices, &written.statement) {
                 Ok(instr) => code.push(instr)?,
                 Err(kind) => return Err(TextFault {
                     line: written.line,
@@ -79,13 +79,13 @@ impl<'t> Program<'t> {
     }
 }
 
-// Gives a label its place, if there is one.
+// Gives a label its index, if there is one.
 fn define<'t>(
-    places: &mut BTreeMap<&'t [u8], u32>,
+    indices: &mut BTreeMap<&'t [u8], u32>,
     label: Option<&'t [u8]>,
-    place: u32,
+    index: u32,
 ) -> Result<(), TextKind>
-    ensures { Defines places.old (option_copied label.entry) place result places.new }
+    ensures { Defines indices.old (option_copied label.entry) index result indices.new }
 {
     let Some(label) = label else {
         return Ok(());
@@ -93,32 +93,32 @@ fn define<'t>(
     if !is_name_word(label) {
         return Err(TextKind::UnknownInstruction);
     }
-    match places.insert(label, place)? {
+    match indices.insert(label, index)? {
         None => Ok(()),
         Some(_) => Err(TextKind::DuplicateLabel),
     }
 }
 
-// The instruction of a statement, its label in its place.
-fn resolve(places: &BTreeMap<&[u8], u32>, statement: &Statement<'_>) -> Result<Instr, TextKind>
-    ensures { result ≡ resolved (place_at places.now) statement.now }
+// The instruction of a statement, with the index of its label.
+fn resolve(indices: &BTreeMap<&[u8], u32>, statement: &Statement<'_>) -> Result<Instr, TextKind>
+    ensures { result ≡ resolved (index_at indices.now) statement.now }
 {
     let Some(label) = statement.target else {
         return Ok(statement.instr);
     };
-    match places.get(label) {
-        Some(place) => Ok(aimed(statement.instr, *place)),
+    match indices.get(label) {
+        Some(index) => Ok(aimed(statement.instr, *index)),
         None => Err(TextKind::UnknownLabel),
     }
 }
 
-// The instruction, with this place to jump to.
-fn aimed(instr: Instr, place: u32) -> Instr
-    ensures { result ≡ aimed instr place }
+// The instruction, which jumps to this index.
+fn aimed(instr: Instr, index: u32) -> Instr
+    ensures { result ≡ aimed instr index }
 {
     match instr {
-        Instr::Jz(register, _) => Instr::Jz(register, place),
-        Instr::Jmp(_) => Instr::Jmp(place),
+        Instr::Jz(register, _) => Instr::Jz(register, index),
+        Instr::Jmp(_) => Instr::Jmp(index),
         other => other,
     }
 }

@@ -15,7 +15,7 @@ use crate::instr::Instr;
 use crate::numbers::number_within;
 use crate::words::{has_words, is_word, next_word, one_word, three_words, two_words};
 
-/// An instruction, with the label that a jump goes to, whose place is 0 until it is known.
+/// An instruction, with the label that a jump goes to, whose index is 0 until it is known.
 #[derive(Clone, Copy)]
 pub(crate) struct Statement<'a> {
     pub(crate) instr: Instr,

@@ -32,8 +32,8 @@ pub fault_later : (workers row : ℕ) (given : List Record) (fields : Record) (d
     row ≢ 1 → length given + 1 ≡ row → draft ≡ rows_of workers given →
     fault_of workers given fields ≡ fault_below (row_of workers fields) draft
 unfolding fault_of
-fault_later workers row [] fields draft more place rows = absurd (more (omega arith))
-fault_later workers row (g ∷ gs) fields draft more place rows = rw rows refl
+fault_later workers row [] fields draft more index rows = absurd (more (omega arith))
+fault_later workers row (g ∷ gs) fields draft more index rows = rw rows refl
 
 pub row_taken : (workers row : ℕ) (given : List Record) (fields : Record) (draft : List Row)
     (next : Row) → row ≢ 1 → length given + 1 ≡ row → draft ≡ rows_of workers given →
@@ -41,9 +41,9 @@ pub row_taken : (workers row : ℕ) (given : List Record) (fields : Record) (dra
     (fault_of workers given fields ≡ None)
     × (draft ++ next ∷ [] ≡ rows_of workers (given ++ fields ∷ []))
 unfolding rows_of
-row_taken workers row [] fields draft next more place rows is free = absurd (more (omega arith))
-row_taken workers row (g ∷ gs) fields draft next more place rows is free = (
-  fault_later workers row (g ∷ gs) fields draft more place rows ∙ rw (is, free) refl,
+row_taken workers row [] fields draft next more index rows is free = absurd (more (omega arith))
+row_taken workers row (g ∷ gs) fields draft next more index rows is free = (
+  fault_later workers row (g ∷ gs) fields draft more index rows ∙ rw (is, free) refl,
   rw (rows, filter_map-append (λ r. result_ok (row_of workers r)) gs (fields ∷ []), is) refl,
 )
 
@@ -70,7 +70,7 @@ fresh_rows workers = refl
 pub record Judged (workers row : ℕ) (all given : List Record) (draft : List Row) : Type 0 where
   pub count : length given ≡ row
   pub rows : draft ≡ rows_of workers given
-  pub fine : (place : ℕ) → place < length given → fault_at workers all place ≡ None
+  pub fine : (index : ℕ) → index < length given → fault_at workers all index ≡ None
 
 pub judged_more : (workers row : ℕ) (all given rest : List Record)
     (fields : Record) (draft next : List Row) →
@@ -91,24 +91,24 @@ pub first_fault : (workers row : ℕ) (all given rest : List Record)
     Judged workers row all given draft → fault_of workers given fields ≡ Some kind →
     FirstFault workers all (row + 1) kind
 first_fault workers row all given rest fields draft kind e h bad = record {
-  place = length given;
+  index = length given;
   number = omega (arith, h.count);
   fault = fault_here workers all given rest fields e ∙ bad;
   first = h.fine;
 }
 
-pub fault_past : (workers : ℕ) (all : List Record) (place : ℕ) → length all ≤ place →
-    fault_at workers all place ≡ None
+pub fault_past : (workers : ℕ) (all : List Record) (index : ℕ) → length all ≤ index →
+    fault_at workers all index ≡ None
 unfolding fault_at
-fault_past workers all place past = rw (slice_get_past all place past) refl
+fault_past workers all index past = rw (slice_get_past all index past) refl
 
 pub spells : (workers row : ℕ) (all given : List Record) (draft : List Row) →
     all ≡ given → Judged workers row all given draft →
     SpellsPlan workers all (record { workers = workers; rows = draft })
 spells workers row all given draft e h = record {
-  faultless = λ place. elim (cases_lt place (length all)) [
-    | inl within ↦ h.fine place (rw (← e) within)
-    | inr past ↦ fault_past workers all place past
+  faultless = λ index. elim (cases_lt index (length all)) [
+    | inl within ↦ h.fine index (rw (← e) within)
+    | inr past ↦ fault_past workers all index past
   ];
   rows = rw (e, h.rows) refl;
 }

@@ -29,13 +29,13 @@ pub one_plan : OnePlan
 one_plan workers all plan other h k = h.rows ∙ sym k.rows
 
 pub never_both : NeverBoth
-never_both workers all plan row kind h k = cc (h.faultless k.place, k.fault)
+never_both workers all plan row kind h k = cc (h.faultless k.index, k.fault)
 
 -- the first fault of two
 earlier : (workers : ℕ) (all : List Record) (row other : ℕ) (kind another : PlanKind) →
     (h : FirstFault workers all row kind) →
-    (k : FirstFault workers all other another) → h.place < k.place → ⊥
-earlier workers all row other kind another h k before = cc (k.first h.place before, h.fault)
+    (k : FirstFault workers all other another) → h.index < k.index → ⊥
+earlier workers all row other kind another h k before = cc (k.first h.index before, h.fault)
 
 -- no record is bad for want of memory
 ticks_kind : (worker : ℕ) (act : Act) (ticks : Option ℕ) →
@@ -81,22 +81,22 @@ fault_kind workers [] fields e = header_kind (is_header fields) e
 fault_kind workers (header ∷ below) fields e = below_kind (row_of workers fields)
     (rows_of workers (header ∷ below)) (row_kind workers fields) e
 
-place_kind : (workers : ℕ) (before : List Record) (fields : Option Record) →
+index_kind : (workers : ℕ) (before : List Record) (fields : Option Record) →
     option_and_then (fault_of workers before) fields ≡ Some Memory → ⊥
-place_kind workers before None e = cc e
-place_kind workers before (Some fields) e = fault_kind workers before fields e
+index_kind workers before None e = cc e
+index_kind workers before (Some fields) e = fault_kind workers before fields e
 
-at_kind : (workers : ℕ) (all : List Record) (place : ℕ) →
-    fault_at workers all place ≡ Some Memory → ⊥
+at_kind : (workers : ℕ) (all : List Record) (index : ℕ) →
+    fault_at workers all index ≡ Some Memory → ⊥
 unfolding fault_at
-at_kind workers all place e = place_kind workers (take place all) (slice_get all place) e
+at_kind workers all index e = index_kind workers (take index all) (slice_get all index) e
 
-same_place : (workers : ℕ) (all : List Record) (row other : ℕ) (kind another : PlanKind) →
+same_index : (workers : ℕ) (all : List Record) (row other : ℕ) (kind another : PlanKind) →
     (h : FirstFault workers all row kind) →
-    (k : FirstFault workers all other another) → h.place ≡ k.place
-same_place workers all row other kind another h k = elim (cases_lt h.place k.place) [
+    (k : FirstFault workers all other another) → h.index ≡ k.index
+same_index workers all row other kind another h k = elim (cases_lt h.index k.index) [
   | inl before ↦ absurd (earlier workers all row other kind another h k before)
-  | inr after ↦ elim (cases_lt k.place h.place) [
+  | inr after ↦ elim (cases_lt k.index h.index) [
     | inl before ↦ absurd (earlier workers all other row another kind k h before)
     | inr same ↦ omega arith
   ]
@@ -104,31 +104,31 @@ same_place workers all row other kind another h k = elim (cases_lt h.place k.pla
 
 pub one_fault : OneFault
 one_fault workers all row other kind another h k =
-    let same = same_place workers all row other kind another h k in
+    let same = same_index workers all row other kind another h k in
     let both : Some kind ≡ Some another =
     sym h.fault ∙ ap (fault_at workers all) same ∙ k.fault in (
       h.number ∙ ap (λ n. n + 1) same ∙ sym k.number,
       cc both,
-      λ memory. at_kind workers all h.place (h.fault ∙ ap Some memory),
+      λ memory. at_kind workers all h.index (h.fault ∙ ap Some memory),
     )
 
--- the first fault up to a place, if there is one
+-- the first fault up to an index, if there is one
 abbrev FaultBelow : ℕ → List Record → ℕ → Type 0
 FaultBelow workers all end = (row : ℕ) × (kind : PlanKind) × FirstFault workers all row kind
 
 abbrev FineBelow : ℕ → List Record → ℕ → Type 0
-FineBelow workers all end = (place : ℕ) → place < end → fault_at workers all place ≡ None
+FineBelow workers all end = (index : ℕ) → index < end → fault_at workers all index ≡ None
 
 next_place : (workers : ℕ) (all : List Record) (end : ℕ) (fault : Option PlanKind) →
     fault_at workers all end ≡ fault → FineBelow workers all end →
     FineBelow workers all (end + 1) ⊎ FaultBelow workers all (end + 1)
 next_place workers all end None is fine = inl (below_more _ _ fine is)
 next_place workers all end (Some kind) is fine =
-    inr (end + 1, kind, record { place = end; number = refl; fault = is; first = fine })
+    inr (end + 1, kind, record { index = end; number = refl; fault = is; first = fine })
 
 search_below : (workers : ℕ) (all : List Record) (end : ℕ) →
     FineBelow workers all end ⊎ FaultBelow workers all end
-search_below workers all zero = inl (λ place below. absurd (omega arith))
+search_below workers all zero = inl (λ index below. absurd (omega arith))
 search_below workers all (suc end) = elim (search_below workers all end) [
   | inl fine ↦ rw (← add-one) (next_place workers all end (fault_at workers all end) refl fine)
   | inr found ↦ inr found
@@ -139,9 +139,9 @@ plan_or_fault workers all = elim (search_below workers all (length all)) [
   | inl fine ↦ inl (
     record { workers = workers; rows = rows_of workers all },
     record {
-      faultless = λ place. elim (cases_lt place (length all)) [
-        | inl within ↦ fine place within
-        | inr past ↦ fault_past workers all place past
+      faultless = λ index. elim (cases_lt index (length all)) [
+        | inl within ↦ fine index within
+        | inr past ↦ fault_past workers all index past
       ];
       rows = refl;
     },

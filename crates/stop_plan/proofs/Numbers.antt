@@ -47,7 +47,7 @@ none_by_size bound bs i large =
     rw whole (elim (is_number bs) as (λ v.
     None ≡ cond (v && false) (Some (digits_value 10 bs)) None) [ true ↦ refl | false ↦ refl ])
 
--- the digits up to a place, and the digit there
+-- the digits up to an index, and the digit there
 value_more : (bs : List ℕ) (i value : ℕ) →
     i < length bs → is_ascii_digit (get_or bs i 0) ≡ true → value ≡ digits_value 10 (take i bs) →
     digits_value 10 (take (i + 1) bs) ≡ value * 10 + (get_or bs i 0 - 48)

@@ -20,56 +20,56 @@ use Rattle.stop_plan.specs.declared.plan.Act.TheVariants.{Go}
 use Rattle.stop_plan.specs.declared.plan.PlanKind.{PlanKind}
 use Rattle.stop_plan.specs.declared.plan.Row.{Row}
 
-row_here : (workers : ℕ) (rows draft : List Row) (place : ℕ) (d : Row) →
-    place < length rows → draft ≡ take place rows →
-    row_fault_at workers rows place ≡ fault_after workers draft (get_or rows place d)
+row_here : (workers : ℕ) (rows draft : List Row) (index : ℕ) (d : Row) →
+    index < length rows → draft ≡ take index rows →
+    row_fault_at workers rows index ≡ fault_after workers draft (get_or rows index d)
 unfolding row_fault_at
-row_here workers rows draft place d within before =
-    rw (slice_get-get_or rows place d within, before) refl
+row_here workers rows draft index d within before =
+    rw (slice_get-get_or rows index d within, before) refl
 
--- the rows before this place have no fault, and are the draft's
-pub record RowsJudged (workers number place : ℕ) (rows draft : List Row) : Type 0 where
-  pub count : number ≡ place + 1
-  pub taken : draft ≡ take place rows
-  pub fine : (earlier : ℕ) → earlier < place → row_fault_at workers rows earlier ≡ None
+-- the rows before this index have no fault, and are the draft's
+pub record RowsJudged (workers number index : ℕ) (rows draft : List Row) : Type 0 where
+  pub count : number ≡ index + 1
+  pub taken : draft ≡ take index rows
+  pub fine : (earlier : ℕ) → earlier < index → row_fault_at workers rows earlier ≡ None
 
-pub one_more : (workers number place : ℕ) (rows draft next : List Row) (d : Row) →
-    place < length rows → RowsJudged workers number place rows draft →
-    (fault_after workers draft (get_or rows place d) ≡ None)
-    × (next ≡ draft ++ get_or rows place d ∷ []) →
-    RowsJudged workers (number + 1) (place + 1) rows next
-one_more workers number place rows draft next d within h good = record {
+pub one_more : (workers number index : ℕ) (rows draft next : List Row) (d : Row) →
+    index < length rows → RowsJudged workers number index rows draft →
+    (fault_after workers draft (get_or rows index d) ≡ None)
+    × (next ≡ draft ++ get_or rows index d ∷ []) →
+    RowsJudged workers (number + 1) (index + 1) rows next
+one_more workers number index rows draft next d within h good = record {
   count = omega (arith, h.count);
-  taken = good.1 ∙ ap (λ t. t ++ get_or rows place d ∷ []) h.taken
-      ∙ sym (take_more rows place d within);
-  fine = below_more _ _ h.fine (row_here workers rows draft place d within h.taken ∙ good.0);
+  taken = good.1 ∙ ap (λ t. t ++ get_or rows index d ∷ []) h.taken
+      ∙ sym (take_more rows index d within);
+  fine = below_more _ _ h.fine (row_here workers rows draft index d within h.taken ∙ good.0);
 }
 
-pub first_bad : (workers number place : ℕ) (rows draft : List Row) (d : Row) (kind : PlanKind) →
-    place < length rows → RowsJudged workers number place rows draft →
-    fault_after workers draft (get_or rows place d) ≡ Some kind →
+pub first_bad : (workers number index : ℕ) (rows draft : List Row) (d : Row) (kind : PlanKind) →
+    index < length rows → RowsJudged workers number index rows draft →
+    fault_after workers draft (get_or rows index d) ≡ Some kind →
     FirstBadRow workers rows (number + 1) kind
-first_bad workers number place rows draft d kind within h bad = record {
-  place = place;
+first_bad workers number index rows draft d kind within h bad = record {
+  index = index;
   number = omega (arith, h.count);
-  fault = row_here workers rows draft place d within h.taken ∙ bad;
+  fault = row_here workers rows draft index d within h.taken ∙ bad;
   first = h.fine;
 }
 
-pub row_fault_past : (workers : ℕ) (rows : List Row) (place : ℕ) → length rows ≤ place →
-    row_fault_at workers rows place ≡ None
+pub row_fault_past : (workers : ℕ) (rows : List Row) (index : ℕ) → length rows ≤ index →
+    row_fault_at workers rows index ≡ None
 unfolding row_fault_at
-row_fault_past workers rows place past = rw (slice_get_past rows place past) refl
+row_fault_past workers rows index past = rw (slice_get_past rows index past) refl
 
-pub all_judged : (workers number place : ℕ) (rows draft : List Row) →
-    length rows ≤ place → RowsJudged workers number place rows draft →
+pub all_judged : (workers number index : ℕ) (rows draft : List Row) →
+    length rows ≤ index → RowsJudged workers number index rows draft →
     IsPlanOf workers rows (record { workers = workers; rows = draft })
-all_judged workers number place rows draft past h = record {
+all_judged workers number index rows draft past h = record {
   faultless = λ at. elim (cases_lt at (length rows)) [
     | inl within ↦ h.fine at (omega (arith, within, past))
     | inr beyond ↦ row_fault_past workers rows at beyond
   ];
-  rows_kept = rw (h.taken, take_all place rows past) refl;
+  rows_kept = rw (h.taken, take_all index rows past) refl;
 }
 
 -- a row without a fault is good by itself
@@ -102,49 +102,49 @@ same_option workers given header before (Some f) (Some r) rows same =
     let one : row_of workers f ≡ judged_row workers r = cc same in
     rw (one, rows) refl
 
-same_said : (workers : ℕ) (header : Record) (below : List Record) (rows : List Row) (place : ℕ) →
-    SayRows workers header below rows → option_map (row_of workers) (slice_get below place)
-    ≡ option_map (judged_row workers) (slice_get rows place)
-same_said workers header below rows place h =
-    sym (slice_get-map (row_of workers) below place) ∙ ap (λ l. slice_get l place) h.said
-    ∙ slice_get-map (judged_row workers) rows place
+same_said : (workers : ℕ) (header : Record) (below : List Record) (rows : List Row) (index : ℕ) →
+    SayRows workers header below rows → option_map (row_of workers) (slice_get below index)
+    ≡ option_map (judged_row workers) (slice_get rows index)
+same_said workers header below rows index h =
+    sym (slice_get-map (row_of workers) below index) ∙ ap (λ l. slice_get l index) h.said
+    ∙ slice_get-map (judged_row workers) rows index
 
-same_fault : (workers : ℕ) (header : Record) (below : List Record) (rows : List Row) (place : ℕ) →
+same_fault : (workers : ℕ) (header : Record) (below : List Record) (rows : List Row) (index : ℕ) →
     SayRows workers header below rows →
-    rows_of workers (header ∷ take place below) ≡ take place rows →
-    fault_at workers (header ∷ below) (suc place) ≡ row_fault_at workers rows place
+    rows_of workers (header ∷ take index below) ≡ take index rows →
+    fault_at workers (header ∷ below) (suc index) ≡ row_fault_at workers rows index
 unfolding fault_at row_fault_at
-same_fault workers header below rows place h before =
-    same_option workers (take place below) header (take place rows) (slice_get below place)
-    (slice_get rows place) before (same_said workers header below rows place h)
+same_fault workers header below rows index h before =
+    same_option workers (take index below) header (take index rows) (slice_get below index)
+    (slice_get rows index) before (same_said workers header below rows index h)
 
--- the records and the rows before a place, where none of the records is bad
+-- the records and the rows before an index, where none of the records is bad
 record Alike (workers : ℕ) (header : Record) (below : List Record)
-    (rows : List Row) (place : ℕ) : Type 0 where
-  before : rows_of workers (header ∷ take place below) ≡ take place rows
-  fine : (earlier : ℕ) → earlier < place → row_fault_at workers rows earlier ≡ None
+    (rows : List Row) (index : ℕ) : Type 0 where
+  before : rows_of workers (header ∷ take index below) ≡ take index rows
+  fine : (earlier : ℕ) → earlier < index → row_fault_at workers rows earlier ≡ None
 
-row_said : (workers : ℕ) (header : Record) (below : List Record) (rows : List Row) (place : ℕ)
-    (d : Row) → SayRows workers header below rows → place < length rows → place < length below →
-    row_of workers (get_or below place []) ≡ judged_row workers (get_or rows place d)
-row_said workers header below rows place d h within inside =
+row_said : (workers : ℕ) (header : Record) (below : List Record) (rows : List Row) (index : ℕ)
+    (d : Row) → SayRows workers header below rows → index < length rows → index < length below →
+    row_of workers (get_or below index []) ≡ judged_row workers (get_or rows index d)
+row_said workers header below rows index d h within inside =
     let same = rw (
-      slice_get-get_or below place [] inside,
-      slice_get-get_or rows place d within,
-    ) at (same_said workers header below rows place h) in cc same
+      slice_get-get_or below index [] inside,
+      slice_get-get_or rows index d within,
+    ) at (same_said workers header below rows index h) in cc same
 
 rows_more : (workers : ℕ) (header : Record) (below : List Record)
-    (rows : List Row) (place : ℕ) (d : Row) → place < length rows → place < length below →
-    row_of workers (get_or below place []) ≡ Ok (get_or rows place d) →
-    rows_of workers (header ∷ take place below) ≡ take place rows →
-    rows_of workers (header ∷ take (place + 1) below) ≡ take (place + 1) rows
+    (rows : List Row) (index : ℕ) (d : Row) → index < length rows → index < length below →
+    row_of workers (get_or below index []) ≡ Ok (get_or rows index d) →
+    rows_of workers (header ∷ take index below) ≡ take index rows →
+    rows_of workers (header ∷ take (index + 1) below) ≡ take (index + 1) rows
 unfolding rows_of
-rows_more workers header below rows place d within inside is before =
+rows_more workers header below rows index d within inside is before =
     rw (
-      take_more below place [] inside,
-      take_more rows place d within,
+      take_more below index [] inside,
+      take_more rows index d within,
       filter_map-append (λ r. result_ok (row_of workers r))
-          (take place below) (get_or below place [] ∷ []),
+          (take index below) (get_or below index [] ∷ []),
       before,
       is,
     ) refl
@@ -155,25 +155,25 @@ same_length workers header below rows h = sym (length-map below (row_of workers)
     ∙ length-map rows (judged_row workers)
 
 alike_to : (workers : ℕ) (header : Record) (below : List Record) (rows : List Row)
-    (place : ℕ) (d : Row) → SayRows workers header below rows → place ≤ length rows →
-    ((earlier : ℕ) → earlier < place → fault_at workers (header ∷ below) (suc earlier) ≡ None) →
-    Alike workers header below rows place
+    (index : ℕ) (d : Row) → SayRows workers header below rows → index ≤ length rows →
+    ((earlier : ℕ) → earlier < index → fault_at workers (header ∷ below) (suc earlier) ≡ None) →
+    Alike workers header below rows index
 unfolding rows_of
 alike_to workers header below rows zero d h within none =
     record { before = refl; fine = λ earlier below. absurd (omega arith) }
-alike_to workers header below rows (suc place) d h within none =
-    let sofar = alike_to workers header below rows place d h
+alike_to workers header below rows (suc index) d h within none =
+    let sofar = alike_to workers header below rows index d h
     (omega arith) (λ earlier under. none earlier (omega arith)) in
-    let here : row_fault_at workers rows place ≡ None =
-    sym (same_fault workers header below rows place h sofar.before) ∙ none place (omega arith) in
-    let inside : place < length below = omega (arith, same_length workers header below rows h) in
+    let here : row_fault_at workers rows index ≡ None =
+    sym (same_fault workers header below rows index h sofar.before) ∙ none index (omega arith) in
+    let inside : index < length below = omega (arith, same_length workers header below rows h) in
     let fine_here =
-    sym (row_here workers rows (take place rows) place d (omega arith) refl) ∙ here in
-    let is = row_said workers header below rows place d h (omega arith) inside
-    ∙ judged_good workers (take place rows) (get_or rows place d) fine_here in
+    sym (row_here workers rows (take index rows) index d (omega arith) refl) ∙ here in
+    let is = row_said workers header below rows index d h (omega arith) inside
+    ∙ judged_good workers (take index rows) (get_or rows index d) fine_here in
     record {
       before = rw (← add-one)
-          (rows_more workers header below rows place d (omega arith) inside is sofar.before);
+          (rows_more workers header below rows index d (omega arith) inside is sofar.before);
       fine = rw (← add-one) (below_more _ _ sofar.fine here);
     }
 
@@ -192,9 +192,9 @@ plan_same workers header below rows plan said h =
       take_all (length rows) rows (omega arith),
     ) at alike.before in
     record {
-      faultless = λ place. elim (cases_lt place (length rows)) [
-        | inl within ↦ alike.fine place within
-        | inr past ↦ row_fault_past workers rows place past
+      faultless = λ index. elim (cases_lt index (length rows)) [
+        | inl within ↦ alike.fine index within
+        | inr past ↦ row_fault_past workers rows index past
       ];
       rows_kept = h.rows ∙ rw kept refl;
     }
@@ -205,26 +205,26 @@ unfolding fault_at fault_of
 header_good workers header below e = rw e refl
 
 fault_same : (workers : ℕ) (header : Record) (below : List Record)
-    (rows : List Row) (row place : ℕ) (kind : PlanKind) → SayRows workers header below rows →
-    row ≡ place + 1 → fault_at workers (header ∷ below) place ≡ Some kind →
-    ((earlier : ℕ) → earlier < place → fault_at workers (header ∷ below) earlier ≡ None) →
+    (rows : List Row) (row index : ℕ) (kind : PlanKind) → SayRows workers header below rows →
+    row ≡ index + 1 → fault_at workers (header ∷ below) index ≡ Some kind →
+    ((earlier : ℕ) → earlier < index → fault_at workers (header ∷ below) earlier ≡ None) →
     FirstBadRow workers rows row kind
 fault_same workers header below rows row zero kind said number fault first =
     cc (fault, header_good workers header below said.header_read)
-fault_same workers header below rows row (suc place) kind said number fault first =
-    elim (cases_lt place (length rows)) [
+fault_same workers header below rows row (suc index) kind said number fault first =
+    elim (cases_lt index (length rows)) [
       | inl within ↦
-          let alike = alike_to workers header below rows place any_row said
+          let alike = alike_to workers header below rows index any_row said
           (omega arith) (λ earlier under. first (suc earlier) (omega arith)) in
           record {
-            place = place;
+            index = index;
             number = omega (arith, number);
-            fault = sym (same_fault workers header below rows place said alike.before) ∙ fault;
+            fault = sym (same_fault workers header below rows index said alike.before) ∙ fault;
             first = alike.fine;
           }
       | inr past ↦
           let lengths = same_length workers header below rows said in
-          cc (fault, fault_past workers (header ∷ below) (suc place) (omega (arith, lengths, past)))
+          cc (fault, fault_past workers (header ∷ below) (suc index) (omega (arith, lengths, past)))
     ]
 
 pub rows_as_texts : RowsAsTexts
@@ -233,5 +233,5 @@ rows_as_texts workers header below rows is_header said =
     record { header_read = is_header; said = said } in (
       λ plan h. plan_same workers header below rows plan all h,
       λ row kind k.
-          fault_same workers header below rows row k.place kind all k.number k.fault k.first,
+          fault_same workers header below rows row k.index kind all k.number k.fault k.first,
     )

@@ -31,7 +31,7 @@ records_of text = records default_config (strip_bom text)
 -- one or more digits
 abbrev pub is_number : Field → Bool
 is_number [] = false
-is_number (b ∷ bs) = all_ascii_digits (b ∷ bs)
+is_number (byte ∷ bytes) = all_ascii_digits (byte ∷ bytes)
 
 -- the number that a field spells, if it is below a bound
 unfoldable pub number_below : ℕ → Field → Option ℕ
@@ -81,7 +81,7 @@ is_header fields = pointwise bytes_eq fields (codes "worker" ∷ codes "act" ∷
 -- the rows that the records below a header spell
 unfoldable pub rows_of : ℕ → List Record → List Row
 rows_of workers [] = []
-rows_of workers (header ∷ below) = filter_map (λ r. result_ok (row_of workers r)) below
+rows_of workers (header ∷ below) = filter_map (λ fields. result_ok (row_of workers fields)) below
 
 abbrev pub fault_below : Result Row PlanKind → List Row → Option PlanKind
 fault_below (Err kind) rows = Some kind
@@ -93,22 +93,22 @@ fault_of workers [] fields = if is_header fields then None else Some BadRow
 fault_of workers (header ∷ below) fields =
     fault_below (row_of workers fields) (rows_of workers (header ∷ below))
 
--- what is wrong with the record at a place, counted from 0
+-- what is wrong with the record of this index, counted from 0
 unfoldable pub fault_at : ℕ → List Record → ℕ → Option PlanKind
-fault_at workers all place =
-    option_and_then (fault_of workers (take place all)) (slice_get all place)
+fault_at workers all index =
+    option_and_then (fault_of workers (take index all)) (slice_get all index)
 
 -- the records spell the plan: none is bad, and its rows are theirs
 pub record SpellsPlan (workers : ℕ) (all : List Record) (plan : PlanData) : Type 0 where
-  pub faultless : (place : ℕ) → fault_at workers all place ≡ None
+  pub faultless : (index : ℕ) → fault_at workers all index ≡ None
   pub rows : plan ≡ record { workers = workers; rows = rows_of workers all }
 
 -- the first bad record is that of this number, counted from 1, and this is wrong with it
 pub record FirstFault (workers : ℕ) (all : List Record) (row : ℕ) (kind : PlanKind) : Type 0 where
-  pub place : ℕ
-  pub number : row ≡ place + 1
-  pub fault : fault_at workers all place ≡ Some kind
-  pub first : (earlier : ℕ) → earlier < place → fault_at workers all earlier ≡ None
+  pub index : ℕ
+  pub number : row ≡ index + 1
+  pub fault : fault_at workers all index ≡ Some kind
+  pub first : (earlier : ℕ) → earlier < index → fault_at workers all earlier ≡ None
 
 -- what is answered out of memory
 abbrev pub no_memory : PlanFault

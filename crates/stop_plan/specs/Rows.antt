@@ -18,19 +18,19 @@ judged_row workers row =
 abbrev pub fault_after : ℕ → List Row → Row → Option PlanKind
 fault_after workers before row = fault_below (judged_row workers row) before
 
--- what is wrong with the row at a place, counted from 0
+-- what is wrong with the row of this index, counted from 0
 unfoldable pub row_fault_at : ℕ → List Row → ℕ → Option PlanKind
-row_fault_at workers rows place =
-    option_and_then (fault_after workers (take place rows)) (slice_get rows place)
+row_fault_at workers rows index =
+    option_and_then (fault_after workers (take index rows)) (slice_get rows index)
 
 -- the plan is that of the rows, and none is bad
 pub record IsPlanOf (workers : ℕ) (rows : List Row) (plan : PlanData) : Type 0 where
-  pub faultless : (place : ℕ) → row_fault_at workers rows place ≡ None
+  pub faultless : (index : ℕ) → row_fault_at workers rows index ≡ None
   pub rows_kept : plan ≡ record { workers = workers; rows = rows }
 
 -- the first bad row would be the record of this number below a header, and this is wrong with it
 pub record FirstBadRow (workers : ℕ) (rows : List Row) (row : ℕ) (kind : PlanKind) : Type 0 where
-  pub place : ℕ
-  pub number : row ≡ place + 2
-  pub fault : row_fault_at workers rows place ≡ Some kind
-  pub first : (earlier : ℕ) → earlier < place → row_fault_at workers rows earlier ≡ None
+  pub index : ℕ
+  pub number : row ≡ index + 2
+  pub fault : row_fault_at workers rows index ≡ Some kind
+  pub first : (earlier : ℕ) → earlier < index → row_fault_at workers rows earlier ≡ None

@@ -27,7 +27,7 @@ use Rattle.pram_text.specs.Lines.{Word, Line, words_of, worded, is_filled}
 use Rattle.pram_text.specs.Judgement.{version_of, cells_of, procs_of}
 use Rattle.pram_text.specs.Judgement.{steps_of, unlabelled, instr_of}
 use Rattle.pram_text.specs.Inner.Statement.{resolved}
-use Rattle.pram_text.specs.Text.{place_of, is_named, new_label_fault, NamesCells, IsLabelled}
+use Rattle.pram_text.specs.Text.{index_of, is_named, new_label_fault, NamesCells, IsLabelled}
 use Rattle.pram_text.specs.Text.{SpellsHeader, code_line, SpellsLines, words_fault, line_fault}
 use Rattle.pram_text.specs.Text.{init_fault, instr_fault, end_fault, has_code, body_of}
 use Rattle.pram_text.specs.Text.{label_fault_at, IsFirst}
@@ -48,18 +48,21 @@ IsFront _ = Unit {0}
 abbrev pub HoldsHead : Next → List Line → Head → Type 0
 HoldsHead Version lines head = (lines ≡ []) × (head.rule ≡ Common)
 HoldsHead Cells lines head =
-    (v : Line) × (lines ≡ v ∷ []) × (version_of v ≡ Ok head.version) × (head.rule ≡ Common)
+    (version : Line) × (lines ≡ version ∷ [])
+    × (version_of version ≡ Ok head.version) × (head.rule ≡ Common)
 HoldsHead Procs lines head =
-    (v : Line) × (c : Line) × (lines ≡ v ∷ c ∷ [])
-    × (version_of v ≡ Ok head.version) × (cells_of c ≡ Ok head.cells) × (head.rule ≡ Common)
+    (version : Line) × (cells : Line) × (lines ≡ version ∷ cells ∷ [])
+    × (version_of version ≡ Ok head.version) × (cells_of cells ≡ Ok head.cells)
+    × (head.rule ≡ Common)
 HoldsHead Steps lines head =
-    (v : Line) × (c : Line) × (p : Line) × (lines ≡ v ∷ c ∷ p ∷ [])
-    × (version_of v ≡ Ok head.version) × (cells_of c ≡ Ok head.cells)
-    × (procs_of p ≡ Ok head.procs) × (head.rule ≡ Common)
+    (version : Line) × (cells : Line) × (procs : Line) × (lines ≡ version ∷ cells ∷ procs ∷ [])
+    × (version_of version ≡ Ok head.version) × (cells_of cells ≡ Ok head.cells)
+    × (procs_of procs ≡ Ok head.procs) × (head.rule ≡ Common)
 HoldsHead Rules lines head =
-    (v : Line) × (c : Line) × (p : Line) × (s : Line) × (lines ≡ v ∷ c ∷ p ∷ s ∷ [])
-    × (version_of v ≡ Ok head.version) × (cells_of c ≡ Ok head.cells)
-    × (procs_of p ≡ Ok head.procs) × (steps_of s ≡ Ok head.steps) × (head.version ≡ 2)
+    (version : Line) × (cells : Line) × (procs : Line) × (steps : Line)
+    × (lines ≡ version ∷ cells ∷ procs ∷ steps ∷ [])
+    × (version_of version ≡ Ok head.version) × (cells_of cells ≡ Ok head.cells)
+    × (procs_of procs ≡ Ok head.procs) × (steps_of steps ≡ Ok head.steps) × (head.version ≡ 2)
 HoldsHead _ lines head = IsHeader lines head
 
 -- one line more
@@ -72,12 +75,12 @@ TakesHead before line (Err kind) = words_fault before line ≡ Some kind
 
 -- the value given to a cell so far
 abbrev pub given : List (Option ℕ) → ℕ → Option ℕ
-given start c = slice_index_or start c None
+given start cell = slice_index_or start cell None
 
 pub record HoldsStart (cells : ℕ) (inits : List Line) (start : List (Option ℕ)) : Type 0 where
   pub pairs : List (ℕ × ℕ)
   pub named : NamesCells cells inits pairs
-  pub found : (c : ℕ) → given start c ≡ lookup (λ d. d == c) pairs
+  pub found : (cell : ℕ) → given start cell ≡ lookup (λ other. other == cell) pairs
 
 abbrev pub TakesStart : ℕ → List Line → Line → Result (Unit {0}) TextKind → List (Option ℕ) → Type 0
 TakesStart cells inits line (Ok _) start = (init_fault cells inits line ≡ None)
@@ -87,56 +90,57 @@ TakesStart cells inits line (Err kind) start = kind ≢ Memory →
 
 -- ---- instructions
 
--- the place of a label, if it has one
-abbrev pub place_at : BTreeMap (Bor (List ℕ)) ℕ → Word → Option ℕ
-place_at places name = get_by (λ k. slice_cmp nat_cmp name k.now) places
+-- the index of a label, if it has one
+abbrev pub index_at : BTreeMap (Bor (List ℕ)) ℕ → Word → Option ℕ
+index_at indices name = get_by (λ key. slice_cmp nat_cmp name key.now) indices
 
 -- what is wrong with one label more
 abbrev pub define_fault : BTreeMap (Bor (List ℕ)) ℕ → Option Word → Option TextKind
-define_fault places label = new_label_fault (λ name. is_some (place_at places name)) label
+define_fault indices label = new_label_fault (λ name. is_some (index_at indices name)) label
 
 -- one label more
 abbrev pub Defines : BTreeMap (Bor (List ℕ)) ℕ → Option Word → ℕ → Result (Unit {0}) TextKind →
     BTreeMap (Bor (List ℕ)) ℕ → Type 0
-Defines old label place (Ok _) new =
+Defines old label index (Ok _) new =
     (define_fault old label ≡ None)
     × ((name : Word) →
-    place_at new name ≡ (if is_named label name then Some place else place_at old name))
-Defines old label place (Err kind) new = kind ≢ Memory → define_fault old label ≡ Some kind
+    index_at new name ≡ (if is_named label name then Some index else index_at old name))
+Defines old label index (Err kind) new = kind ≢ Memory → define_fault old label ≡ Some kind
 
--- each label's place
-abbrev pub HoldsPlaces : List Line → BTreeMap (Bor (List ℕ)) ℕ → Type 0
-HoldsPlaces body places = (name : Word) → place_at places name ≡ place_of body name
+-- each label's index
+abbrev pub HoldsIndices : List Line → BTreeMap (Bor (List ℕ)) ℕ → Type 0
+HoldsIndices body indices = (name : Word) → index_at indices name ≡ index_of body name
 
 pub record HoldsCode (body : List Line) (program : Program) : Type 0 where
   pub labelled : IsLabelled body
-  pub places : HoldsPlaces body program.places
+  pub indices : HoldsIndices body program.indices
   pub said : (find : Word → Option ℕ) →
-      map (λ line. instr_of find (unlabelled line)) body ≡ map (λ w.
-      resolved find w.statement) program.written.items
+      map (λ line. instr_of find (unlabelled line)) body
+      ≡ map (λ entry. resolved find entry.statement) program.written.items
 
 -- the numbers of the lines with instructions
 abbrev pub numbers_of : Program → List ℕ
-numbers_of program = map (λ w. w.line) program.written.items
+numbers_of program = map (λ entry. entry.line) program.written.items
 
 abbrev pub TakesCode : List Line → Line → Result (Unit {0}) TextKind → Program → Type 0
 TakesCode body line (Ok _) program = (instr_fault body line ≡ None)
     × HoldsCode (body ++ line ∷ []) program
 TakesCode body line (Err kind) program = kind ≢ Memory → instr_fault body line ≡ Some kind
 
--- the fault of what a place of a list is to say
-abbrev pub fault_of_place : List (Result Instr TextKind) → ℕ → Option TextKind
-fault_of_place outcomes k = result_err (slice_index_or outcomes k (Ok Halt))
+-- the fault of the outcome of this index
+abbrev pub fault_of_index : List (Result Instr TextKind) → ℕ → Option TextKind
+fault_of_index outcomes index = result_err (slice_index_or outcomes index (Ok Halt))
 
--- the statements' instructions, where `find` finds the places of labels, or the number of the first
--- line where it does not
+-- the statements' instructions, where `find` finds the indices of labels, or the number of the
+-- first line where it does not
 abbrev pub IsCoded : (Word → Option ℕ) → List Written → Result (Vec Instr Global) TextFault → Type 0
 IsCoded find written (Ok code) =
-    map (λ w. resolved find w.statement) written ≡ map (λ i. Ok i) code.items
+    map (λ entry. resolved find entry.statement) written ≡ map (λ instr. Ok instr) code.items
 IsCoded find written (Err fault) =
-    fault.kind ≢ Memory → (k : ℕ) × (fault.line ≡ slice_index (map (λ w. w.line) written) k)
-    × IsFirst (fault_of_place (map (λ w. resolved find w.statement) written))
-    (length written) k fault.kind
+    fault.kind ≢ Memory → (index : ℕ)
+    × (fault.line ≡ slice_index (map (λ entry. entry.line) written) index)
+    × IsFirst (fault_of_index (map (λ entry. resolved find entry.statement) written))
+    (length written) index fault.kind
 
 -- ---- the whole
 
@@ -185,8 +189,8 @@ TakesLine before line old number (Err kind) reader = kind ≢ Memory →
 -- the first jump to an unknown label, and the number of its line
 abbrev pub IsUnknown : List Line → List ℕ → TextFault → Type 0
 IsUnknown before numbers fault =
-    (k : ℕ) × (fault.line ≡ slice_index numbers k)
-    × IsFirst (label_fault_at (body_of before)) (length (body_of before)) k fault.kind
+    (index : ℕ) × (fault.line ≡ slice_index numbers index)
+    × IsFirst (label_fault_at (body_of before)) (length (body_of before)) index fault.kind
 
 -- what lines that were all read make: where they lack something, a fault of their last one
 abbrev pub Finishes : List Line → List ℕ → ℕ → Result JobData TextFault → Type 0

@@ -12,26 +12,26 @@ pub returns-clause-text : goal.returns-clause-text
 returns-clause-text g c =
     let job = c.args.moment.now.job.now in
     let own : IfSome (request_in job c.args.moment.now.state.now c.args.processor).put
-    (λ w. IsDataPlace job c.args.processor w.0) = subst (λ (asked : Request).
-    IfSome asked.put (λ w. IsDataPlace job c.args.processor w.0))
-    c.request_after-asked.ensures.request c.request_after-asked.ensures.own in
+    (λ w. IsDataPlace job c.args.processor w.0) = subst (λ (request : Request).
+    IfSome request.put (λ w. IsDataPlace job c.args.processor w.0))
+    c.request_after-request.ensures.request c.request_after-request.ensures.own in
     let same = row-is job c.args.moment.now.state.now (c.args.moment.now.made + 1)
     c.args.processor c.number_text.result.now c.number_text-2.result.now c.number_text-3.result.now
     c.as_bytes.result.now c.as_bytes-2.result.now c.value_in.result.now c.number_text-4.result.now
     c.limits_hold.ensures c.requires.processor own (record {
       step_is = cc;
       processor_is = cc;
-      place_is = cc;
+      index_is = cc;
       instruction_is = c.as_bytes.ensures.value
-          ∙ c.in_ok-instruction.ensures ∙ ap (λ n. instruction_at job n) c.counter-place.ensures;
+          ∙ c.in_ok-instruction.ensures ∙ ap (λ n. instruction_at job n) c.counter-index.ensures;
       target_is = c.as_bytes-2.ensures.value ∙ c.in_ok-target.ensures ∙ ap
-          (λ (asked : Request). target_text job c.args.processor asked.put)
-          c.request_after-asked.ensures.request;
+          (λ (request : Request). target_text job c.args.processor request.put)
+          c.request_after-request.ensures.request;
       value_is = cc;
       next_is = cc;
       steps = c.number_text.ensures.plain;
       processors = c.number_text-2.ensures.plain;
-      places = c.number_text-3.ensures.plain;
+      indices = c.number_text-3.ensures.plain;
       values = c.value_in.ensures.plain;
       nexts = c.number_text-4.ensures.plain;
     }) in

@@ -17,10 +17,10 @@ returns-in_err-place c =
 
 pub returns-then-place-cell : goal.returns-then-place-cell
 returns-then-place-cell c =
-    let asked = c.in_ok-place.was in
+    let request_is = c.in_ok-place.was in
     PutsFirst_by_mark c.args.requests.now c.args.processor c.args.marks.now
     c.args.cell c.requires.processor c.requires.marked c.requires.cell c.in_ok-place.value
-    c.if-first-processor.false (rw c.if-place-cell.true at asked)
+    c.if-first-processor.false (rw c.if-place-cell.true at request_is)
 
 pub returns-else-place-cell : goal.returns-else-place-cell
 returns-else-place-cell c =

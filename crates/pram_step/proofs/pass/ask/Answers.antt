@@ -12,14 +12,14 @@ judge-found-requires-clause-found c =
     (sym (take-set c.loop-processor.requests c.loop-processor.processor c.request_in.result))
     c.loop-processor.invariant.found
 
--- all processors were asked
+-- all processors were request_is
 all_asked : (c : After-loop-processor) →
     c.loop-processor.requests ≡ requests_in c.args.job.now c.args.places.now
 unfolding requests_in
 all_asked c =
     fill_by_all (request_in c.args.job.now c.args.places.now) c.loop-processor.requests
     c.args.job.now.procs (record { put = None; next = 0 }) (omega arith)
-    (λ k low. c.loop-processor.invariant.asked k (omega arith))
+    (λ k low. c.loop-processor.invariant.request_is k (omega arith))
 
 pub returns-clause-requests : goal.returns-clause-requests
 returns-clause-requests c = all_asked c

@@ -21,7 +21,7 @@ loop-draft-init c =
       judged = record {
         count = refl;
         rows = c.new-draft.ensures ∙ sym (fresh_rows c.args.workers);
-        fine = λ place none. absurd (omega arith);
+        fine = λ index none. absurd (omega arith);
       };
     }
 
