@@ -23,7 +23,7 @@ use Rattle.lawful_walk.specs.Writes.{Floor}
 use Rattle.lawful_walk.specs.Steps.{phase_written}
 use Rattle.lawful_walk.specs.Board.{held, root, Carried, Claimed}
 use Rattle.lawful_walk.proofs.Sees.{Sees, Lasts, so}
-use Rattle.lawful_walk.proofs.Scripts.{Safe}
+use Rattle.lawful_walk.proofs.Scripts.{Aim, Safe}
 use Rattle.lawful_walk.proofs.Carrying.{carries_safe}
 use Rattle.lawful_walk.proofs.Known.{floor_lasts, both_last, EndSafe, stale_end}
 use Rattle.lawful_walk.proofs.Hearing.{hears, hears_all, claims_safe, claimed_lasts}
@@ -65,7 +65,8 @@ cell_written job s c i v asked cell = elim (each_write job s c i v asked) [
   | inr e ↦ e.0
 ]
 
-module _ (job : JobData) (y : LayoutData) (w q x i : ℕ) (some : 1 ≤ q) (most : q ≤ 3 * job.steps)
+module _ (job : JobData) (y : LayoutData)
+    (w q : ℕ) (aim : Aim) (x i : ℕ) (some : 1 ≤ q) (most : q ≤ 3 * job.steps)
     (step : step_at q ≡ suc x) (board : IsBoard job y) (proc : i < y.procs) where
   pub proc_job : i < job.procs
   proc_job = let c = same_procs job y board in omega arith
@@ -84,24 +85,24 @@ module _ (job : JobData) (y : LayoutData) (w q x i : ℕ) (some : 1 ≤ q) (most
       Lasts job y P → ((words : List ℕ) → P words → Floor job y q x words) →
       (history : List (Op × ℕ)) → Sees job y history P →
       ((longer : List (Op × ℕ)) → Sees job y longer (λ words. P words × Carried job y x words i) →
-      Safe {R = Then} job y w q after longer) →
-      Safe {R = Then} job y w q (carries job y (suc x) i (part_after job x i 0)
+      Safe job y w q aim after longer) →
+      Safe job y w q aim (carries job y (suc x) i (part_after job x i 0)
       (part_after job x i 1) (part_after job x i 2) after) history
   carried_safe phase wins after P lasts floor history sees on =
-      carries_safe job y w q x i (part_after job x i 0)
+      carries_safe job y w q aim x i (part_after job x i 0)
       (part_after job x i 1) (part_after job x i 2) some most step phase proc_job wins P lasts floor
-      (λ words p. (refl, refl, refl)) {R = Then} after history sees on
+      (λ words p. (refl, refl, refl)) after history sees on
 
   pub apply_safe : job.rule ≢ Priority → q ≡ phase_written job.rule x →
       3 * x + 2 ≤ q → (after : Script Then) →
-      EndSafe job y w q x (λ words. Carried job y x words i) after → (history : List (Op × ℕ)) →
+      EndSafe job y w q aim x (λ words. Carried job y x words i) after → (history : List (Op × ℕ)) →
       Sees job y history (Floor job y q x) →
-      Safe {R = Then} job y w q (apply_task job y (suc x) i after) history
+      Safe job y w q aim (apply_task job y (suc x) i after) history
   unfolding apply_task
   apply_safe rule phase late after done history sees =
-      hears_all job y w q x i some most step board proc late after
+      hears_all job y w q aim x i some most step board proc late after
       (λ a b c. carries job y (suc x) i a b c after) history
-      (stale_end job y w q x (λ words. Carried job y x words i) after done) sees (λ longer more.
+      (stale_end job y w q aim x (λ words. Carried job y x words i) after done) sees (λ longer more.
       carried_safe phase (λ p v asked. wins_all job x p i rule) after
       (Floor job y q x) (floor_lasts job y q x) (λ words f. f) longer more (λ longest known.
       done longest (so job y longest (λ words. Floor job y q x words × Carried job y x words i)
@@ -126,21 +127,21 @@ module _ (job : JobData) (y : LayoutData) (w q x i : ℕ) (some : 1 ≤ q) (most
       same (claimed (omega arith))
 
   pub claim_safe : IsTrue y.claims → 3 * x + 2 ≡ q →
-      (after : Script Then) → EndSafe job y w q x (λ words. Claimed job y x words i) after →
+      (after : Script Then) → EndSafe job y w q aim x (λ words. Claimed job y x words i) after →
       (history : List (Op × ℕ)) → Sees job y history (Floor job y q x) →
-      Safe {R = Then} job y w q (claim_task job y (suc x) i after) history
+      Safe job y w q aim (claim_task job y (suc x) i after) history
   unfolding claim_task
   claim_safe has phase after done history sees =
-      hears job y w q x i some most step board proc 0 (lit< tt) (omega arith) after
+      hears job y w q aim x i some most step board proc 0 (lit< tt) (omega arith) after
       (λ place. if place == 0 then after else claims job y (suc x) i (place - 1) after) history
-      (stale_end job y w q x (λ words. Claimed job y x words i) after done) sees (λ longer more.
+      (stale_end job y w q aim x (λ words. Claimed job y x words i) after done) sees (λ longer more.
       cond_both (part_after job x i 0 == 0) after
       (claims job y (suc x) i (part_after job x i 0 - 1) after)
-      (λ (s : Script Then). Safe {R = Then} job y w q s longer)
+      (λ (s : Script Then). Safe job y w q aim s longer)
       (λ e. done longer (so job y longer (Floor job y q x)
       (λ words. Floor job y q x words × (root y words + 1 ≡ q → Claimed job y x words i))
       (λ words stands f. (f, λ live. no_claim words (eqb-true (part_after job x i 0) 0 e))) more))
-      (λ e. claims_safe job y w q x i some most step board proc (part_after job x i 0 - 1)
+      (λ e. claims_safe job y w q aim x i some most step board proc (part_after job x i 0 - 1)
       (part_after job x i 1) has phase (data_asked e) after longer more (λ longest known.
       done longest
       (so job y longest (λ words. Floor job y q x words × (part_after job x i 0 - 1 < job.cells →
@@ -160,26 +161,26 @@ module _ (job : JobData) (y : LayoutData) (w q x i : ℕ) (some : 1 ≤ q) (most
       both_last job y (Floor job y q x) (λ words. part_after job x i 0 - 1 < job.cells →
       stamped_word (suc x) (claim_of job i) ≤ held y words (Claim (part_after job x i 0 - 1)))
       (floor_lasts job y q x)
-      (claimed_lasts job y w q x i some most step board proc (part_after job x i 0 - 1) has)
+      (claimed_lasts job y w q aim x i some most step board proc (part_after job x i 0 - 1) has)
 
   pub crew_apply_safe : job.rule ≢ Priority →
       IsTrue y.claims → q ≡ phase_written job.rule x → 3 * x + 2 ≡ q → (after : Script Then) →
-      EndSafe job y w q x (λ words. Carried job y x words i × Claimed job y x words i) after →
+      EndSafe job y w q aim x (λ words. Carried job y x words i × Claimed job y x words i) after →
       (history : List (Op × ℕ)) → Sees job y history (Floor job y q x) →
-      Safe {R = Then} job y w q (crew_apply_task job y (suc x) i after) history
+      Safe job y w q aim (crew_apply_task job y (suc x) i after) history
   unfolding crew_apply_task At
   crew_apply_safe rule has written phase after done history sees =
       let carried = carries job y (suc x) i
       (part_after job x i 0) (part_after job x i 1) (part_after job x i 2) after in
-      hears_all job y w q x i some most step board proc (omega arith) after
+      hears_all job y w q aim x i some most step board proc (omega arith) after
       (λ place value next. if place == 0 then carries job y (suc x) i place value next after
       else claims job y (suc x) i (place - 1) (carries job y (suc x) i place value next after))
       history
-      (stale_end job y w q x (λ words. Carried job y x words i × Claimed job y x words i)
+      (stale_end job y w q aim x (λ words. Carried job y x words i × Claimed job y x words i)
       after done) sees (λ longer more.
       cond_both (part_after job x i 0 == 0) carried
       (claims job y (suc x) i (part_after job x i 0 - 1) carried)
-      (λ (s : Script Then). Safe {R = Then} job y w q s longer)
+      (λ (s : Script Then). Safe job y w q aim s longer)
       (λ e. carried_safe written (λ p v asked. wins_all job x p i rule) after
       (Floor job y q x) (floor_lasts job y q x) (λ words f. f) longer more (λ longest known.
       done longest (so job y longest (λ words. Floor job y q x words × Carried job y x words i)
@@ -189,7 +190,7 @@ module _ (job : JobData) (y : LayoutData) (w q x i : ℕ) (some : 1 ≤ q) (most
         h.0,
         λ live. (h.1, no_claim words (eqb-true (part_after job x i 0) 0 e)),
       )) known)))
-      (λ e. claims_safe job y w q x i some most step board proc (part_after job x i 0 - 1)
+      (λ e. claims_safe job y w q aim x i some most step board proc (part_after job x i 0 - 1)
       (part_after job x i 1) has phase (data_asked e) carried longer more (λ longer more.
       carried_safe written (λ p v asked. wins_all job x p i rule) after At
       (at_lasts has) (λ words h. h.0) longer more (λ longest known.

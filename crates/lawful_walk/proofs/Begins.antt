@@ -17,25 +17,26 @@ use Rattle.lawful_walk.specs.Board.{held, Stands}
 use Rattle.lawful_walk.specs.Moments.{Moment}
 use Rattle.lawful_walk.proofs.Sees.{Sees, Lasts, so, always}
 use Rattle.lawful_walk.specs.Walks.{Goes}
-use Rattle.lawful_walk.proofs.Scripts.{Safe, load_safe, goes_of}
+use Rattle.lawful_walk.proofs.Scripts.{Aim, Safe, load_safe, goes_of}
 use Rattle.lawful_walk.proofs.Frames.{only_set}
 use Rattle.lawful_walk.proofs.Setting.{store_keeps}
 use Rattle.lawful_walk.proofs.Effects.{writes_keep}
 
-pub back_safe : (job : JobData) (y : LayoutData) (v w q : ℕ) (history : List (Op × ℕ)) →
-    Safe job y w q (back_script y v) history
-back_safe job y v w q history = load_safe {R = Then} job y w q (number_of y (Position v))
+pub back_safe : (job : JobData) (y : LayoutData) (v w q : ℕ) (aim : Aim) (history : List (Op × ℕ)) →
+    Safe job y w q aim (back_script y v) history
+back_safe job y v w q aim history = load_safe job y w q aim (number_of y (Position v))
     (λ n. ends (begins n)) history (λ found ok. tt)
 
-pub begin_safe : (job : JobData) (y : LayoutData) (n w q : ℕ) (history : List (Op × ℕ)) →
-    Safe job y w q (begin_script job y n) history
+pub begin_safe : (job : JobData) (y : LayoutData)
+    (n w q : ℕ) (aim : Aim) (history : List (Op × ℕ)) →
+    Safe job y w q aim (begin_script job y n) history
 unfolding begin_script
-begin_safe job y n w q history =
-    load_safe {R = Then} job y w q (number_of y (Node 1)) _ history (λ r ok.
+begin_safe job y n w q aim history =
+    load_safe job y w q aim (number_of y (Node 1)) _ history (λ r ok.
     let longer : List (Op × ℕ) = (Load (number_of y (Node 1)), r) ∷ history in
     cond_both (r % 3 == 0) (heard_none r)
-    (ends (turns n (r + 1))) (λ (s : Script Then). Safe {R = Then} job y w q s longer)
-    (λ e. load_safe {R = Then} job y w q (number_of y Conflict) (after_none r) longer
+    (ends (turns n (r + 1))) (λ (s : Script Then). Safe job y w q aim s longer)
+    (λ e. load_safe job y w q aim (number_of y Conflict) (after_none r) longer
     (λ u ok. heard_safe r u ((Load (number_of y Conflict), u) ∷ longer))) (λ e. tt))
   where
     after_none : ℕ → ℕ → Script Then
@@ -47,12 +48,12 @@ begin_safe job y n w q history =
     heard_none r = asks (Load (number_of y Conflict)) (after_none r)
 
     heard_safe : (r u : ℕ) (longest : List (Op × ℕ)) →
-        Safe {R = Then} job y w q (after_none r u) longest
+        Safe job y w q aim (after_none r u) longest
     heard_safe r u longest = cond_both (u == 0)
         (if r == 3 * job.steps then ends (stops ended.Done) else ends (turns n (r + 1)))
-        (ends (stops (ended.Conflict u))) (λ (s : Script Then). Safe {R = Then} job y w q s longest)
+        (ends (stops (ended.Conflict u))) (λ (s : Script Then). Safe job y w q aim s longest)
         (λ e. cond_both (r == 3 * job.steps) (ends (stops ended.Done)) (ends (turns n (r + 1)))
-        (λ (s : Script Then). Safe {R = Then} job y w q s longest) (λ e. tt) (λ e. tt)) (λ e. tt)
+        (λ (s : Script Then). Safe job y w q aim s longest) (λ e. tt) (λ e. tt)) (λ e. tt)
 
 -- a worker's position is stored
 pub store_goes : (job : JobData) (y : LayoutData) (w q n : ℕ) (words : List ℕ) →
@@ -64,26 +65,30 @@ store_goes job y w q n words stands worker low high = record {
       (only_set y (Position w) n words stands.sizes stands.admitted.len worker).rest a is other;
 }
 
-pub stands_safe : (job : JobData) (y : LayoutData) (w q n : ℕ) (history : List (Op × ℕ)) →
-    w < y.workers → 1 ≤ n → n < 2 * y.leaves → Safe job y w q (stands_at y w n q) history
-stands_safe job y w q n history worker low high = (
-  always job y history (Goes job y w q (Store (number_of y (Position w)) n))
-      (λ words stands. store_goes job y w q n words stands worker low high),
+pub stands_safe : (job : JobData) (y : LayoutData)
+    (w q : ℕ) (aim : Aim) (n : ℕ) (history : List (Op × ℕ)) →
+    w < y.workers → 1 ≤ n → n < 2 * y.leaves → Safe job y w q aim (stands_at y w n q) history
+stands_safe job y w q aim n history worker low high = (
+  always job y history (λ words. aim.given words → Goes job y w q
+      (Store (number_of y (Position w)) n) words)
+      (λ words stands given. store_goes job y w q n words stands worker low high),
   λ found ok. tt,
 )
 
-module _ (job : JobData) (y : LayoutData) (w q x : ℕ) (some : 1 ≤ q) (most : q ≤ 3 * job.steps)
+module _ (job : JobData) (y : LayoutData) (w q : ℕ) (aim : Aim) (x : ℕ)
+    (some : 1 ≤ q) (most : q ≤ 3 * job.steps)
     (step : step_at q ≡ suc x) (P : List ℕ → Type 0) (lasts : Lasts job y P)
     (floor : (words : List ℕ) → P words → Floor job y q x words) where
   -- both children of an inner node were heard as finished
   pub inner_safe : (n l r : ℕ) (history : List (Op × ℕ)) → 1 ≤ n → n < y.leaves → q ≤ l → q ≤ r →
       Sees job y history (Moment job y (Load (number_of y (Node (2 * n + 1)))) r
-      (Moment job y (Load (number_of y (Node (2 * n)))) l P)) → Safe job y w q (marks y n q) history
+      (Moment job y (Load (number_of y (Node (2 * n)))) l P)) →
+      Safe job y w q aim (marks y n q) history
   inner_safe n l r history low high left right sees = (
     so job y history (Moment job y (Load (number_of y (Node (2 * n + 1)))) r
         (Moment job y (Load (number_of y (Node (2 * n)))) l P))
-        (Goes job y w q (Max (number_of y (Node n)) q))
-        (λ words stands m.
+        (λ words. aim.given words → Goes job y w q (Max (number_of y (Node n)) q) words)
+        (λ words stands m given.
         let first = m.earlier in
         let a : l ≡ held y first.words (Node (2 * n)) = first.heard in
         let b : r ≡ held y m.words (Node (2 * n + 1)) = m.heard in
@@ -98,15 +103,5 @@ module _ (job : JobData) (y : LayoutData) (w q x : ℕ) (some : 1 ≤ q) (most :
         goes_of job y w q (Max (number_of y (Node n)) q) words
         ((writes_keep job y words q x stands some most step (floor words p)).inner n low high
         (omega arith) (omega arith))) sees,
-    λ found ok. tt,
-  )
-
-  pub padded_safe : (n : ℕ) (history : List (Op × ℕ)) → y.leaves + y.procs ≤ n → n < 2 * y.leaves →
-      Sees job y history P → Safe job y w q (marks y n q) history
-  padded_safe n history low high sees = (
-    so job y history P (Goes job y w q (Max (number_of y (Node n)) q))
-        (λ words stands p. goes_of job y w q (Max (number_of y (Node n)) q) words
-        ((writes_keep job y words q x stands some most step (floor words p)).padded n low high))
-        sees,
     λ found ok. tt,
   )

@@ -15,21 +15,22 @@ use Rattle.walkx.specs.declared.operation.Op.TheVariants.{Load, Max, Swap}
 use Rattle.walkx.specs.Scripts.{Script}
 use Rattle.pram_words.specs.Stamps.{newer_payload}
 use Rattle.walkx.specs.Tasks.{is_late, hears_part, reads_place, reports}
-use Rattle.walkx.specs.Walk.{marks}
+use Rattle.walkx.specs.Walk.{Then, marks}
 use Rattle.pram_step.specs.History.{part_after}
 use Rattle.lawful_walk.specs.Writes.{Floor}
-use Rattle.lawful_walk.specs.Board.{held, root, stamp_at, Done, Stands, Grows}
+use Rattle.lawful_walk.specs.Board.{LeafDone, held, root, stamp_at, Done, Stands, Grows}
 use Rattle.lawful_walk.specs.Moments.{Moment}
 use Rattle.lawful_walk.proofs.Moments.{onward}
 use Rattle.lawful_walk.proofs.Sees.{Sees, Lasts, so, heard}
 use Rattle.lawful_walk.specs.Walks.{Goes}
-use Rattle.lawful_walk.proofs.Scripts.{Safe, load_safe, both_safe, goes_of}
+use Rattle.lawful_walk.proofs.Scripts.{Aim, Safe, load_safe, both_safe, goes_of}
 use Rattle.lawful_walk.proofs.Facts.{facts}
 use Rattle.lawful_walk.proofs.Growths.{root_up, place_as_heard}
 use Rattle.lawful_walk.proofs.Values.{phase_low}
 use Rattle.lawful_walk.proofs.Effects.{writes_keep}
 
-module _ (job : JobData) (y : LayoutData) (w q x : ℕ) (some : 1 ≤ q) (most : q ≤ 3 * job.steps)
+module _ (job : JobData) (y : LayoutData) (w q : ℕ) (aim : Aim) (x : ℕ)
+    (some : 1 ≤ q) (most : q ≤ 3 * job.steps)
     (step : step_at q ≡ suc x) (P : List ℕ → Type 0) (lasts : Lasts job y P)
     (floor : (words : List ℕ) → P words → Floor job y q x words) where
   -- ---- a request word, in the second or third pass
@@ -69,21 +70,22 @@ module _ (job : JobData) (y : LayoutData) (w q x : ℕ) (some : 1 ≤ q) (most :
           let up = root_up job y m.words words m.stands m.since in
           omega arith
 
-  pub hears_safe : {R : Type 0} (i j : ℕ) → i < y.procs → j < 3 → 3 * x + 2 ≤ q →
-      (after : Script R) (next : ℕ → Script R) (history : List (Op × ℕ)) → Sees job y history P →
+  pub hears_safe : (i j : ℕ) → i < y.procs → j < 3 → 3 * x + 2 ≤ q →
+      (after : Script Then) (next : ℕ → Script Then) (history : List (Op × ℕ)) →
+      Sees job y history P →
       ((longer : List (Op × ℕ)) → Sees job y longer (λ words. P words × (q ≤ root y words)) →
-      Safe job y w q after longer) →
+      Safe job y w q aim after longer) →
       ((v : ℕ) (longer : List (Op × ℕ)) → Sees job y longer
-      (λ words. P words × (v ≡ part_after job x i j)) → Safe job y w q (next v) longer) →
-      Safe job y w q (hears_part y (suc x) i j after next) history
+      (λ words. P words × (v ≡ part_after job x i j)) → Safe job y w q aim (next v) longer) →
+      Safe job y w q aim (hears_part y (suc x) i j after next) history
   unfolding Asks
-  hears_safe {R} i j proc part phase after next history sees stale on =
-      load_safe {R = R} job y w q (number_of y (Asked i j)) _ history (λ found ok.
+  hears_safe i j proc part phase after next history sees stale on =
+      load_safe job y w q aim (number_of y (Asked i j)) _ history (λ found ok.
       let longer : List (Op × ℕ) = (Load (number_of y (Asked i j)), found) ∷ history in
       let moment : Sees job y longer (Asks i j found) =
       heard job y history P (Load (number_of y (Asked i j))) found sees in
       cond_both (stamp_of found == suc x)
-      (next (payload_of found)) after (λ s. Safe job y w q s longer)
+      (next (payload_of found)) after (λ s. Safe job y w q aim s longer)
       (λ e. on (payload_of found) longer (so job y longer (Asks i j found)
       (λ words. P words × (payload_of found ≡ part_after job x i j)) (λ words stands m. (
         known i j found words stands m,
@@ -118,19 +120,20 @@ module _ (job : JobData) (y : LayoutData) (w q x : ℕ) (some : 1 ≤ q) (most :
       let low = phase_low job.rule t in
       omega arith
 
-  pub reads_safe : {R : Type 0} (p : ℕ) → p < places_of y → q ≡ 3 * x + 1 →
-      (after : Script R) (next : ℕ → Script R) (history : List (Op × ℕ)) → Sees job y history P →
+  pub reads_safe : (p : ℕ) → p < places_of y → q ≡ 3 * x + 1 →
+      (after : Script Then) (next : ℕ → Script Then) (history : List (Op × ℕ)) →
+      Sees job y history P →
       ((longer : List (Op × ℕ)) → Sees job y longer (λ words. P words × (q ≤ root y words)) →
-      Safe job y w q after longer) →
+      Safe job y w q aim after longer) →
       ((v : ℕ) (longer : List (Op × ℕ)) →
       Sees job y longer (λ words. P words × (v ≡ slice_index (state_after job x) p)) →
-      Safe job y w q (next v) longer) →
-      Safe job y w q (reads_place y (suc x) p after next) history
+      Safe job y w q aim (next v) longer) →
+      Safe job y w q aim (reads_place y (suc x) p after next) history
   unfolding Both
-  reads_safe {R} p place phase after next history sees stale on =
-      both_safe {R = R} job y w q p _ history P sees (λ a b longer moment.
+  reads_safe p place phase after next history sees stale on =
+      both_safe job y w q aim p _ history P sees (λ a b longer moment.
       cond_both (is_late (suc x) a b) after
-      (next (newer_payload a b)) (λ s. Safe job y w q s longer)
+      (next (newer_payload a b)) (λ s. Safe job y w q aim s longer)
       (λ late. stale longer (so job y longer (Both p a b) (λ words. P words × (q ≤ root y words))
       (λ words stands m. (still p a b words stands m, late_root a b late words stands m)) moment))
       (λ early. on (newer_payload a b) longer (so job y longer (Both p a b) (λ words.
@@ -166,30 +169,28 @@ module _ (job : JobData) (y : LayoutData) (w q x : ℕ) (some : 1 ≤ q) (most :
 
   -- ---- a leaf is marked, and a conflict is reported
 
-  pub marks_safe : (i : ℕ) → i < y.procs → (history : List (Op × ℕ)) →
-      Sees job y history
-      (λ words. P words × (root y words + 1 ≡ q → Done job.rule (kind_at q) job y x words i)) →
-      Safe job y w q (marks y (y.leaves + i) q) history
-  marks_safe i proc history sees = (
-    so job y history
-        (λ words. P words × (root y words + 1 ≡ q → Done job.rule (kind_at q) job y x words i))
-        (Goes job y w q (Max (number_of y (Node (y.leaves + i))) q))
-        (λ words stands h. goes_of job y w q (Max (number_of y (Node (y.leaves + i))) q) words
-        ((writes_keep job y words q x stands some most step (floor words h.0)).leaf i proc h.1))
-        sees,
+  pub marks_safe : (n : ℕ) → y.leaves ≤ n → n < 2 * y.leaves → (history : List (Op × ℕ)) →
+      Sees job y history (λ words. P words × (aim.given words → root y words + 1 ≡ q →
+      LeafDone job y x (kind_at q) n words)) → Safe job y w q aim (marks y n q) history
+  marks_safe n low high history sees = (
+    so job y history (λ words. P words × (aim.given words → root y words + 1 ≡ q →
+        LeafDone job y x (kind_at q) n words))
+        (λ words. aim.given words → Goes job y w q (Max (number_of y (Node n)) q) words)
+        (λ words stands h given. goes_of job y w q (Max (number_of y (Node n)) q) words
+        ((writes_keep job y words q x stands some most step (floor words h.0)).leaf n low high
+        (h.1 given))) sees,
     λ found ok. tt,
   )
 
-  pub reports_safe : {R : Type 0} →
-      kind_at q ≡ Verify → (after : Script R) (history : List (Op × ℕ)) →
+  pub reports_safe : kind_at q ≡ Verify → (after : Script Then) (history : List (Op × ℕ)) →
       Sees job y history (λ words. P words × (AgreesAfter job x → ⊥)) →
       ((found : ℕ) →
-      Safe job y w q after ((Swap (number_of y Conflict) 0 (suc x), found) ∷ history)) →
-      Safe job y w q (reports y (suc x) after) history
+      Safe job y w q aim after ((Swap (number_of y Conflict) 0 (suc x), found) ∷ history)) →
+      Safe job y w q aim (reports y (suc x) after) history
   reports_safe kind after history sees next = (
     so job y history (λ words. P words × (AgreesAfter job x → ⊥))
-        (Goes job y w q (Swap (number_of y Conflict) 0 (suc x)))
-        (λ words stands h. goes_of job y w q (Swap (number_of y Conflict) 0 (suc x)) words
+        (λ words. aim.given words → Goes job y w q (Swap (number_of y Conflict) 0 (suc x)) words)
+        (λ words stands h given. goes_of job y w q (Swap (number_of y Conflict) 0 (suc x)) words
         ((writes_keep job y words q x stands some most step (floor words h.0)).conflict kind h.1))
         sees,
     λ found ok. next found,

@@ -58,5 +58,5 @@ backed_is_heard job y w r history now worker backed has =
 
 -- the record that knew a worker, lengthened by its steps, has its whole history
 pub history_known : HistoriesAreKept
-history_known job y r w [] knows = knows
+history_known job y r w [] knows = knows.script
 history_known job y r w (found ∷ earlier) knows = inl (refl, history_known job y r w earlier knows)

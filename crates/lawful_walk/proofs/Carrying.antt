@@ -9,7 +9,7 @@ use Rattle.pram_words.specs.Phases.{step_at}
 use Rattle.pram_words.specs.Words.{LayoutData, places_of}
 use Rattle.walkx.specs.declared.operation.Op.{Op}
 use Rattle.walkx.specs.Scripts.{Script}
-use Rattle.walkx.specs.Walk.{IsBoard}
+use Rattle.walkx.specs.Walk.{Then, IsBoard}
 use Rattle.walkx.specs.Tasks.{writes_place, carries}
 use Rattle.walkx.proofs.Boards.{same_cells, same_procs}
 use Rattle.pram_step.specs.History.{Asks, Wins, part_after}
@@ -18,11 +18,11 @@ use Rattle.lawful_walk.specs.Writes.{Floor}
 use Rattle.lawful_walk.specs.Steps.{phase_written}
 use Rattle.lawful_walk.specs.Board.{IsLate, Carried, Stands}
 use Rattle.lawful_walk.proofs.Sees.{Sees, Lasts, so}
-use Rattle.lawful_walk.proofs.Scripts.{Safe}
+use Rattle.lawful_walk.proofs.Scripts.{Aim, Safe}
 use Rattle.lawful_walk.proofs.Writing.{writes_safe, late_later}
 
 module _ (job : JobData) (y : LayoutData)
-    (w q x i place value next : ℕ) (some : 1 ≤ q) (most : q ≤ 3 * job.steps)
+    (w q : ℕ) (aim : Aim) (x i place value next : ℕ) (some : 1 ≤ q) (most : q ≤ 3 * job.steps)
     (step : step_at q ≡ suc x) (phase : q ≡ phase_written job.rule x) (proc : i < job.procs)
     (wins : (p v : ℕ) → Asks job x p i v → Wins job x p i) (P : List ℕ → Type 0)
     (lasts : Lasts job y P) (floor : (words : List ℕ) → P words → Floor job y q x words)
@@ -79,31 +79,31 @@ module _ (job : JobData) (y : LayoutData)
   Known : List ℕ → Type 0
   Known words = P words × Stands job y words
 
-  pub carries_safe : {R : Type 0} (after : Script R) (history : List (Op × ℕ)) →
+  pub carries_safe : (after : Script Then) (history : List (Op × ℕ)) →
       Sees job y history P →
       ((longer : List (Op × ℕ)) → Sees job y longer (λ words. P words × Carried job y x words i) →
-      Safe job y w q after longer) →
-      Safe job y w q (carries job y (suc x) i place value next after) history
+      Safe job y w q aim after longer) →
+      Safe job y w q aim (carries job y (suc x) i place value next after) history
   unfolding Data Known
-  carries_safe {R} after history sees on =
+  carries_safe after history sees on =
       cond_both (place == 0) (writes_place y (suc x) (counter_place job i) next after)
       (writes_place y (suc x) (place - 1) value
       (writes_place y (suc x) (counter_place job i) next after))
-      (λ (s : Script R). Safe {R = R} job y w q s history)
-      (λ e. writes_safe job y w q x (counter_place job i) i next some most step phase P lasts floor
-      (λ words k. (ask_next words k, wins _ _ (ask_next words k))) {R = R} after history sees
+      (λ (s : Script Then). Safe job y w q aim s history) (λ e.
+      writes_safe job y w q aim x (counter_place job i) i next some most step phase P lasts floor
+      (λ words k. (ask_next words k, wins _ _ (ask_next words k))) after history sees
       (λ longer more.
       on longer (so job y longer (λ words. P words × IsLate y x (counter_place job i) words)
       (λ words. P words × Carried job y x words i)
       (λ words stands h. (h.0, all_next words h.0 (eqb-true place 0 e) h.1)) more)))
-      (λ e. writes_safe job y w q x (place - 1) i value some most step phase Known
+      (λ e. writes_safe job y w q aim x (place - 1) i value some most step phase Known
       (λ words later a b up h. (lasts words later a b up h.0, b)) (λ words h. floor words h.0)
       (λ words h. let a = ask_data words h.1 h.0 e in
-      (a, wins _ _ a)) {R = R} (writes_place y (suc x) (counter_place job i) next after) history
+      (a, wins _ _ a)) (writes_place y (suc x) (counter_place job i) next after) history
       (so job y history P Known (λ words stands k. (k, stands)) sees) (λ longer more.
-      writes_safe job y w q x (counter_place job i) i next some most step phase Data
+      writes_safe job y w q aim x (counter_place job i) i next some most step phase Data
       (data_lasts e) (λ words h. floor words h.0)
-      (λ words h. (ask_next words h.0, wins _ _ (ask_next words h.0))) {R = R} after longer
+      (λ words h. (ask_next words h.0, wins _ _ (ask_next words h.0))) after longer
       (so job y longer (λ words. Known words × IsLate y x (place - 1) words) Data
       (λ words stands h. (h.0.0, h.1)) more) (λ longest all.
       on longest (so job y longest (λ words. Data words × IsLate y x (counter_place job i) words)

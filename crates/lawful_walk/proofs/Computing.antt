@@ -30,7 +30,7 @@ use Rattle.lawful_walk.specs.Board.{held, root, Raised, Grows}
 use Rattle.lawful_walk.proofs.Raising.{kind_of}
 use Rattle.lawful_walk.proofs.Effects.{writes_keep}
 use Rattle.lawful_walk.proofs.Sees.{Sees, Lasts, so}
-use Rattle.lawful_walk.proofs.Scripts.{Safe}
+use Rattle.lawful_walk.proofs.Scripts.{Aim, Safe}
 use Rattle.lawful_walk.proofs.Known.{floor_lasts, both_last, StaleSafe}
 use Rattle.lawful_walk.proofs.Known.{EndSafe, stale_end, raises_safe}
 use Rattle.lawful_walk.proofs.Hearing.{reads}
@@ -48,43 +48,45 @@ asks_for : (job : JobData) (s : State) (i : ℕ) (instr : Instr) →
 unfolding request_in
 asks_for job s i instr e = rw (e, request_in) refl
 
-module _ (job : JobData) (y : LayoutData) (w q x i : ℕ) (some : 1 ≤ q) (most : q ≤ 3 * job.steps)
+module _ (job : JobData) (y : LayoutData)
+    (w q : ℕ) (aim : Aim) (x i : ℕ) (some : 1 ≤ q) (most : q ≤ 3 * job.steps)
     (step : step_at q ≡ suc x) (board : IsBoard job y) (proc : i < y.procs) (phase : 3 * x + 1 ≡ q)
-    (after : Script Then) (done : EndSafe job y w q x (λ words. Raised job y x words i) after) where
-  stale : StaleSafe job y w q x after
-  stale = stale_end job y w q x (λ words. Raised job y x words i) after done
+    (after : Script Then)
+    (done : EndSafe job y w q aim x (λ words. Raised job y x words i) after) where
+  stale : StaleSafe job y w q aim x after
+  stale = stale_end job y w q aim x (λ words. Raised job y x words i) after done
 
   place_in : (p : ℕ) → p < job.cells + 5 * job.procs → p < places_of y
   place_in p h = let b = same_cells job y board in let c = same_procs job y board in omega arith
 
   registers : (rs values : List ℕ) (next : List ℕ → Script Then) (history : List (Op × ℕ)) →
       AllByRecursion (λ r. r < 4) rs → Sees job y history (Floor job y q x) →
-      ((longer : List (Op × ℕ)) → Sees job y longer (Floor job y q x) → Safe {R = Then} job y w q
+      ((longer : List (Op × ℕ)) → Sees job y longer (Floor job y q x) → Safe job y w q aim
       (next (values ++ map (register job (state_after job x) i) rs)) longer) →
-      Safe {R = Then} job y w q (reads_registers job y (suc x) i rs values after next) history
+      Safe job y w q aim (reads_registers job y (suc x) i rs values after next) history
   registers [] values next history all sees on =
-      subst (λ (vs : List ℕ). Safe {R = Then} job y w q (next vs) history)
+      subst (λ (vs : List ℕ). Safe job y w q aim (next vs) history)
       (append-nil values) (on history sees)
   registers (r ∷ rs) values next history all sees on =
       let low = all.0 in
       let c = same_procs job y board in
-      reads job y w q x i some most step board proc
+      reads job y w q aim x i some most step board proc
       (register_place job i r) (place_in (register_place job i r) (omega arith)) (sym phase) after
       (λ v. reads_registers job y (suc x) i rs (values ++ v ∷ []) after next) history stale sees
       (λ longer more.
       registers rs (values ++ register job (state_after job x) i r ∷ []) next longer all.1 more
       (λ longest known.
-      subst (λ (vs : List ℕ). Safe {R = Then} job y w q (next vs) longest)
+      subst (λ (vs : List ℕ). Safe job y w q aim (next vs) longest)
       (sym (append_assoc values (register job (state_after job x) i r ∷ [])
       (map (register job (state_after job x) i) rs))) (on longest known)))
 
   cell : (o : Option ℕ) → ((c : ℕ) → o ≡ Some c → c < job.cells) →
       (next : ℕ → Script Then) (history : List (Op × ℕ)) → Sees job y history (Floor job y q x) →
-      ((longer : List (Op × ℕ)) → Sees job y longer (Floor job y q x) → Safe {R = Then} job y w q
+      ((longer : List (Op × ℕ)) → Sees job y longer (Floor job y q x) → Safe job y w q aim
       (next (elim o [ None ↦ 0 | Some c ↦ slice_index (state_after job x) c ])) longer) →
-      Safe {R = Then} job y w q (reads_cell y (suc x) o after next) history
+      Safe job y w q aim (reads_cell y (suc x) o after next) history
   cell None is next history sees on = on history sees
-  cell (Some c) is next history sees on = reads job y w q x i some most step board proc c
+  cell (Some c) is next history sees on = reads job y w q aim x i some most step board proc c
       (place_in c (let l = is c refl in omega arith)) (sym phase) after next history stale sees on
 
   asked_up : (j : ℕ) → j < 3 → (words later : List ℕ) → Grows y words later →
@@ -125,24 +127,24 @@ module _ (job : JobData) (y : LayoutData) (w q x i : ℕ) (some : 1 ≤ q) (most
   second_lasts = both_last job y First (Low 1) first_lasts (low_lasts 1 (lit< tt))
 
   raises : (history : List (Op × ℕ)) → Sees job y history (Floor job y q x) →
-      Safe {R = Then} job y w q
+      Safe job y w q aim
       (raises_request y (suc x) i (request_in job (state_after job x) i) after) history
   unfolding Low First Second
   raises history sees =
       let kind = kind_of x q Compute phase in
-      raises_safe job y w q (Asked i 0) (stamped_word (suc x) (part_after job x i 0))
+      raises_safe job y w q aim (Asked i 0) (stamped_word (suc x) (part_after job x i 0))
       (Floor job y q x) (floor_lasts job y q x) (proc, lit< tt) (asked_up 0 (lit< tt))
       (λ words stands f.
       (writes_keep job y words q x stands some most step f).request i 0 proc (lit< tt) kind)
       (asks (Max (number_of y (Asked i 1)) (stamped_word (suc x) (part_after job x i 1)))
       (λ found. asks (Max (number_of y (Asked i 2)) (stamped_word (suc x) (part_after job x i 2)))
       (λ found. after))) history sees (λ longer more.
-      raises_safe job y w q (Asked i 1) (stamped_word (suc x) (part_after job x i 1)) First
+      raises_safe job y w q aim (Asked i 1) (stamped_word (suc x) (part_after job x i 1)) First
       first_lasts (proc, lit< tt) (asked_up 1 (lit< tt)) (λ words stands f.
       (writes_keep job y words q x stands some most step f.0).request i 1 proc (lit< tt) kind)
       (asks (Max (number_of y (Asked i 2)) (stamped_word (suc x) (part_after job x i 2)))
       (λ found. after)) longer more (λ longer more.
-      raises_safe job y w q (Asked i 2) (stamped_word (suc x) (part_after job x i 2))
+      raises_safe job y w q aim (Asked i 2) (stamped_word (suc x) (part_after job x i 2))
       Second second_lasts (proc, lit< tt) (asked_up 2 (lit< tt)) (λ words stands f.
       (writes_keep job y words q x stands some most step f.0.0).request i 2 proc (lit< tt) kind)
       after longer more (λ longer more.
@@ -157,14 +159,14 @@ module _ (job : JobData) (y : LayoutData) (w q x i : ℕ) (some : 1 ≤ q) (most
 
   raises_it : (r : Request) (history : List (Op × ℕ)) →
       request_in job (state_after job x) i ≡ r → Sees job y history (Floor job y q x) →
-      Safe {R = Then} job y w q (raises_request y (suc x) i r after) history
+      Safe job y w q aim (raises_request y (suc x) i r after) history
   raises_it r history e sees = subst
-      (λ (r : Request). Safe {R = Then} job y w q (raises_request y (suc x) i r after) history) e
+      (λ (r : Request). Safe job y w q aim (raises_request y (suc x) i r after) history) e
       (raises history sees)
 
   does : (o : Option Instr) → slice_get job.code (counter job (state_after job x) i) ≡ o →
       (history : List (Op × ℕ)) → Sees job y history (Floor job y q x) →
-      Safe {R = Then} job y w q
+      Safe job y w q aim
       (executes job y (suc x) i (counter job (state_after job x) i) o after) history
   does None e history sees = raises_it (goes_to (counter job (state_after job x) i)) history
       (stays job (state_after job x) i e) sees
@@ -183,11 +185,11 @@ module _ (job : JobData) (y : LayoutData) (w q x i : ℕ) (some : 1 ≤ q) (most
       raises_it (decided_in job s i instr) longest (asks_for job s i instr e) known))
 
   pub compute_safe : (history : List (Op × ℕ)) → Sees job y history (Floor job y q x) →
-      Safe {R = Then} job y w q (compute_task job y (suc x) i after) history
+      Safe job y w q aim (compute_task job y (suc x) i after) history
   unfolding compute_task
   compute_safe history sees =
       let c = same_procs job y board in
-      reads job y w q x i some most step board proc (counter_place job i)
+      reads job y w q aim x i some most step board proc (counter_place job i)
       (place_in (counter_place job i) (omega arith)) (sym phase) after
       (λ c. executes job y (suc x) i c (slice_get job.code c) after) history stale sees
       (λ longer more.

@@ -8,7 +8,7 @@ use Rattle.lawful_walk.specs.WordLaws.{WritesKeepWordsLawful}
 use Rattle.lawful_walk.specs.Board.{phase_in}
 use Rattle.pram_words.specs.declared.words.Word.TheVariants.{Position}
 use Rattle.lawful_walk.proofs.Frames.{only_set}
-use Rattle.lawful_walk.proofs.Raising.{kind_of, inner_does, padded_does, leaf_does}
+use Rattle.lawful_walk.proofs.Raising.{kind_of, inner_does, leaf_does}
 use Rattle.lawful_walk.proofs.Setting.{conflict_does, claim_does}
 use Rattle.lawful_walk.proofs.Setting.{stored_does, asked_does, store_keeps}
 
@@ -38,7 +38,6 @@ writes_keep job y words q x stands some most step floor = record {
   request = λ i j proc part kind. asked_does job y
       words q x stands some most step floor i j proc part (phase_at x q Compute some step kind);
   inner = inner_does job y words q x stands some most step floor;
-  padded = padded_does job y words q x stands some most step floor;
   leaf = leaf_does job y words q x stands some most step floor;
   place = λ p i v a b phase asks wins as_heard.
       stored_does job y words q x stands some most step floor p i v phase asks wins a b as_heard;

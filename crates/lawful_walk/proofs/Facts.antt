@@ -14,7 +14,6 @@ use Rattle.pram_words.specs.declared.phases.Kind.TheVariants.{Compute, Apply, Ve
 use Rattle.pram_words.specs.declared.words.Word.TheVariants.{Node, Asked, Stored, Claim}
 use Rattle.pram_words.specs.Stamps.{stamp_of, payload_of, stamped_word}
 use Rattle.pram_words.specs.Words.{LayoutData, IsLayout, IsWord, has_claims, places_of}
-use Rattle.pram_words.proofs.Halvings.{leaves_least}
 use Rattle.pram_words.specs.Stamps.{newer_payload}
 use Rattle.walkx.specs.Tasks.{claim_of}
 use Rattle.walkx.specs.Walk.{IsLayoutOf, IsBoard}
@@ -24,7 +23,8 @@ use Rattle.pram_step.proofs.LawFixed.{reached_down}
 use Rattle.pram_step.proofs.Past.{last_most, last_is, last_least}
 use Rattle.pram_step.proofs.Past.{last_between, value_between, before_most}
 use Rattle.lawful_walk.specs.Steps.{phase_written, word_of_step, settled, settled_before}
-use Rattle.lawful_walk.specs.Board.{held, root, conflict, leaf, stamp_at, finished, IsLate}
+use Rattle.lawful_walk.proofs.Leaves.{leaf_word}
+use Rattle.lawful_walk.specs.Board.{held, root, conflict, leaf, leaf_of, stamp_at, finished, IsLate}
 use Rattle.lawful_walk.specs.Board.{HoldsNew, Raised, Claimed, Done, IsNew, IsPair}
 use Rattle.lawful_walk.specs.Board.{newer_first, newer_second, new_first, new_second}
 use Rattle.lawful_walk.specs.Board.{IsClaimed, claimed_before, claimed_now, LawfulFor, Stands}
@@ -129,14 +129,8 @@ module _ (job : JobData) (y : LayoutData) (words : List ℕ) (gone : ℕ) (limit
   pub below : (n : ℕ) → IsWord y (Node n) → root y words ≤ held y words (Node n)
   below n is = tree_below job y words n lawful.tree is
 
-  pub procs_fit : y.procs ≤ y.leaves
-  procs_fit =
-      let l = leaves_least y.procs sizes.procs.0 (let m = sizes.procs.1 in omega arith) in
-      let e = sizes.least in omega (arith, l.0)
-
   pub low_leaf : (i : ℕ) → i < y.procs → root y words ≤ leaf y words i
-  low_leaf i h = below (y.leaves + i) (let l = sizes.leaves in
-      let p = procs_fit in (omega arith, omega arith))
+  low_leaf i h = below (leaf_of y i) (leaf_word y i sizes h)
 
   pub root_fin : (t : ℕ) → 3 * t + 1 ≤ root y words → t ≤ gone
   root_fin t h = let a = gone_high in omega arith

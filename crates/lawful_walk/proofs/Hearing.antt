@@ -30,38 +30,39 @@ use Rattle.lawful_walk.proofs.Facts.{facts}
 use Rattle.lawful_walk.proofs.Raising.{alive, kind_of}
 use Rattle.lawful_walk.proofs.Effects.{writes_keep}
 use Rattle.lawful_walk.proofs.Sees.{Sees, Lasts, so, heard}
-use Rattle.lawful_walk.proofs.Scripts.{Safe}
+use Rattle.lawful_walk.proofs.Scripts.{Aim, Safe}
 use Rattle.lawful_walk.proofs.Blocks.{hears_safe, reads_safe, reports_safe}
 use Rattle.lawful_walk.proofs.Known.{safe_known, floor_lasts, StaleSafe, raises_safe}
 
-module _ (job : JobData) (y : LayoutData) (w q x i : ℕ) (some : 1 ≤ q) (most : q ≤ 3 * job.steps)
+module _ (job : JobData) (y : LayoutData)
+    (w q : ℕ) (aim : Aim) (x i : ℕ) (some : 1 ≤ q) (most : q ≤ 3 * job.steps)
     (step : step_at q ≡ suc x) (board : IsBoard job y) (proc : i < y.procs) where
   -- ---- one part of the request, or all three
 
   pub hears : (j : ℕ) → j < 3 → 3 * x + 2 ≤ q →
       (after : Script Then) (next : ℕ → Script Then) (history : List (Op × ℕ)) →
-      StaleSafe job y w q x after →
+      StaleSafe job y w q aim x after →
       Sees job y history (Floor job y q x) →
       ((longer : List (Op × ℕ)) → Sees job y longer (Floor job y q x) →
-      Safe {R = Then} job y w q (next (part_after job x i j)) longer) →
-      Safe {R = Then} job y w q (hears_part y (suc x) i j after next) history
+      Safe job y w q aim (next (part_after job x i j)) longer) →
+      Safe job y w q aim (hears_part y (suc x) i j after next) history
   hears j part phase after next history stale sees on =
-      hears_safe job y w q x some most step (Floor job y q x) (floor_lasts job y q x)
-      (λ words f. f) {R = Then} i j proc part phase after next history sees stale (λ v longer more.
-      safe_known {R = Then} job y w q (next v) longer (v ≡ part_after job x i j)
+      hears_safe job y w q aim x some most step (Floor job y q x) (floor_lasts job y q x)
+      (λ words f. f) i j proc part phase after next history sees stale (λ v longer more.
+      safe_known job y w q aim (next v) longer (v ≡ part_after job x i j)
       (so job y longer (λ words. Floor job y q x words × (v ≡ part_after job x i j))
       (λ words. v ≡ part_after job x i j) (λ words stands h. h.1) more) (λ e.
-      subst (λ (v : ℕ). Safe {R = Then} job y w q (next v) longer) (sym e)
+      subst (λ (v : ℕ). Safe job y w q aim (next v) longer) (sym e)
       (on longer (so job y longer (λ words. Floor job y q x words × (v ≡ part_after job x i j))
       (Floor job y q x) (λ words stands h. h.0) more))))
 
   pub hears_all : 3 * x + 2 ≤ q →
       (after : Script Then) (next : ℕ → ℕ → ℕ → Script Then) (history : List (Op × ℕ)) →
-      StaleSafe job y w q x after →
+      StaleSafe job y w q aim x after →
       Sees job y history (Floor job y q x) →
-      ((longer : List (Op × ℕ)) → Sees job y longer (Floor job y q x) → Safe {R = Then} job y w q
+      ((longer : List (Op × ℕ)) → Sees job y longer (Floor job y q x) → Safe job y w q aim
       (next (part_after job x i 0) (part_after job x i 1) (part_after job x i 2)) longer) →
-      Safe {R = Then} job y w q (hears_part y (suc x) i 0 after
+      Safe job y w q aim (hears_part y (suc x) i 0 after
       (λ a. hears_part y (suc x) i 1 after (λ b. hears_part y (suc x) i 2 after (λ c. next a b c))))
       history
   hears_all phase after next history stale sees on =
@@ -78,17 +79,17 @@ module _ (job : JobData) (y : LayoutData) (w q x i : ℕ) (some : 1 ≤ q) (most
 
   pub reads : (p : ℕ) → p < places_of y →
       q ≡ 3 * x + 1 → (after : Script Then) (next : ℕ → Script Then) (history : List (Op × ℕ)) →
-      StaleSafe job y w q x after → Sees job y history (Floor job y q x) →
+      StaleSafe job y w q aim x after → Sees job y history (Floor job y q x) →
       ((longer : List (Op × ℕ)) → Sees job y longer (Floor job y q x) →
-      Safe {R = Then} job y w q (next (slice_index (state_after job x) p)) longer) →
-      Safe {R = Then} job y w q (reads_place y (suc x) p after next) history
+      Safe job y w q aim (next (slice_index (state_after job x) p)) longer) →
+      Safe job y w q aim (reads_place y (suc x) p after next) history
   reads p place phase after next history stale sees on =
-      reads_safe job y w q x some most step (Floor job y q x) (floor_lasts job y q x)
-      (λ words f. f) {R = Then} p place phase after next history sees stale (λ v longer more.
-      safe_known {R = Then} job y w q (next v) longer (v ≡ slice_index (state_after job x) p)
+      reads_safe job y w q aim x some most step (Floor job y q x) (floor_lasts job y q x)
+      (λ words f. f) p place phase after next history sees stale (λ v longer more.
+      safe_known job y w q aim (next v) longer (v ≡ slice_index (state_after job x) p)
       (so job y longer (λ words. Floor job y q x words × (v ≡ slice_index (state_after job x) p))
       (λ words. v ≡ slice_index (state_after job x) p) (λ words stands h. h.1) more) (λ e.
-      subst (λ (v : ℕ). Safe {R = Then} job y w q (next v) longer) (sym e) (on longer
+      subst (λ (v : ℕ). Safe job y w q aim (next v) longer) (sym e) (on longer
       (so job y longer (λ words. Floor job y q x words × (v ≡ slice_index (state_after job x) p))
       (Floor job y q x) (λ words stands h. h.0) more))))
 
@@ -121,11 +122,11 @@ module _ (job : JobData) (y : LayoutData) (w q x i : ℕ) (some : 1 ≤ q) (most
       (after : Script Then) (history : List (Op × ℕ)) → Sees job y history (Floor job y q x) →
       ((longer : List (Op × ℕ)) → Sees job y longer
       (λ words. Floor job y q x words × (root y words + 1 ≡ q → conflict y words ≡ suc x)) →
-      Safe {R = Then} job y w q after longer) →
-      Safe {R = Then} job y w q (reports y (suc x) after) history
+      Safe job y w q aim after longer) →
+      Safe job y w q aim (reports y (suc x) after) history
   reports_end phase not after history sees on =
-      reports_safe job y w q x some most step (Floor job y q x)
-      (floor_lasts job y q x) (λ words f. f) {R = Then} (kind_of x q Verify phase) after history
+      reports_safe job y w q aim x some most step (Floor job y q x)
+      (floor_lasts job y q x) (λ words f. f) (kind_of x q Verify phase) after history
       (so job y history (Floor job y q x) (λ words. Floor job y q x words × (AgreesAfter job x → ⊥))
       (λ words stands f. (f, not)) sees) (λ found.
       on ((Swap (number_of y Conflict) 0 (suc x), found) ∷ history)
@@ -154,15 +155,15 @@ module _ (job : JobData) (y : LayoutData) (w q x i : ℕ) (some : 1 ≤ q) (most
       (after : Script Then) (history : List (Op × ℕ)) → Sees job y history (Floor job y q x) →
       ((longer : List (Op × ℕ)) → Sees job y longer (λ words. Floor job y q x words
       × (p < job.cells → stamped_word (suc x) (claim_of job i) ≤ held y words (Claim p))) →
-      Safe {R = Then} job y w q after longer) →
-      Safe {R = Then} job y w q (claims job y (suc x) i p after) history
+      Safe job y w q aim after longer) →
+      Safe job y w q aim (claims job y (suc x) i p after) history
   claims_safe p v has phase asked after history sees on =
       cond_both (nat_lt p job.cells)
       (asks (Max (number_of y (Claim p)) (stamped_word (suc x) (claim_of job i))) (λ found. after))
-      after (λ (s : Script Then). Safe {R = Then} job y w q s history) (λ e.
+      after (λ (s : Script Then). Safe job y w q aim s history) (λ e.
       let cell : p < y.cells = (let l = ltb-true p job.cells e in
       let c = same_cells job y board in omega arith) in
-      raises_safe job y w q (Claim p) (stamped_word (suc x) (claim_of job i)) (Floor job y q x)
+      raises_safe job y w q aim (Claim p) (stamped_word (suc x) (claim_of job i)) (Floor job y q x)
       (floor_lasts job y q x) (has, cell) (λ words later up. up (Claim p) (has, cell))
       (λ words stands f. (writes_keep job y words q x stands some most step f).claim p i v
       (has, cell) (kind_of x q Apply phase) asked) after history sees (λ longer more.

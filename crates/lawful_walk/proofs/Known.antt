@@ -9,7 +9,7 @@ use Rattle.walkx.specs.declared.operation.Op.{Op}
 use Rattle.walkx.specs.declared.operation.Op.TheVariants.{Max}
 use Rattle.walkx.specs.Operations.{words_after}
 use Rattle.walkx.specs.Scripts.{Script, asks, ends}
-use Rattle.walkx.specs.Walk.{Then, IsBoard}
+use Rattle.walkx.specs.Walk.{Then, begins, turns, works, stops, IsBoard}
 use Rattle.lawful_walk.specs.Writes.{Floor, Does}
 use Rattle.lawful_walk.specs.Board.{held, root, Stands, Grows}
 use Rattle.lawful_walk.specs.Moments.{Moment}
@@ -17,30 +17,36 @@ use Rattle.lawful_walk.proofs.Moments.{onward}
 use Rattle.lawful_walk.proofs.Growths.{root_up}
 use Rattle.lawful_walk.proofs.Sees.{Sees, Lasts, always, so, heard, later}
 use Rattle.lawful_walk.specs.Walks.{Goes}
-use Rattle.lawful_walk.proofs.Scripts.{Safe, goes_of}
+use Rattle.lawful_walk.proofs.Scripts.{Aim, Safe, goes_of}
 
 -- a fact in which no words stand, once seen, is a premise
-pub safe_known : {R : Type 0} (job : JobData)
-    (y : LayoutData) (w q : ℕ) (script : Script R) (history : List (Op × ℕ)) (K : Type 0) →
-    Sees job y history (λ words. K) → (K → Safe job y w q script history) →
-    Safe job y w q script history
-safe_known job y w q (asks op next) history K sees each = (
+pub safe_known : (job : JobData)
+    (y : LayoutData) (w q : ℕ) (aim : Aim)
+    (script : Script Then) (history : List (Op × ℕ)) (K : Type 0) →
+    Sees job y history (λ words. K) → (K → Safe job y w q aim script history) →
+    Safe job y w q aim script history
+safe_known job y w q aim (asks op next) history K sees each = (
   λ words stands chain. (each (sees words stands chain)).0 words stands chain,
-  λ found ok. safe_known job y w q (next found)
+  λ found ok. safe_known job y w q aim (next found)
       ((op, found) ∷ history) K (later job y history (λ words. K) op found (λ a b c d e k. k) sees)
       (λ k. (each k).1 found ok),
 )
-safe_known job y w q (ends r) history K sees each = tt
+safe_known job y w q aim (ends (begins n)) history K sees each = tt
+safe_known job y w q aim (ends (turns n p)) history K sees each = tt
+safe_known job y w q aim (ends (works n p rank)) history K sees each =
+    λ words stands chain. each (sees words stands chain) words stands chain
+safe_known job y w q aim (ends (stops e)) history K sees each = tt
 
 pub board_of : (job : JobData) (y : LayoutData) (words : List ℕ) →
     Stands job y words → IsBoard job y
 board_of job y words stands =
     record { limits = stands.limits; layout = stands.sizes; is = stands.layout }
 
-pub safe_board : {R : Type 0} (job : JobData)
-    (y : LayoutData) (w q : ℕ) (script : Script R) (history : List (Op × ℕ)) →
-    (IsBoard job y → Safe job y w q script history) → Safe job y w q script history
-safe_board job y w q script history each = safe_known job y w q script history (IsBoard job y)
+pub safe_board : (job : JobData)
+    (y : LayoutData) (w q : ℕ) (aim : Aim) (script : Script Then) (history : List (Op × ℕ)) →
+    (IsBoard job y → Safe job y w q aim script history) → Safe job y w q aim script history
+safe_board job y w q aim script history each =
+    safe_known job y w q aim script history (IsBoard job y)
     (always job y history (λ words. IsBoard job y) (board_of job y)) each
 
 -- ---- what lasts
@@ -57,19 +63,20 @@ floor_lasts job y q x = λ words later a b up floor. let r = root_up job y words
 -- ---- how a task ends: what follows it is safe where the phase is over, and where this holds if it
 -- is not
 
-abbrev pub StaleSafe : JobData → LayoutData → ℕ → ℕ → ℕ → Script Then → Type 0
-StaleSafe job y w q x after = (longer : List (Op × ℕ)) →
+abbrev pub StaleSafe : JobData → LayoutData → ℕ → ℕ → Aim → ℕ → Script Then → Type 0
+StaleSafe job y w q aim x after = (longer : List (Op × ℕ)) →
     Sees job y longer (λ words. Floor job y q x words × (q ≤ root y words)) →
-    Safe {R = Then} job y w q after longer
+    Safe job y w q aim after longer
 
-abbrev pub EndSafe : JobData → LayoutData → ℕ → ℕ → ℕ → (List ℕ → Type 0) → Script Then → Type 0
-EndSafe job y w q x D after = (longer : List (Op × ℕ)) →
+abbrev pub EndSafe : JobData → LayoutData → ℕ → ℕ → Aim → ℕ →
+    (List ℕ → Type 0) → Script Then → Type 0
+EndSafe job y w q aim x D after = (longer : List (Op × ℕ)) →
     Sees job y longer (λ words. Floor job y q x words × (root y words + 1 ≡ q → D words)) →
-    Safe {R = Then} job y w q after longer
+    Safe job y w q aim after longer
 
-pub stale_end : (job : JobData) (y : LayoutData) (w q x : ℕ) (D : List ℕ → Type 0)
-    (after : Script Then) → EndSafe job y w q x D after → StaleSafe job y w q x after
-stale_end job y w q x D after done = λ longer sees. done longer
+pub stale_end : (job : JobData) (y : LayoutData) (w q : ℕ) (aim : Aim) (x : ℕ) (D : List ℕ → Type 0)
+    (after : Script Then) → EndSafe job y w q aim x D after → StaleSafe job y w q aim x after
+stale_end job y w q aim x D after done = λ longer sees. done longer
     (so job y longer (λ words. Floor job y q x words × (q ≤ root y words))
     (λ words. Floor job y q x words × (root y words + 1 ≡ q → D words))
     (λ words stands h. (h.0, λ live. absurd (let l = h.1 in omega arith))) sees)
@@ -86,17 +93,17 @@ max_held job y a v words is stands =
     omega arith
 
 pub raises_safe : (job : JobData) (y : LayoutData)
-    (w q : ℕ) (a : Word) (v : ℕ) (P : List ℕ → Type 0) → Lasts job y P → IsWord y a →
+    (w q : ℕ) (aim : Aim) (a : Word) (v : ℕ) (P : List ℕ → Type 0) → Lasts job y P → IsWord y a →
     ((words later : List ℕ) → Grows y words later → held y words a ≤ held y later a) →
     ((words : List ℕ) → Stands job y words → P words → Does job y q (Max (number_of y a) v) words) →
     (after : Script Then) (history : List (Op × ℕ)) → Sees job y history P →
     ((longer : List (Op × ℕ)) → Sees job y longer (λ words. P words × (v ≤ held y words a)) →
-    Safe {R = Then} job y w q after longer) →
-    Safe {R = Then} job y w q (asks (Max (number_of y a) v) (λ found. after)) history
-raises_safe job y w q a v P lasts is up does after history sees on = (
-  so job y history P (Goes job y w q (Max (number_of y a) v))
-      (λ words stands p. goes_of job y w q (Max (number_of y a) v) words (does words stands p))
-      sees,
+    Safe job y w q aim after longer) →
+    Safe job y w q aim (asks (Max (number_of y a) v) (λ found. after)) history
+raises_safe job y w q aim a v P lasts is up does after history sees on = (
+  so job y history P (λ words. aim.given words → Goes job y w q (Max (number_of y a) v) words)
+      (λ words stands p given.
+      goes_of job y w q (Max (number_of y a) v) words (does words stands p)) sees,
   λ found ok. on ((Max (number_of y a) v, found) ∷ history)
       (so job y ((Max (number_of y a) v, found) ∷ history)
       (Moment job y (Max (number_of y a) v) found P) (λ words. P words × (v ≤ held y words a))

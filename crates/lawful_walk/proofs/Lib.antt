@@ -1,6 +1,7 @@
 pub mod Moments
 pub mod Frames
 pub mod Values
+pub mod Leaves
 pub mod Facts
 pub mod Growths
 pub mod Places
@@ -15,6 +16,7 @@ pub mod Sees
 pub mod Scripts
 pub mod Writing
 pub mod Floors
+pub mod Admitted
 pub mod Moving
 pub mod Blocks
 pub mod Begins

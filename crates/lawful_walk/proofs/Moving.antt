@@ -1,65 +1,174 @@
 -- From safe scripts to a worker's step.
-use Rattle.std.proofs.Common.{◌≡◌, ℕ, suc, ◌*◌, ◌<◌, ◌≤◌, List, Option, unwrap_or, refl, sym, subst}
+use Rattle.std.proofs.Common.{◌≡◌, ℕ, zero, suc, ◌+◌, ◌-◌, ◌*◌, ◌<◌, ◌≤◌, List, [], ◌∷◌, ◌++◌}
+use Rattle.std.proofs.Common.{Option, unwrap_or, IsTrue, refl, sym, subst, arith}
 use Rattle.pram_text.specs.Job.{JobData}
-use Rattle.pram_words.specs.Phases.{step_at}
+use Rattle.pram_words.specs.Phases.{kind_at, step_at}
 use Rattle.pram_words.specs.Words.{LayoutData}
 use Rattle.walkx.specs.declared.operation.Ended.TheVariants as ended
 use Rattle.walkx.specs.declared.operation.Op.{Op}
 use Rattle.walkx.specs.declared.operation.Op.TheVariants.{Over}
 use Rattle.walkx.specs.Doing.{Doing}
 use Rattle.walkx.specs.Doing as doing
-use Rattle.walkx.specs.Scripts.{Script, heard_in}
-use Rattle.walkx.specs.Walk.{Then, Walking, Fits, Matches, script_of, rest_of}
-use Rattle.walkx.specs.Walk.{next_op, ask_of, phase_begun, heard_of, turn_script}
-use Rattle.walkx.proofs.Asking.{all_left}
+use Rattle.walkx.specs.Playing.{rank_of}
+use Rattle.walkx.specs.Records.{Record, HasBlock, HasPart, script_at_rank}
+use Rattle.walkx.specs.Scripts.{Script, asks, ends, heard_in, op_with, rest}
+use Rattle.walkx.specs.Walk.{Then, Walking, AllAdmitted, Fits, HearsAdmitted, IsBoard, IsInBlock}
+use Rattle.walkx.specs.Walk.{IsPhase, Matches, begun_phase, has_rank, node_of, processor_at}
+use Rattle.walkx.specs.Walk.{script_of, rest_of, next_op, ask_of, phase_begun, heard_of}
+use Rattle.walkx.proofs.Asking.{AllAsk, all_left, asks_after, first_admitted, rank_asks}
+use Rattle.walkx.proofs.Firsts.{rank_parts, rank_there}
+use Rattle.walkx.proofs.Fitting.{node_range}
 use Rattle.lawful_walk.specs.WalkLaws.{WorkersKeepWordsLawful}
-use Rattle.lawful_walk.specs.Writes.{Floor}
-use Rattle.lawful_walk.specs.Board.{Stands}
+use Rattle.lawful_walk.specs.Board.{Done, Stands, root}
+use Rattle.lawful_walk.specs.Moments.{Backed}
 use Rattle.lawful_walk.specs.Walks.{Goes, phase_now}
 use Rattle.lawful_walk.proofs.Moments.{same, backs}
-use Rattle.lawful_walk.proofs.Sees.{Sees, chain_of_has}
-use Rattle.lawful_walk.proofs.Scripts.{Safe, safe_after, safe_first}
+use Rattle.lawful_walk.proofs.Sees.{Chain, Sees, chain_of_has}
+use Rattle.lawful_walk.proofs.Admitted.{answer_admitted}
+use Rattle.lawful_walk.proofs.Scripts.{Aim, Safe, safe_after, safe_first}
 
--- what is to be shown of a turn
-abbrev pub TurnSafe : Type 0
-TurnSafe = (job : JobData) (y : LayoutData) (w n q : ℕ) (history : List (Op × ℕ)) → w < y.workers →
-    1 ≤ n → n < 2 * y.leaves → 1 ≤ q → q ≤ 3 * job.steps →
-    (x : ℕ) → step_at q ≡ suc x → Sees job y history (Floor job y q x) →
-    Safe job y w q (turn_script job y w n q) history
+-- ---- what a worker aims at
 
--- and of the script of a worker that fits
+-- In a phase, at the processor of a rank in the block of a leaf: those before it are done, and so
+-- is it with the end of its script.
+abbrev pub rank_done : JobData → LayoutData → ℕ → ℕ → ℕ → List ℕ → Type 0
+rank_done job y q n rank words = root y words + 1 ≡ q →
+    Done job.rule (kind_at q) job y (step_at q - 1) words (processor_at y n rank)
+
+abbrev pub aim_at : JobData → LayoutData → ℕ → ℕ → ℕ → Aim
+aim_at job y q n rank = record {
+  given = λ words. (earlier : ℕ) → earlier < rank → rank_done job y q n earlier words;
+  done = rank_done job y q n rank;
+}
+
+abbrev pub aim_of : JobData → LayoutData → ℕ → Doing → Aim
+aim_of job y n now = aim_at job y (phase_now now) n (rank_of now)
+
+-- what is to be shown of the script of a worker that fits
 abbrev pub WorkerSafe : Type 0
-WorkerSafe = (job : JobData) (y : LayoutData) (w : Walking) → Fits job y w →
-    Safe job y w.number (phase_now w.now) (script_of job y w) (phase_begun y w.now)
+WorkerSafe = (job : JobData) (y : LayoutData) (w : Walking) → IsBoard job y → Fits job y w →
+    Safe job y w.number (phase_now w.now) (aim_of job y (node_of y w) w.now) (script_of job y w)
+    (phase_begun y w.now)
 
-goes_by : (job : JobData) (y : LayoutData) (now : Doing)
+-- and of that with the task of a processor
+abbrev pub RankSafe : Type 0
+RankSafe = (job : JobData) (y : LayoutData) → IsBoard job y → (w n q rank : ℕ) →
+    w < y.workers → y.leaves ≤ n → n < 2 * y.leaves → 1 ≤ q → q ≤ 3 * job.steps →
+    IsTrue (has_rank y n rank) →
+    Safe job y w q (aim_at job y q n rank) (script_at_rank job y w n q rank) (begun_phase y q)
+
+-- ---- what the processors before a worker's have done
+
+-- a rank below one that the block has
+earlier_there : (y : LayoutData) (n rank earlier : ℕ) → IsTrue (has_rank y n rank) →
+    earlier < rank → IsTrue (has_rank y n earlier)
+earlier_there y n rank earlier there less =
+    let h = rank_parts y n rank there in
+    rank_there y n earlier (omega (arith, h.0)) (omega (arith, h.1))
+
+-- answers that standing words gave are admitted
+answer_fits : (job : JobData) (y : LayoutData) (s : Script Then) (found : ℕ)
+    (heard more : List (Op × ℕ)) (now : List ℕ) →
+    (AllAdmitted job y heard → AllAsk job y s) → ((words : List ℕ) →
+    Chain job y (λ words. Unit {0}) (heard ++ more) words → AllAdmitted job y heard) →
+    Chain job y (λ words. Unit {0}) ((op_with s found ++ heard) ++ more) now →
+    AllAdmitted job y (op_with s found ++ heard)
+answer_fits job y (asks op next) found heard more now asked before m =
+    let earlier = before m.words m.earlier in (
+      subst (HearsAdmitted job y op) (sym m.heard) (answer_admitted job y m.words op m.stands
+          (first_admitted job y op next (asked earlier))),
+      earlier,
+    )
+answer_fits job y (ends r) found heard more now asked before m = before now m
+
+chain_admitted : (job : JobData) (y : LayoutData) (script : Script Then) (answers : List ℕ)
+    (more : List (Op × ℕ)) (now : List ℕ) → AllAsk job y script →
+    Chain job y (λ words. Unit {0}) (heard_in script answers ++ more) now →
+    AllAdmitted job y (heard_in script answers)
+chain_admitted job y script [] more now asked chain = tt
+chain_admitted job y script (found ∷ earlier) more now asked chain =
+    answer_fits job y (rest script earlier) found (heard_in script earlier) more now
+    (λ all. asks_after job y script earlier all asked)
+    (λ words before. chain_admitted job y script earlier more words asked before) chain
+
+shown_at : (job : JobData) (y : LayoutData) (board : IsBoard job y) (r : Record) (w n q rank : ℕ)
+    (words : List ℕ) → RankSafe → w < y.workers → 1 ≤ n → y.leaves ≤ n → n < 2 * y.leaves →
+    1 ≤ q → q ≤ 3 * job.steps → IsTrue (has_rank y n rank) → Stands job y words →
+    Backed job y r words → HasPart job y r w n q rank → rank_done job y q n rank words
+shown_at job y board r w n q rank words safe worker some low high
+    first last there stands backed part =
+    let script = script_at_rank job y w n q rank in
+    let chain =
+    chain_of_has job y r (heard_in script part.0 ++ begun_phase y q) words backed part.2 in
+    let admitted = chain_admitted job y script part.0 (begun_phase y q) words
+    (rank_asks job y board w n q rank worker some low high first last there) chain in
+    let whole =
+    safe_after job y w q (aim_at job y q n rank) script (begun_phase y q) part.0 admitted
+    (safe job y board w n q rank worker low high first last there) in
+    let shown = subst (λ (s : Script Then). Safe job y w q (aim_at job y q n rank) s
+    (heard_in script part.0 ++ begun_phase y q)) part.1 whole in
+    shown words stands chain
+
+given_of : (job : JobData) (y : LayoutData) (board : IsBoard job y) (r : Record) (w n : ℕ)
+    (now : Doing) (words : List ℕ) → RankSafe → w < y.workers → 1 ≤ n → n < 2 * y.leaves →
+    IsPhase job now → IsInBlock y n now → Stands job y words → Backed job y r words →
+    HasBlock job y r w n now → (aim_of job y n now).given words
+given_of job y board r w n doing.Back words safe worker some high phase block stands backed has =
+    λ earlier less. absurd (omega arith)
+given_of job y board r w n doing.Begin words safe worker some high phase block stands backed has =
+    λ earlier less. absurd (omega arith)
+given_of job y board r w n (doing.Turn q)
+    words safe worker some high phase block stands backed has =
+    λ earlier less. absurd (omega arith)
+given_of job y board r w n (doing.Part q rank) words safe worker some high phase block stands
+    backed has = λ earlier less.
+    shown_at job y board r w n q earlier words safe worker some block.0 high phase.0 phase.1
+    (earlier_there y n rank earlier block.2 less) stands backed (has earlier less)
+given_of job y board r w n (doing.Over e)
+    words safe worker some high phase block stands backed has =
+    λ earlier less. absurd (omega arith)
+
+-- ---- the worker's step
+
+goes_by : (job : JobData) (y : LayoutData) (now : Doing) (aim : Aim)
     (script : Script Then) (w : ℕ) (history : List (Op × ℕ)) (words : List ℕ) → Matches now script →
-    Safe job y w (phase_now now) script history → Stands job y words →
-    ((op : Op) → Sees job y history (Goes job y w (phase_now now) op) →
-    Goes job y w (phase_now now) op words) → Goes job y w (phase_now now) (next_op now script) words
-goes_by job y doing.Back script w history words goes safe stands apply =
+    Safe job y w (phase_now now) aim script history → Stands job y words →
+    ((op : Op) → Sees job y history (λ words. aim.given words →
+    Goes job y w (phase_now now) op words) → Goes job y w (phase_now now) op words) →
+    Goes job y w (phase_now now) (next_op now script) words
+goes_by job y doing.Back aim script w history words goes safe stands apply =
     subst (λ (o : Option Op). Goes job y w 0 (unwrap_or o (Over ended.Done)) words) (sym goes.1)
-    (apply goes.0 (safe_first job y w 0 script history goes.0 goes.1 safe))
-goes_by job y doing.Begin script w history words goes safe stands apply =
+    (apply goes.0 (safe_first job y w 0 aim script history goes.0 goes.1 safe))
+goes_by job y doing.Begin aim script w history words goes safe stands apply =
     subst (λ (o : Option Op). Goes job y w 0 (unwrap_or o (Over ended.Done)) words) (sym goes.1)
-    (apply goes.0 (safe_first job y w 0 script history goes.0 goes.1 safe))
-goes_by job y (doing.Turn q) script w history words goes safe stands apply =
+    (apply goes.0 (safe_first job y w 0 aim script history goes.0 goes.1 safe))
+goes_by job y (doing.Turn q) aim script w history words goes safe stands apply =
     subst (λ (o : Option Op). Goes job y w q (unwrap_or o (Over ended.Done)) words) (sym goes.1)
-    (apply goes.0 (safe_first job y w q script history goes.0 goes.1 safe))
-goes_by job y (doing.Over e) script w history words goes safe stands apply = record {
+    (apply goes.0 (safe_first job y w q aim script history goes.0 goes.1 safe))
+goes_by job y (doing.Part q rank) aim script w history words goes safe stands apply =
+    subst (λ (o : Option Op). Goes job y w q (unwrap_or o (Over ended.Done)) words) (sym goes.1)
+    (apply goes.0 (safe_first job y w q aim script history goes.0 goes.1 safe))
+goes_by job y (doing.Over e) aim script w history words goes safe stands apply = record {
   keeps = record { stands = stands; grows = same y words };
   stale = λ h a is other. refl;
 }
 
-pub moves : WorkerSafe → WorkersKeepWordsLawful
-moves each job y r w words stands fits knows backed =
+pub moves : WorkerSafe → RankSafe → WorkersKeepWordsLawful
+moves each ranks job y r w words stands fits knows backed =
+    let board : IsBoard job y =
+    record { limits = stands.limits; layout = stands.sizes; is = stands.layout } in
     let script = script_of job y w in
     let q = phase_now w.now in
-    let safe : Safe job y w.number q (rest_of job y w) (heard_of job y w) =
-    safe_after job y w.number q script (phase_begun y w.now) w.heard
+    let aim = aim_of job y (node_of y w) w.now in
+    let at = node_range job y w board.layout.leaves.0 fits in
+    let safe : Safe job y w.number q aim (rest_of job y w) (heard_of job y w) =
+    safe_after job y w.number q aim script (phase_begun y w.now) w.heard
     (all_left job y (heard_in script w.heard) (phase_begun y w.now) fits.admitted)
-    (each job y w fits) in
+    (each job y w board fits) in
+    let given : aim.given words = given_of job y board r w.number (node_of y w) w.now words ranks
+    fits.number at.0 at.1 fits.phase fits.block stands backed knows.block in
     let goes : Goes job y w.number q (ask_of job y w) words =
-    goes_by job y w.now (rest_of job y w) w.number (heard_of job y w) words fits.matches safe stands
-    (λ op sees. sees words stands (chain_of_has job y r (heard_of job y w) words backed knows)) in
+    goes_by job y w.now aim (rest_of job y w) w.number (heard_of job y w) words fits.matches safe
+    stands (λ op sees. sees words stands
+    (chain_of_has job y r (heard_of job y w) words backed knows.script) given) in
     record { goes = goes; backed = backs job y r (ask_of job y w) words stands backed goes.keeps }

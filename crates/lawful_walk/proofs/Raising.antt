@@ -13,12 +13,14 @@ use Rattle.walkx.specs.declared.operation.Op.TheVariants.{Max}
 use Rattle.pram_step.specs.History.{last_write}
 use Rattle.pram_step.proofs.Past.{last_most, before_most}
 use Rattle.lawful_walk.specs.Writes.{Floor, Does}
-use Rattle.lawful_walk.specs.Board.{held, root, conflict, leaf, stamp_at, finished}
+use Rattle.lawful_walk.specs.Board.{held, root, conflict, leaf, leaf_of, stamp_at, finished}
+use Rattle.lawful_walk.specs.Board.{LeafDone}
+use Rattle.lawful_walk.proofs.Leaves.{leaf_word}
 use Rattle.lawful_walk.specs.Board.{Done, phase_in, IsTree, IsAsked, IsNamed, IsPair}
 use Rattle.lawful_walk.specs.Board.{IsClaimed, LawfulFor, Lawful, Stands, Grows}
 use Rattle.lawful_walk.proofs.Values.{WordIs, is_settled, is_before, is_new}
 use Rattle.lawful_walk.proofs.Frames.{Only, only_grows, does_max}
-use Rattle.lawful_walk.proofs.Facts.{facts, procs_fit, word_is}
+use Rattle.lawful_walk.proofs.Facts.{facts, word_is}
 use Rattle.lawful_walk.proofs.Facts.{stamp_settled, stamp_before, WordsShow}
 use Rattle.lawful_walk.proofs.Keeping.{done_later, pair_up, claimed_up, settle}
 
@@ -66,7 +68,7 @@ module _ (job : JobData) (y : LayoutData) (words : List ℕ) (q x : ℕ) (stands
 
   module _ (n : ℕ) (is : IsWord y (Node n)) (children : n < y.leaves →
       (q ≤ held y words (Node (2 * n))) × (q ≤ held y words (Node (2 * n + 1))))
-      (ready : (i : ℕ) → i < y.procs → n ≡ y.leaves + i → root y words + 1 ≡ q →
+      (ready : (i : ℕ) → i < y.procs → n ≡ leaf_of y i → root y words + 1 ≡ q →
       Done job.rule (kind_at q) job y x words i) where
     module _ (less : held y words (Node n) < q) (later : List ℕ)
         (only : Only y (Node n) q words later) where
@@ -154,21 +156,18 @@ module _ (job : JobData) (y : LayoutData) (words : List ℕ) (q x : ℕ) (stands
       done_on i kind proc d = done_later job y words later (finished y words) stands.limits
           stands.sizes stands.layout up stamps kind (λ e c is_c. claim_same c is_c) i proc d
 
-      leaf_is : (i : ℕ) → i < y.procs → IsWord y (Node (y.leaves + i))
-      leaf_is i proc =
-          let l = stands.sizes.leaves in
-          let f = procs_fit job y words (finished y words) stands.limits stands.sizes stands.layout
-          stands.lawful shown.root_low shown.root_high in (omega arith, omega arith)
+      leaf_is : (i : ℕ) → i < y.procs → IsWord y (Node (leaf_of y i))
+      leaf_is i proc = leaf_word y i stands.sizes proc
 
       done : (i : ℕ) (kind : Kind) →
           i < y.procs → phase_in (finished y words) kind ≤ leaf y later i →
           Done job.rule kind job y (finished y words) later i
-      done i kind proc h = elim (node_cases (y.leaves + i) (leaf_is i proc)) [
+      done i kind proc h = elim (node_cases (leaf_of y i) (leaf_is i proc)) [
         | inl e ↦ done_on i kind proc (stands.lawful.done i kind proc (omega arith))
         | inr e ↦ elim (cases_lt (root y words) (phase_in (finished y words) kind)) [
           | inr c ↦ done_on i kind proc
               (stands.lawful.done i kind proc
-              (let l = shown.root_below (y.leaves + i) (leaf_is i proc) in omega arith))
+              (let l = shown.root_below (leaf_of y i) (leaf_is i proc) in omega arith))
           | inl c ↦ (let g = e.1 in
               let l = live in
               let phase : phase_in (finished y words) kind ≡ q = omega arith in
@@ -229,9 +228,9 @@ module _ (job : JobData) (y : LayoutData) (words : List ℕ) (q x : ℕ) (stands
             | inl e ↦ omega arith
             | inr e ↦ (let h = e.1 in omega arith)
           ])
-          (λ full none i proc. elim (node_cases (y.leaves + i) (leaf_is i proc)) [
+          (λ full none i proc. elim (node_cases (leaf_of y i) (leaf_is i proc)) [
             | inl e ↦
-                (let a = stands.lawful.tree.near (y.leaves + i) (leaf_is i proc) in omega arith)
+                (let a = stands.lawful.tree.near (leaf_of y i) (leaf_is i proc) in omega arith)
             | inr e ↦ (let h = e.1 in omega arith)
           ])
 
@@ -246,20 +245,11 @@ module _ (job : JobData) (y : LayoutData) (words : List ℕ) (q x : ℕ) (stands
   inner_does n low high left right =
       node_does n (low, omega arith) (λ h. (left, right)) (λ i proc e live. absurd (omega arith))
 
-  -- a leaf with no processor
-  pub padded_does : (n : ℕ) → y.leaves + y.procs ≤ n → n < 2 * y.leaves →
+  -- a leaf whose processors' work is done
+  pub leaf_does : (n : ℕ) → y.leaves ≤ n → n < 2 * y.leaves →
+      (root y words + 1 ≡ q → LeafDone job y x (kind_at q) n words) →
       Does job y q (Max (number_of y (Node n)) q) words
-  padded_does n low high = node_does n (let l = stands.sizes.leaves in omega arith, high)
-      (λ h. absurd (omega arith)) (λ i proc e live. absurd (omega arith))
-
-  -- a leaf whose work is done
-  pub leaf_does : (i : ℕ) → i < y.procs →
-      (root y words + 1 ≡ q → Done job.rule (kind_at q) job y x words i) →
-      Does job y q (Max (number_of y (Node (y.leaves + i))) q) words
-  leaf_does i proc ready =
+  leaf_does n low high ready =
       let l = stands.sizes.leaves in
-      let f = procs_fit job y words (finished y words)
-      stands.limits stands.sizes stands.layout stands.lawful shown.root_low shown.root_high in
-      node_does (y.leaves + i) (omega arith, omega arith) (λ h. absurd (omega arith))
-      (λ j proc_j e live.
-      subst (λ (k : ℕ). Done job.rule (kind_at q) job y x words k) (omega arith) (ready live))
+      node_does n (omega arith, high) (λ h. absurd (omega arith))
+      (λ i proc e live. ready live i proc (sym e))

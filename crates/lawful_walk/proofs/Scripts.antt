@@ -6,7 +6,7 @@ use Rattle.pram_words.specs.declared.words.Word.TheVariants.{Stored}
 use Rattle.walkx.specs.declared.operation.Op.{Op}
 use Rattle.walkx.specs.declared.operation.Op.TheVariants.{Load}
 use Rattle.walkx.specs.Scripts.{Script, asks, ends, rest_after, rest, first_op, op_with, heard_in}
-use Rattle.walkx.specs.Walk.{HearsAdmitted, AllAdmitted}
+use Rattle.walkx.specs.Walk.{Then, works, HearsAdmitted, AllAdmitted}
 use Rattle.walkx.specs.Tasks.{loads_both}
 use Rattle.walkx.proofs.Asking.{admitted_earlier}
 use Rattle.lawful_walk.specs.Board.{Stands, held}
@@ -31,61 +31,86 @@ goes_of job y w q op words does = record {
   stale = λ h a is other. ap (λ (l : List ℕ). held y l a) (does.still h);
 }
 
+-- what is known of the words beside the history of a script, and what the history of a whole one
+-- shows where another task of the block follows
+pub record Aim : Type 1 where
+  pub given : List ℕ → Type 0
+  pub done : List ℕ → Type 0
+
 -- after this history each operation of the script goes well, whatever admitted answers it hears:
 -- the script is worker w's in phase q
-abbrev pub Safe : {R : Type 0} → JobData → LayoutData → ℕ → ℕ → Script R → List (Op × ℕ) → Type 0
-Safe job y w q (asks op next) history = Sees job y history (Goes job y w q op) × ((found : ℕ) →
-    HearsAdmitted job y op found → Safe job y w q (next found) ((op, found) ∷ history))
-Safe job y w q (ends r) history = Unit {0}
+abbrev pub Safe : JobData → LayoutData → ℕ → ℕ → Aim → Script Then → List (Op × ℕ) → Type 0
+Safe job y w q aim (asks op next) history =
+    Sees job y history (λ words. aim.given words → Goes job y w q op words)
+    × ((found : ℕ) → HearsAdmitted job y op found →
+    Safe job y w q aim (next found) ((op, found) ∷ history))
+Safe job y w q aim (ends (works n p rank)) history = Sees job y history aim.done
+Safe job y w q aim (ends _) history = Unit {0}
 
-safe_next : {R : Type 0} (job : JobData)
-    (y : LayoutData) (w q : ℕ) (script : Script R) (history heard : List (Op × ℕ)) (found : ℕ) →
-    AllAdmitted job y (op_with script found ++ heard) → Safe job y w q script (heard ++ history) →
-    Safe job y w q (rest_after script found) ((op_with script found ++ heard) ++ history)
-safe_next job y w q (asks op next) history heard found ok safe = safe.1 found ok.0
-safe_next job y w q (ends r) history heard found ok safe = tt
+-- an operation that goes well whatever is known
+pub goes_on : (job : JobData) (y : LayoutData) (w q : ℕ) (aim : Aim) (op : Op)
+    (history : List (Op × ℕ)) → Sees job y history (Goes job y w q op) →
+    Sees job y history (λ words. aim.given words → Goes job y w q op words)
+goes_on job y w q aim op history sees = λ words stands chain given. sees words stands chain
+
+safe_next : (job : JobData) (y : LayoutData)
+    (w q : ℕ) (aim : Aim) (script : Script Then) (history heard : List (Op × ℕ)) (found : ℕ) →
+    AllAdmitted job y (op_with script found ++ heard) →
+    Safe job y w q aim script (heard ++ history) →
+    Safe job y w q aim (rest_after script found) ((op_with script found ++ heard) ++ history)
+safe_next job y w q aim (asks op next) history heard found ok safe = safe.1 found ok.0
+safe_next job y w q aim (ends r) history heard found ok safe = safe
 
 -- so it is in the midst of it
-pub safe_after : {R : Type 0} (job : JobData)
-    (y : LayoutData) (w q : ℕ) (script : Script R) (history : List (Op × ℕ)) (answers : List ℕ) →
-    AllAdmitted job y (heard_in script answers) → Safe job y w q script history →
-    Safe job y w q (rest script answers) (heard_in script answers ++ history)
-safe_after job y w q script history [] ok safe = safe
-safe_after job y w q script history (found ∷ earlier) ok safe =
-    safe_next job y w q (rest script earlier) history (heard_in script earlier) found ok
-    (safe_after job y w q script history earlier
+pub safe_after : (job : JobData)
+    (y : LayoutData) (w q : ℕ) (aim : Aim)
+    (script : Script Then) (history : List (Op × ℕ)) (answers : List ℕ) →
+    AllAdmitted job y (heard_in script answers) → Safe job y w q aim script history →
+    Safe job y w q aim (rest script answers) (heard_in script answers ++ history)
+safe_after job y w q aim script history [] ok safe = safe
+safe_after job y w q aim script history (found ∷ earlier) ok safe =
+    safe_next job y w q aim (rest script earlier) history (heard_in script earlier) found ok
+    (safe_after job y w q aim script history earlier
     (admitted_earlier job y (rest script earlier) found (heard_in script earlier) ok) safe)
 
 -- the first operation of a safe script
-pub safe_first : {R : Type 0} (job : JobData) (y : LayoutData)
-    (w q : ℕ) (script : Script R) (history : List (Op × ℕ)) (op : Op) → first_op script ≡ Some op →
-    Safe job y w q script history → Sees job y history (Goes job y w q op)
-safe_first job y w q (asks o next) history op e safe =
-    let same : o ≡ op = cc in subst (λ (x : Op). Sees job y history (Goes job y w q x)) same safe.0
-safe_first job y w q (ends r) history op e safe = absurd (cc)
+pub safe_first : (job : JobData) (y : LayoutData)
+    (w q : ℕ) (aim : Aim) (script : Script Then) (history : List (Op × ℕ)) (op : Op) →
+    first_op script ≡ Some op →
+    Safe job y w q aim script history →
+    Sees job y history (λ words. aim.given words → Goes job y w q op words)
+safe_first job y w q aim (asks o next) history op e safe =
+    let same : o ≡ op = cc in
+    subst (λ (x : Op). Sees job y history (λ words. aim.given words → Goes job y w q x words)) same
+    safe.0
+safe_first job y w q aim (ends r) history op e safe = absurd (cc)
 
 -- ---- blocks: a load is always safe
 
-pub load_safe : {R : Type 0} (job : JobData)
-    (y : LayoutData) (w q : ℕ) (k : ℕ) (next : ℕ → Script R) (history : List (Op × ℕ)) →
+pub load_safe : (job : JobData)
+    (y : LayoutData) (w q : ℕ) (aim : Aim) (k : ℕ)
+    (next : ℕ → Script Then) (history : List (Op × ℕ)) →
     ((found : ℕ) → HearsAdmitted job y (Load k) found →
-    Safe job y w q (next found) ((Load k, found) ∷ history)) →
-    Safe job y w q (asks (Load k) next) history
-load_safe job y w q k next history each =
-    (always job y history (Goes job y w q (Load k)) (load_goes job y w q k), each)
+    Safe job y w q aim (next found) ((Load k, found) ∷ history)) →
+    Safe job y w q aim (asks (Load k) next) history
+load_safe job y w q aim k next history each = (
+  always job y history (λ words. aim.given words → Goes job y w q (Load k) words)
+      (λ words stands given. load_goes job y w q k words stands),
+  each,
+)
 
 -- both words of a place, each heard at a moment of its own
-pub both_safe : {R : Type 0} (job : JobData) (y : LayoutData) (w q : ℕ) (p : ℕ)
-    (next : ℕ → ℕ → Script R) (history : List (Op × ℕ)) (P : List ℕ → Type 0) →
+pub both_safe : (job : JobData) (y : LayoutData) (w q : ℕ) (aim : Aim) (p : ℕ)
+    (next : ℕ → ℕ → Script Then) (history : List (Op × ℕ)) (P : List ℕ → Type 0) →
     Sees job y history P →
     ((a b : ℕ) (longer : List (Op × ℕ)) → Sees job y longer
     (Moment job y (Load (number_of y (Stored p 1))) b
-    (Moment job y (Load (number_of y (Stored p 0))) a P)) → Safe job y w q (next a b) longer) →
-    Safe job y w q (loads_both y p next) history
-both_safe {R} job y w q p next history P sees each =
-    load_safe {R = R} job y w q (number_of y (Stored p 0))
+    (Moment job y (Load (number_of y (Stored p 0))) a P)) → Safe job y w q aim (next a b) longer) →
+    Safe job y w q aim (loads_both y p next) history
+both_safe job y w q aim p next history P sees each =
+    load_safe job y w q aim (number_of y (Stored p 0))
     (λ a. asks (Load (number_of y (Stored p 1))) (λ b. next a b)) history (λ a ok.
-    load_safe {R = R} job y w q (number_of y (Stored p 1))
+    load_safe job y w q aim (number_of y (Stored p 1))
     (λ b. next a b) ((Load (number_of y (Stored p 0)), a) ∷ history) (λ b ok_too.
     each a b ((Load (number_of y (Stored p 1)), b) ∷ (Load (number_of y (Stored p 0)), a) ∷ history)
     (heard job y ((Load (number_of y (Stored p 0)), a) ∷ history)

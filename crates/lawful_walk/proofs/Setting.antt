@@ -32,7 +32,8 @@ use Rattle.pram_step.specs.History.{Asks, Wins, last_write, write_before, part_a
 use Rattle.pram_step.proofs.Past.{last_most, last_least, conflict_above, before_most, asks_fit}
 use Rattle.lawful_walk.specs.Writes.{PlaceAsHeard, Floor, Does}
 use Rattle.lawful_walk.specs.Steps.{phase_written, word_of_step, settled, settled_before}
-use Rattle.lawful_walk.specs.Board.{held, root, conflict, leaf, stamp_at, finished}
+use Rattle.lawful_walk.proofs.Leaves.{leaf_word}
+use Rattle.lawful_walk.specs.Board.{leaf_of, held, root, conflict, leaf, stamp_at, finished}
 use Rattle.lawful_walk.specs.Board.{phase_in, IsTree, IsAsked, IsNew, IsPair, newer_first}
 use Rattle.lawful_walk.specs.Board.{newer_second, new_first, new_second, IsClaimed}
 use Rattle.lawful_walk.specs.Board.{claimed_now, IsNamed, Lawful, Stands, Grows}
@@ -40,7 +41,7 @@ use Rattle.lawful_walk.specs.Moments.{Keeps}
 use Rattle.lawful_walk.proofs.Values.{before_less, stamp_step}
 use Rattle.lawful_walk.proofs.Frames.{Only, only_grows, does_max, does_swap}
 use Rattle.lawful_walk.proofs.Frames.{keeps_store, same_or_other}
-use Rattle.lawful_walk.proofs.Facts.{facts, board, procs_fit, late_of, claim_fits, WordsShow}
+use Rattle.lawful_walk.proofs.Facts.{facts, board, late_of, claim_fits, WordsShow}
 use Rattle.lawful_walk.proofs.Keeping.{done_later, settle}
 use Rattle.lawful_walk.proofs.Raising.{finished_before, alive}
 
@@ -85,10 +86,7 @@ module _ (job : JobData) (y : LayoutData) (words later : List ℕ) (a : Word)
   root_same = nodes_same 1 (lit< tt, let l = stands.sizes.leaves in omega arith)
 
   leaf_same : (i : ℕ) → i < y.procs → leaf y later i ≡ leaf y words i
-  leaf_same i proc = nodes_same (y.leaves + i) (let l = stands.sizes.leaves in
-      let f = procs_fit job y words (finished y words) stands.limits stands.sizes stands.layout
-      stands.lawful (facts job y words stands).root_low (facts job y words stands).root_high in
-      (omega arith, omega arith))
+  leaf_same i proc = nodes_same (leaf_of y i) (leaf_word y i stands.sizes proc)
 
   tree_same : IsTree job y later
   tree_same = record {
@@ -286,7 +284,7 @@ module _ (job : JobData) (y : LayoutData) (words : List ℕ) (q x : ℕ) (stands
                   (sym (only.rest (Claim d) is_d n)) (stands.lawful.claimed d is_d)
             ])
             (λ i proc h c is. absurd (let n =
-            stands.lawful.tree.near (y.leaves + i) (leaf_word i proc) in omega arith))
+            stands.lawful.tree.near (leaf_of y i) (leaf_word y i stands.sizes proc) in omega arith))
             (named_if job y words later (Claim c) (stamped_word (suc x) (claim_of job i)) stands
             up only (λ m e. absurd (cc)) (only.rest Conflict tt (λ e. absurd (cc))))
             (full_if job y words later (Claim c) (stamped_word (suc x) (claim_of job i))
@@ -295,12 +293,6 @@ module _ (job : JobData) (y : LayoutData) (words : List ℕ) (q x : ℕ) (stands
     where
       claims_same : (c d : ℕ) → Claim d ≡ Claim c → c ≡ d
       claims_same c d e = cc
-
-      leaf_word : (i : ℕ) → i < y.procs → IsWord y (Node (y.leaves + i))
-      leaf_word i proc =
-          let l = stands.sizes.leaves in
-          let f = procs_fit job y words (finished y words) stands.limits stands.sizes stands.layout
-          stands.lawful shown.root_low shown.root_high in (omega arith, omega arith)
 
 -- ---- ranges of what is written
 

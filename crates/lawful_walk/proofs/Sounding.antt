@@ -94,7 +94,7 @@ sound_done : (job : JobData) (y : LayoutData) (r : Record) (w : Walking) → Sou
     Fits job y w → Knows job y r w → w.now ≡ doing.Over ended.Done → DoneWell job y r
 sound_done job y r w sound well knows is =
     let has : Has r (heard_both y (3 * job.steps) 0) =
-    subst (λ (es : List (Op × ℕ)). Has r es) (over_heard job y w ended.Done well is) knows in
+    subst (λ (es : List (Op × ℕ)). Has r es) (over_heard job y w ended.Done well is) knows.script in
     let shows = both_shows y r job.steps has in
     record {
       shows = shows;
@@ -107,7 +107,8 @@ sound_stopped : (job : JobData) (y : LayoutData) (r : Record) (w : Walking) (u :
     w.now ≡ doing.Over (ended.Conflict u) → Heard y r Conflict u × IsConflict job u
 sound_stopped job y r w u sound well knows is =
     let h = over_heard job y w (ended.Conflict u) well is in
-    let has : Has r (heard_both y h.1.0 u) = subst (λ (es : List (Op × ℕ)). Has r es) h.1.1 knows in
+    let has : Has r (heard_both y h.1.0 u) =
+    subst (λ (es : List (Op × ℕ)). Has r es) h.1.1 knows.script in
     let heard : Heard y r Conflict u = record {
       op = _;
       hears = refl;

@@ -14,14 +14,15 @@ use Rattle.pram_words.specs.declared.phases.Kind.TheVariants.{Compute, Apply, Ve
 use Rattle.pram_words.specs.declared.words.Word.{Word}
 use Rattle.pram_words.specs.declared.words.Word.TheVariants.{Conflict, Node, Asked, Stored, Claim}
 use Rattle.pram_words.specs.Start.{start_of, start_words, StartsAdmitted}
-use Rattle.pram_words.specs.Words.{LayoutData, IsLayout, IsWord, layout_of, places_of}
-use Rattle.pram_words.proofs.Halvings.{leaves_least}
+use Rattle.pram_words.specs.Words.{LayoutData, IsGrain, IsLayout, IsWord, grain_of, layout_of}
+use Rattle.pram_words.specs.Words.{places_of}
 use Rattle.pram_words.proofs.Starts.{starts_admitted, layout_of_limits}
 use Rattle.pram_words.specs.declared.layout.Form.{Form}
 use Rattle.pram_step.specs.History.{last_write}
 use Rattle.pram_step.proofs.Past.{last_most}
 use Rattle.lawful_walk.specs.Steps.{settled}
-use Rattle.lawful_walk.specs.Board.{held, root, leaf, phase_in, LawfulFor}
+use Rattle.lawful_walk.proofs.Leaves.{leaf_word}
+use Rattle.lawful_walk.specs.Board.{leaf_of, held, root, leaf, phase_in, LawfulFor}
 use Rattle.lawful_walk.specs.Board.{newer_first, claimed_before, Stands}
 use Rattle.lawful_walk.proofs.Keeping.{settle}
 
@@ -38,7 +39,7 @@ start_value job p limits below =
     ]
 
 module _ (job : JobData) (form : Form) (workers : ℕ) (limits : IsJob job)
-    (some : 1 ≤ workers) (high : workers ≤ 64) where
+    (block : IsGrain (grain_of form)) (some : 1 ≤ workers) (high : workers ≤ 64) where
   y : LayoutData
   y = layout_of job form workers
 
@@ -47,11 +48,11 @@ module _ (job : JobData) (form : Form) (workers : ℕ) (limits : IsJob job)
 
   sizes : IsLayout y
   unfolding y
-  sizes = layout_of_limits job form workers limits some high
+  sizes = layout_of_limits job form workers limits block some high
 
   starts : StartsAdmitted y job
   unfolding y
-  starts = starts_admitted job form workers limits some high
+  starts = starts_admitted job form workers limits block some high
 
   value : (a : Word) → IsWord y a → held y words a ≡ start_of y job a
   unfolding y words
@@ -70,11 +71,7 @@ module _ (job : JobData) (form : Form) (workers : ℕ) (limits : IsJob job)
       value (Stored p k) (place, two) ∙ sym v ∙ omega arith
 
   leaf_zero : (i : ℕ) → i < y.procs → leaf y words i ≡ 0
-  leaf_zero i proc = node_zero (y.leaves + i) (let l = sizes.leaves in
-      let e = sizes.least in
-      let n = sizes.procs in
-      let f = leaves_least y.procs n.0 (let m = n.1 in omega arith) in
-      (omega arith, omega (arith, f.0)))
+  leaf_zero i proc = node_zero (leaf_of y i) (leaf_word y i sizes proc)
 
   none_done : (i : ℕ) (kind : Kind) → i < y.procs → phase_in 0 kind ≤ leaf y words i → ⊥
   none_done i Compute proc h = let z = leaf_zero i proc in omega arith

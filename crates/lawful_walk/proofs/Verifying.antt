@@ -35,7 +35,7 @@ use Rattle.lawful_walk.proofs.Facts.{facts, word_is}
 use Rattle.lawful_walk.proofs.Growths.{growth_shows}
 use Rattle.lawful_walk.proofs.Raising.{stamps_most}
 use Rattle.lawful_walk.proofs.Sees.{Sees, so, heard, later}
-use Rattle.lawful_walk.proofs.Scripts.{Safe, load_safe, both_safe}
+use Rattle.lawful_walk.proofs.Scripts.{Aim, Safe, load_safe, both_safe}
 use Rattle.lawful_walk.proofs.Known.{safe_known, floor_lasts, StaleSafe, EndSafe, stale_end}
 use Rattle.lawful_walk.proofs.Hearing.{hears, reports_end}
 use Rattle.lawful_walk.proofs.Applying.{wins_all, cell_written, data_asked}
@@ -96,7 +96,8 @@ module _ (job : JobData) (x p i v : ℕ) (y : LayoutData) (board : IsBoard job y
       (word_is job y words (finished y words) stands.limits stands.sizes stands.layout stands.lawful
       b.root_low b.root_high p k is) s
 
-module _ (job : JobData) (y : LayoutData) (w q x i : ℕ) (some : 1 ≤ q) (most : q ≤ 3 * job.steps)
+module _ (job : JobData) (y : LayoutData)
+    (w q : ℕ) (aim : Aim) (x i : ℕ) (some : 1 ≤ q) (most : q ≤ 3 * job.steps)
     (step : step_at q ≡ suc x) (board : IsBoard job y) (proc : i < y.procs)
     (phase : 3 * x + 3 ≡ q) where
   -- while the phase is not over, the root and the finished step have been the same
@@ -229,38 +230,38 @@ module _ (job : JobData) (y : LayoutData) (w q x i : ℕ) (some : 1 ≤ q) (most
       ]
 
   pub verify_safe : job.rule ≡ Common → (after : Script Then) →
-      EndSafe job y w q x (λ words. Stays job y x words i) after → (history : List (Op × ℕ)) →
+      EndSafe job y w q aim x (λ words. Stays job y x words i) after → (history : List (Op × ℕ)) →
       Sees job y history (Floor job y q x) →
-      Safe {R = Then} job y w q (verify_task job y (suc x) i after) history
+      Safe job y w q aim (verify_task job y (suc x) i after) history
   unfolding verify_task Both
   verify_safe rule after done history sees =
-      let stale : StaleSafe job y w q x after =
-      stale_end job y w q x (λ words. Stays job y x words i) after done in
+      let stale : StaleSafe job y w q aim x after =
+      stale_end job y w q aim x (λ words. Stays job y x words i) after done in
       let p = part_after job x i 0 - 1 in
       let v = part_after job x i 1 in
       let judges = λ (place value a b : ℕ). if differs (suc x) value a || differs (suc x) value b
       then reports y (suc x) after else after in
       let compares = λ (place : ℕ).
       hears_part y (suc x) i 1 after (λ value. loads_both y (place - 1) (judges place value)) in
-      hears job y w q x i some most step board proc 0 (lit< tt) (omega arith) after
+      hears job y w q aim x i some most step board proc 0 (lit< tt) (omega arith) after
       (λ place. if place == 0 then after else compares place) history stale sees (λ longer more.
       cond_both (part_after job x i 0 == 0) after
-      (compares (part_after job x i 0)) (λ (s : Script Then). Safe {R = Then} job y w q s longer)
+      (compares (part_after job x i 0)) (λ (s : Script Then). Safe job y w q aim s longer)
       (λ e. done longer (so job y longer (Floor job y q x)
       (λ words. Floor job y q x words × (root y words + 1 ≡ q → Stays job y x words i))
       (λ words stands f. (f, λ now. no_data words (eqb-true (part_after job x i 0) 0 e))) more))
       (λ e.
-      let asked = data_asked job y w q x i some most step board proc e in
-      hears job y w q x i some most step board proc 1 (lit< tt) (omega arith) after (λ value.
+      let asked = data_asked job y w q aim x i some most step board proc e in
+      hears job y w q aim x i some most step board proc 1 (lit< tt) (omega arith) after (λ value.
       loads_both y p (judges (part_after job x i 0) value)) longer stale more (λ longer more.
-      both_safe {R = Then} job y w q p
+      both_safe job y w q aim p
       (judges (part_after job x i 0) v) longer (Floor job y q x) more (λ a b longest known.
       cond_both (differs (suc x) v a || differs (suc x) v b)
-      (reports y (suc x) after) after (λ (s : Script Then). Safe {R = Then} job y w q s longest)
-      (λ d. safe_known {R = Then} job y w q (reports y (suc x) after) longest
+      (reports y (suc x) after) after (λ (s : Script Then). Safe job y w q aim s longest)
+      (λ d. safe_known job y w q aim (reports y (suc x) after) longest
       (AgreesAfter job x → ⊥) (so job y longest (Both p a b) (λ words. AgreesAfter job x → ⊥)
       (λ words stands m. disagrees p v a b words rule asked m d) known) (λ not.
-      reports_end job y w q x i some most step board proc phase not after longest
+      reports_end job y w q aim x i some most step board proc phase not after longest
       (so job y longest (Both p a b)
       (Floor job y q x) (λ words stands m. both_floor p a b words stands m) known) (λ last reported.
       done last (so job y last (λ words. Floor job y q x words × (root y words + 1 ≡ q →
@@ -340,22 +341,22 @@ module _ (job : JobData) (y : LayoutData) (w q x i : ℕ) (some : 1 ≤ q) (most
       subst (λ (c : ℕ). payload_of (held y words (Claim c)) ≡ claim_of job i) same here)
 
   pub crew_verify_safe : job.rule ≡ Crew → IsTrue y.claims →
-      (after : Script Then) → EndSafe job y w q x (λ words. ClaimStays job y x words i) after →
+      (after : Script Then) → EndSafe job y w q aim x (λ words. ClaimStays job y x words i) after →
       (history : List (Op × ℕ)) → Sees job y history (Floor job y q x) →
-      Safe {R = Then} job y w q (crew_verify_task job y (suc x) i after) history
+      Safe job y w q aim (crew_verify_task job y (suc x) i after) history
   unfolding crew_verify_task
   crew_verify_safe rule has after done history sees =
-      let stale : StaleSafe job y w q x after =
-      stale_end job y w q x (λ words. ClaimStays job y x words i) after done in
+      let stale : StaleSafe job y w q aim x after =
+      stale_end job y w q aim x (λ words. ClaimStays job y x words i) after done in
       let p = part_after job x i 0 - 1 in
       let judges = λ (found : ℕ).
       if differs (suc x) (claim_of job i) found then reports y (suc x) after else after in
       let owns = λ (place : ℕ). if nat_lt (place - 1) job.cells
       then asks (Load (number_of y (Claim (place - 1)))) judges else after in
-      hears job y w q x i some most step board proc 0 (lit< tt) (omega arith) after
+      hears job y w q aim x i some most step board proc 0 (lit< tt) (omega arith) after
       (λ place. if place == 0 then after else owns place) history stale sees (λ longer more.
       cond_both (part_after job x i 0 == 0) after
-      (owns (part_after job x i 0)) (λ (s : Script Then). Safe {R = Then} job y w q s longer)
+      (owns (part_after job x i 0)) (λ (s : Script Then). Safe job y w q aim s longer)
       (λ e. done longer (so job y longer (Floor job y q x)
       (λ words. Floor job y q x words × (root y words + 1 ≡ q → ClaimStays job y x words i))
       (λ words stands f. (
@@ -363,23 +364,23 @@ module _ (job : JobData) (y : LayoutData) (w q x i : ℕ) (some : 1 ≤ q) (most
         λ now. no_claims words (λ c v asked cell. let is = cell_written job x c i v asked cell in
             let none = eqb-true (part_after job x i 0) 0 e in omega arith),
       )) more)) (λ e.
-      let asked = data_asked job y w q x i some most step board proc e in
+      let asked = data_asked job y w q aim x i some most step board proc e in
       cond_both (nat_lt p job.cells) (asks (Load (number_of y (Claim p))) judges) after
-      (λ (s : Script Then). Safe {R = Then} job y w q s longer) (λ l.
+      (λ (s : Script Then). Safe job y w q aim s longer) (λ l.
       let cell = ltb-true (part_after job x i 0 - 1) job.cells l in
-      load_safe {R = Then} job y w q (number_of y (Claim p)) judges longer (λ found ok.
+      load_safe job y w q aim (number_of y (Claim p)) judges longer (λ found ok.
       let longest : List (Op × ℕ) = (Load (number_of y (Claim p)), found) ∷ longer in
       let now_floor : Sees job y longest (Floor job y q x) = later job y longer
       (Floor job y q x) (Load (number_of y (Claim p))) found (floor_lasts job y q x) more in
       let moment : Sees job y longest (Moment job y (Load (number_of y (Claim p))) found (Floor job
       y q x)) = heard job y longer (Floor job y q x) (Load (number_of y (Claim p))) found more in
       cond_both (differs (suc x) (claim_of job i) found)
-      (reports y (suc x) after) after (λ (s : Script Then). Safe {R = Then} job y w q s longest)
-      (λ d. safe_known {R = Then} job y w q (reports y (suc x) after) longest
+      (reports y (suc x) after) after (λ (s : Script Then). Safe job y w q aim s longest)
+      (λ d. safe_known job y w q aim (reports y (suc x) after) longest
       (AgreesAfter job x → ⊥) (so job y longest (Moment job y (Load (number_of y (Claim p))) found
       (Floor job y q x)) (λ words. AgreesAfter job x → ⊥) (λ words stands m.
       other_claims p (part_after job x i 1) found words rule has cell asked m d) moment) (λ not.
-      reports_end job y w q x i some most step board proc phase not after longest now_floor
+      reports_end job y w q aim x i some most step board proc phase not after longest now_floor
       (λ last reported.
       done last (so job y last (λ words. Floor job y q x words × (root y words + 1 ≡ q →
       conflict y words ≡ suc x)) (λ words. Floor job y q x words × (root y words + 1 ≡ q →

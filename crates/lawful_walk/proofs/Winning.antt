@@ -27,7 +27,7 @@ use Rattle.lawful_walk.specs.Moments.{Moment}
 use Rattle.lawful_walk.proofs.Facts.{facts}
 use Rattle.lawful_walk.proofs.Growths.{root_up}
 use Rattle.lawful_walk.proofs.Sees.{Sees, so, heard, later}
-use Rattle.lawful_walk.proofs.Scripts.{Safe, load_safe}
+use Rattle.lawful_walk.proofs.Scripts.{Aim, Safe, load_safe}
 use Rattle.lawful_walk.proofs.Writing.{writes_safe}
 use Rattle.lawful_walk.proofs.Known.{safe_known, floor_lasts, StaleSafe, EndSafe, stale_end}
 use Rattle.lawful_walk.proofs.Hearing.{hears_all}
@@ -47,7 +47,8 @@ record Judged (job : JobData) (x i p found : ℕ) : Type 0 where
   won : payload_of found ≡ claim_of job i → Wins job x p i
   lost : payload_of found ≢ claim_of job i → Wins job x p i → ⊥
 
-module _ (job : JobData) (y : LayoutData) (w q x i : ℕ) (some : 1 ≤ q) (most : q ≤ 3 * job.steps)
+module _ (job : JobData) (y : LayoutData)
+    (w q : ℕ) (aim : Aim) (x i : ℕ) (some : 1 ≤ q) (most : q ≤ 3 * job.steps)
     (step : step_at q ≡ suc x) (board : IsBoard job y) (proc : i < y.procs)
     (rule : job.rule ≡ Priority) (has : IsTrue y.claims) (phase : 3 * x + 3 ≡ q)
     (written : q ≡ phase_written job.rule x) where
@@ -77,7 +78,7 @@ module _ (job : JobData) (y : LayoutData) (w q x i : ℕ) (some : 1 ≤ q) (most
       let top : (j u : ℕ) → Asks job x p j u → stamped_word (suc x) (claim_of job j)
       ≤ held y m.words (Claim p) = λ j u a. b.claims_high x p j u is (omega arith) a in
       let mine = top i v asked in
-      let proc_of = proc_job job y w q x i some most step board proc in
+      let proc_of = proc_job job y w q aim x i some most step board proc in
       let few = board.limits.procs.1 in
       let stamp : stamp_of (held y m.words (Claim p)) ≡ suc x = omega arith in
       record {
@@ -116,30 +117,30 @@ module _ (job : JobData) (y : LayoutData) (w q x i : ℕ) (some : 1 ≤ q) (most
 
   whole_safe : ((p v : ℕ) → Asks job x p i v → p < job.cells → Wins job x p i) →
       (after : Script Then) →
-      EndSafe job y w q x (λ words. CarriedWon job y x words i) after →
+      EndSafe job y w q aim x (λ words. CarriedWon job y x words i) after →
       (history : List (Op × ℕ)) → Sees job y history (Floor job y q x) →
-      Safe {R = Then} job y w q (carries job y (suc x) i (part_after job x i 0)
+      Safe job y w q aim (carries job y (suc x) i (part_after job x i 0)
       (part_after job x i 1) (part_after job x i 2) after) history
   whole_safe each after done history sees =
-      carried_safe job y w q x i some most step board proc written (wins_if each) after
+      carried_safe job y w q aim x i some most step board proc written (wins_if each) after
       (Floor job y q x) (floor_lasts job y q x) (λ words f. f) history sees (λ longer more.
       done longer (so job y longer (λ words. Floor job y q x words × Carried job y x words i)
       (λ words. Floor job y q x words × (root y words + 1 ≡ q → CarriedWon job y x words i))
       (λ words stands h. (h.0, λ live. won words h.1)) more))
 
   counter_safe : (Wins job x (part_after job x i 0 - 1) i → ⊥) →
-      (after : Script Then) → EndSafe job y w q x (λ words. CarriedWon job y x words i) after →
+      (after : Script Then) → EndSafe job y w q aim x (λ words. CarriedWon job y x words i) after →
       (history : List (Op × ℕ)) → Sees job y history (Floor job y q x) →
-      Safe {R = Then} job y w q
+      Safe job y w q aim
       (carries job y (suc x) i 0 (part_after job x i 1) (part_after job x i 2) after) history
   counter_safe lost after done history sees =
-      let asked = counter_write job x i (proc_job job y w q x i some most step board proc) in
-      writes_safe job y w q x (counter_place job i) i (part_after job x i 2) some most step written
+      let asked = counter_write job x i (proc_job job y w q aim x i some most step board proc) in
+      writes_safe job y w q aim x (counter_place job i) i
+      (part_after job x i 2) some most step written
       (Floor job y q x) (floor_lasts job y q x) (λ words f. f) (λ words f. (
         asked,
         wins_own job y x (counter_place job i) i (part_after job x i 2) board (omega arith) asked,
-      )) {R = Then} after history sees (λ longer more.
-      done longer
+      )) after history sees (λ longer more. done longer
       (so job y longer (λ words. Floor job y q x words × IsLate y x (counter_place job i) words)
       (λ words. Floor job y q x words × (root y words + 1 ≡ q → CarriedWon job y x words i))
       (λ words stands h. (h.0, λ live. counts_alone words rule lost h.1)) more))
@@ -154,43 +155,45 @@ module _ (job : JobData) (y : LayoutData) (w q x i : ℕ) (some : 1 ≤ q) (most
 
   heard_safe : (found : ℕ) → (part_after job x i 0 == 0) ≡ false →
       part_after job x i 0 - 1 < job.cells → (after : Script Then) →
-      EndSafe job y w q x (λ words. CarriedWon job y x words i) after → (history : List (Op × ℕ)) →
+      EndSafe job y w q aim x (λ words. CarriedWon job y x words i) after →
+      (history : List (Op × ℕ)) →
       Sees job y history (Moment job y (Load (number_of y (Claim (part_after job x i 0 - 1)))) found
       (Floor job y q x)) → Sees job y history (Floor job y q x) →
-      Safe {R = Then} job y w q (if nat_lt (suc x) (stamp_of found) then after else carries job y
+      Safe job y w q aim (if nat_lt (suc x) (stamp_of found) then after else carries job y
       (suc x) i (if payload_of found == claim_of job i then part_after job x i 0 else 0)
       (part_after job x i 1) (part_after job x i 2) after) history
   heard_safe found some_data cell after done history moment sees =
       let p = part_after job x i 0 - 1 in
-      let stale : StaleSafe job y w q x after =
-      stale_end job y w q x (λ words. CarriedWon job y x words i) after done in
+      let stale : StaleSafe job y w q aim x after =
+      stale_end job y w q aim x (λ words. CarriedWon job y x words i) after done in
       let script = λ (place : ℕ).
       carries job y (suc x) i place (part_after job x i 1) (part_after job x i 2) after in
       cond_both (nat_lt (suc x) (stamp_of found)) after
       (script (if payload_of found == claim_of job i then part_after job x i 0 else 0))
-      (λ (s : Script Then). Safe {R = Then} job y w q s history)
+      (λ (s : Script Then). Safe job y w q aim s history)
       (λ e. stale history (so job y history (Moment job y (Load (number_of y (Claim p))) found
       (Floor job y q x)) (λ words. Floor job y q x words × (q ≤ root y words)) (λ words stands m.
       late_claim p found words cell stands (ltb-true (suc x) (stamp_of found) e) m) moment))
       (λ e.
-      safe_known {R = Then} job y w q
+      safe_known job y w q aim
       (script (if payload_of found == claim_of job i then part_after job x i 0 else 0))
       history (Judged job x i p found)
       (so job y history (Moment job y (Load (number_of y (Claim p))) found (Floor job y q x))
       (λ words. Judged job x i p found) (λ words stands m. judged p (part_after job x i 1)
-      found words cell (data_asked job y w q x i some most step board proc some_data)
+      found words cell (data_asked job y w q aim x i some most step board proc some_data)
       (let l = ltb-false (suc x) (stamp_of found) e in omega arith) m) moment) (λ judge.
       cond_both (payload_of found == claim_of job i)
-      (part_after job x i 0) 0 (λ (place : ℕ). Safe {R = Then} job y w q (script place) history)
+      (part_after job x i 0) 0 (λ (place : ℕ). Safe job y w q aim (script place) history)
       (λ g. whole_safe (cell_win some_data
       (judge.won (eqb-true (payload_of found) (claim_of job i) g))) after done history sees)
       (λ g. counter_safe (judge.lost (eqb-false (payload_of found) (claim_of job i) g))
       after done history sees)))
 
   pub priority_apply_safe : (after : Script Then) →
-      EndSafe job y w q x (λ words. CarriedWon job y x words i) after → (history : List (Op × ℕ)) →
+      EndSafe job y w q aim x (λ words. CarriedWon job y x words i) after →
+      (history : List (Op × ℕ)) →
       Sees job y history (Floor job y q x) →
-      Safe {R = Then} job y w q (priority_apply_task job y (suc x) i after) history
+      Safe job y w q aim (priority_apply_task job y (suc x) i after) history
   unfolding priority_apply_task
   priority_apply_safe after done history sees =
       let all = λ (place value next : ℕ). carries job y (suc x) i place value next after in
@@ -200,17 +203,18 @@ module _ (job : JobData) (y : LayoutData) (w q x i : ℕ) (some : 1 ≤ q) (most
       let a = part_after job x i 0 in
       let b = part_after job x i 1 in
       let c = part_after job x i 2 in
-      hears_all job y w q x i some most step board proc (omega arith) after
+      hears_all job y w q aim x i some most step board proc (omega arith) after
       (λ place value next. if place == 0 then all place value next else (if nat_lt
       (place - 1) job.cells then claimed place value next else all place value next)) history
-      (stale_end job y w q x (λ words. CarriedWon job y x words i) after done) sees (λ longer more.
+      (stale_end job y w q aim x (λ words. CarriedWon job y x words i) after done) sees
+      (λ longer more.
       cond_both (a == 0) (all a b c) (if nat_lt (a - 1) job.cells then claimed a b c else all a b c)
-      (λ (s : Script Then). Safe {R = Then} job y w q s longer)
+      (λ (s : Script Then). Safe job y w q aim s longer)
       (λ e. whole_safe (λ p v asked cell. absurd (let is = cell_written job x p i v asked cell in
       let none = eqb-true (part_after job x i 0) 0 e in omega arith)) after done longer more)
       (λ e. cond_both (nat_lt (a - 1) job.cells)
-      (claimed a b c) (all a b c) (λ (s : Script Then). Safe {R = Then} job y w q s longer)
-      (λ l. load_safe {R = Then} job y w q (number_of y (Claim (a - 1)))
+      (claimed a b c) (all a b c) (λ (s : Script Then). Safe job y w q aim s longer)
+      (λ l. load_safe job y w q aim (number_of y (Claim (a - 1)))
       (λ found. if nat_lt (suc x) (stamp_of found) then after else carries job y
       (suc x) i (if payload_of found == claim_of job i then a else 0) b c after) longer (λ found ok.
       heard_safe found e (ltb-true (part_after job x i 0 - 1) job.cells l) after done

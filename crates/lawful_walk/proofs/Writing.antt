@@ -22,13 +22,13 @@ use Rattle.lawful_walk.specs.Steps.{phase_written}
 use Rattle.lawful_walk.specs.Board.{held, stamp_at, IsLate, Stands, Grows}
 use Rattle.lawful_walk.specs.Moments.{Moment}
 use Rattle.lawful_walk.proofs.Moments.{onward, stamps_rise}
-use Rattle.walkx.specs.Walk.{IsBoard}
+use Rattle.walkx.specs.Walk.{Then, IsBoard}
 use Rattle.walkx.proofs.Boards.{same_cells, same_procs}
 use Rattle.lawful_walk.proofs.Growths.{place_as_heard}
 use Rattle.lawful_walk.proofs.Effects.{writes_keep}
 use Rattle.lawful_walk.proofs.Sees.{Sees, Lasts, so, heard}
 use Rattle.lawful_walk.specs.Walks.{Goes}
-use Rattle.lawful_walk.proofs.Scripts.{Safe, both_safe, goes_of}
+use Rattle.lawful_walk.proofs.Scripts.{Aim, Safe, both_safe, goes_of}
 
 pub late_later : (y : LayoutData) (x p : ℕ) (words after : List ℕ) → p < places_of y →
     Grows y words after → IsLate y x p words → IsLate y x p after
@@ -61,7 +61,8 @@ older_two : (a b : ℕ) → older a b < 2
 older_two a b = cond_both (first_is_older a b) 0 1 (λ k. k < 2) (λ e. lit< tt) (λ e. lit< tt)
 
 module _ (job : JobData) (y : LayoutData)
-    (w q x p i v : ℕ) (some : 1 ≤ q) (most : q ≤ 3 * job.steps) (step : step_at q ≡ suc x)
+    (w q : ℕ) (aim : Aim) (x p i v : ℕ)
+    (some : 1 ≤ q) (most : q ≤ 3 * job.steps) (step : step_at q ≡ suc x)
     (phase : q ≡ phase_written job.rule x) (P : List ℕ → Type 0) (lasts : Lasts job y P)
     (floor : (words : List ℕ) → P words → Floor job y q x words)
     (asked : (words : List ℕ) → P words → Asks job x p i v × Wins job x p i) where
@@ -137,16 +138,16 @@ module _ (job : JobData) (y : LayoutData)
             (words_after m.words (swap a b)) place m.grew (m.earlier.1.written other)
       ])
 
-  pub writes_safe : {R : Type 0} (after : Script R) (history : List (Op × ℕ)) →
+  pub writes_safe : (after : Script Then) (history : List (Op × ℕ)) →
       Sees job y history P →
       ((longer : List (Op × ℕ)) → Sees job y longer (λ words. P words × IsLate y x p words) →
-      Safe job y w q after longer) →
-      Safe job y w q (writes_place y (suc x) p v after) history
+      Safe job y w q aim after longer) →
+      Safe job y w q aim (writes_place y (suc x) p v after) history
   unfolding Both swap
-  writes_safe {R} after history sees next =
-      both_safe {R = R} job y w q p _ history P sees (λ a b longer known.
+  writes_safe after history sees next =
+      both_safe job y w q aim p _ history P sees (λ a b longer known.
       cond_both (is_late (suc x) a b) after (asks (swap a b) (λ found. after))
-      (λ s. Safe job y w q s longer)
+      (λ s. Safe job y w q aim s longer)
       (λ late. next longer (so job y longer (Both a b) (λ words. P words × IsLate y x p words)
       (λ words stands m. (still a b words stands m, heard_late a b words stands m late)) known))
       (λ early.
@@ -156,7 +157,8 @@ module _ (job : JobData) (y : LayoutData)
         heard_early a b words stands m early,
       )) known in (
         so job y longer (λ words. P words × PlaceAsHeard job y x p a b words)
-            (Goes job y w q (swap a b)) (λ words stands h. goes_of job y w q (swap a b) words
+            (λ words. aim.given words → Goes job y w q (swap a b) words)
+            (λ words stands h given. goes_of job y w q (swap a b) words
             ((writes_keep job y words q x stands some most step (floor words h.0)).place
             p i v a b phase (asked words h.0).0 (asked words h.0).1 h.1)) pair,
         λ found ok. next ((swap a b, found) ∷ longer)

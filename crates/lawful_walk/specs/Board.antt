@@ -1,5 +1,5 @@
 -- Lawful words, and words that grow.
-use Rattle.std.specs.Prelude.{◌≡◌, ◌≢◌, ◌⊎◌, ℕ, suc, ◌+◌, ◌*◌, ◌≤◌, ◌<◌, List, slice_index}
+use Rattle.std.specs.Prelude.{◌≡◌, ◌≢◌, ◌⊎◌, ℕ, suc, ◌+◌, ◌*◌, ◌/◌, ◌≤◌, ◌<◌, List, slice_index}
 use Rattle.pram_text.specs.Job.{JobData, IsJob}
 use Rattle.pram_text.specs.declared.instr.Rule.{Rule}
 use Rattle.pram_text.specs.declared.instr.Rule.TheVariants.{Common, Priority, Crew}
@@ -11,7 +11,8 @@ use Rattle.pram_words.specs.declared.words.Word.{Word}
 use Rattle.pram_words.specs.declared.words.Word.TheVariants.{Conflict, Node, Asked, Position}
 use Rattle.pram_words.specs.declared.words.Word.TheVariants.{Stored, Claim, Spare}
 use Rattle.pram_words.specs.Stamps.{stamp_of, payload_of, stamped_word}
-use Rattle.pram_words.specs.Words.{LayoutData, IsLayout, IsWord, IsAdmitted, number_of, places_of}
+use Rattle.pram_words.specs.Words.{LayoutData, IsLayout, IsWord, IsAdmitted}
+use Rattle.pram_words.specs.Words.{grain, number_of, places_of}
 use Rattle.walkx.specs.Tasks.{claim_of}
 use Rattle.walkx.specs.Walk.{IsLayoutOf}
 use Rattle.walkx.specs.Reads.{step_seen}
@@ -28,8 +29,12 @@ root layout words = held layout words (Node 1)
 abbrev pub conflict : LayoutData → List ℕ → ℕ
 conflict layout words = held layout words Conflict
 
+-- the node of the leaf of processor i: that of its block
+abbrev pub leaf_of : LayoutData → ℕ → ℕ
+leaf_of layout i = layout.leaves + i / grain layout
+
 abbrev pub leaf : LayoutData → List ℕ → ℕ → ℕ
-leaf layout words i = held layout words (Node (layout.leaves + i))
+leaf layout words i = held layout words (Node (leaf_of layout i))
 
 -- the stamp of a word of a place
 abbrev pub stamp_at : LayoutData → List ℕ → ℕ → ℕ → ℕ
@@ -96,6 +101,11 @@ Done Priority Verify job layout t words i = CarriedWon job layout t words i
 Done Crew Compute job layout t words i = Raised job layout t words i
 Done Crew Apply job layout t words i = Carried job layout t words i × Claimed job layout t words i
 Done Crew Verify job layout t words i = ClaimStays job layout t words i
+
+-- so it is for all processors of the block of a leaf
+abbrev pub LeafDone : JobData → LayoutData → ℕ → Kind → ℕ → List ℕ → Type 0
+LeafDone job layout t kind node words =
+    (i : ℕ) → i < layout.procs → leaf_of layout i ≡ node → Done job.rule kind job layout t words i
 
 -- the phases of the step after t steps
 abbrev pub phase_in : ℕ → Kind → ℕ

@@ -19,7 +19,7 @@ use Rattle.walkx.specs.Reads.{step_seen, reader_script}
 use Rattle.walkx.specs.Records.{Record, after, both, Has, Knows}
 use Rattle.walkx.specs.Scripts.{ends, rest, heard_in}
 use Rattle.pram_words.specs.Stamps.{newer_payload}
-use Rattle.walkx.specs.Walk.{Walking, Fits, IsGoing, IsLayoutOf, ask_of, told}
+use Rattle.walkx.specs.Walk.{Walking, Fits, IsBoard, IsGoing, ask_of, told}
 use Rattle.lawful_walk.specs.Board.{Stands, Grows, held, root, finished}
 use Rattle.lawful_walk.specs.Moments.{Backed, WasBacked, Sound, afters}
 use Rattle.lawful_walk.specs.Seen.{Heard, KnowsStep}
@@ -59,10 +59,10 @@ KnownWorkersStayKnown =
 abbrev pub OwnStepsAreBounded : Type 0
 OwnStepsAreBounded =
     (job : JobData) (layout : LayoutData) (past : Record) (worker : Walking) (answers : List ℕ) →
-    IsLayoutOf job layout → Fits job layout worker →
+    IsBoard job layout → Fits job layout worker →
     Sound job layout past → Has past (history_of job layout worker answers) →
     IsGoing (told_all job layout worker answers).now →
-    length answers < most_steps job layout
+    length answers < most_steps job
 
 -- with these steps the record has them, after what the worker had heard
 abbrev pub HistoriesAreKept : Type 0

@@ -20,6 +20,7 @@ use Rattle.lawful_walk.specs.Seen.{Heard, Shows, KnowsStep, HeardThen}
 -- the phase that it is in, or 0, which is over for all words
 abbrev pub phase_now : Doing → ℕ
 phase_now (doing.Turn phase) = phase
+phase_now (doing.Part phase rank) = phase
 phase_now _ = 0
 
 -- A step that keeps the words. Where the phase is over, no word but the worker's position

@@ -7,7 +7,7 @@ use Rattle.pram_words.specs.declared.words.Word.TheVariants.{Stored}
 use Rattle.pram_words.specs.Phases.{step_at}
 use Rattle.pram_words.specs.Stamps.{payload_of}
 use Rattle.pram_words.specs.Start.{start_words}
-use Rattle.pram_words.specs.Words.{LayoutData, layout_of, places_of}
+use Rattle.pram_words.specs.Words.{LayoutData, IsGrain, grain_of, layout_of, places_of}
 use Rattle.walkx.specs.Records.{Record}
 use Rattle.pram_words.specs.Stamps.{newer_payload}
 use Rattle.lawful_walk.specs.Board.{Stands, held, stamp_at, finished}
@@ -17,7 +17,8 @@ use Rattle.lawful_walk.specs.Writes.{Floor, MayWrite}
 
 -- the words that a board starts with stand
 abbrev pub StartWordsAreLawful : Type 0
-StartWordsAreLawful = (job : JobData) (form : Form) (workers : ℕ) → IsJob job → 1 ≤ workers →
+StartWordsAreLawful = (job : JobData) (form : Form) (workers : ℕ) →
+    IsJob job → IsGrain (grain_of form) → 1 ≤ workers →
     workers ≤ 64 →
     Stands job (layout_of job form workers) (start_words (layout_of job form workers) job)
 

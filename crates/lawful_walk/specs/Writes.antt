@@ -16,7 +16,7 @@ use Rattle.pram_words.specs.Stamps.{first_is_older, newer_payload, older, older_
 use Rattle.walkx.specs.Tasks.{claim_of}
 use Rattle.pram_step.specs.History.{Asks, Wins, part_after}
 use Rattle.lawful_walk.specs.Steps.{phase_written}
-use Rattle.lawful_walk.specs.Board.{held, root, stamp_at, IsLate, Done}
+use Rattle.lawful_walk.specs.Board.{held, root, stamp_at, IsLate, LeafDone}
 use Rattle.lawful_walk.specs.Moments.{Keeps}
 
 -- Of a place whose two words were heard: the older one as heard still stands, or the place was
@@ -50,8 +50,8 @@ pub record Moves (job : JobData) (layout : LayoutData) (worker node : ℕ)
       held layout (words_after words (Store (number_of layout (Position worker)) node)) word
       ≡ held layout words word
 
--- A part of a request; a node whose children are finished; a leaf with no processor; a leaf whose
--- work is done; a place, by a write that wins; the step, as a conflict; the claim of a cell that is
+-- A part of a request; a node whose children are finished; a leaf whose processors' work is
+-- done; a place, by a write that wins; the step, as a conflict; the claim of a cell that is
 -- written; a worker's position, as a node.
 pub record MayWrite (job : JobData) (layout : LayoutData)
     (words : List ℕ) (phase t : ℕ) : Type 0 where
@@ -62,11 +62,9 @@ pub record MayWrite (job : JobData) (layout : LayoutData)
       1 ≤ node → node < layout.leaves → phase ≤ held layout words (Node (2 * node)) →
       phase ≤ held layout words (Node (2 * node + 1)) →
       Does job layout phase (Max (number_of layout (Node node)) phase) words
-  pub padded : (node : ℕ) → layout.leaves + layout.procs ≤ node → node < 2 * layout.leaves →
+  pub leaf : (node : ℕ) → layout.leaves ≤ node → node < 2 * layout.leaves →
+      (root layout words + 1 ≡ phase → LeafDone job layout t (kind_at phase) node words) →
       Does job layout phase (Max (number_of layout (Node node)) phase) words
-  pub leaf : (i : ℕ) → i < layout.procs →
-      (root layout words + 1 ≡ phase → Done job.rule (kind_at phase) job layout t words i) →
-      Does job layout phase (Max (number_of layout (Node (layout.leaves + i))) phase) words
   pub place : (place i value first second : ℕ) →
       phase ≡ phase_written job.rule t → Asks job t place i value → Wins job t place i →
       PlaceAsHeard job layout t place first second words →

@@ -32,8 +32,9 @@ pub fn histories_are_kept()
     ensures { HistoriesAreKept }
 {}
 
-/// A worker that is still going has made fewer than 300 L T + 8 steps, L being the leaves and T the
-/// steps of the job, whatever other workers do.
+/// A worker that is still going has made fewer than 300 L T + 8 steps, L being the least power of
+/// two that is at least the number of processors and T the steps of the job, whatever other workers
+/// do.
 #[tactic(auto, using(crate::proofs::Sounding::sound_steps))]
 pub fn own_steps_are_bounded()
     ensures { OwnStepsAreBounded }

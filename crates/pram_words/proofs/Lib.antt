@@ -1,3 +1,4 @@
+pub mod Blocks
 pub mod Halvings
 pub mod Numbering
 pub mod Starts

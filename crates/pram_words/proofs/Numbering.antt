@@ -1,7 +1,11 @@
 -- Each word has a number of its own.
 use Rattle.std.proofs.Common.{◌≡◌, ℕ, cond, ◌+◌, ◌-◌, ◌*◌, ◌/◌, ◌%◌, ◌<◌, ◌≤◌, ◌^◌, ◌↔◌}
-use Rattle.std.proofs.Common.{◌⊎◌, inl, inr, refl, sym, ap, subst, ◌∙◌, arith, zero, suc}
+use Rattle.std.proofs.Common.{◌⊎◌, inl, inr, refl, sym, ap, subst, ◌∙◌, arith, lit<, zero, suc}
 use Rattle.std.proofs.lemmas.Bool.{cases_lt, cases_eq, cases_Bool, cond-true, cond-false}
+use Rattle.std.proofs.lemmas.Bool.{lt-ltb, le-ltb, eq-eqb, ne_eqb}
+use Rattle.std.proofs.lemmas.Nat.{pow_pos}
+use Rattle.std.proofs.Math.Nat.{mul-mod_right, mul-div_cancel_left, mul-lt-mul_of_pos_left}
+use Rattle.std.proofs.Math.Nat.{lt_of_mul-lt-mul_left, div-add-mod, mul-div-le}
 use Rattle.std.proofs.lemmas.Bool.Decides.{nat_tests}
 use Rattle.pram_text.specs.Job.{JobData}
 use Rattle.pram_words.specs.declared.layout.Form.{Form}
@@ -12,26 +16,40 @@ use Rattle.pram_words.specs.declared.words.Word.TheVariants.{Position, Stored, C
 use Rattle.pram_words.specs.Words.{LayoutData, IsLayout, IsNeeded, IsWord, IsInRange}
 use Rattle.pram_words.specs.Words.{IsNumbering, HasRanges, Admits, counters_of, requests_at}
 use Rattle.pram_words.specs.Words.{positions_at, places_at, claims_at, compact_number}
-use Rattle.pram_words.specs.Words.{compact_word, block_at, cells_at, wide_claims_at, wide_number}
+use Rattle.pram_words.specs.Words.{compact_word, grain, first_word, lines_at, lines_word, cells_at}
+use Rattle.pram_words.specs.Words.{wide_claims_at, wide_number}
 use Rattle.pram_words.specs.Words.{wide_word, by_form, number_of, length_of, word_at}
-use Rattle.pram_words.proofs.Halvings.{leaves_least}
 
-pub cases_form : (f : Form) → (f ≡ Compact) ⊎ (f ≡ Wide)
+pub cases_form : (f : Form) → (f ≡ Compact) ⊎ ((grain : ℕ) × (f ≡ Wide grain))
 cases_form Compact = inl refl
-cases_form Wide = inr refl
+cases_form (Wide grain) = inr (grain, refl)
 
 pub form_compact : {A : Type 0} (f : Form) (compact wide : A) → f ≡ Compact →
     by_form f compact wide ≡ compact
 form_compact f compact wide e = rw e refl
 
-pub form_wide : {A : Type 0} (f : Form) (compact wide : A) →
-    f ≡ Wide → by_form f compact wide ≡ wide
-form_wide f compact wide e = rw e refl
+pub form_wide : {A : Type 0} (f : Form) (grain : ℕ) (compact wide : A) →
+    f ≡ Wide grain → by_form f compact wide ≡ wide
+form_wide f grain compact wide e = rw e refl
 
--- there is a leaf for each processor
-pub procs_leaves : (y : LayoutData) → IsLayout y → y.procs ≤ y.leaves
-procs_leaves y limits =
-    rw limits.least ((leaves_least y.procs limits.procs.0 (omega (arith, limits.procs))).0)
+-- a block has at least one processor
+pub grain_some : (y : LayoutData) → IsLayout y → 1 ≤ grain y
+grain_some y limits = rw limits.block.0.1 (pow_pos limits.block.0.0)
+
+-- the first processor of a block
+pub record First (y : LayoutData) (b : ℕ) : Type 0 where
+  pub first : (grain y * b) % grain y ≡ 0
+  pub block : (grain y * b) / grain y ≡ b
+  pub below : grain y * b < grain y * y.leaves
+
+pub first_of : (y : LayoutData) (b : ℕ) → IsLayout y → b < y.leaves → First y b
+first_of y b limits leaf =
+    let some = grain_some y limits in
+    record {
+      first = mul-mod_right (grain y) b;
+      block = mul-div_cancel_left b some;
+      below = mul-lt-mul_of_pos_left leaf some;
+    }
 
 -- what a word has for its number k, under a numbering
 record Found (y : LayoutData) (number_in : Word → ℕ) (k : ℕ) (a : Word) : Type 0 where
@@ -100,31 +118,51 @@ compact_found y (suc n) some b = let k = suc n in elim (cases_lt k (requests_at 
 
 -- ---- the wide form
 
-wide_back : (y : LayoutData) → 1 ≤ y.leaves → y.procs ≤ y.leaves → (a : Word) → IsNeeded y a →
-    wide_word y (wide_number y a) ≡ a
-wide_back y some padded Conflict is = grind (arith, nat_tests)
-wide_back y some padded (Node n) is = grind (arith, nat_tests)
-wide_back y some padded (Asked i j) is = grind (arith, nat_tests)
-wide_back y some padded (Position w) is = grind (arith, nat_tests)
-wide_back y some padded (Stored p k) is = grind (arith, nat_tests)
-wide_back y some padded (Claim c) is = grind (arith, nat_tests)
-wide_back y some padded (Spare k) is = absurd is
+-- the word at a place of a processor's lines
+lines_back : (y : LayoutData) (i s : ℕ) → i < grain y * y.leaves → s < 16 →
+    wide_word y (lines_at y i + s) ≡ lines_word y (lines_at y i + s) i s
+lines_back y i s room place = grind (arith, nat_tests)
 
-wide_below : (y : LayoutData) → 1 ≤ y.leaves → y.procs ≤ y.leaves → (a : Word) → IsNeeded y a →
+leaf_back : (y : LayoutData) (n : ℕ) → IsLayout y → y.leaves ≤ n → n < 2 * y.leaves →
+    wide_word y (lines_at y (grain y * (n - y.leaves))) ≡ Node n
+leaf_back y n limits leaf below =
+    let first = first_of y (n - y.leaves) limits (omega arith) in
+    let back = lines_back y (grain y * (n - y.leaves)) 0 first.below (lit< tt) in
+    let b = n - y.leaves in
+    ap (wide_word y) (omega arith) ∙ back ∙ grind (arith, nat_tests, first.first, first.block)
+
+wide_back : (y : LayoutData) → IsLayout y → (a : Word) → IsNeeded y a →
+    wide_word y (wide_number y a) ≡ a
+wide_back y limits Conflict is = let some = limits.leaves.0 in grind (arith, nat_tests)
+wide_back y limits (Node n) is = elim (cases_lt n y.leaves) [
+  | inl c ↦ rw (lt-ltb n y.leaves c) (grind (arith, nat_tests))
+  | inr c ↦ rw (le-ltb n y.leaves c) (leaf_back y n limits c is.1)
+]
+wide_back y limits (Asked i j) is = let room = limits.room.0 in grind (arith, nat_tests)
+wide_back y limits (Position w) is = let some = limits.leaves.0 in grind (arith, nat_tests)
+wide_back y limits (Stored p k) is = let room = limits.room.0 in grind (arith, nat_tests)
+wide_back y limits (Claim c) is = let room = limits.room.0 in grind (arith, nat_tests)
+wide_back y limits (Spare k) is = absurd is
+
+wide_below : (y : LayoutData) → IsLayout y → (a : Word) → IsNeeded y a →
     wide_number y a < wide_claims_at y + cond y.claims y.cells 0
-wide_below y some padded Conflict is = omega arith
-wide_below y some padded (Node n) is = grind (arith, nat_tests)
-wide_below y some padded (Asked i j) is = omega arith
-wide_below y some padded (Position w) is = omega arith
-wide_below y some padded (Stored p k) is = grind (arith, nat_tests)
-wide_below y some padded (Claim c) is = let e = cond-true y.claims y.cells 0 is.0 in omega arith
-wide_below y some padded (Spare k) is = absurd is
+wide_below y limits Conflict is = let some = limits.leaves.0 in omega arith
+wide_below y limits (Node n) is = elim (cases_lt n y.leaves) [
+  | inl c ↦ rw (lt-ltb n y.leaves c) (omega arith)
+  | inr c ↦ rw (le-ltb n y.leaves c)
+      (let first = first_of y (n - y.leaves) limits (omega arith) in omega (arith, first.below))
+]
+wide_below y limits (Asked i j) is = let room = limits.room.0 in omega arith
+wide_below y limits (Position w) is = omega arith
+wide_below y limits (Stored p k) is = let room = limits.room.0 in grind (arith, nat_tests)
+wide_below y limits (Claim c) is = let e = cond-true y.claims y.cells 0 is.0 in omega arith
+wide_below y limits (Spare k) is = absurd is
 
 -- each number has its word, or is spare
 abbrev IsFoundWide : LayoutData → ℕ → Type 0
 IsFoundWide y k = Found y (wide_number y) k (wide_word y k) ⊎ (wide_word y k ≡ Spare k)
 
-line_found : (y : LayoutData) (k : ℕ) → 1 ≤ y.leaves → k < block_at y 0 → IsFoundWide y k
+line_found : (y : LayoutData) (k : ℕ) → 1 ≤ y.leaves → k < lines_at y 0 → IsFoundWide y k
 line_found y k some below = elim (cases_eq (k % 8) 0) [
   | inl e ↦ inl (elim (cases_eq (k / 8) 0) [
     | inl z ↦ found_at y _ k Conflict _
@@ -139,13 +177,31 @@ line_found y k some below = elim (cases_eq (k % 8) 0) [
   | inr e ↦ inr (grind (arith, nat_tests))
 ]
 
-block_found : (y : LayoutData) (k i s : ℕ) → i < y.leaves → s < 16 →
-    k ≡ block_at y i + s → IsFoundWide y k
-block_found y k i s leaf place e = elim (cases_eq s 0) [
-  | inl z ↦ inl (found_at y _ k (Node (y.leaves + i)) _ (grind (arith, nat_tests)) (record {
-    is = (omega arith, omega arith);
-    number = grind (arith, nat_tests);
-  }))
+-- the first word of a processor's lines
+first_found : (y : LayoutData) (k i : ℕ) → IsLayout y → i < grain y * y.leaves →
+    k ≡ lines_at y i → IsFoundWide y k
+first_found y k i limits room e =
+    let back = lines_back y i 0 room (lit< tt) in
+    let some = grain_some y limits in
+    let here : wide_word y k ≡ first_word y k i =
+    ap (wide_word y) (omega arith) ∙ back ∙ ap (λ m. first_word y m i) (omega arith) in
+    elim (cases_eq (i % grain y) 0) [
+      | inl z ↦ (let b = i / grain y in
+          let whole : grain y * b ≡ i = omega (arith, z, div-add-mod i (grain y)) in
+          let leaf : b < y.leaves =
+          lt_of_mul-lt-mul_left (grain y) (omega (arith, whole, mul-div-le i (grain y))) in
+          inl (found_at y _ k (Node (y.leaves + b)) _ (here ∙ rw (eq-eqb _ _ z) refl) (record {
+            is = (omega (arith, limits.leaves), omega arith);
+            number = rw (le-ltb (y.leaves + b) y.leaves (omega arith))
+                (let back : y.leaves + b - y.leaves ≡ b = omega arith in rw (back, whole) (sym e));
+          })))
+      | inr z ↦ inr (here ∙ rw (ne_eqb _ _ z) refl)
+    ]
+
+lines_found : (y : LayoutData) (k i s : ℕ) → IsLayout y → i < grain y * y.leaves → s < 16 →
+    k ≡ lines_at y i + s → IsFoundWide y k
+lines_found y k i s limits room place e = elim (cases_eq s 0) [
+  | inl z ↦ first_found y k i limits room (omega arith)
   | inr z ↦ elim (cases_lt i y.procs) [
     | inl p ↦ elim (cases_lt s 4) [
       | inl c ↦ inl (found_at y _ k (Asked i (s - 1)) _
@@ -166,13 +222,13 @@ block_found y k i s leaf place e = elim (cases_eq s 0) [
   ]
 ]
 
-wide_found : (y : LayoutData) (k : ℕ) → 1 ≤ y.leaves →
+wide_found : (y : LayoutData) (k : ℕ) → IsLayout y →
     k < wide_claims_at y + cond y.claims y.cells 0 → IsFoundWide y k
-wide_found y k some b = elim (cases_lt k (block_at y 0)) [
-  | inl c ↦ line_found y k some c
+wide_found y k limits b = elim (cases_lt k (lines_at y 0)) [
+  | inl c ↦ line_found y k limits.leaves.0 c
   | inr c ↦ elim (cases_lt k (cells_at y)) [
-    | inl d ↦ block_found y k ((k - block_at y 0) / 16)
-        ((k - block_at y 0) % 16) (omega arith) (omega arith) (omega arith)
+    | inl d ↦ lines_found y k ((k - lines_at y 0) / 16)
+        ((k - lines_at y 0) % 16) limits (omega arith) (omega arith) (omega arith)
     | inr d ↦ inl (elim (cases_lt k (wide_claims_at y)) [
       | inl e ↦ found_at y _ k (Stored ((k - cells_at y) / 2) (k % 2)) _ (grind (arith, nat_tests))
           (record { is = (omega arith, omega arith); number = grind (arith, nat_tests) })
@@ -184,44 +240,68 @@ wide_found y k some b = elim (cases_lt k (block_at y 0)) [
 
 -- ---- both forms
 
+number_compact : (y : LayoutData) → y.form ≡ Compact → (a : Word) →
+    number_of y a ≡ compact_number y a
+unfolding number_of
+number_compact y e a = form_compact y.form (compact_number y a) (wide_number y a) e
+
+number_wide : (y : LayoutData) (g : ℕ) → y.form ≡ Wide g → (a : Word) →
+    number_of y a ≡ wide_number y a
+unfolding number_of
+number_wide y g e a = form_wide y.form g (compact_number y a) (wide_number y a) e
+
+word_compact : (y : LayoutData) → y.form ≡ Compact → (k : ℕ) → word_at y k ≡ compact_word y k
+unfolding word_at
+word_compact y e k = form_compact y.form (compact_word y k) (wide_word y k) e
+
+word_wide : (y : LayoutData) (g : ℕ) → y.form ≡ Wide g → (k : ℕ) → word_at y k ≡ wide_word y k
+unfolding word_at
+word_wide y g e k = form_wide y.form g (compact_word y k) (wide_word y k) e
+
+length_compact : (y : LayoutData) → y.form ≡ Compact →
+    length_of y ≡ claims_at y + cond y.claims y.cells 0
+unfolding length_of
+length_compact y e =
+    ap (λ n. n + cond y.claims y.cells 0) (form_compact y.form (claims_at y) (wide_claims_at y) e)
+
+length_wide : (y : LayoutData) (g : ℕ) → y.form ≡ Wide g →
+    length_of y ≡ wide_claims_at y + cond y.claims y.cells 0
+unfolding length_of
+length_wide y g e =
+    ap (λ n. n + cond y.claims y.cells 0) (form_wide y.form g (claims_at y) (wide_claims_at y) e)
+
 needed_back : (y : LayoutData) → IsLayout y → (a : Word) →
     IsNeeded y a → word_at y (number_of y a) ≡ a
-unfolding number_of word_at
 needed_back y limits a is = elim (cases_form y.form) [
-  | inl e ↦ rw e (compact_back y limits.leaves.0 a is)
-  | inr e ↦ rw e (wide_back y limits.leaves.0 (procs_leaves y limits) a is)
+  | inl e ↦ ap (word_at y) (number_compact y e a) ∙ word_compact y e (compact_number y a)
+      ∙ compact_back y limits.leaves.0 a is
+  | inr e ↦ ap (word_at y) (number_wide y e.0 e.1 a) ∙ word_wide y e.0 e.1 (wide_number y a)
+      ∙ wide_back y limits a is
 ]
 
 needed_below : (y : LayoutData) → IsLayout y → (a : Word) →
     IsNeeded y a → number_of y a < length_of y
-unfolding number_of length_of
 needed_below y limits a is = elim (cases_form y.form) [
-  | inl e ↦ rw e (compact_below y limits.leaves.0 a is)
-  | inr e ↦ rw e (wide_below y limits.leaves.0 (procs_leaves y limits) a is)
+  | inl e ↦ rw (number_compact y e a, length_compact y e) (compact_below y limits.leaves.0 a is)
+  | inr e ↦ rw (number_wide y e.0 e.1 a, length_wide y e.0 e.1) (wide_below y limits a is)
 ]
 
 found : (y : LayoutData) (k : ℕ) → IsLayout y → k < length_of y →
     Found y (number_of y) k (word_at y k) ⊎ (word_at y k ≡ Spare k)
-unfolding number_of word_at length_of
 found y k limits b = elim (cases_form y.form) [
-  | inl e ↦ inl (let below : k < claims_at y + cond y.claims y.cells 0 = rw e at b in
-      let f = compact_found y k limits.leaves.0 below in
-      rw (form_compact y.form (compact_word y k) (wide_word y k) e)
-      (record {
+  | inl e ↦ inl (let f = compact_found y k limits.leaves.0 (rw (← length_compact y e) b) in
+      rw (word_compact y e k) (record {
         is = f.is;
-        number = form_compact y.form (compact_number y (compact_word y k))
-            (wide_number y (compact_word y k)) e ∙ f.number;
+        number = number_compact y e (compact_word y k) ∙ f.number;
       }))
-  | inr e ↦ (let below : k < wide_claims_at y + cond y.claims y.cells 0 = rw e at b in
-      rw (form_wide y.form (compact_word y k) (wide_word y k) e)
-      (elim (wide_found y k limits.leaves.0 below) [
+  | inr e ↦ rw (word_wide y e.0 e.1 k) (elim (wide_found y k limits
+      (rw (← length_wide y e.0 e.1) b)) [
         | inl f ↦ inl (record {
           is = f.is;
-          number = form_wide y.form (compact_number y (wide_word y k))
-              (wide_number y (wide_word y k)) e ∙ f.number;
+          number = number_wide y e.0 e.1 (wide_word y k) ∙ f.number;
         })
         | inr f ↦ inr f
-      ]))
+      ])
 ]
 
 -- a needed word is a word
@@ -244,7 +324,7 @@ spare_is y k limits below e = (
 
 spare_number : (y : LayoutData) (k : ℕ) → number_of y (Spare k) ≡ k
 unfolding number_of
-spare_number y k = elim (cases_form y.form) [ inl e ↦ rw e refl | inr e ↦ rw e refl ]
+spare_number y k = elim (cases_form y.form) [ inl e ↦ rw e refl | inr e ↦ rw e.1 refl ]
 
 word_found : (y : LayoutData) (k : ℕ) → IsLayout y → k < length_of y →
     IsWord y (word_at y k) × (number_of y (word_at y k) ≡ k)
@@ -284,12 +364,12 @@ number_of_below y limits (Claim c) is = needed_below y limits (Claim c) is
 
 conflict_first : (y : LayoutData) → number_of y Conflict ≡ 0
 unfolding number_of
-conflict_first y = elim (cases_form y.form) [ inl e ↦ rw e refl | inr e ↦ rw e refl ]
+conflict_first y = elim (cases_form y.form) [ inl e ↦ rw e refl | inr e ↦ rw e.1 refl ]
 
 second_follows : (y : LayoutData) (p : ℕ) → number_of y (Stored p 1) ≡ number_of y (Stored p 0) + 1
 unfolding number_of
 second_follows y p =
-    elim (cases_form y.form) [ inl e ↦ rw e (omega arith) | inr e ↦ rw e (omega arith) ]
+    elim (cases_form y.form) [ inl e ↦ rw e (omega arith) | inr e ↦ rw e.1 (omega arith) ]
 
 pub numbering : (y : LayoutData) → IsLayout y → IsNumbering y
 numbering y limits =

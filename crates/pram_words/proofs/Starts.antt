@@ -10,20 +10,24 @@ use Rattle.pram_words.specs.declared.layout.Form.{Form}
 use Rattle.pram_words.specs.declared.words.Word.{Word}
 use Rattle.pram_words.specs.declared.words.Word.TheVariants.{Conflict, Node, Asked}
 use Rattle.pram_words.specs.declared.words.Word.TheVariants.{Position, Stored, Claim, Spare}
-use Rattle.pram_words.specs.Words.{LayoutData, IsLayout, IsWord, IsInRange, IsStamped, layout_of}
+use Rattle.pram_words.specs.Words.{LayoutData, IsLayout, IsWord, IsInRange, IsStamped}
+use Rattle.pram_words.specs.Words.{IsGrain, grain_of, layout_of}
 use Rattle.pram_words.specs.Words.{counters_of, most_stored, number_of, length_of, word_at}
 use Rattle.pram_words.specs.Start.{start_of, start_words, StartsAdmitted}
-use Rattle.pram_words.proofs.Halvings.{leaves_most}
+use Rattle.pram_words.proofs.Blocks.{leaves_limits}
 use Rattle.pram_words.proofs.Numbering.{numbering, word_at-number_of}
 use Rattle.pram_words.proofs.Ways.{first_leaf}
 
 -- the layout of a job is within the limits
-pub layout_of_limits : (job : JobData) (form : Form) (workers : ℕ) → IsJob job → 1 ≤ workers →
-    workers ≤ 64 → IsLayout (layout_of job form workers)
-layout_of_limits job form workers is some most =
+pub layout_of_limits : (job : JobData) (form : Form) (workers : ℕ) → IsJob job →
+    IsGrain (grain_of form) → 1 ≤ workers → workers ≤ 64 → IsLayout (layout_of job form workers)
+layout_of_limits job form workers is block some most =
+    let found = leaves_limits (grain_of form) job.procs block is.procs.0 is.procs.1 in
     record {
-      leaves = leaves_most job.procs is.procs.0 is.procs.1;
+      leaves = found.leaves;
+      block = block;
       least = refl;
+      room = found.room;
       cells = is.cells;
       procs = is.procs;
       workers = (some, most);
@@ -77,10 +81,11 @@ unfolding start_words
 length-start_words y job =
     length-map-range_with_len (λ k. start_of y job (word_at y k)) 0 (length_of y)
 
-pub starts_admitted : (job : JobData) (form : Form) (workers : ℕ) → IsJob job → 1 ≤ workers →
-    workers ≤ 64 → StartsAdmitted (layout_of job form workers) job
-starts_admitted job form workers is some most =
-    let limits = layout_of_limits job form workers is some most in
+pub starts_admitted : (job : JobData) (form : Form) (workers : ℕ) → IsJob job →
+    IsGrain (grain_of form) → 1 ≤ workers → workers ≤ 64 →
+    StartsAdmitted (layout_of job form workers) job
+starts_admitted job form workers is block some most =
+    let limits = layout_of_limits job form workers is block some most in
     let value = start_words_value (layout_of job form workers) job limits in
     record {
       values = value;

@@ -10,7 +10,8 @@ use Rattle.pram_words.specs.Tree.{digits_of, depth_of, first_leaf_of, turns_righ
 use Rattle.pram_words.specs.Words.{LayoutData, IsLayout, by_form}
 use Rattle.pram_words.specs.Ways.{turn_bits, turns_right_wide, IsTurnWide}
 use Rattle.pram_words.specs.Ways.{turns_right_in, way_of, first_leaf_in}
-use Rattle.pram_words.proofs.Halvings.{double, digits, exponents, depth_unique, leaves_least}
+use Rattle.pram_words.proofs.Halvings.{double, digits, exponents, depth_unique}
+use Rattle.pram_words.proofs.Blocks.{leaves_power}
 use Rattle.pram_words.proofs.Numbering.{cases_form, form_compact, form_wide}
 
 -- the least b with W ≤ 2 ^ b
@@ -54,9 +55,9 @@ way_depth y worker (suc d) =
 -- a tree's leaves lie where its height says
 pub leaves_height : (y : LayoutData) → IsLayout y → y.leaves ≡ 2 ^ depth_of y.leaves
 leaves_height y limits =
-    let power = (leaves_least y.procs limits.procs.0 (omega (arith, limits.procs))).2 in
+    let power = leaves_power y limits in
     let h : ℕ = power.0 in
-    let e : y.leaves ≡ 2 ^ h = limits.least ∙ power.1 in
+    let e : y.leaves ≡ 2 ^ h = power.1 in
     let height : h ≡ depth_of y.leaves = depth_unique y.leaves h
     (omega (arith, limits.leaves)) (omega arith) (let pos = pow_pos h in omega arith) in
     e ∙ ap (λ x. 2 ^ x) height
@@ -77,7 +78,8 @@ first_leaf y worker limits = elim (cases_form y.form) [
   | inl e ↦
       rw e (let below = mod_below worker y.leaves limits.leaves.0 in (omega arith, omega arith))
   | inr e ↦
-      rw (form_wide y.form (first_leaf_of y.leaves worker) (way_of y worker (depth_of y.leaves)) e)
+      rw (form_wide y.form e.0 (first_leaf_of y.leaves worker)
+      (way_of y worker (depth_of y.leaves)) e.1)
       (way_leaf y worker limits)
 ]
 
@@ -134,8 +136,8 @@ begins_at_leaf y worker limits =
               compact_way y worker (depth_of y.leaves) 0
                   (depth_of y.leaves) e (leaves_height y limits) limits.leaves.1 (omega arith),
             ))
-        | inr e ↦
-            form_wide y.form (first_leaf_of y.leaves worker) (way_of y worker (depth_of y.leaves)) e
+        | inr e ↦ form_wide y.form e.0 (first_leaf_of y.leaves worker)
+            (way_of y worker (depth_of y.leaves)) e.1
       ],
     )
 

@@ -6,7 +6,8 @@ use Rattle.pram_words.specs.declared.phases.Kind.{Kind}
 use Rattle.pram_words.specs.Stamps.{stamped_word, stamp_of, payload_of}
 use Rattle.pram_words.specs.Phases.{phase_of, step_at, kind_at}
 use Rattle.pram_words.specs.Tree.{depth_of}
-use Rattle.pram_words.specs.Words.{LayoutData, IsLayout, IsNumbering, HasRanges, layout_of}
+use Rattle.pram_words.specs.Words.{LayoutData, IsLayout, IsNumbering, HasRanges}
+use Rattle.pram_words.specs.Words.{IsGrain, grain_of, layout_of}
 use Rattle.pram_words.specs.Ways.{first_leaf_in, way_of}
 use Rattle.pram_words.specs.Start.{StartsAdmitted}
 
@@ -35,8 +36,9 @@ WordsHaveRanges = (layout : LayoutData) (job : JobData) → IsLayout layout → 
 
 -- the words of a board start in their ranges, each as its kind says
 abbrev pub WordsStartAdmitted : Type 0
-WordsStartAdmitted = (job : JobData) (form : Form) (workers : ℕ) → IsJob job → 1 ≤ workers →
-    workers ≤ 64 → StartsAdmitted (layout_of job form workers) job
+WordsStartAdmitted = (job : JobData) (form : Form) (workers : ℕ) → IsJob job →
+    IsGrain (grain_of form) → 1 ≤ workers → workers ≤ 64 →
+    StartsAdmitted (layout_of job form workers) job
 
 -- a worker begins at the leaf where its turns lead from the root
 abbrev pub WorkersBeginAtLeaves : Type 0

@@ -34,7 +34,7 @@ turns_right_in layout worker node =
 -- the same in words
 abbrev pub IsTurnOf : Form → LayoutData → ℕ → ℕ → Bool → Type 0
 IsTurnOf Compact layout worker node right = IsTurn layout.leaves worker node right
-IsTurnOf Wide layout worker node right = IsTurnWide layout.workers worker node right
+IsTurnOf (Wide grain) layout worker node right = IsTurnWide layout.workers worker node right
 
 -- the node at a depth where a worker's turns lead from the root
 unfoldable pub way_of : LayoutData → ℕ → ℕ → ℕ

@@ -1,7 +1,9 @@
 -- The words of a board: which there are, where each lies, and what each may hold.
 use Rattle.std.specs.Prelude.{◌≡◌, ◌≢◌, ◌↔◌, ℕ, Bool, true, false, IsTrue}
 use Rattle.std.specs.Prelude.{◌+◌, ◌-◌, ◌*◌, ◌/◌, ◌%◌, ◌^◌, ◌<◌, ◌≤◌}
-use Rattle.std.specs.Prelude.{◌==◌, ◌&&◌, nat_lt, List, length, slice_index, if◌then◌else◌}
+use Rattle.std.specs.Prelude.{◌==◌, ◌&&◌, max, min, nat_lt, if◌then◌else◌}
+use Rattle.std.specs.Prelude.{List, length, slice_index}
+use Rattle.std.specs.Int.{IsPowerOfTwo, div_ceil}
 use Rattle.pram_text.specs.Job.{JobData}
 use Rattle.pram_text.specs.Places.{counters_at, places_in}
 use Rattle.pram_text.specs.declared.limits.TheConstants.{MAX_CELLS, MAX_PROCS}
@@ -13,7 +15,12 @@ use Rattle.pram_words.specs.declared.words.Word.{Word}
 use Rattle.pram_words.specs.declared.words.Word.TheVariants.{Conflict, Node, Asked, Position}
 use Rattle.pram_words.specs.declared.words.Word.TheVariants.{Stored, Claim, Spare}
 use Rattle.pram_words.specs.Stamps.{stamp_of, payload_of}
-use Rattle.pram_words.specs.Tree.{leaves_of}
+use Rattle.pram_words.specs.Tree.{depth_of, leaves_of}
+
+-- G: how many processors a leaf stands for, its *block*
+abbrev pub grain_of : Form → ℕ
+grain_of Compact = 1
+grain_of (Wide grain) = grain
 
 -- the form, L leaves, M cells, N processors, W workers, and whether each cell has a claim word
 pub record LayoutData : Type 0 where
@@ -34,10 +41,25 @@ layout_data form leaves cells procs workers claims = record {
   claims = claims;
 }
 
--- the limits of a layout
+abbrev pub grain : LayoutData → ℕ
+grain layout = grain_of layout.form
+
+-- a power of two up to 64
+abbrev pub IsGrain : ℕ → Type 0
+IsGrain size = IsPowerOfTwo size × (size ≤ 64)
+
+-- the size of a block for so many processors and workers: the greatest power of two up to 64 that
+-- leaves each worker four leaves, or 1
+abbrev pub grain_for : ℕ → ℕ → ℕ
+grain_for procs workers = 2 ^ depth_of (max 1 (min (procs / 4 / workers) 64))
+
+-- the limits of a layout; its leaves are the least power of two with a place for each processor
 pub record IsLayout (layout : LayoutData) : Type 0 where
   pub leaves : (1 ≤ layout.leaves) × (layout.leaves ≤ MAX_PROCS)
-  pub least : layout.leaves ≡ leaves_of layout.procs
+  pub block : IsGrain (grain layout)
+  pub least : layout.leaves ≡ leaves_of (div_ceil layout.procs (grain layout))
+  pub room : (layout.procs ≤ grain layout * layout.leaves)
+      × (grain layout * layout.leaves ≤ MAX_PROCS)
   pub cells : (1 ≤ layout.cells) × (layout.cells ≤ MAX_CELLS)
   pub procs : (1 ≤ layout.procs) × (layout.procs ≤ MAX_PROCS)
   pub workers : (1 ≤ layout.workers) × (layout.workers ≤ 64)
@@ -50,7 +72,8 @@ has_claims Crew = true
 -- the layout of a job's board, in a form, for so many workers
 abbrev pub layout_of : JobData → Form → ℕ → LayoutData
 layout_of job form workers =
-    layout_data form (leaves_of job.procs) job.cells job.procs workers (has_claims job.rule)
+    layout_data form (leaves_of (div_ceil job.procs (grain_of form))) job.cells job.procs workers
+    (has_claims job.rule)
 
 -- places: the cells, then four registers for each processor, then its counter
 abbrev pub places_of : LayoutData → ℕ
@@ -105,16 +128,16 @@ compact_word layout number =
     else Claim (number - claims_at layout)))))
 
 -- ---- the wide form: lines of 8 words. Word 0, each inner node and each position lie on a line of
--- their own; then each leaf has a block of two lines, with all that belongs to its processor: the
--- leaf's node, the three request words, the two words of the counter and of each register; then the
--- cells, two words each, and the claims.
+-- their own; then come the leaves' blocks, with two lines for each processor: a word for the leaf's
+-- node, if the processor is the first of its block, the three request words, the two words of the
+-- counter and of each register; then the cells, two words each, and the claims.
 
--- the first word of the block of leaf i, the first word of a cell, and the first claim word
-abbrev pub block_at : LayoutData → ℕ → ℕ
-block_at layout i = 8 * (layout.leaves + layout.workers) + 16 * i
+-- the first word of the lines of processor i, of a cell, and of a claim
+abbrev pub lines_at : LayoutData → ℕ → ℕ
+lines_at layout i = 8 * (layout.leaves + layout.workers) + 16 * i
 
 abbrev pub cells_at : LayoutData → ℕ
-cells_at layout = block_at layout layout.leaves
+cells_at layout = lines_at layout (grain layout * layout.leaves)
 
 abbrev pub wide_claims_at : LayoutData → ℕ
 wide_claims_at layout = cells_at layout + 2 * layout.cells
@@ -123,15 +146,15 @@ wide_claims_at layout = cells_at layout + 2 * layout.cells
 abbrev pub wide_place : LayoutData → ℕ → ℕ
 wide_place layout place =
     if nat_lt place layout.cells then cells_at layout + 2 * place
-    else (if nat_lt place (counters_of layout) then block_at layout ((place - layout.cells) / 4) + 6
+    else (if nat_lt place (counters_of layout) then lines_at layout ((place - layout.cells) / 4) + 6
     + 2 * ((place - layout.cells) % 4)
-    else block_at layout (place - counters_of layout) + 4)
+    else lines_at layout (place - counters_of layout) + 4)
 
 abbrev pub wide_number : LayoutData → Word → ℕ
 wide_number layout Conflict = 0
-wide_number layout (Node node) =
-    if nat_lt node layout.leaves then 8 * node else block_at layout (node - layout.leaves)
-wide_number layout (Asked i j) = block_at layout i + 1 + j
+wide_number layout (Node node) = if nat_lt node layout.leaves then 8 * node
+    else lines_at layout (grain layout * (node - layout.leaves))
+wide_number layout (Asked i j) = lines_at layout i + 1 + j
 wide_number layout (Position worker) = 8 * (layout.leaves + worker)
 wide_number layout (Stored place which) = wide_place layout place + which
 wide_number layout (Claim cell) = wide_claims_at layout + cell
@@ -142,22 +165,28 @@ abbrev pub line_word : LayoutData → ℕ → Word
 line_word layout line = if line == 0 then Conflict
     else (if nat_lt line layout.leaves then Node line else Position (line - layout.leaves))
 
--- the word of this number, which lies in this slot of the block of leaf i
-abbrev pub block_word : LayoutData → ℕ → ℕ → ℕ → Word
-block_word layout number i slot =
-    if slot == 0 then Node (layout.leaves + i)
+-- the first word of processor i's lines, which has this number
+abbrev pub first_word : LayoutData → ℕ → ℕ → Word
+first_word layout number i =
+    if i % grain layout == 0 then Node (layout.leaves + i / grain layout) else Spare number
+
+-- the word of this number, which lies at this place of processor i's lines
+abbrev pub lines_word : LayoutData → ℕ → ℕ → ℕ → Word
+lines_word layout number i slot =
+    if slot == 0 then first_word layout number i
     else (if nat_lt i layout.procs && nat_lt slot 4 then Asked i (slot - 1)
     else (if nat_lt i layout.procs && nat_lt slot 6 then Stored (counters_of layout + i) (slot - 4)
     else (if nat_lt i layout.procs && nat_lt slot 14
-    then Stored (layout.cells + 4 * i + (slot - 6) / 2) (slot % 2) else Spare number)))
+    then Stored (layout.cells + 4 * i + (slot - 6) / 2) (slot % 2)
+    else Spare number)))
 
 abbrev pub wide_word : LayoutData → ℕ → Word
 wide_word layout number =
-    if nat_lt number (block_at layout 0)
+    if nat_lt number (lines_at layout 0)
     then (if number % 8 == 0 then line_word layout (number / 8) else Spare number)
     else (if nat_lt number (cells_at layout)
-    then block_word layout number ((number - block_at layout 0) / 16)
-    ((number - block_at layout 0) % 16)
+    then lines_word layout number ((number - lines_at layout 0) / 16)
+    ((number - lines_at layout 0) % 16)
     else (if nat_lt number (wide_claims_at layout)
     then Stored ((number - cells_at layout) / 2) (number % 2)
     else Claim (number - wide_claims_at layout)))
@@ -166,7 +195,7 @@ wide_word layout number =
 
 abbrev pub by_form : {A : Type 0} → Form → A → A → A
 by_form Compact compact wide = compact
-by_form Wide compact wide = wide
+by_form (Wide grain) compact wide = wide
 
 -- the number of a word
 unfoldable pub number_of : LayoutData → Word → ℕ

@@ -12,7 +12,9 @@ ghost use Rattle.pram_words.specs.Words.{has_claims, layout_data, layout_of};
 ghost use Rattle.pram_words.specs.Words.{length_of, most_length};
 ghost use Rattle.pram_words.specs.Words.{number_of, places_of, word_at};
 ghost use Rattle.pram_words.specs.Words.{claims_at, compact_word, places_at, positions_at};
-ghost use Rattle.pram_words.specs.Words.{block_at, block_word, cells_at, line_word};
+ghost use Rattle.std.specs.Int.{div_ceil};
+ghost use Rattle.pram_words.specs.Words.{IsGrain, grain_for, cells_at, first_word, grain, grain_of};
+ghost use Rattle.pram_words.specs.Words.{line_word, lines_at, lines_word};
 ghost use Rattle.pram_words.specs.Words.{wide_claims_at, wide_place, wide_word};
 
 use crate::stamps::{payload, stamp};
@@ -32,9 +34,22 @@ pub enum Form {
     Compact,
     /// On lines of 8 words: the conflict, each inner node and each position on a line of its own,
     /// what belongs to one processor together on two lines, then the cells and the claims; the
-    /// words between are spare. A worker turns by its number's low bits, so that workers start far
-    /// apart and walk towards each other.
-    Wide,
+    /// words between are spare. A leaf stands for a block of so many processors, a power of two up
+    /// to 64; its node lies on the lines of the first. A worker turns by its number's low bits, so
+    /// that workers start far apart and walk towards each other.
+    Wide(u32),
+}
+
+impl Form {
+    /// How many processors a leaf stands for.
+    pub fn grain(self) -> u32
+        ensures { result ≡ grain_of self }
+    {
+        match self {
+            Form::Compact => 1,
+            Form::Wide(grain) => grain,
+        }
+    }
 }
 
 /// Where the words of a board lie, for L leaves, M cells, N processors and W workers. Places are
@@ -78,14 +93,33 @@ impl Layout {
         Layout::of(Form::Compact, job.rule(), job.cells(), job.procs(), workers)
     }
 
-    /// The wide layout of the board of a job for so many workers.
+    /// The wide layout of the board of a job for so many workers, with blocks that leave each
+    /// worker at least four leaves, where there are as many processors.
     pub fn wide(job: &Job, workers: u32) -> Layout
         requires some { 1 ≤ workers }
         requires most { workers ≤ 64 }
-        ensures value { result ≡ layout_of job.now Wide workers }
+        ensures value { result
+            ≡ layout_of job.now (Wide (grain_for job.now.procs workers)) workers }
         ensures limits { IsLayout result }
     {
-        Layout::of(Form::Wide, job.rule(), job.cells(), job.procs(), workers)
+        Layout::with_blocks(job, workers, grain_for(job.procs(), workers))
+    }
+
+    /// The wide layout with blocks of so many processors.
+    pub fn with_blocks(job: &Job, workers: u32, grain: u32) -> Layout
+        requires some { 1 ≤ workers }
+        requires most { workers ≤ 64 }
+        requires grain { IsGrain grain }
+        ensures value { result ≡ layout_of job.now (Wide grain) workers }
+        ensures limits { IsLayout result }
+    {
+        Layout::of(
+            Form::Wide(grain),
+            job.rule(),
+            job.cells(),
+            job.procs(),
+            workers,
+        )
     }
 
     // The layout from plain numbers.
@@ -93,8 +127,9 @@ impl Layout {
         requires cells { (1 ≤ cells) × (cells ≤ MAX_CELLS) }
         requires procs { (1 ≤ procs) × (procs ≤ MAX_PROCS) }
         requires workers { (1 ≤ workers) × (workers ≤ 64) }
-        ensures value { result ≡ layout_data form (leaves_of procs) cells procs workers
-            (has_claims rule) }
+        requires grain { IsGrain (grain_of form) }
+        ensures value { result ≡ layout_data form (leaves_of (div_ceil procs (grain_of form))) cells
+            procs workers (has_claims rule) }
         ensures limits { IsLayout result }
     {
         let claims = match rule {
@@ -103,7 +138,7 @@ impl Layout {
         };
         Layout {
             form,
-            leaves: leaves(procs),
+            leaves: leaves(procs.div_ceil(form.grain())),
             cells,
             procs,
             workers,
@@ -136,6 +171,15 @@ impl Layout {
         self.leaves
     }
 
+    /// How many processors there are.
+    #[inline(always)]
+    pub fn procs(&self) -> u32
+        ensures value { result ≡ self.now.procs }
+        ensures limits { IsLayout self.now }
+    {
+        self.procs
+    }
+
     /// How many workers there are.
     pub fn workers(&self) -> u32
         ensures value { result ≡ self.now.workers }
@@ -155,7 +199,7 @@ impl Layout {
         let claims = if self.claims { self.cells } else { 0 };
         match self.form {
             Form::Compact => self.first_claim() + claims,
-            Form::Wide => self.wide_first_claim() + claims,
+            Form::Wide(_) => self.wide_first_claim() + claims,
         }
     }
 
@@ -179,8 +223,8 @@ impl Layout {
     {
         match self.form {
             Form::Compact => n,
-            Form::Wide if n < self.leaves => 8 * n,
-            Form::Wide => self.block(n - self.leaves),
+            Form::Wide(_) if n < self.leaves => 8 * n,
+            Form::Wide(_) => self.lines(self.grain() * (n - self.leaves)),
         }
     }
 
@@ -195,7 +239,7 @@ impl Layout {
     {
         match self.form {
             Form::Compact => 2 * self.leaves + 3 * i + j,
-            Form::Wide => self.block(i) + 1 + j,
+            Form::Wide(_) => self.lines(i) + 1 + j,
         }
     }
 
@@ -208,7 +252,7 @@ impl Layout {
     {
         match self.form {
             Form::Compact => self.first_position() + w,
-            Form::Wide => 8 * (self.leaves + w),
+            Form::Wide(_) => 8 * (self.leaves + w),
         }
     }
 
@@ -222,7 +266,7 @@ impl Layout {
     {
         match self.form {
             Form::Compact => self.first_place() + 2 * p,
-            Form::Wide => self.wide_place_word(p),
+            Form::Wide(_) => self.wide_place_word(p),
         }
     }
 
@@ -236,7 +280,7 @@ impl Layout {
     {
         match self.form {
             Form::Compact => self.first_claim() + c,
-            Form::Wide => self.wide_first_claim() + c,
+            Form::Wide(_) => self.wide_first_claim() + c,
         }
     }
 
@@ -248,7 +292,7 @@ impl Layout {
     {
         match self.form {
             Form::Compact => self.compact_word(number),
-            Form::Wide => self.wide_word(number),
+            Form::Wide(_) => self.wide_word(number),
         }
     }
 
@@ -260,7 +304,7 @@ impl Layout {
     {
         match self.form {
             Form::Compact => first_leaf(self.leaves, w),
-            Form::Wide => self.leaf_of_turns(w),
+            Form::Wide(_) => self.leaf_of_turns(w),
         }
     }
 
@@ -274,7 +318,7 @@ impl Layout {
     {
         match self.form {
             Form::Compact => goes_right(self.leaves, w, n),
-            Form::Wide => goes_right_wide(self.workers, w, n),
+            Form::Wide(_) => goes_right_wide(self.workers, w, n),
         }
     }
 
@@ -363,8 +407,8 @@ impl Layout {
     fn wide_word(&self, number: u32) -> Word
         ensures { result ≡ wide_word self.now number }
     {
-        let blocks = self.block(0);
-        let cells = self.block(self.leaves);
+        let blocks = self.lines(0);
+        let cells = self.first_cell();
         let claims = self.wide_first_claim();
         if number < blocks {
             if number % 8 == 0 {
@@ -373,7 +417,7 @@ impl Layout {
                 Word::Spare(number)
             }
         } else if number < cells {
-            self.block_word(number, (number - blocks) / 16, (number - blocks) % 16)
+            self.lines_word(number, (number - blocks) / 16, (number - blocks) % 16)
         } else if number < claims {
             Word::Stored((number - cells) / 2, number % 2)
         } else {
@@ -394,14 +438,27 @@ impl Layout {
         }
     }
 
-    // The word of a number that lies at place s of the block of leaf i.
-    fn block_word(&self, number: u32, i: u32, s: u32) -> Word
-        requires leaf { i < self.now.leaves }
+    // The first word of processor i's lines.
+    fn first_word(&self, number: u32, i: u32) -> Word
+        requires { i < grain self.now * self.now.leaves }
+        ensures { result ≡ first_word self.now number i }
+    {
+        let grain = self.grain();
+        if i % grain == 0 {
+            Word::Node(self.leaves + i / grain)
+        } else {
+            Word::Spare(number)
+        }
+    }
+
+    // The word of a number that lies at place s of processor i's lines.
+    fn lines_word(&self, number: u32, i: u32, s: u32) -> Word
+        requires lines { i < grain self.now * self.now.leaves }
         requires place { s < 16 }
-        ensures { result ≡ block_word self.now number i s }
+        ensures { result ≡ lines_word self.now number i s }
     {
         if s == 0 {
-            Word::Node(self.leaves + i)
+            self.first_word(number, i)
         } else if i < self.procs && s < 4 {
             Word::Asked(i, s - 1)
         } else if i < self.procs && s < 6 {
@@ -422,30 +479,47 @@ impl Layout {
     {
         let counters = counters_at(self.cells, self.procs);
         if p < self.cells {
-            self.block(self.leaves) + 2 * p
+            self.first_cell() + 2 * p
         } else if p < counters {
             let register = p - self.cells;
-            self.block(register / 4) + 6 + 2 * (register % 4)
+            self.lines(register / 4) + 6 + 2 * (register % 4)
         } else {
-            self.block(p - counters) + 4
+            self.lines(p - counters) + 4
         }
     }
 
-    // The first word of the block of leaf i in the wide form, or past the last leaf, of the cells.
-    fn block(&self, i: u32) -> u32
+    /// How many processors a leaf stands for.
+    #[inline(always)]
+    pub fn grain(&self) -> u32
+        ensures value { result ≡ grain self.now }
+        ensures limits { IsLayout self.now }
+    {
+        self.form.grain()
+    }
+
+    // The first word of processor i's lines in the wide form.
+    fn lines(&self, i: u32) -> u32
         requires { i ≤ MAX_PROCS }
-        ensures value { result ≡ block_at self.now i }
+        ensures value { result ≡ lines_at self.now i }
         ensures below { i < self.now.procs → result + 16 ≤ cells_at self.now }
         ensures limits { IsLayout self.now }
     {
         8 * (self.leaves + self.workers) + 16 * i
     }
 
+    // The first word of a cell in the wide form.
+    fn first_cell(&self) -> u32
+        ensures value { result ≡ cells_at self.now }
+        ensures limits { IsLayout self.now }
+    {
+        self.lines(self.grain() * self.leaves)
+    }
+
     fn wide_first_claim(&self) -> u32
         ensures value { result ≡ wide_claims_at self.now }
         ensures limits { IsLayout self.now }
     {
-        self.block(self.leaves) + 2 * self.cells
+        self.first_cell() + 2 * self.cells
     }
 
     // The first position word, word of a place and claim word of the compact form (the length where
@@ -483,6 +557,17 @@ impl Layout {
         }
         node
     }
+}
+
+// The size of a block for so many processors and workers: the greatest power of two up to 64 that
+// leaves each worker four leaves.
+fn grain_for(procs: u32, workers: u32) -> u32
+    requires { 1 ≤ workers }
+    ensures value { result ≡ grain_for procs workers }
+    ensures grain { IsGrain result }
+{
+    let most = (procs / 4 / workers).clamp(1, 64);
+    1 << most.ilog2()
 }
 
 // Whether the stamp of a value is at most `steps` and its payload at most `most`.

@@ -62,8 +62,8 @@ fn layout_of_three_cells(rt: HostRuntime) {
 
 #[test]
 fn wide_layout_of_three_cells(rt: HostRuntime) {
-    let layout = Layout::of(Form::Wide, Rule::Common, 3, 3, 2);
-    assert_eq!(rt; (layout.form(), layout.leaves()), (Form::Wide, 4));
+    let layout = Layout::of(Form::Wide(1), Rule::Common, 3, 3, 2);
+    assert_eq!(rt; (layout.form(), layout.leaves()), (Form::Wide(1), 4));
     assert_eq!(rt; layout.conflict_word(), 0);
     for (node, word) in [(1, 8), (3, 24), (4, 48), (5, 64), (7, 96)] {
         assert_eq!(rt; layout.node_word(node), word, "node {node}");
@@ -101,12 +101,63 @@ fn wide_layout_of_three_cells(rt: HostRuntime) {
     }
 }
 
+// Ten processors in blocks of four: the third block has two, and a fourth leaf has none.
+#[test]
+fn blocks_of_four(rt: HostRuntime) {
+    let layout = Layout::of(Form::Wide(4), Rule::Common, 3, 10, 2);
+    assert_eq!(rt; (layout.grain(), layout.leaves()), (4, 4));
+    for (node, word) in [(1, 8), (3, 24), (4, 48), (5, 112), (6, 176), (7, 240)] {
+        assert_eq!(rt; layout.node_word(node), word, "node {node}");
+        assert_eq!(rt; layout.word(word), Word::Node(node), "word {word}");
+    }
+    for (processor, word) in [(0, 49), (3, 97), (4, 113), (9, 193)] {
+        assert_eq!(rt;
+            layout.request_word(processor, 0),
+            word,
+            "processor {processor}"
+        );
+        assert_eq!(rt; layout.word(word), Word::Asked(processor, 0), "word {word}");
+    }
+    for number in [64, 96, 128, 209, 241, 303] {
+        assert!(rt; number < layout.length());
+        assert_eq!(rt; layout.word(number), Word::Spare(number), "word {number}");
+    }
+    for (place, word) in [(0, 304), (3, 54), (42, 204), (43, 52), (52, 196)] {
+        assert_eq!(rt; layout.place_word(place), word, "place {place}");
+        assert_eq!(rt;
+            layout.word(word + 1),
+            Word::Stored(place, 1),
+            "word {word}"
+        );
+    }
+    assert_eq!(rt; layout.length(), 310);
+}
+
+#[test]
+fn blocks_leave_each_worker_four_leaves(rt: HostRuntime) -> Result<(), Fail> {
+    let few = read_job(
+        rt.alloc(),
+        b"pram 1\ncells 1\nprocs 31\nsteps 1\ncode\nhalt\n",
+    )?;
+    assert_eq!(rt; Layout::wide(&few, 1).form(), Form::Wide(4));
+    assert_eq!(rt; Layout::wide(&few, 2).form(), Form::Wide(2));
+    assert_eq!(rt; Layout::wide(&few, 4).form(), Form::Wide(1));
+    let many = read_job(
+        rt.alloc(),
+        b"pram 1\ncells 1\nprocs 1024\nsteps 1\ncode\nhalt\n",
+    )?;
+    assert_eq!(rt; Layout::wide(&many, 1).leaves(), 16);
+    assert_eq!(rt; Layout::wide(&many, 8).leaves(), 32);
+    assert_eq!(rt; Layout::with_blocks(&many, 8, 4).leaves(), 256);
+    Ok(())
+}
+
 #[test]
 fn layouts_with_claims(rt: HostRuntime) {
     let compact = Layout::of(Form::Compact, Rule::Crew, 3, 3, 2);
     assert_eq!(rt; (compact.claim_word(0), compact.claim_word(2)), (55, 57));
     assert_eq!(rt; compact.length(), 58);
-    let wide = Layout::of(Form::Wide, Rule::Crew, 3, 3, 2);
+    let wide = Layout::of(Form::Wide(1), Rule::Crew, 3, 3, 2);
     assert_eq!(rt; (wide.claim_word(0), wide.claim_word(2)), (118, 120));
     assert_eq!(rt; wide.length(), 121);
 }
@@ -116,8 +167,8 @@ fn largest_layouts(rt: HostRuntime) {
     for (form, rule, length) in [
         (Form::Compact, Rule::Common, 146496),
         (Form::Compact, Rule::Priority, 212032),
-        (Form::Wide, Rule::Common, 156160),
-        (Form::Wide, Rule::Priority, 221696),
+        (Form::Wide(1), Rule::Common, 156160),
+        (Form::Wide(1), Rule::Priority, 221696),
     ] {
         assert_eq!(rt; Layout::of(form, rule, 65536, 1024, 64).length(), length);
     }
@@ -125,7 +176,7 @@ fn largest_layouts(rt: HostRuntime) {
 
 #[test]
 fn workers_of_a_wide_board_start_far_apart(rt: HostRuntime) {
-    let layout = Layout::of(Form::Wide, Rule::Common, 1, 8, 4);
+    let layout = Layout::of(Form::Wide(1), Rule::Common, 1, 8, 4);
     for (worker, leaf) in [(0, 8), (1, 12), (2, 11), (3, 15)] {
         assert_eq!(rt; layout.first_leaf(worker), leaf, "worker {worker}");
     }
@@ -134,7 +185,7 @@ fn workers_of_a_wide_board_start_far_apart(rt: HostRuntime) {
     assert!(rt; !layout.goes_right(1, 3));
     assert!(rt; !layout.goes_right(1, 6));
     assert_eq!(rt;
-        Layout::of(Form::Wide, Rule::Common, 1, 8, 1).first_leaf(0),
+        Layout::of(Form::Wide(1), Rule::Common, 1, 8, 1).first_leaf(0),
         8
     );
     assert_eq!(rt;

@@ -11,7 +11,7 @@ use Rattle.pram_text.specs.declared.instr.Instr.{Instr}
 use Rattle.pram_text.specs.declared.instr.Operands.{Operands}
 use Rattle.pram_text.specs.declared.instr.Operands.TheVariants.{Bare, Target, TargetNumber}
 use Rattle.pram_text.specs.declared.instr.Operands.TheVariants.{TargetOne, TargetTwo, Two}
-use Rattle.pram_text.specs.declared.instr.Operands.TheVariants.{OnePlace, Place}
+use Rattle.pram_text.specs.declared.instr.Operands.TheVariants.{RegisterIndex, Index}
 use Rattle.pram_text.specs.Instructions.{AreOperands, row_of}
 use Rattle.pram_text.specs.declared.instr.Rule.{Rule}
 use Rattle.pram_text.specs.declared.instr.Rule.TheVariants.{Common, Priority, Crew}
@@ -34,7 +34,8 @@ use Rattle.walkx.specs.declared.operation.Op.{Op}
 use Rattle.walkx.specs.declared.operation.Op.TheVariants.{Load, Max, Swap}
 use Rattle.walkx.specs.Doing.{Doing}
 use Rattle.walkx.specs.Doing as doing
-use Rattle.walkx.specs.Laws.{WhatIsAskedIsAdmitted, WhoIsGoingSteps}
+use Rattle.walkx.specs.Laws.{EachOperationIsAdmitted, WhoIsGoingSteps}
+use Rattle.walkx.specs.Records.{script_at_rank}
 use Rattle.walkx.specs.Scripts.{Script, asks, ends, rest_after, rest, first_op, op_with, heard_in}
 use Rattle.pram_words.specs.Stamps.{first_is_older, older, older_word}
 use Rattle.walkx.specs.Tasks.{loads_both, reads_place, writes_place, reads_registers, reads_cell}
@@ -44,11 +45,13 @@ use Rattle.walkx.specs.Tasks.{crew_verify_task, claim_task, priority_apply_task,
 use Rattle.walkx.specs.Walk.{Then, Walking, Fits, IsBoard, IsGoing, IsPhase, HearsAdmitted}
 use Rattle.walkx.specs.Walk.{AllAdmitted, AsksAdmitted, IsStepOn, node_of, script_by}
 use Rattle.walkx.specs.Walk.{script_of, rest_of, ask_of, next_op, end_of, phase_begun}
+use Rattle.walkx.specs.Walk.{IsInBlock, after_part, has_rank, part_script, processor_at}
 use Rattle.walkx.specs.Walk.{marks, stands_at, way_down, begin_script, turn_script}
 use Rattle.walkx.proofs.Boards.{admits, in_range, is_below, place_shape, same_cells}
 use Rattle.walkx.proofs.Boards.{same_procs, asked_part, stamps, step_most}
 use Rattle.walkx.proofs.Cells.{cell_is}
 use Rattle.walkx.proofs.Ends.{way_inside}
+use Rattle.walkx.proofs.Firsts.{rank_parts}
 use Rattle.walkx.proofs.Fitting.{node_range}
 use Rattle.walkx.proofs.Going.{Asks, asks_of, going_or_over, next_of}
 
@@ -69,8 +72,8 @@ sources_among len (TargetNumber r k) are = tt
 sources_among len (TargetOne r a) are = (are.1, tt)
 sources_among len (TargetTwo r a b) are = (are.1, (are.2, tt))
 sources_among len (Two a b) are = (are.0, (are.1, tt))
-sources_among len (OnePlace r place) are = (are.0, tt)
-sources_among len (Place place) are = tt
+sources_among len (RegisterIndex r index) are = (are.0, tt)
+sources_among len (Index index) are = tt
 
 pub sources_fit : (len : ℕ) (instr : Instr) → IsInstr len instr →
     AllByRecursion (λ r. r < 4) (sources_of instr)
@@ -412,6 +415,15 @@ module _ (job : JobData) (y : LayoutData) (board : IsBoard job y) where
   stands_ask w n q worker low high =
       let k = admits job y (Position w) n board worker (low, high) in ((k.0, k), λ found ok. tt)
 
+  part_asks : (n q rank : ℕ) → 1 ≤ n → n < 2 * y.leaves → q ≤ 3 * job.steps →
+      IsTrue (has_rank y n rank) → AllAsk job y (part_script job y n q rank)
+  unfolding part_script
+  part_asks n q rank low high last there =
+      task_asks job.rule (kind_at q) (step_at q) (processor_at y n rank) (after_part y n q rank)
+      refl (step_most job.steps q last) ((rank_parts y n rank there).1)
+      (cond_both (has_rank y n (suc rank)) _ _ (AllAsk job y) (λ e. ends_of _)
+      (λ e. marks_ask n q low high last))
+
   turn_asks : (w n q : ℕ) → w < y.workers → 1 ≤ n → n < 2 * y.leaves → q ≤ 3 * job.steps →
       AllAsk job y (turn_script job y w n q)
   unfolding turn_script
@@ -421,10 +433,8 @@ module _ (job : JobData) (y : LayoutData) (board : IsBoard job y) where
       (λ e. cond_both (n == 1) _ _ (AllAsk job y) (λ g. ends_of _) (λ g.
       let h = eqb-false n 1 g in stands_ask w (n / 2) q worker (omega arith) (omega arith)))
       (λ e. cond_both (nat_le y.leaves n) _ _ (AllAsk job y)
-      (λ g. cond_both (nat_le (y.leaves + job.procs) n) _ _ (AllAsk job y) (λ h. marked)
-      (λ h. let c = same_procs job y board in
-      let l = leb-false (y.leaves + job.procs) n h in task_asks job.rule (kind_at q) (step_at q)
-      (n - y.leaves) (marks y n q) refl (step_most job.steps q last) (omega arith) marked))
+      (λ g. cond_both (has_rank y n 0) _ _ (AllAsk job y)
+      (λ h. part_asks n q 0 low high last h) (λ h. marked))
       (λ g. let l = leb-false y.leaves n g in load_of (Node (2 * n)) _ (omega arith, omega arith)
       (λ a ok. load_of (Node (2 * n + 1)) _ (omega arith, omega arith) (λ b ok.
       cond_both (nat_le q a && nat_le q b) _ _ (AllAsk job y) (λ h. marked) (λ h.
@@ -442,15 +452,33 @@ module _ (job : JobData) (y : LayoutData) (board : IsBoard job y) where
       _ _ (AllAsk {R = Then} job y) (λ h. ends_of _) (λ h. ends_of _)) (λ g. ends_of _)))
       (λ e. ends_of _))
 
-  doing_asks : (w n : ℕ) (d : Doing) → w < y.workers → 1 ≤ n → n < 2 * y.leaves → IsPhase job d →
-      AllAsk job y (script_by job y w n d)
-  doing_asks w n doing.Back worker low high phase =
+  pub doing_asks : (w n : ℕ) (d : Doing) →
+      w < y.workers → 1 ≤ n → n < 2 * y.leaves → IsPhase job d →
+      IsInBlock y n d → AllAsk job y (script_by job y w n d)
+  doing_asks w n doing.Back worker low high phase block =
       load_of (Position w) _ worker (λ found ok. ends_of _)
-  doing_asks w n doing.Begin worker low high phase = begin_asks n
-  doing_asks w n (doing.Turn q) worker low high phase = turn_asks w n q worker low high phase.1
-  doing_asks w n (doing.Over e) worker low high phase = begin_asks n
+  doing_asks w n doing.Begin worker low high phase block = begin_asks n
+  doing_asks w n (doing.Turn q) worker low high phase block =
+      turn_asks w n q worker low high phase.1
+  doing_asks w n (doing.Part q rank) worker low high phase block =
+      part_asks n q rank low high phase.1 block.2
+  doing_asks w n (doing.Over e) worker low high phase block = begin_asks n
+
+-- that with the task of a processor
+pub rank_asks : (job : JobData) (y : LayoutData) (board : IsBoard job y) (w n q rank : ℕ) →
+    w < y.workers → 1 ≤ n → y.leaves ≤ n → n < 2 * y.leaves → 1 ≤ q → q ≤ 3 * job.steps →
+    IsTrue (has_rank y n rank) → AllAsk job y (script_at_rank job y w n q rank)
+rank_asks job y board w n q zero worker some low high first last there =
+    turn_asks job y board w n q worker some high last
+rank_asks job y board w n q (suc rank) worker some low high first last there =
+    part_asks job y board n q (suc rank) some high last there
 
 -- ---- in the midst of a script
+
+pub first_admitted : (job : JobData) (y : LayoutData) (op : Op) (next : ℕ → Script Then) →
+    AllAsk job y (asks op next) → AsksAdmitted job y op
+unfolding AllAsk
+first_admitted job y op next each = each.0.1
 
 pub all_left : (job : JobData) (y : LayoutData) (xs ys : List (Op × ℕ)) →
     AllAdmitted job y (xs ++ ys) → AllAdmitted job y xs
@@ -470,7 +498,8 @@ pub admitted_earlier : {R : Type 0} (job : JobData)
 admitted_earlier job y (asks op next) found heard all = all.1
 admitted_earlier job y (ends r) found heard all = all
 
-asks_after : {R : Type 0} (job : JobData) (y : LayoutData) (script : Script R) (answers : List ℕ) →
+pub asks_after : {R : Type 0} (job : JobData)
+    (y : LayoutData) (script : Script R) (answers : List ℕ) →
     AllAdmitted job y (heard_in script answers) → AllAsk job y script →
     AllAsk job y (rest script answers)
 asks_after job y script [] all each = each
@@ -487,7 +516,8 @@ rest_asks job y w board fits =
     let at = node_range job y w leaves.0 fits in
     asks_after job y (script_of job y w) w.heard
     (all_left job y (heard_in (script_of job y w) w.heard) (phase_begun y w.now) fits.admitted)
-    (doing_asks job y board w.number (node_of y w) w.now fits.number at.0 at.1 fits.phase)
+    (doing_asks job y board w.number
+    (node_of y w) w.now fits.number at.0 at.1 fits.phase fits.block)
 
 -- the next operation
 first_asks : (job : JobData) (y : LayoutData) (d : Doing) (script : Script Then) (op : Op) →
@@ -504,7 +534,7 @@ going_asks job y w board fits going =
     let a : Asks (rest_of job y w) = asks_of w.now (rest_of job y w) going fits.matches in
     first_asks job y w.now (rest_of job y w) a.op going a.first (rest_asks job y w board fits)
 
-pub all_ask : WhatIsAskedIsAdmitted
+pub all_ask : EachOperationIsAdmitted
 all_ask job y w board fits = elim (going_or_over w.now) [
   | inl going ↦ (going_asks job y w board fits going).1
   | inr over ↦ rw over.1 tt

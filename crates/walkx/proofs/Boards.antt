@@ -74,8 +74,8 @@ unfolding length_of
 length_small y limits = elim (cases_form y.form) [
   | inl e ↦ rw e (by_claims y.claims (claims_at y)
       (omega (arith, limits.leaves, limits.cells, limits.procs, limits.workers)))
-  | inr e ↦ rw (form_wide y.form (claims_at y) (wide_claims_at y) e) (by_claims y.claims
-      (wide_claims_at y) (omega (arith, limits.leaves, limits.cells, limits.procs, limits.workers)))
+  | inr e ↦ rw (form_wide y.form e.0 (claims_at y) (wide_claims_at y) e.1) (by_claims y.claims
+      (wide_claims_at y) (omega (arith, limits.leaves, limits.room, limits.cells, limits.workers)))
 ]
   where
     by_claims : (b : Bool) (n : ℕ) → n ≤ 1000000 → n + (if b then y.cells else 0) < 2 ^ 32

@@ -1,18 +1,22 @@
 -- What each script of a worker leads to, and that its operations are few.
 use Rattle.std.proofs.Common.{◌≡◌, ℕ, ◌+◌, ◌-◌, ◌*◌, ◌%◌, ◌<◌, ◌≤◌, ◌==◌, List, ◌∷◌}
-use Rattle.std.proofs.Common.{refl, inl, inr, add-mul, mul-le-mul_right, arith}
+use Rattle.std.proofs.Common.{refl, ap, ◌∙◌, inl, inr, min, add-mul, mul-le-mul_right, arith}
+use Rattle.std.proofs.Math.Nat.{mul-add}
 use Rattle.std.proofs.lemmas.Bool.{cases_lt, cond_both, eq-eqb, eqb-false}
 use Rattle.pram_text.specs.Job.{JobData}
-use Rattle.pram_words.specs.Words.{LayoutData, number_of}
+use Rattle.pram_words.specs.Tree.{leaves_of}
+use Rattle.pram_words.specs.Words.{LayoutData, IsLayout, grain, number_of}
+use Rattle.pram_words.proofs.Blocks.{tasks_fit}
+use Rattle.pram_words.proofs.Numbering.{grain_some}
 use Rattle.pram_words.specs.declared.words.Word.TheVariants.{Conflict, Node, Position}
 use Rattle.walkx.specs.declared.operation.Op.{Op}
 use Rattle.walkx.specs.declared.operation.Op.TheVariants.{Load, Max}
 use Rattle.walkx.specs.Doing as doing
 use Rattle.walkx.specs.Scripts.{Script, asks, ends}
-use Rattle.walkx.specs.Walk.{Then, begins, turns, stops, back_script, begin_script}
+use Rattle.walkx.specs.Walk.{Then, begins, turns, works, stops, back_script, begin_script}
 use Rattle.walkx.specs.Bound.{low, MayHear}
-use Rattle.walkx.proofs.BoundWeight.{low_of, phases_weight, later_weight}
-use Rattle.walkx.proofs.BoundTurns.{Grown, turns_most}
+use Rattle.walkx.proofs.BoundWeight.{low_of, others, phases_weight, later_weight}
+use Rattle.walkx.proofs.BoundTurns.{Grown, parts_most, turns_most}
 use Rattle.walkx.proofs.BoundTasks.{IsWithin}
 
 -- A script with at most so many operations leads, after each history that may be heard, to what is
@@ -65,22 +69,48 @@ To job y most (begins n) history =
     (1 ≤ n) × (n < 2 * y.leaves) × (later_weight job y history n doing.Begin + 2 ≤ most)
 To job y most (turns n q) history = (1 ≤ n) × (n < 2 * y.leaves) × (1 ≤ q) × (q ≤ 3 * job.steps)
     × (later_weight job y history n (doing.Turn q) + 16 ≤ most)
+To job y most (works n q rank) history = (1 ≤ n) × (y.leaves ≤ n) × (n < 2 * y.leaves) × (1 ≤ q)
+    × (q ≤ 3 * job.steps) × (1 ≤ rank) × (rank ≤ others y)
+    × (later_weight job y history n (doing.Part q rank) + 16 ≤ most)
 To job y most (stops e) history = Unit {0}
 
 -- ---- weights of phases
 
+-- the scripts of a phase
+scripts_few : (y : LayoutData) → IsLayout y →
+    (y.leaves - 1) * 3 + y.leaves * (3 + others y) + 3 ≤ 6 * leaves_of y.procs
+scripts_few y limits =
+    let few = tasks_fit y limits in
+    let some = grain_some y limits in
+    let one : 1 + others y ≡ min (grain y) y.procs = omega (arith, limits.procs) in
+    let spread : y.leaves * (3 + others y) ≡ y.leaves * 2 + y.leaves * min (grain y) y.procs =
+    ap (λ (k : ℕ). y.leaves * k) (omega (arith, one))
+    ∙ mul-add y.leaves 2 (min (grain y) y.procs) in
+    omega (arith, few.0, few.1, spread)
+
 pub phases_fewer : (y : LayoutData) (a b : ℕ) → a ≤ b → phases_weight y a ≤ phases_weight y b
-phases_fewer y a b h = mul-le-mul_right (96 * y.leaves) h
+phases_fewer y a b h = mul-le-mul_right (96 * leaves_of y.procs) h
 
 -- A phase that begins weighs less than the phases from it on.
 pub phase_enters : (job : JobData) (y : LayoutData) (history : List (Op × ℕ)) (n q a : ℕ) →
-    1 ≤ y.leaves → 3 * job.steps - q + 1 ≤ a →
+    IsLayout y → 3 * job.steps - q + 1 ≤ a →
     later_weight job y history n (doing.Turn q) + 17 ≤ phases_weight y a
 unfolding later_weight
-phase_enters job y history n q a some h =
-    let turns = turns_most y history q n in
+phase_enters job y history n q a limits h =
+    let turns = turns_most y history q n limits.leaves.0 in
+    let few = scripts_few y limits in
     let more = phases_fewer y (3 * job.steps - q + 1) a h in
-    omega (arith, add-mul (3 * job.steps - q) 1 (96 * y.leaves))
+    omega (arith, add-mul (3 * job.steps - q) 1 (96 * leaves_of y.procs))
+
+pub part_enters : (job : JobData) (y : LayoutData) (history : List (Op × ℕ)) (n q rank a : ℕ) →
+    IsLayout y → y.leaves ≤ n → 3 * job.steps - q + 1 ≤ a →
+    later_weight job y history n (doing.Part q rank) + 17 ≤ phases_weight y a
+unfolding later_weight
+part_enters job y history n q rank a limits leaf h =
+    let turns = parts_most y history q n rank limits.leaves.0 leaf in
+    let few = scripts_few y limits in
+    let more = phases_fewer y (3 * job.steps - q + 1) a h in
+    omega (arith, add-mul (3 * job.steps - q) 1 (96 * leaves_of y.procs))
 
 -- ---- what was just heard
 
@@ -115,7 +145,7 @@ back_leads job y w n before = (
 )
 
 pub begin_leads : (job : JobData) (y : LayoutData) (w n : ℕ) (before : List (Op × ℕ)) →
-    1 ≤ y.leaves → 1 ≤ n → n < 2 * y.leaves →
+    IsLayout y → 1 ≤ n → n < 2 * y.leaves →
     Leads job y w (To job y (later_weight job y before n doing.Begin))
     (begin_script job y n) 2 before
 unfolding begin_script

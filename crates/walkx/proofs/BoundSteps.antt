@@ -1,22 +1,23 @@
 -- The own-step bound.
 use Rattle.std.proofs.Common.{◌≡◌, ℕ, suc, ◌+◌, ◌-◌, ◌*◌, ◌<◌, ◌≤◌, List, [], ◌∷◌, ◌++◌}
-use Rattle.std.proofs.Common.{length, drop, Some, refl, sym, ◌∙◌, subst, pow_pos, arith}
+use Rattle.std.proofs.Common.{length, drop, Some, refl, sym, ◌∙◌, subst, ap, arith}
 use Rattle.pram_text.specs.Job.{JobData}
-use Rattle.pram_words.specs.Tree.{digits_of, leaves_of}
-use Rattle.pram_words.specs.Words.{LayoutData}
+use Rattle.pram_words.specs.Tree.{leaves_of}
+use Rattle.pram_words.specs.Words.{LayoutData, IsLayout}
 use Rattle.walkx.specs.declared.operation.Op.{Op}
 use Rattle.walkx.specs.Doing.{Doing}
 use Rattle.walkx.specs.Doing as doing
 use Rattle.walkx.specs.Scripts.{Script, asks, ends, rest_after, rest, first_op, op_with, heard_in}
-use Rattle.walkx.specs.Walk.{Then, begins, turns, stops, Walking, Fits, IsPhase, IsGoing}
-use Rattle.walkx.specs.Walk.{IsLayoutOf, node_of, script_by, script_of, rest_of}
+use Rattle.walkx.specs.Walk.{Then, begins, turns, works, stops, Walking, Fits, IsPhase, IsGoing}
+use Rattle.walkx.specs.Walk.{IsBoard, IsInBlock, node_of, script_by, script_of, rest_of}
 use Rattle.walkx.specs.Walk.{phase_begun, heard_of, ask_of, goes_on, told_by, told}
 use Rattle.walkx.specs.Bound.{told_all, history_of, MayHear, IsHeard, most_steps}
 use Rattle.walkx.specs.Laws.{OwnStepsAreBounded}
 use Rattle.walkx.proofs.BoundWeight.{low_of, longest, later_weight, weight}
-use Rattle.walkx.proofs.BoundScripts.{Leads, To, phases_fewer, phase_enters}
+use Rattle.walkx.proofs.Boards.{same_procs}
+use Rattle.walkx.proofs.BoundScripts.{Leads, To, phases_fewer, phase_enters, part_enters}
 use Rattle.walkx.proofs.BoundScripts.{back_leads, begin_leads}
-use Rattle.walkx.proofs.BoundTurn.{turn_leads}
+use Rattle.walkx.proofs.BoundTurn.{part_leads, turn_leads}
 use Rattle.walkx.proofs.Going.{asks_of}
 use Rattle.walkx.proofs.Fitting.{node_range, new_workers_fit}
 use Rattle.walkx.proofs.BoundWalk.{Sound, Less, after_weight, step}
@@ -25,16 +26,18 @@ use Rattle.walkx.proofs.BoundWalk.{Sound, Less, after_weight, step}
 
 -- each script leads from its start to what follows it
 script_leads : (job : JobData) (y : LayoutData) (w n : ℕ) (now : Doing) (before : List (Op × ℕ)) →
-    1 ≤ y.leaves → 1 ≤ n → n < 2 * y.leaves → IsPhase job now → IsGoing now →
+    IsLayout y → 1 ≤ n → n < 2 * y.leaves → IsPhase job now → IsInBlock y n now → IsGoing now →
     Leads job y w (To job y (later_weight job y before n now))
     (script_by job y w n now) (longest now) before
-script_leads job y w n doing.Back before leaves some inside phase going =
+script_leads job y w n doing.Back before limits some inside phase block going =
     back_leads job y w n before
-script_leads job y w n doing.Begin before leaves some inside phase going =
-    begin_leads job y w n before leaves some inside
-script_leads job y w n (doing.Turn q) before leaves some inside phase going =
+script_leads job y w n doing.Begin before limits some inside phase block going =
+    begin_leads job y w n before limits some inside
+script_leads job y w n (doing.Turn q) before limits some inside phase block going =
     turn_leads job y w n q before some inside phase.0 phase.1
-script_leads job y w n (doing.Over e) before leaves some inside phase going = absurd going
+script_leads job y w n (doing.Part q rank) before limits some inside phase block going =
+    part_leads job y w n q rank before some block.0 inside phase.0 phase.1
+script_leads job y w n (doing.Over e) before limits some inside phase block going = absurd going
 
 -- and from where these answers bring it
 one_on : (job : JobData) (y : LayoutData) (w : ℕ) (to : Then → List (Op × ℕ) → Type 0)
@@ -81,12 +84,12 @@ all_dropped script (found ∷ earlier) before op first =
     one_dropped (rest script earlier) found op (length earlier)
     (heard_in script earlier) before first (λ o. all_dropped script earlier before o)
 
-pub fits_sound : (job : JobData) (y : LayoutData) (w : Walking) → 1 ≤ y.leaves → Fits job y w →
+pub fits_sound : (job : JobData) (y : LayoutData) (w : Walking) → IsLayout y → Fits job y w →
     IsHeard job y w.number (heard_of job y w) → Sound job y (heard_of job y w) w
 unfolding after_weight
-fits_sound job y w leaves fits may = λ going.
+fits_sound job y w limits fits may = λ going.
     let asks = asks_of w.now (rest_of job y w) going fits.matches in
-    let node = node_range job y w leaves fits in
+    let node = node_range job y w limits.leaves.0 fits in
     let before : List (Op × ℕ) = phase_begun y w.now in
     let dropped : drop (length w.heard) (heard_of job y w) ≡ before =
     all_dropped (script_of job y w) w.heard before asks.op asks.first in
@@ -96,8 +99,8 @@ fits_sound job y w leaves fits may = λ going.
           (rest_of job y w) (longest w.now - length w.heard) (heard_of job y w)) (sym dropped)
           (rest_leads job y w.number (To job y (later_weight job y before (node_of y w) w.now))
           (script_of job y w) (longest w.now) w.heard before
-          (script_leads job y w.number
-          (node_of y w) w.now before leaves node.0 node.1 fits.phase going) may);
+          (script_leads job y w.number (node_of y w) w.now before limits node.0 node.1 fits.phase
+          fits.block going) may);
       asking = asks;
     }
 
@@ -108,6 +111,7 @@ goes_number : (w : Walking) (found : ℕ) (script : Script Then) →
 goes_number w found (asks op next) = refl
 goes_number w found (ends (begins n)) = refl
 goes_number w found (ends (turns n q)) = refl
+goes_number w found (ends (works n q rank)) = refl
 goes_number w found (ends (stops e)) = refl
 
 told_number : (now : Doing) (w : Walking) (found : ℕ) (script : Script Then) →
@@ -116,6 +120,7 @@ told_number (doing.Over e) w found script = refl
 told_number doing.Back w found script = goes_number w found script
 told_number doing.Begin w found script = goes_number w found script
 told_number (doing.Turn q) w found script = goes_number w found script
+told_number (doing.Part q rank) w found script = goes_number w found script
 
 -- A worker that is going after an answer was going before it.
 going_before : (now : Doing) (w : Walking) (found : ℕ) (script : Script Then) → w.now ≡ now →
@@ -124,6 +129,7 @@ going_before (doing.Over e) w found script is going = going
 going_before doing.Back w found script is going = subst IsGoing (sym is) tt
 going_before doing.Begin w found script is going = subst IsGoing (sym is) tt
 going_before (doing.Turn q) w found script is going = subst IsGoing (sym is) tt
+going_before (doing.Part q rank) w found script is going = subst IsGoing (sym is) tt
 
 pub going_earlier : (job : JobData) (y : LayoutData) (w : Walking) (found : ℕ) →
     IsGoing (told job y w found).now → IsGoing w.now
@@ -139,7 +145,7 @@ number_stays job y w (found ∷ earlier) =
 
 -- the step at the end of a walk
 walk_step : (job : JobData) (y : LayoutData) (w : Walking) (found : ℕ) (earlier : List ℕ) →
-    1 ≤ y.leaves → IsGoing (told_all job y w earlier).now →
+    IsLayout y → IsGoing (told_all job y w earlier).now →
     Sound job y (history_of job y w earlier) (told_all job y w earlier) →
     IsHeard job y w.number (history_of job y w (found ∷ earlier)) →
     Less job y (history_of job y w (found ∷ earlier)) (told_all job y w (found ∷ earlier))
@@ -152,7 +158,7 @@ walk_step job y w found earlier leaves going sound may =
     (sym (number_stays job y w earlier)) may.0)
 
 pub sound_all : (job : JobData) (y : LayoutData) (w : Walking) (answers : List ℕ) →
-    1 ≤ y.leaves → Fits job y w → IsHeard job y w.number (history_of job y w answers) →
+    IsLayout y → Fits job y w → IsHeard job y w.number (history_of job y w answers) →
     Sound job y (history_of job y w answers) (told_all job y w answers)
 sound_all job y w [] leaves fits may = fits_sound job y w leaves fits may
 sound_all job y w (found ∷ earlier) leaves fits may = λ going.
@@ -160,7 +166,7 @@ sound_all job y w (found ∷ earlier) leaves fits may = λ going.
     (walk_step job y w found earlier leaves before
     (sound_all job y w earlier leaves fits may.1) may).sound going
 
-falls : (job : JobData) (y : LayoutData) (w : Walking) → 1 ≤ y.leaves →
+falls : (job : JobData) (y : LayoutData) (w : Walking) → IsLayout y →
     Fits job y w → (found : ℕ) (earlier : List ℕ) → IsGoing (told_all job y w earlier).now →
     IsHeard job y w.number (history_of job y w (found ∷ earlier)) →
     weight job y (history_of job y w (found ∷ earlier)) (told_all job y w (found ∷ earlier))
@@ -170,7 +176,7 @@ falls job y w leaves fits found earlier going may = (walk_step job y w found ear
 
 -- each answer has taken one
 pub lighter : (job : JobData) (y : LayoutData) (w : Walking) →
-    1 ≤ y.leaves → Fits job y w → (answers : List ℕ) → IsGoing (told_all job y w answers).now →
+    IsLayout y → Fits job y w → (answers : List ℕ) → IsGoing (told_all job y w answers).now →
     IsHeard job y w.number (history_of job y w answers) →
     length answers + weight job y (history_of job y w answers) (told_all job y w answers)
     ≤ weight job y (heard_of job y w) w
@@ -184,45 +190,49 @@ lighter job y w leaves fits (found ∷ earlier) going may =
 -- ---- the weight at the start
 
 start_weight : (job : JobData) (y : LayoutData)
-    (history : List (Op × ℕ)) (n heard : ℕ) (now : Doing) → 1 ≤ y.leaves → IsPhase job now →
-    later_weight job y history n now + (longest now - heard) ≤ 288 * y.leaves * job.steps + 3
+    (history : List (Op × ℕ)) (n heard : ℕ) (now : Doing) → IsLayout y → IsPhase job now →
+    IsInBlock y n now →
+    later_weight job y history n now + (longest now - heard)
+    ≤ 288 * leaves_of y.procs * job.steps + 3
 unfolding later_weight
-start_weight job y history n heard doing.Back leaves phase = omega arith
-start_weight job y history n heard doing.Begin leaves phase =
+start_weight job y history n heard doing.Back limits phase block = omega arith
+start_weight job y history n heard doing.Begin limits phase block =
     let fewer = phases_fewer y (3 * job.steps - low_of y history 1) (3 * job.steps) (omega arith) in
     omega arith
-start_weight job y history n heard (doing.Turn q) leaves phase =
+start_weight job y history n heard (doing.Turn q) limits phase block =
     let first = phase.0 in
     let last = phase.1 in
-    let enters = phase_enters job y history n q (3 * job.steps) leaves (omega arith) in
+    let enters = phase_enters job y history n q (3 * job.steps) limits (omega arith) in
     omega arith
-start_weight job y history n heard (doing.Over e) leaves phase = omega arith
+start_weight job y history n heard (doing.Part q rank) limits phase block =
+    let first = phase.0 in
+    let last = phase.1 in
+    let enters = part_enters job y history n q rank (3 * job.steps) limits block.0 (omega arith) in
+    omega arith
+start_weight job y history n heard (doing.Over e) limits phase block = omega arith
 
-pub starts : (job : JobData) (y : LayoutData) (w : Walking) → 1 ≤ y.leaves → Fits job y w →
-    weight job y (heard_of job y w) w ≤ 288 * y.leaves * job.steps + 3
+pub starts : (job : JobData) (y : LayoutData) (w : Walking) → IsLayout y → Fits job y w →
+    weight job y (heard_of job y w) w ≤ 288 * leaves_of y.procs * job.steps + 3
 unfolding weight
-starts job y w leaves fits = start_weight job y (drop (length w.heard) (heard_of job y w))
-    (node_of y w) (length w.heard) w.now leaves fits.phase
+starts job y w limits fits = start_weight job y (drop (length w.heard) (heard_of job y w))
+    (node_of y w) (length w.heard) w.now limits fits.phase fits.block
 
-within : (job : JobData) (y : LayoutData) → 288 * y.leaves * job.steps + 3 < most_steps job y
-within job y = omega arith
-
-some_leaves : (n : ℕ) → 1 ≤ leaves_of n
-unfolding leaves_of
-some_leaves n = let pos = pow_pos (digits_of (n - 1)) in omega arith
+within : (job : JobData) → 288 * leaves_of job.procs * job.steps + 3 < most_steps job
+within job = omega arith
 
 steps_bounded : (job : JobData) (y : LayoutData) (w : Walking) →
-    IsLayoutOf job y → Fits job y w → (answers : List ℕ) → IsGoing (told_all job y w answers).now →
-    IsHeard job y w.number (history_of job y w answers) → length answers < most_steps job y
-steps_bounded job y w is fits answers going may =
-    let leaves : 1 ≤ y.leaves =
-    subst (λ (z : LayoutData). 1 ≤ z.leaves) (sym is) (some_leaves job.procs) in
-    omega (
+    IsBoard job y → Fits job y w → (answers : List ℕ) → IsGoing (told_all job y w answers).now →
+    IsHeard job y w.number (history_of job y w answers) → length answers < most_steps job
+steps_bounded job y w board fits answers going may =
+    let same : leaves_of y.procs ≡ leaves_of job.procs = ap leaves_of (same_procs job y board) in
+    let all : length answers < 288 * leaves_of y.procs * job.steps + 4 = omega (
       arith,
-      lighter job y w leaves fits answers going may,
-      starts job y w leaves fits,
-      within job y,
-    )
+      lighter job y w board.layout fits answers going may,
+      starts job y w board.layout fits,
+    ) in
+    let few : length answers < 288 * leaves_of job.procs * job.steps + 4 =
+    subst (λ (l : ℕ). length answers < 288 * l * job.steps + 4) same all in
+    omega (arith, few, within job)
 
 pub own_steps : OwnStepsAreBounded
 own_steps = (steps_bounded, new_workers_fit)

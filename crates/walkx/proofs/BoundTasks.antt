@@ -6,7 +6,7 @@ use Rattle.pram_text.specs.declared.instr.Instr.{Instr}
 use Rattle.pram_text.specs.declared.instr.Operands.{Operands}
 use Rattle.pram_text.specs.declared.instr.Operands.TheVariants.{Bare, Target, TargetNumber}
 use Rattle.pram_text.specs.declared.instr.Operands.TheVariants.{TargetOne, TargetTwo, Two}
-use Rattle.pram_text.specs.declared.instr.Operands.TheVariants.{OnePlace, Place}
+use Rattle.pram_text.specs.declared.instr.Operands.TheVariants.{RegisterIndex, Index}
 use Rattle.pram_text.specs.Instructions.{row_of}
 use Rattle.pram_text.specs.declared.instr.Rule.{Rule}
 use Rattle.pram_text.specs.declared.instr.Rule.TheVariants.{Common, Priority, Crew}
@@ -68,8 +68,8 @@ few_among (TargetNumber r k) = omega arith
 few_among (TargetOne r a) = omega arith
 few_among (TargetTwo r a b) = omega arith
 few_among (Two a b) = omega arith
-few_among (OnePlace r place) = omega arith
-few_among (Place place) = omega arith
+few_among (RegisterIndex r index) = omega arith
+few_among (Index index) = omega arith
 
 sources_few : (instr : Instr) → length (sources_of instr) ≤ 2
 sources_few instr = few_among (row_of instr).1

@@ -1,5 +1,5 @@
 -- A turn has at most sixteen operations and leaves less of the phase, or goes on to the next one.
-use Rattle.std.proofs.Common.{◌≡◌, ℕ, ◌+◌, ◌-◌, ◌*◌, ◌/◌, ◌<◌, ◌≤◌, ◌⊎◌, true≢false}
+use Rattle.std.proofs.Common.{◌≡◌, ℕ, suc, IsTrue, ◌+◌, ◌-◌, ◌*◌, ◌/◌, ◌<◌, ◌≤◌, ◌⊎◌, true≢false}
 use Rattle.std.proofs.Common.{le_trans, true, false, ◌==◌, ◌&&◌, nat_le, if◌then◌else◌}
 use Rattle.std.proofs.Common.{List, ◌∷◌, refl, sym, ◌∙◌, inl, inr, arith}
 use Rattle.std.proofs.lemmas.Bool.{cases_lt, cond_both, le-leb, lt-leb}
@@ -13,9 +13,12 @@ use Rattle.walkx.specs.declared.operation.Op.{Op}
 use Rattle.walkx.specs.declared.operation.Op.TheVariants.{Load, Store, Max}
 use Rattle.walkx.specs.Doing as doing
 use Rattle.walkx.specs.Scripts.{asks, ends}
-use Rattle.walkx.specs.Walk.{begins, turns, turn_script, leaf_script, marks, stands_at, way_down}
-use Rattle.walkx.proofs.BoundWeight.{low_of, turns_left, later_weight}
-use Rattle.walkx.proofs.BoundTurns.{Grown, marked_less, up_less, down_less}
+use Rattle.walkx.specs.Walk.{begins, turns, works, after_part, has_rank, leaf_script, marks}
+use Rattle.walkx.specs.Walk.{part_script, processor_at, stands_at, turn_script, way_down}
+use Rattle.walkx.proofs.BoundWeight.{low_of, others, turns_left, later_weight}
+use Rattle.walkx.proofs.Firsts.{rank_parts}
+use Rattle.walkx.proofs.BoundTurns.{Grown, marked_less, up_less, down_less, first_less, next_less}
+use Rattle.walkx.proofs.BoundTurns.{last_less}
 use Rattle.walkx.proofs.BoundTasks.{task_within}
 use Rattle.walkx.proofs.BoundScripts.{Leads, LeadsOn, leads_more, leads_on_within, grown_more}
 use Rattle.walkx.proofs.BoundScripts.{grown_self, low_loaded, low_raised, phases_fewer, To}
@@ -45,6 +48,35 @@ next_to job y before history n q leaves done =
     phases_fewer y (3 * job.steps - low_of y history 1) (3 * job.steps - q) (omega arith) in
     (omega arith, omega arith, omega arith)
 
+-- the task of the next processor of a block
+first_to : (job : JobData) (y : LayoutData) (before history : List (Op × ℕ)) (n q : ℕ) →
+    Grown before history → 1 ≤ n → y.leaves ≤ n → n < 2 * y.leaves → 1 ≤ q → q ≤ 3 * job.steps →
+    low_of y before n < q → 1 ≤ others y →
+    To job y (turn_weight job y before n q) (works n q 1) history
+unfolding turn_weight later_weight
+first_to job y before history n q grown some leaf inside first last unmarked few =
+    let less = first_less y before history q n grown some leaf inside unmarked few in
+    (some, leaf, inside, first, last, omega arith, few, omega arith)
+
+next_part : (job : JobData) (y : LayoutData) (before history : List (Op × ℕ)) (n q rank : ℕ) →
+    Grown before history → 1 ≤ n → y.leaves ≤ n → n < 2 * y.leaves → 1 ≤ q → q ≤ 3 * job.steps →
+    suc rank ≤ others y →
+    To job y (later_weight job y before n (doing.Part q rank)) (works n q (suc rank)) history
+unfolding later_weight
+next_part job y before history n q rank grown some leaf inside first last few =
+    let less = next_less y before history q n rank grown some inside few in
+    (some, leaf, inside, first, last, omega arith, few, omega arith)
+
+-- the leaf is marked after the last one
+part_marked : (job : JobData) (y : LayoutData) (before history : List (Op × ℕ)) (n q rank : ℕ) →
+    Grown before history → 1 ≤ n → n < 2 * y.leaves → 1 ≤ q → q ≤ 3 * job.steps →
+    q ≤ low_of y history n →
+    To job y (later_weight job y before n (doing.Part q rank)) (turns n q) history
+unfolding later_weight
+part_marked job y before history n q rank grown some inside first last done =
+    let less = last_less y before history q n rank grown some inside done in
+    (some, inside, first, last, omega arith)
+
 -- ---- a node is marked
 
 marks_leads : (job : JobData) (y : LayoutData) (w : ℕ) (before : List (Op × ℕ)) (n q : ℕ) →
@@ -62,17 +94,52 @@ marks_leads job y w before n q some inside first last unmarked = λ history grow
 
 -- ---- a leaf
 
+-- a task in a block, and what comes after it
+part_leads_to : (job : JobData) (y : LayoutData) (w : ℕ) (before : List (Op × ℕ))
+    (n q rank most : ℕ) → LeadsOn job y w (To job y most) before 1 (after_part y n q rank) →
+    LeadsOn job y w (To job y most) before 12 (part_script job y n q rank)
+unfolding part_script
+part_leads_to job y w before n q rank most next =
+    let is = leads_on_within job y w (To job y most) before in
+    task_within (LeadsOn job y w (To job y most) before) is 1 job.rule (kind_at q) job y (step_at q)
+    (processor_at y n rank) (after_part y n q rank) next
+
+rank_few : (y : LayoutData) (n rank : ℕ) → IsTrue (has_rank y n (suc rank)) → suc rank ≤ others y
+rank_few y n rank there = let h = rank_parts y n (suc rank) there in omega (arith, h.0, h.1)
+
 leaf_leads : (job : JobData) (y : LayoutData) (w : ℕ) (before : List (Op × ℕ)) (n q : ℕ) →
-    1 ≤ n → n < 2 * y.leaves → 1 ≤ q → q ≤ 3 * job.steps → low_of y before n < q →
+    1 ≤ n → y.leaves ≤ n → n < 2 * y.leaves → 1 ≤ q → q ≤ 3 * job.steps → low_of y before n < q →
     LeadsOn job y w (To job y (turn_weight job y before n q)) before 12 (leaf_script job y n q)
-leaf_leads job y w before n q some inside first last unmarked =
+leaf_leads job y w before n q some leaf inside first last unmarked =
     let to = To job y (turn_weight job y before n q) in
     let is = leads_on_within job y w to before in
     let marked = marks_leads job y w before n q some inside first last unmarked in
-    cond_both (nat_le (y.leaves + job.procs) n) _ _ (λ script. LeadsOn job y w to before 12 script)
+    cond_both (has_rank y n 0) _ _ (λ script. LeadsOn job y w to before 12 script)
+    (λ e. part_leads_to job y w before n q 0 (turn_weight job y before n q)
+    (cond_both (has_rank y n 1) _ _ (λ script. LeadsOn job y w to before 1 script)
+    (λ more history grown. let few = rank_few y n 0 more in
+    first_to job y before history n q grown some leaf inside first last unmarked few)
+    (λ none. marked)))
     (λ e. is.more 12 1 (marks y n q) (omega arith) marked)
-    (λ e. task_within (LeadsOn job y w to before) is 1 job.rule (kind_at q) job y (step_at q)
-    (n - y.leaves) (marks y n q) marked)
+
+-- the task of another processor
+pub part_leads : (job : JobData) (y : LayoutData) (w n q rank : ℕ) (before : List (Op × ℕ)) →
+    1 ≤ n → y.leaves ≤ n → n < 2 * y.leaves → 1 ≤ q → q ≤ 3 * job.steps →
+    Leads job y w (To job y (later_weight job y before n (doing.Part q rank)))
+    (part_script job y n q rank) 16 before
+part_leads job y w n q rank before some leaf inside first last =
+    let most = later_weight job y before n (doing.Part q rank) in
+    leads_more job y w (To job y most) (part_script job y n q rank) 16 12 before (omega arith)
+    (part_leads_to job y w before n q rank most
+    (cond_both (has_rank y n (suc rank)) _ _ (λ script. LeadsOn job y w (To job y most) before 1
+    script) (λ more history grown. let few = rank_few y n rank more in
+    next_part job y before history n q rank grown some leaf inside first last few)
+    (λ none history grown. (
+      omega arith,
+      λ found may. part_marked job y before ((Max (number_of y (Node n)) q, found) ∷ history) n q
+          rank (grown_more before history (Max (number_of y (Node n)) q) found grown) some inside
+          first last (low_raised history (number_of y (Node n)) q found),
+    ))) before (grown_self before))
 
 -- ---- another node is stood at
 
@@ -167,7 +234,8 @@ unfinished_leads job y w before history n q grown some inside first last unmarke
     let to = To job y (turn_weight job y before n q) in
     cond_both (nat_le y.leaves n) _ _ (λ script. Leads job y w to script 15 history)
     (λ e. leads_more job y w to (leaf_script job y n q) 15 12 history
-    (omega arith) (leaf_leads job y w before n q some inside first last unmarked history grown))
+    (omega arith) (leaf_leads job y w before n q some (leb-true y.leaves n e) inside first last
+    unmarked history grown))
     (λ e. let inner = leb-false y.leaves n e in (
       omega arith,
       λ l may.

@@ -2,18 +2,19 @@
 use Rattle.std.proofs.Common.{◌≡◌, ℕ, suc, ◌+◌, ◌-◌, ◌<◌, ◌≤◌, List, [], ◌∷◌}
 use Rattle.std.proofs.Common.{length, drop, Some, refl, sym, ap, ◌∙◌, subst, arith}
 use Rattle.pram_text.specs.Job.{JobData}
-use Rattle.pram_words.specs.Words.{LayoutData}
+use Rattle.pram_words.specs.Words.{LayoutData, IsLayout}
 use Rattle.walkx.specs.declared.operation.Ended.{Ended}
 use Rattle.walkx.specs.declared.operation.Op.{Op}
 use Rattle.walkx.specs.Doing as doing
 use Rattle.walkx.specs.Scripts.{Script, asks, ends, rest_after, first_op}
-use Rattle.walkx.specs.Walk.{Then, begins, turns, stops, Walking, node_of, rest_of}
+use Rattle.walkx.specs.Walk.{Then, begins, turns, works, stops, Walking, node_of, rest_of}
 use Rattle.walkx.specs.Walk.{ask_of, IsGoing, goes_on, told, begin_script, turn_script}
 use Rattle.walkx.specs.Bound.{MayHear}
 use Rattle.walkx.proofs.BoundWeight.{longest, later_weight, weight}
 use Rattle.walkx.proofs.Going.{Asks, next_of, told_going}
 use Rattle.walkx.proofs.BoundScripts.{Leads, leads_more, To, begin_leads}
-use Rattle.walkx.proofs.BoundTurn.{turn_leads}
+use Rattle.walkx.proofs.BoundTurn.{part_leads, turn_leads}
+use Rattle.walkx.proofs.Firsts.{part_first}
 
 -- ---- what is known of a worker that is going
 
@@ -41,7 +42,7 @@ pub record Less (job : JobData) (y : LayoutData) (history : List (Op × ℕ))
   pub less : weight job y history w < most
 
 begins_less : (job : JobData) (y : LayoutData) (history : List (Op × ℕ)) (number n most k : ℕ) →
-    1 ≤ y.leaves → To job y most (begins n) history → 1 ≤ k →
+    IsLayout y → To job y most (begins n) history → 1 ≤ k →
     Less job y history
     (record { number = number; node = Some n; now = doing.Begin; heard = [] }) (most + k)
 unfolding after_weight weight begin_script
@@ -65,6 +66,21 @@ turns_less job y history number n q most k to some = record {
   };
   less = omega (arith, to.4);
 }
+
+works_less : (job : JobData) (y : LayoutData) (history : List (Op × ℕ))
+    (number n q rank most k : ℕ) → To job y most (works n q rank) history → 1 ≤ k →
+    Less job y history
+    (record { number = number; node = Some n; now = doing.Part q rank; heard = [] }) (most + k)
+unfolding after_weight weight
+works_less job y history number n q rank most k to some =
+    let first = part_first job y n q rank in
+    record {
+      sound = λ going. record {
+        leads = part_leads job y number n q rank history to.0 to.1 to.2 to.3 to.4;
+        asking = record { op = first.0; first = first.1 };
+      };
+      less = omega (arith, to.7);
+    }
 
 longer : Walking → ℕ → Walking
 longer w found = record w { heard = found ∷ w.heard }
@@ -111,7 +127,7 @@ unfolding weight later_weight
 stops_less job y history w e k some = record { sound = λ going. absurd going; less = omega arith }
 
 goes_less : (job : JobData) (y : LayoutData) (history : List (Op × ℕ)) (w : Walking) (op : Op)
-    (found k : ℕ) (t : Script Then) → 1 ≤ y.leaves → longest w.now - length w.heard ≡ k → 1 ≤ k →
+    (found k : ℕ) (t : Script Then) → IsLayout y → longest w.now - length w.heard ≡ k → 1 ≤ k →
     rest_after (rest_of job y w) found ≡ t → Leads job y w.number
     (To job y (after_weight job y history w)) t (k - 1) ((op, found) ∷ history) →
     Less job y ((op, found) ∷ history) (goes_on w found t) (after_weight job y history w + k)
@@ -123,6 +139,9 @@ goes_less job y history w op found k (ends (begins n)) leaves is some e leads =
 goes_less job y history w op found k (ends (turns n q)) leaves is some e leads =
     turns_less job y ((op, found) ∷ history) w.number n q
     (after_weight job y history w) k leads some
+goes_less job y history w op found k (ends (works n q rank)) leaves is some e leads =
+    works_less job y ((op, found) ∷ history) w.number n q rank
+    (after_weight job y history w) k leads some
 goes_less job y history w op found k (ends (stops over)) leaves is some e leads =
     stops_less job y ((op, found) ∷ history) (record w { heard = found ∷ w.heard }) over
     (after_weight job y history w + k) (omega arith)
@@ -130,7 +149,7 @@ goes_less job y history w op found k (ends (stops over)) leaves is some e leads 
 -- ---- the step
 
 step_by : (job : JobData) (y : LayoutData) (history : List (Op × ℕ)) (w : Walking)
-    (found k : ℕ) (s : Script Then) (op : Op) → 1 ≤ y.leaves → longest w.now - length w.heard ≡ k →
+    (found k : ℕ) (s : Script Then) (op : Op) → IsLayout y → longest w.now - length w.heard ≡ k →
     rest_of job y w ≡ s → first_op s ≡ Some op →
     Leads job y w.number (To job y (after_weight job y history w)) s k history →
     MayHear job y w.number history op found →
@@ -146,19 +165,19 @@ step_by job y history w found k (asks other next) op leaves is e first leads may
     (leads.1 found (subst (λ (o : Op). MayHear job y w.number history o found) (sym same) may)))
 
 pub step : (job : JobData) (y : LayoutData) (history : List (Op × ℕ)) (w : Walking) (found : ℕ) →
-    1 ≤ y.leaves → IsGoing w.now →
+    IsLayout y → IsGoing w.now →
     Sound job y history w → MayHear job y w.number history (ask_of job y w) found →
     Less job y ((ask_of job y w, found) ∷ history) (told job y w found) (weight job y history w)
 unfolding weight after_weight
 step job y history w found leaves going sound may =
     let known = sound going in
-    let asked : ask_of job y w ≡ known.asking.op =
+    let op_is : ask_of job y w ≡ known.asking.op =
     next_of w.now (rest_of job y w) known.asking.op going known.asking.first in
     subst (λ (o : Op).
-    Less job y ((o, found) ∷ history) (told job y w found) (weight job y history w)) (sym asked)
+    Less job y ((o, found) ∷ history) (told job y w found) (weight job y history w)) (sym op_is)
     (subst
     (λ (v : Walking). Less job y ((known.asking.op, found) ∷ history) v (weight job y history w))
     (sym (told_going w.now w found (rest_after (rest_of job y w) found) going))
     (step_by job y history w found (longest w.now - length w.heard)
     (rest_of job y w) known.asking.op leaves refl refl known.asking.first known.leads
-    (subst (λ (o : Op). MayHear job y w.number history o found) asked may)))
+    (subst (λ (o : Op). MayHear job y w.number history o found) op_is may)))

@@ -1,9 +1,10 @@
 -- A weight of what a worker has still to do, which falls with each operation.
-use Rattle.std.specs.Prelude.{ℕ, zero, suc, ◌+◌, ◌-◌, ◌*◌, ◌/◌, Bool, false, ◌||◌}
+use Rattle.std.specs.Prelude.{ℕ, zero, suc, ◌+◌, ◌-◌, ◌*◌, ◌/◌, Bool, false, ◌||◌, min}
 use Rattle.std.specs.Prelude.{◌==◌, nat_le, if◌then◌else◌, List, length, drop}
 use Rattle.std.specs.List.{range_with_len, sum_by}
 use Rattle.pram_text.specs.Job.{JobData}
-use Rattle.pram_words.specs.Words.{LayoutData, number_of}
+use Rattle.pram_words.specs.Tree.{leaves_of}
+use Rattle.pram_words.specs.Words.{LayoutData, grain, number_of}
 use Rattle.pram_words.specs.declared.words.Word.TheVariants.{Node}
 use Rattle.walkx.specs.declared.operation.Op.{Op}
 use Rattle.walkx.specs.Doing.{Doing}
@@ -20,27 +21,46 @@ unfoldable pub lies_on_way : ℕ → ℕ → ℕ → Bool
 lies_on_way zero m n = false
 lies_on_way (suc more) m n = (m == n) || lies_on_way more m (n / 2)
 
--- Node m while the worker stands at node n in phase q: a turn marks it, one leaves it upward, and
--- one enters it where it is not yet on the way to the root.
+-- how many processors of a block come after its first one
+abbrev pub others : LayoutData → ℕ
+others y = min (grain y) y.procs - 1
+
+-- those of node m
+unfoldable pub others_at : LayoutData → ℕ → ℕ
+others_at y m = if nat_le y.leaves m then others y else 0
+
+-- Node m while the worker stands at node n in phase q: a turn marks it, with a script more for each
+-- of its block's other processors, one leaves it upward, and one enters it where it is not yet on
+-- the way to the root.
 unfoldable pub turns_at : LayoutData → List (Op × ℕ) → ℕ → ℕ → ℕ → ℕ
 turns_at y history q n m =
     if nat_le q (low_of y history m) then (if lies_on_way n m n then 1 else 0)
-    else (if lies_on_way n m n then 2 else 3)
+    else others_at y m + (if lies_on_way n m n then 2 else 3)
 
--- the turns of the phase that are left
+-- the scripts of the phase that are left
 unfoldable pub turns_left : LayoutData → List (Op × ℕ) → ℕ → ℕ → ℕ
 turns_left y history q n = sum_by (turns_at y history q n) (range_with_len 1 (2 * y.leaves - 1))
+
+-- the same in the midst of the block of node n, at the processor of this rank
+unfoldable pub part_at : LayoutData → List (Op × ℕ) → ℕ → ℕ → ℕ → ℕ → ℕ
+part_at y history q n rank m =
+    if m == n then 2 + (others y - rank) else turns_at y history q n m
+
+unfoldable pub parts_left : LayoutData → List (Op × ℕ) → ℕ → ℕ → ℕ → ℕ
+parts_left y history q n rank =
+    sum_by (part_at y history q n rank) (range_with_len 1 (2 * y.leaves - 1))
 
 -- how many operations a script has at most
 abbrev pub longest : Doing → ℕ
 longest doing.Back = 1
 longest doing.Begin = 2
 longest (doing.Turn q) = 16
+longest (doing.Part q rank) = 16
 longest (doing.Over e) = 0
 
--- operations of this many phases, each of a begin and up to 6L - 3 turns
+-- operations of this many phases, each of a begin and up to 6L - 3 scripts
 abbrev pub phases_weight : LayoutData → ℕ → ℕ
-phases_weight y phases = phases * (96 * y.leaves)
+phases_weight y phases = phases * (96 * leaves_of y.procs)
 
 -- what follows the script in progress, this being the history before it
 unfoldable pub later_weight : JobData → LayoutData → List (Op × ℕ) → ℕ → Doing → ℕ
@@ -48,6 +68,8 @@ later_weight job y before n doing.Back = 2 + phases_weight y (3 * job.steps)
 later_weight job y before n doing.Begin = phases_weight y (3 * job.steps - low_of y before 1)
 later_weight job y before n (doing.Turn q) =
     2 + phases_weight y (3 * job.steps - q) + 16 * turns_left y before q n
+later_weight job y before n (doing.Part q rank) =
+    2 + phases_weight y (3 * job.steps - q) + 16 * parts_left y before q n rank
 later_weight job y before n (doing.Over e) = 0
 
 -- at least as many operations as the worker has still to make

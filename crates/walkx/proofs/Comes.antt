@@ -13,8 +13,8 @@ use Rattle.walkx.proofs.Back.{ended_stays}
 
 -- it ended so, or this operation has no answer yet
 abbrev pub Came : {A : Type 0} → Script Then → (A → Then) → Op → Result A Stopped → Type 0
-Came s to asked (Ok a) = s ≡ ends (to a)
-Came s to asked (Err why) = first_op s ≡ Some asked
+Came s to op (Ok a) = s ≡ ends (to a)
+Came s to op (Err why) = first_op s ≡ Some op
 
 module _ {A : Type 0} (at : PostData) (s : Script Then)
     (d : Playback) (to : A → Then) (none : d.played ≡ 0) (admitted : AllAdmitted at.job at.layout
@@ -24,7 +24,7 @@ module _ {A : Type 0} (at : PostData) (s : Script Then)
       record { same = refl; within = omega arith; here = rw none refl; admitted = admitted }
 
   pub came_back : (e : Playback) (r : Result A Stopped) → Reaches (stands_back at) d s to e r →
-      Came (rest s (newest (length d.heard.now) d.heard.now)) to e.asked r
+      Came (rest s (newest (length d.heard.now) d.heard.now)) to e.held_op r
   came_back e (Ok a) reaches =
       let p : Played at (d, s) e (ends (to a)) = reaches.on (d, s) starts_back in
       let all : rest s (newest (length e.heard.now) e.heard.now) ≡ ends (to a) =
@@ -32,4 +32,4 @@ module _ {A : Type 0} (at : PostData) (s : Script Then)
       rw p.same at all
   came_back e (Err why) reaches =
       let a : Asks (d, s) e = reaches.on (d, s) starts_back in
-      rw a.same at a.asked
+      rw a.same at a.op

@@ -1,7 +1,8 @@
 -- What the scripts end with, and what was heard in them.
-use Rattle.std.proofs.Common.{◌≡◌, ◌≢◌, ℕ, ◌+◌, ◌-◌, ◌*◌, ◌%◌, ◌<◌, ◌≤◌, ◌==◌, ◌&&◌}
+use Rattle.std.proofs.Common.{◌≡◌, ◌≢◌, ℕ, suc, IsTrue, ◌+◌, ◌-◌, ◌*◌, ◌%◌, ◌<◌, ◌≤◌, ◌==◌, ◌&&◌}
 use Rattle.std.proofs.Common.{nat_le, List, [], ◌∷◌, ◌++◌, refl, sym, ap, subst, arith}
-use Rattle.std.proofs.lemmas.Bool.{cond_both, eqb-true, eqb-false, leb-false, eq-eqb, ne_eqb}
+use Rattle.std.proofs.lemmas.Bool.{cond_both, eqb-true, eqb-false}
+use Rattle.std.proofs.lemmas.Bool.{leb-true, leb-false, eq-eqb, ne_eqb}
 use Rattle.pram_text.specs.Job.{JobData}
 use Rattle.pram_words.specs.Words.{LayoutData, number_of}
 use Rattle.pram_words.specs.Phases.{step_at, kind_at}
@@ -13,9 +14,10 @@ use Rattle.walkx.specs.declared.operation.Op.TheVariants.{Load}
 use Rattle.walkx.specs.Doing.{Doing}
 use Rattle.walkx.specs.Doing as doing
 use Rattle.walkx.specs.Scripts.{Script, asks, ends, rest_after, rest, op_with, heard_in}
-use Rattle.walkx.specs.Walk.{Then, begins, turns, stops, Walking, HearsAdmitted, AllAdmitted}
+use Rattle.walkx.specs.Walk.{Then, begins, turns, works, stops, Walking, HearsAdmitted, AllAdmitted}
 use Rattle.walkx.specs.Walk.{script_by, script_of, rest_of, node_of, phase_begun, heard_of}
-use Rattle.walkx.specs.Walk.{turn_script, begin_script, marks, way_down}
+use Rattle.walkx.specs.Walk.{turn_script, begin_script, part_script, after_part, has_rank}
+use Rattle.walkx.specs.Walk.{begun_phase, processor_at, way_down}
 use Rattle.walkx.proofs.BoundTasks.{IsWithin, task_within}
 
 -- whatever is heard, this holds of what comes of the script and of its steps, the newest first
@@ -56,6 +58,7 @@ pub record BeginsTurn (job : JobData) (y : LayoutData) (n m q : ℕ)
 abbrev pub BeginEnds : JobData → LayoutData → ℕ → Then → List (Op × ℕ) → Type 0
 BeginEnds job y n (begins m) history = ⊥
 BeginEnds job y n (turns m q) history = BeginsTurn job y n m q history
+BeginEnds job y n (works m q rank) history = ⊥
 BeginEnds job y n (stops ended.Done) history = history ≡ heard_both y (3 * job.steps) 0
 BeginEnds job y n (stops (ended.Conflict u)) history =
     (u ≢ 0) × ((root : ℕ) × (history ≡ heard_both y root u))
@@ -104,10 +107,25 @@ begin_ends job y n = λ root. cond_both (root % 3 == 0) _ _
       admitted = λ all. all.0;
     })
 
+-- the task of the processor of this rank comes next in the block of node n
+pub record InBlock (y : LayoutData) (n q due m p rank : ℕ) : Type 0 where
+  pub node : m ≡ n
+  pub phase : p ≡ q
+  pub next : rank ≡ due
+  pub there : IsTrue (has_rank y n rank)
+
+-- a task at node n in phase q, after which that of this rank comes
+abbrev pub InPart : LayoutData → ℕ → ℕ → ℕ → Then → Type 0
+InPart y n q next (begins m) = ⊥
+InPart y n q next (turns m p) = (p ≡ q) × (m ≡ n)
+InPart y n q next (works m p rank) = InBlock y n q next m p rank
+InPart y n q next (stops e) = ⊥
+
 -- a turn at node n in phase q
 abbrev pub InTurn : LayoutData → ℕ → ℕ → Then → Type 0
 InTurn y n q (begins m) = m ≡ 1
 InTurn y n q (turns m p) = (p ≡ q) × (1 ≤ n → n < 2 * y.leaves → (1 ≤ m) × (m < 2 * y.leaves))
+InTurn y n q (works m p rank) = (y.leaves ≤ n) × InBlock y n q 1 m p rank
 InTurn y n q (stops e) = ⊥
 
 -- the lemma on tasks of the own-step bound serves for this too
@@ -128,6 +146,22 @@ way_inside y w n q l r low high =
     cond_both (turns_right_in y w n) (2 * n + 1) (2 * n) Inside (λ e. (omega arith, omega arith))
     (λ e. (omega arith, omega arith))))
 
+pub in_block : {y : LayoutData} {n q rank : ℕ} → IsTrue (has_rank y n rank) →
+    InBlock y n q rank n q rank
+in_block there = record { node = refl; phase = refl; next = refl; there = there }
+
+-- what holds of both ends of a task
+pub part_ends : (Q : Then → Type 0) (job : JobData) (y : LayoutData) (n q rank : ℕ)
+    (history : List (Op × ℕ)) → (IsTrue (has_rank y n (suc rank)) → Q (works n q (suc rank))) →
+    Q (turns n q) → AllEnds (λ r h. Q r) (part_script job y n q rank) history
+unfolding part_script
+part_ends Q job y n q rank history more last =
+    task_within (λ k script. (longer : List (Op × ℕ)) → AllEnds (λ r h. Q r) script longer)
+    (ends_within (λ r h. Q r)) 0 job.rule
+    (kind_at q) job y (step_at q) (processor_at y n rank) (after_part y n q rank)
+    (λ longer. cond_both (has_rank y n (suc rank)) _ _ (λ s. AllEnds (λ r h. Q r) s longer)
+    (λ e. more e) (λ e. λ f. last)) history
+
 abbrev pub TurnEnds : LayoutData → ℕ → ℕ → List (Op × ℕ) → Script Then → Type 0
 TurnEnds y n q history script = AllEnds (λ r h. InTurn y n q r) script history
 
@@ -135,18 +169,18 @@ pub turn_ends : (job : JobData) (y : LayoutData) (w n q : ℕ) (history : List (
     TurnEnds y n q history (turn_script job y w n q)
 unfolding turn_script
 turn_ends job y w n q history = λ found.
-    cond_both (nat_le q found) _ _ (TurnEnds y n q ((Load (number_of y (Node n)), found) ∷ history))
+    cond_both (nat_le q found) _ _
+    (TurnEnds y n q ((Load (number_of y (Node n)), found) ∷ history))
     (λ e. cond_both (n == 1) _ _
     (TurnEnds y n q ((Load (number_of y (Node n)), found) ∷ history)) (λ e. refl)
     (λ e. λ stored. (refl, λ low high. let h = eqb-false n 1 e in (omega arith, omega arith))))
     (λ e. cond_both (nat_le y.leaves n) _ _
     (TurnEnds y n q ((Load (number_of y (Node n)), found) ∷ history))
-    (λ e. cond_both (nat_le (y.leaves + job.procs) n) _ _ (TurnEnds y n q
-    ((Load (number_of y (Node n)), found) ∷ history)) (λ e. λ f. (refl, λ low high. (low, high)))
-    (λ e. task_within (λ k script. (longer : List (Op × ℕ)) → TurnEnds y n q longer script)
-    (ends_within (λ r h. InTurn y n q r)) 0 job.rule
-    (kind_at q) job y (step_at q) (n - y.leaves) (marks y n q)
-    (λ longer f. (refl, λ low high. (low, high))) ((Load (number_of y (Node n)), found) ∷ history)))
+    (λ e. cond_both (has_rank y n 0) _ _
+    (TurnEnds y n q ((Load (number_of y (Node n)), found) ∷ history))
+    (λ there. part_ends (InTurn y n q) job y n q 0 ((Load (number_of y (Node n)), found) ∷ history)
+    (λ more. (leb-true y.leaves n e, in_block more)) (refl, λ low high. (low, high)))
+    (λ none. λ f. (refl, λ low high. (low, high))))
     (λ e. λ l r. cond_both (nat_le q l && nat_le q r) _ _ (TurnEnds y n q ((
       Load (number_of y (Node (2 * n + 1))),
       r,
@@ -165,6 +199,7 @@ abbrev pub Brings : JobData → LayoutData → ℕ → ℕ → Doing → Then �
 Brings job y number n doing.Back r history = BackEnds job y number r history
 Brings job y number n doing.Begin r history = BeginEnds job y n r history
 Brings job y number n (doing.Turn q) r history = InTurn y n q r
+Brings job y number n (doing.Part q rank) r history = InPart y n q (suc rank) r
 Brings job y number n (doing.Over e) r history = BeginEnds job y n r history
 
 pub script_ends : (job : JobData) (y : LayoutData) (number n : ℕ) (d : Doing) →
@@ -173,6 +208,8 @@ script_ends job y number n doing.Back = λ found all. all.0
 script_ends job y number n doing.Begin = begin_ends job y n
 script_ends job y number n (doing.Turn q) =
     turn_ends job y number n q (phase_begun y (doing.Turn q))
+script_ends job y number n (doing.Part q rank) =
+    part_ends (InPart y n q (suc rank)) job y n q rank (begun_phase y q) in_block (refl, refl)
 script_ends job y number n (doing.Over e) = begin_ends job y n
 
 pub worker_ends : (job : JobData) (y : LayoutData) (w : Walking) →

@@ -1,7 +1,7 @@
 -- A worker that fits still fits with each admitted answer.
 use Rattle.std.proofs.Common.{◌≡◌, ◌≢◌, ℕ, zero, suc, ◌+◌, ◌-◌, ◌*◌, ◌^◌, ◌<◌, ◌≤◌, List}
 use Rattle.std.proofs.Common.{[], ◌∷◌, ◌++◌, Option, Some, None, IfSome, unwrap_or, lit<}
-use Rattle.std.proofs.Common.{refl, sym, ap, subst, ◌∙◌, inl, inr, arith}
+use Rattle.std.proofs.Common.{refl, sym, ap, subst, ◌∙◌, inl, inr, arith, IsTrue}
 use Rattle.std.proofs.Math.Nat.{pow-le-pow_right}
 use Rattle.std.proofs.lemmas.Nat.{mod_below, pow_pos}
 use Rattle.std.proofs.lemmas.Bool.{cases_lt}
@@ -20,11 +20,13 @@ use Rattle.walkx.specs.Doing as doing
 use Rattle.walkx.specs.Playing.{hearing}
 use Rattle.walkx.specs.Laws.{NewWorkersFit, AnswersKeepFit}
 use Rattle.walkx.specs.Scripts.{Script, asks, ends, rest_after, rest, heard_in}
-use Rattle.walkx.specs.Walk.{Then, begins, turns, stops, Walking, Fits, IsBoard, IsGoing, IsPhase}
+use Rattle.walkx.specs.Walk.{Then, begins, turns, works, stops, Walking, Fits, IsBoard, IsGoing}
+use Rattle.walkx.specs.Walk.{IsInBlock, IsPhase, begun_phase, has_rank}
 use Rattle.walkx.specs.Walk.{Matches, AllAdmitted, script_by, script_of, rest_of, node_of, ask_of}
 use Rattle.walkx.specs.Walk.{goes_on, phase_begun, heard_of, turn_script, begin_script}
 use Rattle.walkx.proofs.Boards.{in_range}
-use Rattle.walkx.proofs.Ends.{AllEnds, Brings, worker_ends}
+use Rattle.walkx.proofs.Ends.{AllEnds, Brings, InBlock, worker_ends}
+use Rattle.walkx.proofs.Firsts.{part_first}
 use Rattle.walkx.proofs.Going.{asks_of, going_or_over, matches_of, next_of}
 use Rattle.walkx.proofs.Going.{op_with_first, told_going, told_over}
 
@@ -45,6 +47,7 @@ pub stops_begin : (job : JobData) (y : LayoutData)
 stops_begin job y number n doing.Back e history going b = absurd b
 stops_begin job y number n doing.Begin e history going b = refl
 stops_begin job y number n (doing.Turn q) e history going b = absurd b
+stops_begin job y number n (doing.Part q rank) e history going b = absurd b
 stops_begin job y number n (doing.Over x) e history going b = absurd going
 
 all_after : (job : JobData) (y : LayoutData) (xs ys : List (Op × ℕ)) →
@@ -77,7 +80,8 @@ unfolding first_leaf_in
 first_node y worker some = elim (cases_form y.form) [
   | inl e ↦ rw e (let below = mod_below worker y.leaves some in (omega arith, omega arith))
   | inr e ↦
-      rw (form_wide y.form (first_leaf_of y.leaves worker) (way_of y worker (depth_of y.leaves)) e)
+      rw (form_wide y.form e.0 (first_leaf_of y.leaves worker)
+      (way_of y worker (depth_of y.leaves)) e.1)
       (let way = way_depth y worker (depth_of y.leaves) in
       let low = depth_low y.leaves some in
       let pos = pow_pos (depth_of y.leaves) in (omega arith, omega arith))
@@ -124,7 +128,48 @@ begun_fits job y number n m q (doing.Turn p) xs board going phase low high b all
   subst (λ (t : ℕ). AllAdmitted job y (phase_begun y (doing.Turn t)))
       (sym b.0) (all_after job y xs (phase_begun y (doing.Turn p)) all),
 )
+begun_fits job y number n m q (doing.Part p rank) xs board going phase low high b all = (
+  subst (λ (k : ℕ). (1 ≤ k) × (k < 2 * y.leaves)) (sym b.1) (low, high),
+  subst (λ (t : ℕ). (1 ≤ t) × (t ≤ 3 * job.steps)) (sym b.0) phase,
+  subst (λ (t : ℕ). AllAdmitted job y (begun_phase y t))
+      (sym b.0) (all_after job y xs (begun_phase y p) all),
+)
 begun_fits job y number n m q (doing.Over e) xs board going phase low high b all = absurd going
+
+-- the next task in a block
+record Within (job : JobData) (y : LayoutData) (n m q rank : ℕ) : Type 0 where
+  node : (1 ≤ m) × (m < 2 * y.leaves)
+  phase : (1 ≤ q) × (q ≤ 3 * job.steps)
+  block : (y.leaves ≤ m) × (1 ≤ rank) × IsTrue (has_rank y m rank)
+  admitted : AllAdmitted job y (begun_phase y q)
+
+within_by : (job : JobData) (y : LayoutData) (n m q p next rank : ℕ) (xs : List (Op × ℕ)) →
+    1 ≤ next → y.leaves ≤ n → (1 ≤ p) × (p ≤ 3 * job.steps) → 1 ≤ n → n < 2 * y.leaves →
+    InBlock y n p next m q rank → AllAdmitted job y (xs ++ begun_phase y p) →
+    Within job y n m q rank
+within_by job y n m q p next rank xs some leaf phase low high b all = record {
+  node = rw b.node (low, high);
+  phase = rw b.phase phase;
+  block = (
+    rw b.node leaf,
+    rw b.next some,
+    subst (λ (k : ℕ). IsTrue (has_rank y k rank))
+        (sym b.node) b.there,
+  );
+  admitted = rw b.phase (all_after job y xs (begun_phase y p) all);
+}
+
+works_fits : (job : JobData) (y : LayoutData) (number n m q rank : ℕ) (d : Doing)
+    (xs : List (Op × ℕ)) → IsGoing d → IsPhase job d → IsInBlock y n d →
+    1 ≤ n → n < 2 * y.leaves → Brings job y number n d (works m q rank) (xs ++ phase_begun y d) →
+    AllAdmitted job y (xs ++ phase_begun y d) → Within job y n m q rank
+works_fits job y number n m q rank doing.Back xs going phase block low high b all = absurd b
+works_fits job y number n m q rank doing.Begin xs going phase block low high b all = absurd b
+works_fits job y number n m q rank (doing.Turn p) xs going phase block low high b all =
+    within_by job y n m q p 1 rank xs (omega arith) b.0 phase low high b.1 all
+works_fits job y number n m q rank (doing.Part p before) xs going phase block low high b all =
+    within_by job y n m q p (suc before) rank xs (omega arith) block.0 phase low high b all
+works_fits job y number n m q rank (doing.Over e) xs going phase block low high b all = absurd going
 
 begins_fits : (job : JobData) (y : LayoutData)
     (number n m : ℕ) (d : Doing) (history : List (Op × ℕ)) →
@@ -135,6 +180,7 @@ begins_fits job y number n m doing.Back history board worker going b all =
 begins_fits job y number n m doing.Begin history board worker going b all = absurd b
 begins_fits job y number n m (doing.Turn p) history board worker going b all =
     let leaves = board.layout.leaves in (omega arith, omega arith)
+begins_fits job y number n m (doing.Part p rank) history board worker going b all = absurd b
 begins_fits job y number n m (doing.Over e) history board worker going b all = absurd going
 
 fits_on : (job : JobData) (y : LayoutData) (w : Walking) (found : ℕ) (t : Script Then) →
@@ -146,6 +192,7 @@ fits_on job y w found (asks op next) board going fits is each all = record {
   number = fits.number;
   node = fits.node;
   phase = fits.phase;
+  block = fits.block;
   admitted = all;
   matches = subst (Matches w.now)
       (sym is) (matches_of w.now (asks op next) going (record { op = op; first = refl }));
@@ -156,6 +203,7 @@ fits_on job y w found (ends (begins m)) board going fits is each all =
       node = begins_fits job y w.number
           (node_of y w) m w.now (heard_of job y (hearing w found)) board fits.number going each all;
       phase = tt;
+      block = tt;
       admitted = tt;
       matches = (_, refl);
     }
@@ -164,7 +212,28 @@ fits_on job y w found (ends (turns m q)) board going fits is each all =
     let at = node_range job y w leaves.0 fits in
     let b = begun_fits job y w.number (node_of y w) m q w.now
     (heard_in (script_of job y w) (found ∷ w.heard)) board going fits.phase at.0 at.1 each all in
-    record { number = fits.number; node = b.0; phase = b.1; admitted = b.2; matches = (_, refl) }
+    record {
+      number = fits.number;
+      node = b.0;
+      phase = b.1;
+      block = tt;
+      admitted = b.2;
+      matches = (_, refl);
+    }
+fits_on job y w found (ends (works m q rank)) board going fits is each all =
+    let leaves = board.layout.leaves in
+    let at = node_range job y w leaves.0 fits in
+    let b = works_fits job y w.number (node_of y w) m q rank w.now
+    (heard_in (script_of job y w) (found ∷ w.heard)) going fits.phase
+    fits.block at.0 at.1 each all in
+    record {
+      number = fits.number;
+      node = b.node;
+      phase = b.phase;
+      block = b.block;
+      admitted = b.admitted;
+      matches = part_first job y m q rank;
+    }
 fits_on job y w found (ends (stops e)) board going fits is each all =
     let from = stops_begin job y w.number (node_of y w) w.now e
     (heard_of job y (hearing w found)) going each in
@@ -172,6 +241,7 @@ fits_on job y w found (ends (stops e)) board going fits is each all =
       number = fits.number;
       node = fits.node;
       phase = tt;
+      block = tt;
       admitted = subst (λ (d : Doing). AllAdmitted job y (heard_in (script_by job y w.number
           (node_of y w) d) (found ∷ w.heard) ++ phase_begun y d)) from all;
       matches = subst (λ (d : Doing).
@@ -196,6 +266,6 @@ fits_told job y w found board fits admitted = elim (going_or_over w.now) [
 pub new_workers_fit : NewWorkersFit
 unfolding begin_script
 new_workers_fit job y number worker = (
-  record { number = worker; node = tt; phase = tt; admitted = tt; matches = (_, refl) },
-  record { number = worker; node = tt; phase = tt; admitted = tt; matches = (_, refl) },
+  record { number = worker; node = tt; phase = tt; block = tt; admitted = tt; matches = (_, refl) },
+  record { number = worker; node = tt; phase = tt; block = tt; admitted = tt; matches = (_, refl) },
 )

@@ -12,6 +12,7 @@ pub going_or_over : (d : Doing) → IsGoing d ⊎ ((e : Ended) × (d ≡ doing.O
 going_or_over doing.Back = inl tt
 going_or_over doing.Begin = inl tt
 going_or_over (doing.Turn q) = inl tt
+going_or_over (doing.Part q rank) = inl tt
 going_or_over (doing.Over e) = inr (e, refl)
 
 -- a script asks this first
@@ -23,12 +24,14 @@ pub asks_of : (d : Doing) (s : Script Then) → IsGoing d → Matches d s → As
 asks_of doing.Back s going m = record { op = m.0; first = m.1 }
 asks_of doing.Begin s going m = record { op = m.0; first = m.1 }
 asks_of (doing.Turn q) s going m = record { op = m.0; first = m.1 }
+asks_of (doing.Part q rank) s going m = record { op = m.0; first = m.1 }
 asks_of (doing.Over e) s going m = absurd going
 
 pub matches_of : (d : Doing) (s : Script Then) → IsGoing d → Asks s → Matches d s
 matches_of doing.Back s going a = (a.op, a.first)
 matches_of doing.Begin s going a = (a.op, a.first)
 matches_of (doing.Turn q) s going a = (a.op, a.first)
+matches_of (doing.Part q rank) s going a = (a.op, a.first)
 matches_of (doing.Over e) s going a = absurd going
 
 pub next_of : (d : Doing) (s : Script Then) (op : Op) → IsGoing d →
@@ -36,6 +39,7 @@ pub next_of : (d : Doing) (s : Script Then) (op : Op) → IsGoing d →
 next_of doing.Back s op going e = rw e
 next_of doing.Begin s op going e = rw e
 next_of (doing.Turn q) s op going e = rw e
+next_of (doing.Part q rank) s op going e = rw e
 next_of (doing.Over e') s op going e = absurd going
 
 pub told_going : (d : Doing) (w : Walking) (found : ℕ) (s : Script Then) → IsGoing d →
@@ -43,6 +47,7 @@ pub told_going : (d : Doing) (w : Walking) (found : ℕ) (s : Script Then) → I
 told_going doing.Back w found s going = refl
 told_going doing.Begin w found s going = refl
 told_going (doing.Turn q) w found s going = refl
+told_going (doing.Part q rank) w found s going = refl
 told_going (doing.Over e) w found s going = absurd going
 
 pub told_over : (w : Walking) (found : ℕ) (s : Script Then) (d : Doing) (e : Ended) →

@@ -3,6 +3,7 @@ pub mod Cells
 pub mod Looks
 pub mod Going
 pub mod Ends
+pub mod Firsts
 pub mod Fitting
 pub mod Knowing
 pub mod Asking

@@ -9,7 +9,8 @@ use Rattle.walkx.specs.declared.operation.Op.{Op}
 use Rattle.walkx.specs.Doing.{Doing}
 use Rattle.walkx.specs.Doing as doing
 use Rattle.walkx.specs.Scripts.{Script, asks, ends, rest_after, rest, first_op}
-use Rattle.walkx.specs.Walk.{Then, begin_script, turn_script, leaf_script, marks, script_by}
+use Rattle.walkx.specs.Walk.{Then, after_part, begin_script, has_rank, leaf_script, marks}
+use Rattle.walkx.specs.Walk.{part_script, processor_at, script_by, turn_script}
 use Rattle.walkx.proofs.BoundTasks.{IsWithin, task_within}
 
 -- it asks for no more than so many operations
@@ -63,11 +64,17 @@ few_heard s k answers op short is = omega (
 marks_short : (y : LayoutData) (n q k : ℕ) → 1 ≤ k → Short (marks y n q) k
 marks_short y n q k h = (h, λ found. tt)
 
+part_short : (job : JobData) (y : LayoutData) (n q rank : ℕ) →
+    Short (part_script job y n q rank) 12
+unfolding part_script
+part_short job y n q rank =
+    task_within Within short_within 1 job.rule (kind_at q) job y (step_at q) (processor_at y n rank)
+    (after_part y n q rank) (cond_both (has_rank y n (suc rank)) _ _ (λ s. Short s 1) (λ _. tt)
+    (λ _. marks_short y n q 1 (omega arith)))
+
 leaf_short : (job : JobData) (y : LayoutData) (n q : ℕ) → Short (leaf_script job y n q) 12
-leaf_short job y n q = cond_both (nat_le (y.leaves + job.procs) n) _ _
-    (λ s. Short s 12) (λ _. marks_short y n q 12 (omega arith))
-    (λ _. task_within Within short_within 1 job.rule (kind_at q) job y (step_at q) (n - y.leaves)
-    (marks y n q) (marks_short y n q 1 (omega arith)))
+leaf_short job y n q = cond_both (has_rank y n 0) _ _ (λ s. Short s 12)
+    (λ _. part_short job y n q 0) (λ _. marks_short y n q 12 (omega arith))
 
 turn_short : (job : JobData) (y : LayoutData) (w n q : ℕ) → Short (turn_script job y w n q) 13
 unfolding turn_script
@@ -103,4 +110,6 @@ pub script_short : (job : JobData) (y : LayoutData) (w n : ℕ) (d : Doing) →
 script_short job y w n doing.Back = (omega arith, λ found. tt)
 script_short job y w n doing.Begin = begin_short job y n
 script_short job y w n (doing.Turn q) = turn_short job y w n q
+script_short job y w n (doing.Part q rank) =
+    short_more (part_script job y n q rank) 13 12 (omega arith) (part_short job y n q rank)
 script_short job y w n (doing.Over e) = begin_short job y n

@@ -1,16 +1,46 @@
 -- What a turn comes to.
-use Rattle.std.proofs.Common.{◌≡◌, ◌+◌, false, nat_le, Option, Some, ap, refl, subst}
-use Rattle.walkx.specs.Scripts.{Script}
-use Rattle.walkx.specs.Walk.{Then}
-use Rattle.walkx.specs.Inner.Posts.{PostData, then_marks}
+use Rattle.std.proofs.Common.{arith, ◌≤◌, ◌≡◌, ℕ, zero, suc, true, false}
+use Rattle.std.proofs.Common.{Option, Some, None, ap, refl, subst, inl, inr}
+use Rattle.std.proofs.lemmas.Bool.{cases_Bool}
+use Rattle.walkx.specs.Scripts.{Script, ends}
+use Rattle.walkx.specs.Walk.{Then, Fits, IsBoard, works, has_rank, part_script}
+use Rattle.walkx.specs.Inner.Posts.{PostData, post_data, next_rank, then_marks, then_next}
 use Rattle.walkx.specs.Driving.{Standing}
 use Rattle.walkx.specs.Parts.{does}
-use Rattle.walkx.specs.Rests.{leaf_of}
+use Rattle.walkx.specs.Rests.{IsPlace, leaf_of, part_of, script_at, turn_of}
+use Rattle.walkx.specs.Records.{script_at_rank}
+use Rattle.walkx.specs.Turns.{working}
+use Rattle.walkx.proofs.Firsts.{rank_parts}
+use Rattle.pram_text.specs.Job.{JobData}
+use Rattle.pram_words.specs.Words.{LayoutData}
 
 -- the leaf is one of a processor's
-pub leaf_does : (at : PostData) → nat_le (at.layout.leaves + at.job.procs) at.node ≡ false →
-    leaf_of at ≡ does at (then_marks at)
-leaf_does at spare = rw spare refl
+pub leaf_does : (at : PostData) → at.rank ≡ 0 → has_rank at.layout at.node 0 ≡ true →
+    leaf_of at ≡ part_of at
+leaf_does at first there = rw (there, first) refl
+
+pub leaf_marks : (at : PostData) → has_rank at.layout at.node 0 ≡ false →
+    leaf_of at ≡ then_marks at
+leaf_marks at none = rw none refl
+
+pub part_does : (at : PostData) → part_of at ≡ does at (then_next at)
+unfolding part_script
+part_does at = refl
+
+-- the last task of a block, and the others
+pub next_none : (at : PostData) → next_rank at ≡ None → then_next at ≡ then_marks at
+next_none at is = elim (cases_Bool (has_rank at.layout at.node (suc at.rank))) [
+  | inl e ↦ absurd (let f = rw e at is in cc)
+  | inr e ↦ rw e refl
+]
+
+pub next_some : (at : PostData) (rank : ℕ) → next_rank at ≡ Some rank →
+    then_next at ≡ ends (works at.node at.phase rank)
+next_some at rank is = elim (cases_Bool (has_rank at.layout at.node (suc at.rank))) [
+  | inl e ↦ (let f : Some (suc at.rank) ≡ Some rank = rw e at is in
+      let same : suc at.rank ≡ rank = cc in rw (e, ← same) refl)
+  | inr e ↦ absurd (let f = rw e at is in cc)
+]
 
 -- the same place in a script
 pub moved : {D : Type 0} (stands : Standing D) (from : D × Script Then) (d : D)
@@ -24,3 +54,48 @@ comes_to stands from d s u is here = subst (stands from d) is here
 -- what is the same stands at the same node
 pub node_is : {at other : PostData} → at ≡ other → at.node ≡ other.node
 node_is same = ap (λ (p : PostData). p.node) same
+
+pub rank_is : {at other : PostData} → at ≡ other → at.rank ≡ other.rank
+rank_is same = ap (λ (p : PostData). p.rank) same
+
+pub some_rank : (at : PostData) → (at.rank ≡ 0 → ⊥) → 1 ≤ at.rank
+some_rank at other = by at.rank other
+  where
+    by : (rank : ℕ) → (rank ≡ 0 → ⊥) → 1 ≤ rank
+    by zero e = absurd (e refl)
+    by (suc rank) e = omega arith
+
+-- the script with the task of a rank
+pub script_first : (at : PostData) → at.rank ≡ 0 → script_at at ≡ turn_of at
+script_first at first = by at.rank first
+  where
+    by : (rank : ℕ) → rank ≡ 0 →
+        script_at_rank at.job at.layout at.worker at.node at.phase rank ≡ turn_of at
+    by zero e = refl
+    by (suc rank) e = absurd (cc)
+
+pub script_later : (at : PostData) → 1 ≤ at.rank → script_at at ≡ part_of at
+script_later at some = by at.rank some
+  where
+    by : (rank : ℕ) → 1 ≤ rank →
+        script_at_rank at.job at.layout at.worker at.node at.phase rank
+        ≡ part_script at.job at.layout at.node at.phase rank
+    by zero e = absurd (omega arith)
+    by (suc rank) e = refl
+
+-- a worker at the start of such a script can play it
+pub fits_place : (job : JobData) (y : LayoutData) (number n q rank : ℕ) → IsBoard job y →
+    Fits job y (working number n q rank) → IsPlace (post_data job y number n q rank)
+fits_place job y number n q zero board fits =
+    record { phase = fits.phase.1; leaf = λ some. absurd (omega arith) }
+fits_place job y number n q (suc rank) board fits =
+    let there = rank_parts y n (suc rank) fits.block.2 in record {
+      phase = fits.phase.1;
+      leaf = λ some. record {
+        board = board;
+        first = fits.block.0;
+        rank = there.0;
+        last = there.1;
+        phase = fits.phase.1;
+      };
+    }

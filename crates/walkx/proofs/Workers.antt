@@ -15,18 +15,19 @@ use Rattle.walkx.specs.Doing as doing
 use Rattle.walkx.specs.Inner.Posts.{PostData}
 use Rattle.walkx.specs.Inner.Heard.{newest}
 use Rattle.walkx.specs.Inner.Workers.{WorkerData, doing_in, worker_data}
-use Rattle.walkx.specs.Playing.{ComesTo, IsPlayable, asked_after}
+use Rattle.walkx.specs.Playing.{ComesTo, IsPlayable, op_after}
 use Rattle.walkx.specs.Playing.{come_to, hearing, phase_of, stand_of}
 use Rattle.walkx.specs.Serving.{IsHeldAt, Serves}
 use Rattle.walkx.specs.Activities.{activity_of}
 use Rattle.walkx.specs.Turns.{beginning}
-use Rattle.walkx.specs.Rests.{script_in, then_of}
+use Rattle.walkx.specs.Rests.{IsWithin, script_in, then_of}
 use Rattle.walkx.specs.Scripts.{Script, asks, ends, rest_after, rest, first_op, heard_in}
 use Rattle.walkx.specs.Walk.{Then, Walking, Fits, AllAdmitted, HearsAdmitted, IsBoard, IsGoing}
 use Rattle.walkx.specs.Walk.{IsPhase, ask_of, end_of, begin_script, goes_on, heard_of, node_of}
 use Rattle.walkx.specs.Walk.{phase_begun, rest_of, script_of, told, started, come_back}
 use Rattle.walkx.proofs.Asking.{all_left}
 use Rattle.walkx.proofs.Fitting.{fits_told, heard_more, new_workers_fit, node_range}
+use Rattle.walkx.proofs.Firsts.{rank_parts}
 use Rattle.walkx.proofs.Heard.{newest_all}
 use Rattle.walkx.proofs.Going.{asks_of, next_of, told_going, told_over}
 use Rattle.walkx.proofs.Short.{few_heard, script_short}
@@ -34,13 +35,14 @@ use Rattle.walkx.proofs.Short.{few_heard, script_short}
 -- ---- the script by the fields of the code
 
 pub script_is : (job : JobData) (y : LayoutData)
-    (number : ℕ) (n : Option ℕ) (now : Activity) (asked : Option Op) (heard : List ℕ) →
-    script_of job y (worker_data number n now asked heard).walking
-    ≡ script_in (stand_of job y (worker_data number n now asked heard).walking) now
-script_is job y number n activity.Back asked heard = refl
-script_is job y number n activity.Begin asked heard = refl
-script_is job y number n (activity.Turn q) asked heard = refl
-script_is job y number n (activity.Over e) asked heard = refl
+    (number : ℕ) (n : Option ℕ) (now : Activity) (held_op : Option Op) (heard : List ℕ) →
+    script_of job y (worker_data number n now held_op heard).walking
+    ≡ script_in (stand_of job y (worker_data number n now held_op heard).walking) now
+script_is job y number n activity.Back held_op heard = refl
+script_is job y number n activity.Begin held_op heard = refl
+script_is job y number n (activity.Turn q) held_op heard = refl
+script_is job y number n (activity.Part q rank) held_op heard = refl
+script_is job y number n (activity.Over e) held_op heard = refl
 
 -- ---- a worker that fits
 
@@ -48,6 +50,7 @@ phase_small : (job : JobData) (d : Doing) → IsPhase job d → phase_of d ≤ 3
 phase_small job doing.Back h = omega arith
 phase_small job doing.Begin h = omega arith
 phase_small job (doing.Turn q) h = h.1
+phase_small job (doing.Part q rank) h = h.1
 phase_small job (doing.Over e) h = omega arith
 
 pub playable : (job : JobData) (y : LayoutData) (w : Walking) → IsBoard job y →
@@ -56,6 +59,7 @@ playable job y w board fits = record {
   number = fits.number;
   node = node_range job y w board.layout.leaves.0 fits;
   phase = phase_small job w.now fits.phase;
+  block = fits.block;
   admitted = all_left job y _ (phase_begun y w.now) fits.admitted;
 }
 
@@ -69,6 +73,7 @@ playable_more job y w found board fits going admitted =
       number = fits.number;
       node = node_range job y w board.layout.leaves.0 fits;
       phase = phase_small job w.now fits.phase;
+      block = fits.block;
       admitted = all_left job y _ (phase_begun y w.now) all;
     }
 
@@ -86,7 +91,21 @@ pub is_going : (d : Doing) → end_of d ≡ None → IsGoing d
 is_going doing.Back none = tt
 is_going doing.Begin none = tt
 is_going (doing.Turn q) none = tt
+is_going (doing.Part q rank) none = tt
 is_going (doing.Over e) none = absurd (cc)
+
+-- its post fits what it is doing
+pub within_at : (job : JobData) (y : LayoutData) (number : ℕ) (n : Option ℕ) (now : Activity)
+    (held_op : Option Op) (heard : List ℕ) → IsBoard job y →
+    IsPlayable job y (worker_data number n now held_op heard).walking →
+    IsWithin (stand_of job y (worker_data number n now held_op heard).walking) now
+within_at job y number n activity.Back held_op heard board p = tt
+within_at job y number n activity.Begin held_op heard board p = tt
+within_at job y number n (activity.Turn q) held_op heard board p = (refl, p.phase)
+within_at job y number n (activity.Part q rank) held_op heard board p =
+    let there = rank_parts y _ rank p.block.2 in
+    record { board = board; first = p.block.0; rank = there.0; last = there.1; phase = p.phase }
+within_at job y number n (activity.Over e) held_op heard board p = tt
 
 -- ---- what comes of an answer
 
@@ -99,6 +118,7 @@ goes_on_ends : (w : Walking) (found : ℕ) (n : Next) →
     goes_on w found (ends (then_of n)) ≡ come_to (hearing w found) n
 goes_on_ends w found (next.Begins n) = refl
 goes_on_ends w found (next.Turns n q) = refl
+goes_on_ends w found (next.Works n q rank) = refl
 goes_on_ends w found (next.Stops e) = refl
 
 pub told_ends : (job : JobData) (y : LayoutData) (w : Walking) (found : ℕ) (n : Next) →
@@ -118,6 +138,7 @@ some_over : (d : Doing) (e : Ended) → end_of d ≡ Some e → d ≡ doing.Over
 some_over doing.Back e is = absurd (cc)
 some_over doing.Begin e is = absurd (cc)
 some_over (doing.Turn q) e is = absurd (cc)
+some_over (doing.Part q rank) e is = absurd (cc)
 some_over (doing.Over f) e is = cc
 
 pub told_ended : (job : JobData) (y : LayoutData) (w : Walking) (found : ℕ) (e : Ended) →
@@ -132,9 +153,10 @@ held_at job y w op going is = sym (next_of w.now (rest_of job y w) op going is)
 -- ---- by the fields of the code: k is the worker, at where it stands
 
 module _ (job : JobData) (y : LayoutData) (number : ℕ)
-    (node : Option ℕ) (now : Activity) (asked : Option Op)
+    (node : Option ℕ) (now : Activity) (held_op : Option Op)
     (count : ℕ) (heard d : List ℕ) (k : WorkerData) (at : PostData) (within : count ≤ length heard)
-    (is : d ≡ take count heard) (view : worker_data number node now asked (newest count heard) ≡ k)
+    (is : d ≡ take count heard)
+    (view : worker_data number node now held_op (newest count heard) ≡ k)
     (stands : at ≡ stand_of job y k.walking) where
   same_heard : newest (length d) d ≡ k.walking.heard
   same_heard = subst (λ (xs : List ℕ). newest (length xs) xs ≡ newest count heard) (sym is)
@@ -143,7 +165,7 @@ module _ (job : JobData) (y : LayoutData) (number : ℕ)
   same_script : script_in at now ≡ script_of job y k.walking
   same_script = ap (λ (a : PostData). script_in a now)
       (stands ∙ ap (λ (p : WorkerData). stand_of job y p.walking) (sym view))
-      ∙ sym (script_is job y number node now asked (newest count heard))
+      ∙ sym (script_is job y number node now held_op (newest count heard))
       ∙ ap (λ (p : WorkerData). script_of job y p.walking) view
 
   pub admitted_here : IsPlayable job y k.walking →
@@ -169,6 +191,12 @@ module _ (job : JobData) (y : LayoutData) (number : ℕ)
       subst (λ (xs : List ℕ). ComesTo (rest (script_of job y k.walking) xs) r) same_heard
       (subst (λ (s : Script Then). ComesTo (rest s (newest (length d) d)) r) same_script c)
 
+  pub within_here : IsBoard job y → IsPlayable job y k.walking → IsWithin at now
+  within_here board p = subst (λ (a : PostData). IsWithin a now) (sym stands)
+      (subst (λ (w : WorkerData). IsWithin (stand_of job y w.walking) now) view
+      (within_at job y number node now held_op (newest count heard) board
+      (subst (λ (w : WorkerData). IsPlayable job y w.walking) (sym view) p)))
+
 -- ---- a worker that was told
 
 pub comes_ok : (s : Script Then) (r : Result Next Op) (n : Next) → r ≡ Ok n →
@@ -185,9 +213,10 @@ pub record Heard (job : JobData) (y : LayoutData) (w : Walking) (found : ℕ)
   pub serves : Serves job y new
 
 held_after : (job : JobData) (y : LayoutData) (w : Walking) (n : Next) →
-    IsHeldAt job y (come_to w n) (asked_after n)
+    IsHeldAt job y (come_to w n) (op_after n)
 held_after job y w (next.Begins n) = (tt, refl)
 held_after job y w (next.Turns n q) = (tt, refl)
+held_after job y w (next.Works n q rank) = (tt, refl)
 held_after job y w (next.Stops e) = refl
 
 module _ (job : JobData) (y : LayoutData) (w : Walking) (found : ℕ) (v : Walking)
@@ -201,8 +230,8 @@ module _ (job : JobData) (y : LayoutData) (w : Walking) (found : ℕ) (v : Walki
   comes_heard = subst (λ (u : Walking). ComesTo (rest_of job y u) r) is comes
 
   pub heard_ends : (n : Next) → r ≡ Ok n → new.walking ≡ come_to v n →
-      new.asked ≡ asked_after n → Heard job y w found new
-  heard_ends n ok came asked =
+      new.held_op ≡ op_after n → Heard job y w found new
+  heard_ends n ok came held_op =
       let t : new.walking ≡ told job y w found =
       came ∙ ap (λ (u : Walking). come_to u n) is ∙ sym (told_ends job y w found n going
       (comes_ok (rest_of job y (hearing w found)) r n ok comes_heard)) in
@@ -210,15 +239,15 @@ module _ (job : JobData) (y : LayoutData) (w : Walking) (found : ℕ) (v : Walki
         told = t;
         serves = record {
           fits = subst (Fits job y) (sym t) (fits_told job y w found board fits admitted);
-          held = subst (IsHeldAt job y new.walking) (sym asked)
-              (subst (λ (u : Walking). IsHeldAt job y u (asked_after n))
+          held = subst (IsHeldAt job y new.walking) (sym held_op)
+              (subst (λ (u : Walking). IsHeldAt job y u (op_after n))
               (sym came) (held_after job y v n));
         };
       }
 
   pub heard_asks : (op : Op) → r ≡ Err op → new.walking ≡ v →
-      new.asked ≡ Some op → Heard job y w found new
-  heard_asks op err same asked =
+      new.held_op ≡ Some op → Heard job y w found new
+  heard_asks op err same held_op =
       let first : first_op (rest_of job y (hearing w found)) ≡ Some op =
       comes_err (rest_of job y (hearing w found)) r op err comes_heard in
       let now : new.walking ≡ (hearing w found) = same ∙ is in
@@ -228,7 +257,7 @@ module _ (job : JobData) (y : LayoutData) (w : Walking) (found : ℕ) (v : Walki
         told = t;
         serves = record {
           fits = subst (Fits job y) (sym t) (fits_told job y w found board fits admitted);
-          held = subst (IsHeldAt job y new.walking) (sym asked)
+          held = subst (IsHeldAt job y new.walking) (sym held_op)
               (subst (λ (u : Walking). op ≡ ask_of job y u) (sym now)
               (held_at job y (hearing w found) op going first));
         };
@@ -238,32 +267,41 @@ module _ (job : JobData) (y : LayoutData) (w : Walking) (found : ℕ) (v : Walki
 
 -- a worker that is held in the midst of a script
 pub asks_held : (job : JobData) (y : LayoutData) (k : WorkerData) (op : Op) → Serves job y k →
-    k.asked ≡ Some op → op ≡ ask_of job y k.walking
+    k.held_op ≡ Some op → op ≡ ask_of job y k.walking
 asks_held job y k op serves is = subst (IsHeldAt job y k.walking) is serves.held
 
 -- a worker at the start of one
 pub asks_first : (job : JobData) (y : LayoutData) (k : WorkerData) (op : Op) → Serves job y k →
-    k.asked ≡ None → first_op (script_of job y k.walking) ≡ Some op → op ≡ ask_of job y k.walking
+    k.held_op ≡ None → first_op (rest_of job y k.walking) ≡ Some op → op ≡ ask_of job y k.walking
 asks_first job y k op serves none first =
     let held : IsHeldAt job y k.walking None = subst (IsHeldAt job y k.walking) none serves.held in
-    held_at job y k.walking op held.0
-    (subst (λ (xs : List ℕ). first_op (rest (script_of job y k.walking) xs) ≡ Some op)
-    (sym held.1) first)
+    held_at job y k.walking op held.0 first
+
+-- its script has not ended
+pub asks_some : (job : JobData) (y : LayoutData) (k : WorkerData) (n : Next) → Serves job y k →
+    k.held_op ≡ None → rest_of job y k.walking ≡ ends (then_of n) → ⊥
+asks_some job y k n serves none ended =
+    let held : IsHeldAt job y k.walking None = subst (IsHeldAt job y k.walking) none serves.held in
+    let a = asks_of k.walking.now (rest_of job y k.walking) held.0 serves.fits.matches in
+    let first : first_op (ends (then_of n)) ≡ Some a.op =
+    subst (λ (s : Script Then). first_op s ≡ Some a.op) ended a.first in
+    cc
 
 pub same_activity : (a : Activity) → a ≡ activity_of (doing_in a)
 same_activity activity.Back = refl
 same_activity activity.Begin = refl
 same_activity (activity.Turn q) = refl
+same_activity (activity.Part q rank) = refl
 same_activity (activity.Over e) = refl
 
 -- ---- a new worker
 
 pub starts : (job : JobData) (y : LayoutData) (w : ℕ) → w < y.workers →
-    Serves job y (record { walking = started w; asked = None })
+    Serves job y (record { walking = started w; held_op = None })
 starts job y w worker = record { fits = (new_workers_fit job y w worker).0; held = (tt, refl) }
 
 pub comes_anew : (job : JobData) (y : LayoutData) (w : ℕ) → w < y.workers →
-    Serves job y (record { walking = come_back w; asked = None })
+    Serves job y (record { walking = come_back w; held_op = None })
 comes_anew job y w worker = record { fits = (new_workers_fit job y w worker).1; held = (tt, refl) }
 
 -- a worker that begins anew at a node
@@ -271,10 +309,17 @@ fits_anew : (job : JobData) (y : LayoutData) (number start : ℕ) → number < y
     start < 2 * y.leaves → Fits job y (beginning number start)
 unfolding begin_script
 fits_anew job y number start worker low high =
-    record { number = worker; node = (low, high); phase = tt; admitted = tt; matches = (_, refl) }
+    record {
+      number = worker;
+      node = (low, high);
+      phase = tt;
+      block = tt;
+      admitted = tt;
+      matches = (_, refl);
+    }
 
 pub begins_anew : (job : JobData) (y : LayoutData) (number start : ℕ) →
     number < y.workers → 1 ≤ start → start < 2 * y.leaves →
-    Serves job y (record { walking = beginning number start; asked = None })
+    Serves job y (record { walking = beginning number start; held_op = None })
 begins_anew job y number start worker low high =
     record { fits = fits_anew job y number start worker low high; held = (tt, refl) }

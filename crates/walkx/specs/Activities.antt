@@ -8,4 +8,5 @@ abbrev pub activity_of : Doing → Activity
 activity_of doing.Back = activity.Back
 activity_of doing.Begin = activity.Begin
 activity_of (doing.Turn phase) = activity.Turn phase
+activity_of (doing.Part phase rank) = activity.Part phase rank
 activity_of (doing.Over end) = activity.Over end

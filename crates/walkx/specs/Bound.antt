@@ -2,6 +2,7 @@
 -- bound.
 use Rattle.std.specs.Prelude.{◌≡◌, ℕ, ◌+◌, ◌*◌, ◌<◌, ◌≤◌, ◌==◌, if◌then◌else◌, max, List, [], ◌∷◌}
 use Rattle.pram_text.specs.Job.{JobData}
+use Rattle.pram_words.specs.Tree.{leaves_of}
 use Rattle.pram_words.specs.Words.{LayoutData, number_of}
 use Rattle.pram_words.specs.declared.words.Word.TheVariants.{Node, Position}
 use Rattle.walkx.specs.declared.operation.Op.{Op}
@@ -60,5 +61,6 @@ IsHeard job layout worker (step ∷ earlier) =
 
 -- ---- the bound
 
-abbrev pub most_steps : JobData → LayoutData → ℕ
-most_steps job layout = 300 * layout.leaves * job.steps + 8
+-- 300 L T + 8, L being the least power of two that is at least the number of processors
+abbrev pub most_steps : JobData → ℕ
+most_steps job = 300 * leaves_of job.procs * job.steps + 8

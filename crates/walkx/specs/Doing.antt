@@ -3,9 +3,11 @@ use Rattle.std.specs.Prelude.{ℕ}
 use Rattle.walkx.specs.declared.operation.Ended.{Ended}
 
 -- It comes back, and loads its position; it begins, and looks for the phase; it makes a turn in
--- this phase; it is over.
+-- this phase; in this phase it does the task of the processor of this rank in its leaf's block; it
+-- is over.
 pub data Doing : Type 0 where
   Back : Doing
   Begin : Doing
   Turn : ℕ → Doing
+  Part : ℕ → ℕ → Doing
   Over : Ended → Doing

@@ -4,7 +4,7 @@ use Rattle.pram_text.specs.Job.{JobData}
 use Rattle.pram_words.specs.Words.{LayoutData}
 use Rattle.walkx.specs.Bound.{told_all, history_of, IsHeard, most_steps}
 use Rattle.walkx.specs.Records.{Record, after, Knows}
-use Rattle.walkx.specs.Walk.{Walking, Fits, IsBoard, IsLayoutOf, IsGoing}
+use Rattle.walkx.specs.Walk.{Walking, Fits, IsBoard, IsGoing}
 use Rattle.walkx.specs.Walk.{HearsAdmitted, AsksAdmitted, IsStepOn, ask_of, told}
 use Rattle.walkx.specs.Walk.{end_of, started, come_back}
 
@@ -27,9 +27,9 @@ KnownStayKnown =
     Fits job layout worker → Knows job layout past worker →
     Knows job layout (after past (ask_of job layout worker) found) (told job layout worker found)
 
--- what a worker asks is on the board, and admitted
-abbrev pub WhatIsAskedIsAdmitted : Type 0
-WhatIsAskedIsAdmitted =
+-- each operation of a worker is on the board, and admitted
+abbrev pub EachOperationIsAdmitted : Type 0
+EachOperationIsAdmitted =
     (job : JobData) (layout : LayoutData) (worker : Walking) → IsBoard job layout →
     Fits job layout worker → AsksAdmitted job layout (ask_of job layout worker)
 
@@ -43,9 +43,9 @@ WhoIsGoingSteps = (job : JobData) (layout : LayoutData) (worker : Walking) →
 -- it may be heard.
 abbrev pub OwnStepsAreBounded : Type 0
 OwnStepsAreBounded =
-    ((job : JobData) (layout : LayoutData) (worker : Walking) →
-    IsLayoutOf job layout → Fits job layout worker →
+    ((job : JobData) (layout : LayoutData) (worker : Walking) → IsBoard job layout →
+    Fits job layout worker →
     (answers : List ℕ) → IsGoing (told_all job layout worker answers).now →
     IsHeard job layout worker.number (history_of job layout worker answers) →
-    length answers < most_steps job layout)
+    length answers < most_steps job)
     × NewWorkersFit

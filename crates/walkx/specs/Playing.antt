@@ -14,7 +14,7 @@ use Rattle.walkx.specs.Inner.Heard.{newest}
 use Rattle.walkx.specs.Inner.Posts.{PostData, post_data}
 use Rattle.walkx.specs.Rests.{then_of}
 use Rattle.walkx.specs.Scripts.{Script, ends, first_op, heard_in, rest}
-use Rattle.walkx.specs.Walk.{Then, Walking, AllAdmitted, node_of, script_of}
+use Rattle.walkx.specs.Walk.{Then, Walking, AllAdmitted, IsInBlock, node_of, script_of}
 
 -- so many of the answers were played back, and this is left of the script
 pub record Played (at : PostData) (from : Playback × Script Then) (playback : Playback)
@@ -28,8 +28,8 @@ pub record Played (at : PostData) (from : Playback × Script Then) (playback : P
 -- the operation after all answers
 pub record Asks (from : Playback × Script Then) (playback : Playback) : Type 0 where
   pub same : playback.heard.now ≡ from.0.heard.now
-  pub asked : first_op (rest from.1 (newest (length playback.heard.now) playback.heard.now))
-      ≡ Some playback.asked
+  pub op : first_op (rest from.1 (newest (length playback.heard.now) playback.heard.now))
+      ≡ Some playback.held_op
 
 abbrev pub stands_back : PostData → Playback × Script Then → Playback → Option (Script Then) →
     Type 0
@@ -43,21 +43,29 @@ ComesTo script (Err op) = first_op script ≡ Some op
 
 -- ---- a worker
 
--- the phase of a turn; none is needed beside one
+-- the phase of a turn, or of a task in a block; none is needed beside one
 abbrev pub phase_of : Doing → ℕ
 phase_of (doing.Turn phase) = phase
+phase_of (doing.Part phase rank) = phase
 phase_of _ = 0
+
+-- the rank of the processor whose task it does
+abbrev pub rank_of : Doing → ℕ
+rank_of (doing.Part phase rank) = rank
+rank_of _ = 0
 
 -- where it stands
 abbrev pub stand_of : JobData → LayoutData → Walking → PostData
 stand_of job layout worker =
     post_data job layout worker.number (node_of layout worker) (phase_of worker.now)
+    (rank_of worker.now)
 
 -- its script can be played back with what it heard
 pub record IsPlayable (job : JobData) (layout : LayoutData) (worker : Walking) : Type 0 where
   pub number : worker.number < layout.workers
   pub node : (1 ≤ node_of layout worker) × (node_of layout worker < 2 * layout.leaves)
   pub phase : phase_of worker.now ≤ 3 * job.steps
+  pub block : IsInBlock layout (node_of layout worker) worker.now
   pub admitted : AllAdmitted job layout (heard_in (script_of job layout worker) worker.heard)
 
 -- the worker with one answer more
@@ -70,9 +78,12 @@ come_to worker (next.Begins node) =
     record { number = worker.number; node = Some node; now = doing.Begin; heard = [] }
 come_to worker (next.Turns node phase) =
     record { number = worker.number; node = Some node; now = doing.Turn phase; heard = [] }
+come_to worker (next.Works node phase rank) =
+    record { number = worker.number; node = Some node; now = doing.Part phase rank; heard = [] }
 come_to worker (next.Stops end) = record worker { now = doing.Over end }
 
-abbrev pub asked_after : Next → Option Op
-asked_after (next.Begins node) = None
-asked_after (next.Turns node phase) = None
-asked_after (next.Stops end) = Some (Over end)
+abbrev pub op_after : Next → Option Op
+op_after (next.Begins node) = None
+op_after (next.Turns node phase) = None
+op_after (next.Works node phase rank) = None
+op_after (next.Stops end) = Some (Over end)

@@ -69,14 +69,14 @@ looked reader found (asks op next) = record reader { heard = found ∷ reader.he
 looked reader found (ends reading) = reader
 
 -- what the reader asks for next
-abbrev pub asked_by : LayoutData → Looking → ReadOp
-asked_by layout reader = looks_for (look_of layout reader)
+abbrev pub op_by : LayoutData → Looking → ReadOp
+op_by layout reader = looks_for (look_of layout reader)
 
 -- the reader after this answer
 abbrev pub answered : LayoutData → Looking → ℕ → Looking
 answered layout reader found = looked reader found (look_of layout reader)
 
--- what is asked is on the board
+-- the load is on the board
 abbrev pub LooksOnBoard : LayoutData → ReadOp → Type 0
 LooksOnBoard layout (read.Load word) = word < length_of layout
 LooksOnBoard layout (read.Over reading) = Unit {0}

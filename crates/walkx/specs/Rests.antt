@@ -1,18 +1,20 @@
 -- What is left of a turn in its midst.
-use Rattle.std.specs.Prelude.{ℕ, ◌*◌, ◌/◌, ◌%◌, ◌+◌, ◌&&◌, ◌==◌, nat_le, if◌then◌else◌, Option}
-use Rattle.std.specs.Prelude.{Some, None}
+use Rattle.std.specs.Prelude.{◌≡◌, ◌≤◌, ℕ, ◌*◌, ◌/◌, ◌%◌, ◌+◌, ◌&&◌, ◌==◌, nat_le, if◌then◌else◌}
 use Rattle.pram_words.specs.declared.words.Word.TheVariants.{Conflict, Node}
 use Rattle.pram_words.specs.Words.{number_of}
 use Rattle.walkx.specs.declared.operation.Op.TheVariants.{Load}
+use Rattle.walkx.specs.Records.{script_at_rank}
 use Rattle.walkx.specs.Scripts.{Script, asks, ends}
 use Rattle.walkx.specs.declared.next.Next.{Next}
 use Rattle.walkx.specs.declared.next.Next.TheVariants as next
 use Rattle.walkx.specs.declared.operation.Activity.{Activity}
 use Rattle.walkx.specs.declared.operation.Activity.TheVariants as activity
 use Rattle.walkx.specs.declared.operation.Ended.TheVariants as ended
-use Rattle.walkx.specs.Walk.{Then, begins, turns, stops, back_script, begin_script, leaf_script}
-use Rattle.walkx.specs.Walk.{stands_at, turn_script, way_down}
-use Rattle.walkx.specs.Inner.Posts.{PostData, then_marks}
+use Rattle.walkx.specs.declared.turns.Turned.{Turned}
+use Rattle.walkx.specs.declared.turns.Turned.TheVariants as turned
+use Rattle.walkx.specs.Walk.{Then, begins, turns, works, stops, back_script, begin_script}
+use Rattle.walkx.specs.Walk.{leaf_script, part_script, stands_at, turn_script, way_down}
+use Rattle.walkx.specs.Inner.Posts.{IsLeaf, PostData, then_marks}
 
 abbrev pub moves : PostData → ℕ → Script Then
 moves at to = stands_at at.layout at.worker to at.phase
@@ -41,13 +43,19 @@ after_node at found =
 abbrev pub turn_of : PostData → Script Then
 turn_of at = turn_script at.job at.layout at.worker at.node at.phase
 
--- what comes of a turn that leads to this node, or to none
-abbrev pub leads : PostData → Option ℕ → Then
-leads at None = begins 1
-leads at (Some node) = turns node at.phase
+-- the task of a processor
+abbrev pub part_of : PostData → Script Then
+part_of at = part_script at.job at.layout at.node at.phase at.rank
 
-abbrev pub stays : PostData → ℕ → Then
-stays at node = turns node at.phase
+-- the script with that task
+abbrev pub script_at : PostData → Script Then
+script_at at = script_at_rank at.job at.layout at.worker at.node at.phase at.rank
+
+-- what comes of a turn
+abbrev pub leads : PostData → Turned → Then
+leads at turned.Finished = begins 1
+leads at (turned.To node) = turns node at.phase
+leads at (turned.Within rank) = works at.node at.phase rank
 
 -- ---- the scripts back and begin
 
@@ -55,6 +63,7 @@ stays at node = turns node at.phase
 abbrev pub then_of : Next → Then
 then_of (next.Begins node) = begins node
 then_of (next.Turns node phase) = turns node phase
+then_of (next.Works node phase rank) = works node phase rank
 then_of (next.Stops end) = stops end
 
 abbrev pub back_of : PostData → Script Then
@@ -81,4 +90,16 @@ abbrev pub script_in : PostData → Activity → Script Then
 script_in at activity.Back = back_of at
 script_in at activity.Begin = begin_of at
 script_in at (activity.Turn phase) = turn_of at
+script_in at (activity.Part phase rank) = part_of at
 script_in at (activity.Over end) = begin_of at
+
+-- a post where such a script can be played
+pub record IsPlace (at : PostData) : Type 0 where
+  pub phase : at.phase ≤ 3 * at.job.steps
+  pub leaf : 1 ≤ at.rank → IsLeaf at
+
+-- an activity that the worker's post fits
+abbrev pub IsWithin : PostData → Activity → Type 0
+IsWithin at (activity.Turn phase) = (at.rank ≡ 0) × (at.phase ≤ 3 * at.job.steps)
+IsWithin at (activity.Part phase rank) = IsLeaf at
+IsWithin at _ = Unit {0}

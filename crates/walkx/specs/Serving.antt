@@ -15,7 +15,7 @@ IsHeldAt job layout worker (Some op) = op ≡ ask_of job layout worker
 
 pub record Serves (job : JobData) (layout : LayoutData) (worker : WorkerData) : Type 0 where
   pub fits : Fits job layout worker.walking
-  pub held : IsHeldAt job layout worker.walking worker.asked
+  pub held : IsHeldAt job layout worker.walking worker.held_op
 
 pub record Follows (layout : LayoutData) (reader : ReaderData) : Type 0 where
   pub cell : reader.looking.cell < layout.cells

@@ -1,12 +1,13 @@
 -- The walk: the scripts back, begin and turn, and a worker that goes through them.
 use Rattle.std.specs.Prelude.{◌≡◌, ℕ, ◌+◌, ◌-◌, ◌*◌, ◌/◌, ◌%◌, ◌<◌}
-use Rattle.std.specs.Prelude.{◌≤◌, ◌&&◌, ◌==◌, nat_le, if◌then◌else◌, List, [], ◌∷◌}
-use Rattle.std.specs.Prelude.{◌++◌, Option, Some, None, IfSome, unwrap_or}
+use Rattle.std.specs.Prelude.{◌≤◌, ◌&&◌, ◌==◌, nat_le, nat_lt, if◌then◌else◌, List, [], ◌∷◌}
+use Rattle.std.specs.Prelude.{suc, Bool, IsTrue, ◌++◌, Option, Some, None, IfSome, unwrap_or}
 use Rattle.std.specs.List.{AllByRecursion}
 use Rattle.pram_text.specs.Job.{JobData, IsJob}
 use Rattle.pram_words.specs.Phases.{step_at, kind_at}
 use Rattle.pram_words.specs.Ways.{first_leaf_in, turns_right_in}
-use Rattle.pram_words.specs.Words.{LayoutData, IsLayout, Admits, number_of, length_of, layout_of}
+use Rattle.pram_words.specs.Words.{LayoutData, IsLayout, Admits, grain, number_of, length_of}
+use Rattle.pram_words.specs.Words.{layout_of}
 use Rattle.pram_words.specs.declared.words.Word.TheVariants.{Conflict, Node, Position}
 use Rattle.walkx.specs.declared.operation.Ended.{Ended}
 use Rattle.walkx.specs.declared.operation.Ended.TheVariants as ended
@@ -19,11 +20,12 @@ use Rattle.walkx.specs.Tasks.{task_of}
 
 -- ---- the scripts
 
--- what comes of a script: the worker begins at a node, makes a turn at a node in a phase, or is
--- over
+-- what comes of a script: the worker begins at a node, makes a turn at a node in a phase, does the
+-- task of a processor of the node's block, by its rank there, or is over
 pub data Then : Type 0 where
   begins : ℕ → Then
   turns : ℕ → ℕ → Then
+  works : ℕ → ℕ → ℕ → Then
   stops : Ended → Then
 
 -- A worker that comes back stands where its position word says.
@@ -56,12 +58,31 @@ abbrev pub marks : LayoutData → ℕ → ℕ → Script Then
 marks layout node phase =
     asks (Max (number_of layout (Node node)) phase) (λ found. ends (turns node phase))
 
--- the work at an unfinished leaf; the leaves after those of the processors have none
+-- the processor of a rank in the block of leaf n, and whether there is one
+abbrev pub processor_at : LayoutData → ℕ → ℕ → ℕ
+processor_at layout node rank = grain layout * (node - layout.leaves) + rank
+
+abbrev pub has_rank : LayoutData → ℕ → ℕ → Bool
+has_rank layout node rank =
+    nat_lt rank (grain layout) && nat_lt (processor_at layout node rank) layout.procs
+
+-- after a processor's task comes the next one's; after the last one's the leaf is marked
+abbrev pub after_part : LayoutData → ℕ → ℕ → ℕ → Script Then
+after_part layout node phase rank =
+    if has_rank layout node (suc rank) then ends (works node phase (suc rank))
+    else marks layout node phase
+
+unfoldable pub part_script : JobData → LayoutData → ℕ → ℕ → ℕ → Script Then
+part_script job layout node phase rank =
+    task_of job.rule (kind_at phase) job layout (step_at phase) (processor_at layout node rank)
+    (after_part layout node phase rank)
+
+-- the work at an unfinished leaf, which begins with the first processor of its block; the leaves
+-- after those of the processors have none
 abbrev pub leaf_script : JobData → LayoutData → ℕ → ℕ → Script Then
 leaf_script job layout node phase =
-    if nat_le (layout.leaves + job.procs) node then marks layout node phase
-    else task_of job.rule (kind_at phase) job layout (step_at phase)
-    (node - layout.leaves) (marks layout node phase)
+    if has_rank layout node 0 then part_script job layout node phase 0
+    else marks layout node phase
 
 -- A finished node is left upward, a leaf is worked at and marked, an inner node is marked or left
 -- downward.
@@ -93,6 +114,7 @@ abbrev pub script_by : JobData → LayoutData → ℕ → ℕ → Doing → Scri
 script_by job layout worker node doing.Back = back_script layout worker
 script_by job layout worker node doing.Begin = begin_script job layout node
 script_by job layout worker node (doing.Turn phase) = turn_script job layout worker node phase
+script_by job layout worker node (doing.Part phase rank) = part_script job layout node phase rank
 script_by job layout worker node (doing.Over end) = begin_script job layout node
 
 abbrev pub script_of : JobData → LayoutData → Walking → Script Then
@@ -123,6 +145,8 @@ goes_on worker found (ends (begins node)) =
     record { number = worker.number; node = Some node; now = doing.Begin; heard = [] }
 goes_on worker found (ends (turns node phase)) =
     record { number = worker.number; node = Some node; now = doing.Turn phase; heard = [] }
+goes_on worker found (ends (works node phase rank)) =
+    record { number = worker.number; node = Some node; now = doing.Part phase rank; heard = [] }
 goes_on worker found (ends (stops end)) =
     record worker { now = doing.Over end; heard = found ∷ worker.heard }
 
@@ -142,10 +166,14 @@ end_of _ = None
 -- ---- what a worker has heard, and whether it fits
 
 -- the begin of a phase
-abbrev pub phase_begun : LayoutData → Doing → List (Op × ℕ)
-phase_begun layout (doing.Turn phase) =
+abbrev pub begun_phase : LayoutData → ℕ → List (Op × ℕ)
+begun_phase layout phase =
     (if (phase - 1) % 3 == 0 then (Load (number_of layout Conflict), 0) ∷ [] else [])
     ++ (Load (number_of layout (Node 1)), phase - 1) ∷ []
+
+abbrev pub phase_begun : LayoutData → Doing → List (Op × ℕ)
+phase_begun layout (doing.Turn phase) = begun_phase layout phase
+phase_begun layout (doing.Part phase rank) = begun_phase layout phase
 phase_begun layout _ = []
 
 -- the operations with their answers that brought the worker where it stands, the newest first
@@ -162,7 +190,7 @@ abbrev pub AllAdmitted : JobData → LayoutData → List (Op × ℕ) → Type 0
 AllAdmitted job layout heard =
     AllByRecursion (λ (end : Op × ℕ). HearsAdmitted job layout end.0 end.1) heard
 
--- what is asked is on the board, and a value that it is to take is admitted for its word
+-- the operation is on the board, and a value that a word is to take is admitted for it
 abbrev pub AsksAdmitted : JobData → LayoutData → Op → Type 0
 AsksAdmitted job layout (Load word) = word < length_of layout
 AsksAdmitted job layout (Store word value) = Admits layout job word value
@@ -197,7 +225,14 @@ IsGoing _ = Unit {0}
 -- the phase is one of the job's
 abbrev pub IsPhase : JobData → Doing → Type 0
 IsPhase job (doing.Turn phase) = (1 ≤ phase) × (phase ≤ 3 * job.steps)
+IsPhase job (doing.Part phase rank) = (1 ≤ phase) × (phase ≤ 3 * job.steps)
 IsPhase job _ = Unit {0}
+
+-- the node is a leaf with a processor of this rank, which is not the first one
+abbrev pub IsInBlock : LayoutData → ℕ → Doing → Type 0
+IsInBlock layout node (doing.Part phase rank) =
+    (layout.leaves ≤ node) × (1 ≤ rank) × IsTrue (has_rank layout node rank)
+IsInBlock layout node _ = Unit {0}
 
 -- What is left of the script matches what the worker is doing: it goes on, or it ended as the
 -- worker did.
@@ -210,5 +245,6 @@ pub record Fits (job : JobData) (layout : LayoutData) (worker : Walking) : Type 
   pub number : worker.number < layout.workers
   pub node : IfSome worker.node (λ node. (1 ≤ node) × (node < 2 * layout.leaves))
   pub phase : IsPhase job worker.now
+  pub block : IsInBlock layout (node_of layout worker) worker.now
   pub admitted : AllAdmitted job layout (heard_of job layout worker)
   pub matches : Matches worker.now (rest_of job layout worker)

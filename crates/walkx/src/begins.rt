@@ -56,7 +56,7 @@ fn look_for_conflict<S: Steps>(steps: &mut S, post: &Post, root: u64) -> Result<
 // ---- operations
 
 #[inline(always)]
-pub(crate) fn position_look(post: &Post) -> Op
+fn position_look(post: &Post) -> Op
     ensures value { result ≡ Op.Load (number_of post.now.layout (Position post.now.worker)) }
     ensures limits { IsPost post.now }
 {
@@ -64,7 +64,7 @@ pub(crate) fn position_look(post: &Post) -> Op
 }
 
 #[inline(always)]
-pub(crate) fn root_look(post: &Post) -> Op
+fn root_look(post: &Post) -> Op
     ensures value { result ≡ Op.Load (number_of post.now.layout (Node 1)) }
     ensures limits { IsPost post.now }
 {

@@ -1,6 +1,6 @@
 //! Laws of the walk: each function here does nothing, and its contract is the law.
 ghost use Rattle.walkx.specs.Laws.{AnswersKeepFit, KnownStayKnown, NewWorkersFit};
-ghost use Rattle.walkx.specs.Laws.{OwnStepsAreBounded, WhatIsAskedIsAdmitted, WhoIsGoingSteps};
+ghost use Rattle.walkx.specs.Laws.{EachOperationIsAdmitted, OwnStepsAreBounded, WhoIsGoingSteps};
 
 /// A worker that is newly started, or comes back, fits the job and the board.
 pub fn new_workers_fit()
@@ -17,9 +17,9 @@ pub fn known_stay_known()
     ensures { KnownStayKnown }
 {}
 
-/// What a worker that fits asks is on the board, and what it writes is admitted there.
-pub fn what_is_asked_is_admitted()
-    ensures { WhatIsAskedIsAdmitted }
+/// Each operation of a worker that fits is on the board, and what it writes is admitted there.
+pub fn each_operation_is_admitted()
+    ensures { EachOperationIsAdmitted }
 {}
 
 /// A worker that fits and is not over asks for an atomic step on a word of the board.
@@ -27,8 +27,9 @@ pub fn who_is_going_steps()
     ensures { WhoIsGoingSteps }
 {}
 
-/// A worker that is still going has made fewer than 300 L T + 8 steps, L being the leaves and T the
-/// steps of the job, if it hears no node below what it loaded there before or raised it to.
+/// A worker that is still going has made fewer than 300 L T + 8 steps, L being the least power of
+/// two that is at least the number of processors and T the steps of the job, if it hears no node
+/// below what it loaded there before or raised it to.
 pub fn own_steps_are_bounded()
     ensures { OwnStepsAreBounded }
 {}

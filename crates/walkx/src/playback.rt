@@ -1,8 +1,8 @@
 //! The driver of a worker that is asked and told.
-ghost use Rattle.std.specs.Prelude.{◌≡◌, ◌*◌, ◌≤◌, length};
+ghost use Rattle.std.specs.Prelude.{◌≡◌, length};
 ghost use Rattle.walkx.specs.Inner.Heard.{newest};
 ghost use Rattle.walkx.specs.Playing.{ComesTo};
-ghost use Rattle.walkx.specs.Rests.{script_in};
+ghost use Rattle.walkx.specs.Rests.{IsWithin, script_in};
 ghost use Rattle.walkx.specs.Scripts.{heard_in, rest};
 ghost use Rattle.walkx.specs.Walk.{AllAdmitted};
 
@@ -20,7 +20,7 @@ pub(crate) struct Playback<'a> {
     pub heard: &'a [u64],
     pub played: usize,
     /// Where it is held.
-    pub asked: Op,
+    pub held_op: Op,
 }
 
 impl<'a> Steps for Playback<'a> {
@@ -35,7 +35,7 @@ impl<'a> Steps for Playback<'a> {
             self.played += 1;
             Ok(answer)
         } else {
-            self.asked = op;
+            self.held_op = op;
             Err(Stopped)
         }
     }
@@ -44,7 +44,7 @@ impl<'a> Steps for Playback<'a> {
 /// What the script of an activity comes to with these answers, or the operation that has none yet.
 #[inline(always)]
 pub(crate) fn play_back(post: &Post, activity: Activity, heard: &[u64]) -> Result<Next, Op>
-    requires phase { post.now.phase ≤ 3 * post.now.job.steps }
+    requires within { IsWithin post.now activity }
     requires admitted { AllAdmitted post.now.job post.now.layout (heard_in (script_in post.now
         activity) (newest (length heard.now) heard.now)) }
     ensures { ComesTo (rest (script_in post.now activity) (newest (length heard.now) heard.now))
@@ -53,10 +53,10 @@ pub(crate) fn play_back(post: &Post, activity: Activity, heard: &[u64]) -> Resul
     let mut steps = Playback {
         heard,
         played: 0,
-        asked: Op::Over(Ended::Done),
+        held_op: Op::Over(Ended::Done),
     };
     match play(&mut steps, post, activity) {
         Ok(next) => Ok(next),
-        Err(_) => Err(steps.asked),
+        Err(_) => Err(steps.held_op),
     }
 }

@@ -7,7 +7,7 @@ ghost use Rattle.pram_words.specs.Phases.{kind_at};
 ghost use Rattle.pram_words.specs.Words.{counters_of, length_of, number_of, places_of};
 ghost use Rattle.pram_words.specs.declared.words.Word.TheVariants.{Asked, Stored};
 ghost use Rattle.walkx.specs.Inner.Posts.{IsCell, IsLeaf, IsLeafOf, IsPost, PostData};
-ghost use Rattle.walkx.specs.Inner.Posts.{part_raised, post_data};
+ghost use Rattle.walkx.specs.Inner.Posts.{at_rank, part_raised, post_data};
 ghost use Rattle.walkx.specs.Inner.Posts.{processor_of, step_of};
 ghost use Rattle.walkx.specs.Tasks.{claim_of};
 ghost use Rattle.walkx.specs.Parts.{claim_loaded, claim_raised, differs_from, is_cell_part};
@@ -29,7 +29,8 @@ pub(crate) fn within_limits(job: &Job, layout: &Layout)
     layout.limits_hold();
 }
 
-/// A worker at a node, in the phase of its turn, with the job and the layout of its board.
+/// A worker at a node, in the phase of its turn, at the processor of a rank in the node's block,
+/// with the job and the layout of its board.
 #[derive(Drop)]
 pub struct Post<'a> {
     pub(crate) job: &'a Job,
@@ -37,22 +38,24 @@ pub struct Post<'a> {
     pub(crate) worker: u32,
     pub(crate) node: u32,
     pub(crate) phase: u64,
+    pub(crate) rank: u32,
 }
 
 impl<'a> Model for Post<'a> {
     ghost Value = { PostData };
 
-    ghost view = { λ p. post_data p.job.now p.layout.now p.worker p.node p.phase };
+    ghost view = { λ p. post_data p.job.now p.layout.now p.worker p.node p.phase p.rank };
 
-    ghost invariant = { λ p. IsPost (post_data p.job.now p.layout.now p.worker p.node p.phase) };
+    ghost invariant = { λ p. IsPost
+        (post_data p.job.now p.layout.now p.worker p.node p.phase p.rank) };
 }
 
 impl<'a> Post<'a> {
-    /// A worker at this node, in this phase.
+    /// A worker at this node, in this phase, at the first processor of its block.
     #[inline(always)]
     pub fn new(job: &'a Job, layout: &'a Layout, worker: u32, node: u32, phase: u64) -> Post<'a>
-        requires { IsPost (post_data job.now layout.now worker node phase) }
-        ensures { result ≡ post_data job.now layout.now worker node phase }
+        requires { IsPost (post_data job.now layout.now worker node phase 0) }
+        ensures { result ≡ post_data job.now layout.now worker node phase 0 }
     {
         Post {
             job,
@@ -60,7 +63,16 @@ impl<'a> Post<'a> {
             worker,
             node,
             phase,
+            rank: 0,
         }
+    }
+
+    /// The same at the processor of this rank.
+    #[inline(always)]
+    pub fn at_rank(self, rank: u32) -> Post<'a>
+        ensures { result ≡ at_rank self.entry rank }
+    {
+        Post { rank, ..self }
     }
 
     /// Says to a proof that the worker is on its board. It does nothing.
@@ -84,7 +96,8 @@ impl<'a> Post<'a> {
             node: self.node,
             phase: self.phase,
             step: step_of(self.phase),
-            processor: self.node - self.layout.leaves(),
+            rank: self.rank,
+            processor: self.layout.grain() * (self.node - self.layout.leaves()) + self.rank,
         }
     }
 }
@@ -97,6 +110,7 @@ pub(crate) struct Leaf<'a> {
     worker: u32,
     node: u32,
     phase: u64,
+    rank: u32,
     step: u32,
     processor: u32,
 }
@@ -104,10 +118,10 @@ pub(crate) struct Leaf<'a> {
 impl<'a> Model for Leaf<'a> {
     ghost Value = { PostData };
 
-    ghost view = { λ p. post_data p.job.now p.layout.now p.worker p.node p.phase };
+    ghost view = { λ p. post_data p.job.now p.layout.now p.worker p.node p.phase p.rank };
 
     ghost invariant = { λ p. IsLeafOf
-        (post_data p.job.now p.layout.now p.worker p.node p.phase) p.step p.processor };
+        (post_data p.job.now p.layout.now p.worker p.node p.phase p.rank) p.step p.processor };
 }
 
 impl<'a> Leaf<'a> {

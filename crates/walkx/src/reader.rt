@@ -57,7 +57,7 @@ impl Reader {
     ghost use Rattle.pram_text.specs.Job.{JobData};
     ghost use Rattle.pram_words.specs.Words.{LayoutData};
     ghost use Rattle.walkx.specs.Serving.{Follows};
-    ghost use Rattle.walkx.specs.Reads.{HeardAdmitted, LooksFit, LooksOnBoard, answered, asked_by};
+    ghost use Rattle.walkx.specs.Reads.{HeardAdmitted, LooksFit, LooksOnBoard, answered, op_by};
     ghost use Rattle.walkx.specs.Walk.{IsLayoutOf};
 
     /// A reader of this cell.
@@ -77,20 +77,20 @@ impl Reader {
     /// The reader's next atomic step, or its answer.
     pub fn ask(&self, layout: &Layout) -> ReadOp
         requires { Follows layout.now self.now }
-        ensures asks { result ≡ asked_by layout.now self.now.looking }
+        ensures asks { result ≡ op_by layout.now self.now.looking }
         ensures on_board { LooksOnBoard layout.now result }
         ensures few { (k : ℕ) → result ≡ ReadOp.Load k → length self.now.looking.heard < 5 }
     {
         operation(layout, self.cell, self.stage)
     }
 
-    /// Hears the answer of the step that it asked for.
+    /// Hears the answer of the step that it asks for.
     pub fn tell(&mut self, job: &Job, layout: &Layout, answer: u64)
         requires layout { IsLayoutOf job.now layout.now }
         requires follows { Follows layout.now self.old }
         requires fits { LooksFit job.now layout.now self.old.looking }
         requires admitted { HeardAdmitted job.now layout.now
-            (asked_by layout.now self.old.looking) answer }
+            (op_by layout.now self.old.looking) answer }
         ensures told { self.new.looking ≡ answered layout.now self.old.looking answer }
         ensures follows { Follows layout.now self.new }
         ensures fits { LooksFit job.now layout.now self.new.looking }

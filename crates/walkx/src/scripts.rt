@@ -1,16 +1,15 @@
 //! The script of an activity.
-ghost use Rattle.std.specs.Prelude.{◌≡◌, ◌*◌, ◌≤◌, Some};
+ghost use Rattle.std.specs.Prelude.{◌≡◌};
 ghost use Rattle.walkx.specs.Driving.{IsHere, Reaches};
-ghost use Rattle.walkx.specs.Rests.{script_in, then_of, turn_of};
-ghost use Rattle.walkx.specs.Scripts.{first_op};
+ghost use Rattle.walkx.specs.Rests.{IsWithin, leads, script_in, then_of};
 
-use crate::begins::{back, begin, position_look, root_look};
+use crate::begins::{back, begin};
 use crate::left::Stopped;
 use crate::next::Next;
-use crate::operation::{Activity, Op};
+use crate::operation::Activity;
 use crate::post::Post;
 use crate::steps::Steps;
-use crate::turns::{looking, turn};
+use crate::turns::{Turned, part, turn};
 
 /// The script of an activity, at the node and in the phase where the worker stands.
 #[inline(always)]
@@ -19,7 +18,7 @@ pub(crate) fn play<S: Steps>(
     post: &Post,
     activity: Activity,
 ) -> Result<Next, Stopped>
-    requires phase { post.now.phase ≤ 3 * post.now.job.steps }
+    requires within { IsWithin post.now activity }
     requires here { IsHere (S.stands post.now) steps.old (script_in post.now activity) }
     ensures reaches { Reaches (S.stands post.now) steps.old (script_in post.now activity) then_of
         steps.new result }
@@ -27,34 +26,20 @@ pub(crate) fn play<S: Steps>(
     match activity {
         Activity::Back => back(steps, post),
         Activity::Begin => begin(steps, post),
-        Activity::Turn(_) => turn_on(steps, post),
+        Activity::Turn(_) => Ok(after(post, turn(steps, post)?)),
+        Activity::Part(_, _) => Ok(after(post, part(steps, post)?)),
         Activity::Over(_) => begin(steps, post),
     }
 }
 
-// A turn, and what comes of it.
+// What comes of a turn, or of a task in a block.
 #[inline(always)]
-fn turn_on<S: Steps>(steps: &mut S, post: &Post) -> Result<Next, Stopped>
-    requires phase { post.now.phase ≤ 3 * post.now.job.steps }
-    requires here { IsHere (S.stands post.now) steps.old (turn_of post.now) }
-    ensures reaches { Reaches (S.stands post.now) steps.old (turn_of post.now) then_of steps.new
-        result }
+fn after(post: &Post, turned: Turned) -> Next
+    ensures { then_of result ≡ leads post.now turned }
 {
-    match turn(steps, post)? {
-        None => Ok(Next::Begins(1)),
-        Some(node) => Ok(Next::Turns(node, post.phase)),
-    }
-}
-
-/// The first operation of the script of an activity.
-#[inline(always)]
-#[tactic(auto, unfolding(crate::specs::Walk::begin_script, crate::specs::Walk::turn_script))]
-pub(crate) fn opening(post: &Post, activity: Activity) -> Op
-    ensures { first_op (script_in post.now activity) ≡ Some result }
-{
-    match activity {
-        Activity::Back => position_look(post),
-        Activity::Turn(_) => looking(post, post.node),
-        Activity::Begin | Activity::Over(_) => root_look(post),
+    match turned {
+        Turned::Finished => Next::Begins(1),
+        Turned::To(node) => Next::Turns(node, post.phase),
+        Turned::Within(rank) => Next::Works(post.node, post.phase, rank),
     }
 }

@@ -1,12 +1,12 @@
 //! Worked rows: what no clause says, or what was worked out by hand.
 ghost use Rattle.std.specs.Prelude.{◌≡◌, IfOk};
 ghost use Rattle.pram_words.specs.Words.{layout_of};
-ghost use Rattle.pram_words.specs.declared.layout.Form.TheVariants.{Compact};
+ghost use Rattle.pram_words.specs.declared.layout.Form.TheVariants.{Compact, Wide};
 ghost use Rattle.walkx.specs.Reads.{LooksFit};
 ghost use Rattle.walkx.specs.Serving.{Follows, Serves};
 ghost use Rattle.walkx.specs.Walk.{IsLayoutOf};
 
-use crate::{Ended, Op, ReadOp, Reader, Reading, Worker, request_of, seen_step};
+use crate::{Activity, Ended, Op, ReadOp, Reader, Reading, Worker, request_of, seen_step};
 use pram_step::Request;
 use pram_text::{Job, read_job};
 use pram_words::{Kind, LAST_PHASE, Layout, phase, stamped};
@@ -15,6 +15,8 @@ use std::process::Abort;
 use std::test::Fail;
 
 const TWO: &[u8] = b"pram 1\ncells 2\nprocs 2\nsteps 1\ncode\npid r0\n";
+
+const THREE: &[u8] = b"pram 1\ncells 1\nprocs 3\nsteps 1\ncode\nset r0 7\n";
 
 const EIGHT_STEPS: &[u8] = b"pram 1
 cells 1
@@ -49,6 +51,16 @@ fn fresh(alloc: Global, text: &[u8]) -> Result<(Job, Layout, Vec<u64>), Fail>
 {
     let job = read_job(alloc, text)?;
     let layout = Layout::new(&job, 1);
+    let words = start_words(alloc, &job, &layout)?;
+    Ok((job, layout, words))
+}
+
+// A job, its wide board for one worker with a block of four processors, and the board's words.
+fn fresh_block(alloc: Global, text: &[u8]) -> Result<(Job, Layout, Vec<u64>), Fail>
+    ensures { IfOk result (λ b. b.1 ≡ layout_of b.0 (Wide 4) 1) }
+{
+    let job = read_job(alloc, text)?;
+    let layout = Layout::with_blocks(&job, 1, 4);
     let words = start_words(alloc, &job, &layout)?;
     Ok((job, layout, words))
 }
@@ -266,6 +278,77 @@ fn a_worker_comes_back_where_it_stood(rt: HostRuntime) -> Result<(), Fail> {
         (Op::Load(10), 3)
     );
     assert_eq!(rt; run(&rt, &job, &layout, &mut worker, &mut words, NEVER), 88);
+    Ok(())
+}
+
+// Compute at a leaf of three processors: each operation, with the word before it.
+fn follow_block(
+    rt: &impl Abort,
+    job: &Job,
+    layout: &Layout,
+    worker: &mut Worker,
+    words: &mut Vec<u64>,
+)
+    requires layout { IsLayoutOf job.now layout.now }
+    requires serves { Serves job.now layout.now worker.old }
+    ensures serves { Serves job.now layout.now worker.new }
+{
+    let compute = phase(1, Kind::Compute);
+    let steps = [
+        (Op::Load(16), 0),
+        (Op::Load(0), 0),
+        (Op::Load(16), 0),
+        (Op::Load(20), 0),
+        (Op::Load(21), 0),
+        (Op::Max(17, stamped(1, 2)), 0),
+        (Op::Max(18, stamped(1, 7)), 0),
+        (Op::Max(19, stamped(1, 1)), 0),
+        (Op::Load(36), 0),
+        (Op::Load(37), 0),
+        (Op::Max(33, stamped(1, 6)), 0),
+        (Op::Max(34, stamped(1, 7)), 0),
+        (Op::Max(35, stamped(1, 1)), 0),
+        (Op::Load(52), 0),
+        (Op::Load(53), 0),
+        (Op::Max(49, stamped(1, 10)), 0),
+        (Op::Max(50, stamped(1, 7)), 0),
+        (Op::Max(51, stamped(1, 1)), 0),
+        (Op::Max(16, compute), 0),
+    ];
+    for step in steps {
+        assert_eq!(rt; go(rt, job, layout, worker, words), step);
+    }
+}
+
+#[test]
+fn a_block_is_worked_in_order(rt: HostRuntime) -> Result<(), Fail> {
+    let (job, layout, mut words) = fresh_block(rt.alloc(), THREE)?;
+    let mut worker = Worker::start(0);
+    follow_block(&rt, &job, &layout, &mut worker, &mut words);
+    make(&rt, &job, &layout, &mut worker, &mut words, 50);
+    assert_eq!(rt; worker.ended(), Some(Ended::Done));
+    Ok(())
+}
+
+#[test]
+fn one_that_comes_back_begins_its_block_again(rt: HostRuntime) -> Result<(), Fail> {
+    let (job, layout, mut words) = fresh_block(rt.alloc(), THREE)?;
+    let mut worker = Worker::start(0);
+    make(&rt, &job, &layout, &mut worker, &mut words, 10);
+    assert_eq!(rt;
+        worker.activity(),
+        Activity::Part(phase(1, Kind::Compute), 1)
+    );
+    let mut worker = Worker::back(0);
+    assert_eq!(rt;
+        go(&rt, &job, &layout, &mut worker, &mut words),
+        (Op::Load(8), 1)
+    );
+    make(&rt, &job, &layout, &mut worker, &mut words, 3);
+    assert_eq!(rt;
+        go(&rt, &job, &layout, &mut worker, &mut words),
+        (Op::Load(20), 0)
+    );
     Ok(())
 }
 

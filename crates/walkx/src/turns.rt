@@ -1,12 +1,12 @@
 //! Turns.
-ghost use Rattle.std.specs.Prelude.{◌≡◌, ℕ, ◌+◌, ◌*◌, ◌<◌, ◌≤◌, ◌&&◌, ◌==◌, nat_le, IfOk};
+ghost use Rattle.std.specs.Prelude.{◌≡◌, ℕ, ◌+◌, ◌*◌, ◌<◌, ◌≤◌, ◌&&◌, ◌==◌, nat_le};
 ghost use Rattle.pram_words.specs.Words.{number_of};
 ghost use Rattle.pram_words.specs.declared.words.Word.TheVariants.{Node, Position};
-ghost use Rattle.walkx.specs.Inner.Posts.{IsPost, then_marks};
-ghost use Rattle.walkx.specs.Walk.{way_down};
+ghost use Rattle.walkx.specs.Inner.Posts.{IsLeaf, IsPost, next_rank, then_marks};
+ghost use Rattle.walkx.specs.Walk.{has_rank, way_down};
 ghost use Rattle.walkx.specs.Driving.{IsHere, Reaches, settled};
-ghost use Rattle.walkx.specs.Rests.{inner_of, leads, leaf_of, leaves_up, moves, stays};
-ghost use Rattle.walkx.specs.Rests.{turn_of};
+ghost use Rattle.walkx.specs.Rests.{inner_of, leads, leaf_of, leaves_up, moves, part_of};
+ghost use Rattle.walkx.specs.Rests.{IsPlace, script_at, turn_of};
 
 use crate::left::{Left, Stopped};
 use crate::operation::Op;
@@ -15,51 +15,77 @@ use crate::steps::Steps;
 use crate::tasks::task;
 use pram_words::{left, parent, right};
 
+/// What comes of a turn, or of a task in a block.
+#[derive(Clone, Copy, Debug, PartialEq, Eq)]
+pub enum Turned {
+    /// The root is finished.
+    Finished,
+    /// The next turn is at this node.
+    To(u32),
+    /// The next task is that of the processor of this rank in the leaf's block.
+    Within(u32),
+}
+
 // The node is raised to the phase.
 #[inline(always)]
-fn mark<S: Steps>(steps: &mut S, post: &Post) -> Result<u32, Stopped>
+fn mark<S: Steps>(steps: &mut S, post: &Post) -> Result<Turned, Stopped>
     requires here { IsHere (S.stands post.now) steps.old (then_marks post.now) }
-    ensures reaches { Reaches (S.stands post.now) steps.old (then_marks post.now) (stays post.now)
+    ensures reaches { Reaches (S.stands post.now) steps.old (then_marks post.now) (leads post.now)
         steps.new result }
-    ensures node { IfOk result (λ n. n ≡ post.now.node) }
 {
     steps.make(marking(post))?;
-    Ok(post.node)
+    Ok(Turned::To(post.node))
 }
 
 // The worker's position becomes this node.
 #[inline(always)]
-fn stand<S: Steps>(steps: &mut S, post: &Post, to: u32) -> Result<u32, Stopped>
+fn stand<S: Steps>(steps: &mut S, post: &Post, to: u32) -> Result<Turned, Stopped>
     requires here { IsHere (S.stands post.now) steps.old (moves post.now to) }
-    ensures reaches { Reaches (S.stands post.now) steps.old (moves post.now to) (stays post.now)
+    ensures reaches { Reaches (S.stands post.now) steps.old (moves post.now to) (leads post.now)
         steps.new result }
 {
     steps.make(standing(post, to))?;
-    Ok(to)
+    Ok(Turned::To(to))
+}
+
+/// The task of a processor of a leaf's block, and the mark after the last one's.
+#[inline(always)]
+pub fn part<S: Steps>(steps: &mut S, post: &Post) -> Result<Turned, Stopped>
+    requires leaf { IsLeaf post.now }
+    requires here { IsHere (S.stands post.now) steps.old (part_of post.now) }
+    ensures reaches { Reaches (S.stands post.now) steps.old (part_of post.now) (leads post.now)
+        steps.new result }
+{
+    settle(task(steps, &post.leaf()))?;
+    match next_rank(post) {
+        Some(rank) => Ok(Turned::Within(rank)),
+        None => mark(steps, post),
+    }
 }
 
 // The turn at an unfinished leaf.
 #[inline(always)]
-fn leaf<S: Steps>(steps: &mut S, post: &Post) -> Result<u32, Stopped>
+fn leaf<S: Steps>(steps: &mut S, post: &Post) -> Result<Turned, Stopped>
+    requires first { post.now.rank ≡ 0 }
     requires leaf { post.now.layout.leaves ≤ post.now.node }
     requires phase { post.now.phase ≤ 3 * post.now.job.steps }
     requires here { IsHere (S.stands post.now) steps.old (leaf_of post.now) }
-    ensures reaches { Reaches (S.stands post.now) steps.old (leaf_of post.now) (stays post.now)
+    ensures reaches { Reaches (S.stands post.now) steps.old (leaf_of post.now) (leads post.now)
         steps.new result }
 {
-    if is_spare(post) {
-        return mark(steps, post);
+    if has_rank(post, 0) {
+        part(steps, post)
+    } else {
+        mark(steps, post)
     }
-    settle(task(steps, &post.leaf()))?;
-    mark(steps, post)
 }
 
 // The turn at an unfinished inner node.
 #[inline(always)]
-fn inner<S: Steps>(steps: &mut S, post: &Post) -> Result<u32, Stopped>
+fn inner<S: Steps>(steps: &mut S, post: &Post) -> Result<Turned, Stopped>
     requires inner { post.now.node < post.now.layout.leaves }
     requires here { IsHere (S.stands post.now) steps.old (inner_of post.now) }
-    ensures reaches { Reaches (S.stands post.now) steps.old (inner_of post.now) (stays post.now)
+    ensures reaches { Reaches (S.stands post.now) steps.old (inner_of post.now) (leads post.now)
         steps.new result }
 {
     let first = steps.make(looking(post, left(post.node)))?;
@@ -73,21 +99,22 @@ fn inner<S: Steps>(steps: &mut S, post: &Post) -> Result<u32, Stopped>
 
 // The turn at a finished node.
 #[inline(always)]
-fn leave<S: Steps>(steps: &mut S, post: &Post) -> Result<Option<u32>, Stopped>
+fn leave<S: Steps>(steps: &mut S, post: &Post) -> Result<Turned, Stopped>
     requires here { IsHere (S.stands post.now) steps.old (leaves_up post.now) }
     ensures reaches { Reaches (S.stands post.now) steps.old (leaves_up post.now) (leads post.now)
         steps.new result }
 {
     if is_root(post) {
-        return Ok(None);
+        Ok(Turned::Finished)
+    } else {
+        stand(steps, post, parent(post.node))
     }
-    let up = stand(steps, post, parent(post.node))?;
-    Ok(Some(up))
 }
 
-/// A turn, and the node where the next one is; `None` where the root is finished.
+/// A turn.
 #[inline(always)]
-pub fn turn<S: Steps>(steps: &mut S, post: &Post) -> Result<Option<u32>, Stopped>
+pub fn turn<S: Steps>(steps: &mut S, post: &Post) -> Result<Turned, Stopped>
+    requires first { post.now.rank ≡ 0 }
     requires phase { post.now.phase ≤ 3 * post.now.job.steps }
     requires here { IsHere (S.stands post.now) steps.old (turn_of post.now) }
     ensures reaches { Reaches (S.stands post.now) steps.old (turn_of post.now) (leads post.now)
@@ -95,14 +122,27 @@ pub fn turn<S: Steps>(steps: &mut S, post: &Post) -> Result<Option<u32>, Stopped
 {
     let found = steps.make(looking(post, post.node))?;
     if is_finished(post, found) {
-        return leave(steps, post);
-    }
-    let next = if is_leaf(post) {
-        leaf(steps, post)?
+        leave(steps, post)
+    } else if is_leaf(post) {
+        leaf(steps, post)
     } else {
-        inner(steps, post)?
-    };
-    Ok(Some(next))
+        inner(steps, post)
+    }
+}
+
+/// A turn; or the task of a processor of a block that is not the first one.
+#[inline(always)]
+pub fn script<S: Steps>(steps: &mut S, post: &Post) -> Result<Turned, Stopped>
+    requires place { IsPlace post.now }
+    requires here { IsHere (S.stands post.now) steps.old (script_at post.now) }
+    ensures reaches { Reaches (S.stands post.now) steps.old (script_at post.now) (leads post.now)
+        steps.new result }
+{
+    if post.rank == 0 {
+        turn(steps, post)
+    } else {
+        part(steps, post)
+    }
 }
 
 // What a task came to, late or not.
@@ -133,7 +173,7 @@ fn standing(post: &Post, to: u32) -> Op
 }
 
 #[inline(always)]
-pub(crate) fn looking(post: &Post, node: u32) -> Op
+fn looking(post: &Post, node: u32) -> Op
     requires some { 1 ≤ node }
     requires most { node < 2 * post.now.layout.leaves }
     ensures { result ≡ Op.Load (number_of post.now.layout (Node node)) }
@@ -164,14 +204,27 @@ fn is_leaf(post: &Post) -> bool
     post.layout.leaves() <= post.node
 }
 
-// The leaf comes after those of the processors.
+// The leaf's block has a processor of this rank.
 #[inline(always)]
-fn is_spare(post: &Post) -> bool
-    requires { post.now.layout.leaves ≤ post.now.node }
-    ensures value { result ≡ nat_le (post.now.layout.leaves + post.now.job.procs) post.now.node }
+fn has_rank(post: &Post, rank: u32) -> bool
+    requires leaf { post.now.layout.leaves ≤ post.now.node }
+    requires rank { rank ≤ 64 }
+    ensures value { result ≡ has_rank post.now.layout post.now.node rank }
     ensures limits { IsPost post.now }
 {
-    post.layout.leaves() + post.job.procs() <= post.node
+    let layout = post.layout;
+    let first = layout.grain() * (post.node - layout.leaves());
+    rank < layout.grain() && first + rank < layout.procs()
+}
+
+// The rank of the next processor of the leaf's block, if there is one.
+#[inline(always)]
+fn next_rank(post: &Post) -> Option<u32>
+    requires leaf { IsLeaf post.now }
+    ensures { result ≡ next_rank post.now }
+{
+    let next = post.rank + 1;
+    has_rank(post, next).then_some(next)
 }
 
 #[inline(always)]

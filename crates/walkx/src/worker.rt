@@ -3,7 +3,6 @@ use crate::next::Next;
 use crate::operation::{Activity, Ended, Op};
 use crate::playback::play_back;
 use crate::post::{Post, within_limits};
-use crate::scripts::opening;
 use pram_text::Job;
 use pram_words::Layout;
 use std::marker::Model;
@@ -14,7 +13,7 @@ pub struct Worker {
     number: u32,
     node: Option<u32>,
     activity: Activity,
-    asked: Option<Op>,
+    held_op: Option<Op>,
     heard: [u64; 15],
     count: usize,
 }
@@ -26,7 +25,7 @@ impl Model for Worker {
 
     ghost Value = { WorkerData };
 
-    ghost view = { λ w. worker_data w.number w.node w.activity w.asked (newest w.count w.heard) };
+    ghost view = { λ w. worker_data w.number w.node w.activity w.held_op (newest w.count w.heard) };
 
     ghost invariant = { λ w. w.count ≤ 15 };
 }
@@ -37,10 +36,9 @@ impl Worker {
     ghost use Rattle.pram_words.specs.Words.{LayoutData};
     ghost use Rattle.walkx.specs.Activities.{activity_of};
     ghost use Rattle.walkx.specs.Inner.Workers.{worker_data};
-    ghost use Rattle.walkx.specs.Playing.{ComesTo, IsPlayable, asked_after, come_to, hearing};
+    ghost use Rattle.walkx.specs.Playing.{ComesTo, IsPlayable, op_after, come_to, hearing};
     ghost use Rattle.walkx.specs.Playing.{stand_of};
     ghost use Rattle.walkx.specs.Records.{Record, Knows};
-    ghost use Rattle.walkx.specs.Scripts.{first_op};
     ghost use Rattle.walkx.specs.Serving.{Serves};
     ghost use Rattle.walkx.specs.Turns.{beginning, turn_begun};
     ghost use Rattle.walkx.specs.Walk.{AsksAdmitted, HearsAdmitted, IsBoard, IsLayoutOf};
@@ -75,7 +73,7 @@ impl Worker {
             number: w,
             node: None,
             activity,
-            asked: None,
+            held_op: None,
             heard: [0; 15],
             count: 0,
         }
@@ -137,7 +135,7 @@ impl Worker {
     {
         self.node = Some(start);
         self.activity = Activity::Begin;
-        self.asked = None;
+        self.held_op = None;
         self.count = 0;
     }
 
@@ -162,7 +160,7 @@ impl Worker {
         self.next_operation(job, layout)
     }
 
-    /// Hears the answer of the step that it asked for.
+    /// Hears the answer of the step that it asks for.
     pub fn tell(&mut self, job: &Job, layout: &Layout, answer: u64)
         requires layout { IsLayoutOf job.now layout.now }
         requires serves { Serves job.now layout.now self.old }
@@ -177,7 +175,7 @@ impl Worker {
         }
     }
 
-    // The next atomic step.
+    // The next atomic step. At the start of a script, nothing is played back.
     #[inline(always)]
     fn next_operation(&self, job: &Job, layout: &Layout) -> Op
         requires layout { IsLayoutOf job.now layout.now }
@@ -185,28 +183,21 @@ impl Worker {
         ensures { result ≡ ask_of job.now layout.now self.now.walking }
     {
         within_limits(job, layout);
-        match self.asked() {
+        match self.held_op() {
             Some(op) => op,
-            None => self.first_operation(job, layout),
+            None => match self.left(job, layout) {
+                Err(op) => op,
+                Ok(_) => unreachable!(),
+            },
         }
     }
 
     // Where the worker is held in the midst of a script.
     #[inline(always)]
-    fn asked(&self) -> Option<Op>
-        ensures { result ≡ self.now.asked }
+    fn held_op(&self) -> Option<Op>
+        ensures { result ≡ self.now.held_op }
     {
-        self.asked
-    }
-
-    // The first atomic step of the script.
-    #[inline(always)]
-    fn first_operation(&self, job: &Job, layout: &Layout) -> Op
-        requires layout { IsLayoutOf job.now layout.now }
-        requires playable { IsPlayable job.now layout.now self.now.walking }
-        ensures { first_op (script_of job.now layout.now self.now.walking) ≡ Some result }
-    {
-        opening(&self.post(job, layout), self.activity)
+        self.held_op
     }
 
     // An answer to a worker that is not over.
@@ -235,6 +226,7 @@ impl Worker {
         requires playable { IsPlayable job.now layout.now self.now.walking }
         ensures { ComesTo (rest_of job.now layout.now self.now.walking) result }
     {
+        within_limits(job, layout);
         let post = self.post(job, layout);
         play_back(&post, self.activity, &self.heard[..self.count])
     }
@@ -251,11 +243,12 @@ impl Worker {
             Some(node) => node,
             None => layout.first_leaf(self.number),
         };
-        let phase = match self.activity {
-            Activity::Turn(phase) => phase,
-            _ => 0,
+        let (phase, rank) = match self.activity {
+            Activity::Turn(phase) => (phase, 0),
+            Activity::Part(phase, rank) => (phase, rank),
+            _ => (0, 0),
         };
-        Post::new(job, layout, self.number, node, phase)
+        Post::new(job, layout, self.number, node, phase).at_rank(rank)
     }
 
     // One answer more.
@@ -272,33 +265,39 @@ impl Worker {
     #[inline(always)]
     fn hold(&mut self, op: Op)
         ensures walking { self.new.walking ≡ self.old.walking }
-        ensures asked { self.new.asked ≡ Some op }
+        ensures op { self.new.held_op ≡ Some op }
     {
-        self.asked = Some(op);
+        self.held_op = Some(op);
     }
 
     // The script was heard whole.
     #[inline(always)]
     fn go_on(&mut self, next: Next)
         ensures walking { self.new.walking ≡ come_to self.old.walking next }
-        ensures asked { self.new.asked ≡ asked_after next }
+        ensures op { self.new.held_op ≡ op_after next }
     {
         match next {
             Next::Begins(node) => {
                 self.node = Some(node);
                 self.activity = Activity::Begin;
-                self.asked = None;
+                self.held_op = None;
                 self.count = 0;
             }
             Next::Turns(node, phase) => {
                 self.node = Some(node);
                 self.activity = Activity::Turn(phase);
-                self.asked = None;
+                self.held_op = None;
+                self.count = 0;
+            }
+            Next::Works(node, phase, rank) => {
+                self.node = Some(node);
+                self.activity = Activity::Part(phase, rank);
+                self.held_op = None;
                 self.count = 0;
             }
             Next::Stops(ended) => {
                 self.activity = Activity::Over(ended);
-                self.asked = Some(Op::Over(ended));
+                self.held_op = Some(Op::Over(ended));
             }
         }
     }

@@ -78,7 +78,8 @@ pub record ReaderData : Type 0 where
 
 -- by the fields of the code
 abbrev pub reader_data : ℕ → Glance → List ℕ → ReaderData
-reader_data cell g heard = record { looking = record { cell = cell; heard = heard }; stage = g }
+reader_data cell stage heard =
+    record { looking = record { cell = cell; heard = heard }; stage = stage }
 
 -- its stage stands for the rest of its script
 pub record StandsAt (layout : LayoutData) (reader : ReaderData) : Type 0 where

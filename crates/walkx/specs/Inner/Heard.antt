@@ -3,5 +3,5 @@ use Rattle.std.specs.Prelude.{ℕ, zero, suc, List, [], ◌∷◌, slice_index}
 
 -- the first so many of a list, the last of them first
 abbrev pub newest : ℕ → List ℕ → List ℕ
-newest zero xs = []
-newest (suc n) xs = slice_index xs n ∷ newest n xs
+newest zero answers = []
+newest (suc count) answers = slice_index answers count ∷ newest count answers

@@ -1,26 +1,29 @@
 -- Where a worker stands, with the job and its board.
-use Rattle.std.specs.Prelude.{◌≡◌, IsTrue, ℕ, ◌+◌, ◌-◌, ◌*◌, ◌<◌, ◌≤◌}
+use Rattle.std.specs.Prelude.{◌≡◌, IsTrue, ℕ, suc, ◌*◌, ◌<◌, ◌≤◌, Option, Some, None}
+use Rattle.std.specs.Prelude.{if◌then◌else◌}
 use Rattle.pram_text.specs.Job.{JobData}
 use Rattle.pram_words.specs.Phases.{step_at}
 use Rattle.pram_words.specs.Stamps.{stamped_word}
-use Rattle.pram_words.specs.Words.{LayoutData, number_of}
+use Rattle.pram_words.specs.Words.{LayoutData, grain, number_of}
 use Rattle.pram_words.specs.declared.words.Word.TheVariants.{Asked}
 use Rattle.walkx.specs.declared.operation.Op.{Op}
 use Rattle.walkx.specs.declared.operation.Op.TheVariants.{Max}
 use Rattle.walkx.specs.Scripts.{Script}
-use Rattle.walkx.specs.Walk.{Then, IsBoard, marks}
+use Rattle.walkx.specs.Walk.{Then, IsBoard, after_part, has_rank, marks}
+use Rattle.walkx.specs.Walk.{processor_at}
 
--- a worker at a node, in the phase of its turn
+-- a worker at a node, in the phase of its turn, at the processor of a rank in the node's block
 pub record PostData : Type 0 where
   pub job : JobData
   pub layout : LayoutData
   pub worker : ℕ
   pub node : ℕ
   pub phase : ℕ
+  pub rank : ℕ
 
-abbrev pub post_data : JobData → LayoutData → ℕ → ℕ → ℕ → PostData
-post_data job layout worker node phase =
-    record { job = job; layout = layout; worker = worker; node = node; phase = phase }
+abbrev pub post_data : JobData → LayoutData → ℕ → ℕ → ℕ → ℕ → PostData
+post_data job layout worker node phase rank =
+    record { job = job; layout = layout; worker = worker; node = node; phase = phase; rank = rank }
 
 -- the worker and its node are on the job's board
 pub record IsPost (at : PostData) : Type 0 where
@@ -29,19 +32,28 @@ pub record IsPost (at : PostData) : Type 0 where
   pub some : 1 ≤ at.node
   pub most : at.node < 2 * at.layout.leaves
 
--- the node is a processor's leaf, and the phase one of the job's
-pub record IsLeaf (at : PostData) : Type 0 where
-  pub board : IsBoard at.job at.layout
-  pub first : at.layout.leaves ≤ at.node
-  pub last : at.node < at.layout.leaves + at.layout.procs
-  pub phase : at.phase ≤ 3 * at.job.steps
-
--- the step of the phase, and the processor of the leaf
+-- the step of the phase, and the processor of the rank
 abbrev pub step_of : PostData → ℕ
 step_of at = step_at at.phase
 
 abbrev pub processor_of : PostData → ℕ
-processor_of at = at.node - at.layout.leaves
+processor_of at = processor_at at.layout at.node at.rank
+
+-- the node is a leaf with a processor of the rank, and the phase one of the job's
+pub record IsLeaf (at : PostData) : Type 0 where
+  pub board : IsBoard at.job at.layout
+  pub first : at.layout.leaves ≤ at.node
+  pub rank : at.rank < grain at.layout
+  pub last : processor_of at < at.layout.procs
+  pub phase : at.phase ≤ 3 * at.job.steps
+
+-- the same at the processor of another rank, and the rank of the next one
+abbrev pub at_rank : PostData → ℕ → PostData
+at_rank at rank = record at { rank = rank }
+
+abbrev pub next_rank : PostData → Option ℕ
+next_rank at =
+    if has_rank at.layout at.node (suc at.rank) then Some (suc at.rank) else None
 
 -- the same leaf, with its step and its processor
 pub record IsLeafOf (at : PostData) (t i : ℕ) : Type 0 where
@@ -49,9 +61,12 @@ pub record IsLeafOf (at : PostData) (t i : ℕ) : Type 0 where
   pub step : t ≡ step_of at
   pub processor : i ≡ processor_of at
 
--- after a task the leaf is marked
+-- the node is marked; what comes after a processor's task
 abbrev pub then_marks : PostData → Script Then
 then_marks at = marks at.layout at.node at.phase
+
+abbrev pub then_next : PostData → Script Then
+then_next at = after_part at.layout at.node at.phase at.rank
 
 -- part j of the processor's request is raised to this payload
 abbrev pub part_raised : PostData → ℕ → ℕ → Op

@@ -11,17 +11,18 @@ abbrev pub doing_in : Activity → Doing
 doing_in activity.Back = doing.Back
 doing_in activity.Begin = doing.Begin
 doing_in (activity.Turn phase) = doing.Turn phase
+doing_in (activity.Part phase rank) = doing.Part phase rank
 doing_in (activity.Over end) = doing.Over end
 
 -- a worker, and the operation that it is held at; none at the start of a script
 pub record WorkerData : Type 0 where
   pub walking : Walking
-  pub asked : Option Op
+  pub held_op : Option Op
 
 -- by the fields of the code
 abbrev pub worker_data : ℕ → Option ℕ → Activity → Option Op → List ℕ → WorkerData
-worker_data number node now asked heard =
+worker_data number node now held_op heard =
     record {
       walking = record { number = number; node = node; now = doing_in now; heard = heard };
-      asked = asked;
+      held_op = held_op;
     }

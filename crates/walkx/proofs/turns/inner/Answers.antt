@@ -4,7 +4,8 @@ use Rattle.pram_words.specs.declared.words.Word.TheVariants.{Node}
 use Rattle.walkx.specs.declared.operation.Op.TheVariants.{Load}
 use Rattle.walkx.specs.Scripts.{asks, ends}
 use Rattle.walkx.proofs.Passing.{passed}
-use Rattle.walkx.specs.Rests.{after_children, stays}
+use Rattle.walkx.specs.Rests.{after_children}
+use Rattle.walkx.specs.Walk.{turns}
 use Rattle.walkx.proofs.Turning.{node_is}
 use Rattle.walkx.proofs.turns.inner.Goals as goal
 
@@ -16,7 +17,7 @@ make-requires g c =
       at,
       record {
         from = r.from;
-        after = ends (stays at 0);
+        after = ends (turns 0 at.phase);
         next = λ l.
             asks (Load (number_of at.layout (Node (2 * at.node + 1)))) (λ r. after_children at l r);
         here = r.here;
@@ -35,7 +36,7 @@ make-requires-2 g c =
       at,
       record {
         from = r.from;
-        after = ends (stays at 0);
+        after = ends (turns 0 at.phase);
         next = after_children at c.in_ok-first.first;
         here = first;
       },

@@ -1,5 +1,5 @@
 use Rattle.walkx.specs.Scripts.{ends}
-use Rattle.walkx.specs.Rests.{stays}
+use Rattle.walkx.specs.Walk.{turns}
 use Rattle.walkx.proofs.Turning.{node_is}
 use Rattle.walkx.proofs.turns.mark.Goals as goal
 
@@ -11,16 +11,18 @@ make-requires g c =
       at,
       record {
         from = r.from;
-        after = ends (stays at at.node);
-        next = λ found. ends (stays at at.node);
+        after = ends (turns at.node at.phase);
+        next = λ found. ends (turns at.node at.phase);
         here = r.here;
       },
     )
 
-pub returns-clause-reaches : goal.returns-clause-reaches
-returns-clause-reaches g c =
+pub returns : goal.returns
+returns g c =
     let at = c.args.post.now in
     rw (node_is c.post.view_is) (record {
-      on = λ from here. rw c.marking.ensures at
-          (c.in_ok-make.ensures.on at from (λ found. ends (stays at at.node))) here;
+      reaches = record {
+        on = λ from here. rw c.marking.ensures at
+            (c.in_ok-make.ensures.on at from (λ found. ends (turns at.node at.phase))) here;
+      };
     })

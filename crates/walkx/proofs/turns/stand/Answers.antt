@@ -1,5 +1,5 @@
 use Rattle.walkx.specs.Scripts.{ends}
-use Rattle.walkx.specs.Rests.{stays}
+use Rattle.walkx.specs.Walk.{turns}
 use Rattle.walkx.proofs.turns.stand.Goals as goal
 
 pub make-requires : goal.make-requires
@@ -10,8 +10,8 @@ make-requires g c =
       at,
       record {
         from = r.from;
-        after = ends (stays at c.args.to);
-        next = λ found. ends (stays at c.args.to);
+        after = ends (turns c.args.to at.phase);
+        next = λ found. ends (turns c.args.to at.phase);
         here = r.here;
       },
     )
@@ -22,6 +22,6 @@ returns g c =
     record {
       reaches = record {
         on = λ from here. rw c.standing.ensures at
-            (c.in_ok-make.ensures.on at from (λ found. ends (stays at c.args.to))) here;
+            (c.in_ok-make.ensures.on at from (λ found. ends (turns c.args.to at.phase))) here;
       };
     }

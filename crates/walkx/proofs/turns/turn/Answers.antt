@@ -2,7 +2,8 @@ use Rattle.std.proofs.Common.{sym, ◌∙◌}
 use Rattle.walkx.specs.Scripts.{ends}
 use Rattle.walkx.specs.Walk.{turn_script}
 use Rattle.walkx.proofs.Passing.{passed}
-use Rattle.walkx.specs.Rests.{after_node, stays}
+use Rattle.walkx.specs.Rests.{after_node}
+use Rattle.walkx.specs.Walk.{turns}
 use Rattle.walkx.proofs.Turning.{node_is}
 use Rattle.walkx.proofs.turns.turn.Goals as goal
 
@@ -11,8 +12,15 @@ unfolding turn_script
 make-requires g c =
     let at = c.args.post.now in
     let r = c.requires.here in
-    rw (c.looking.ensures, node_is c.post.view_is)
-    (at, record { from = r.from; after = ends (stays at 0); next = after_node at; here = r.here })
+    rw (c.looking.ensures, node_is c.post.view_is) (
+      at,
+      record {
+        from = r.from;
+        after = ends (turns 0 at.phase);
+        next = after_node at;
+        here = r.here;
+      },
+    )
 
 pub returns-in_err-found : goal.returns-in_err-found
 unfolding turn_script
@@ -40,20 +48,6 @@ leave-requires g c =
       };
     }
 
-pub returns-then-is_finished : goal.returns-then-is_finished
-unfolding turn_script
-returns-then-is_finished g c =
-    let at = c.args.post.now in
-    record {
-      reaches = record {
-        on = λ from here.
-            let node = rw (c.looking.ensures, node_is c.post.view_is) at
-            (c.in_ok-found.ensures.on at from (after_node at)) here in
-            c.leave.ensures.reaches.on from
-            (rw (sym c.is_finished.ensures ∙ c.if-is_finished.true) at node);
-      };
-    }
-
 pub leaf-requires-clause-here : goal.leaf-requires-clause-here
 unfolding turn_script
 leaf-requires-clause-here g c =
@@ -68,22 +62,6 @@ leaf-requires-clause-here g c =
         sym c.is_leaf.ensures ∙ c.if-is_leaf.true,
       ) at node;
     }
-
-pub returns-in_err-next : goal.returns-in_err-next
-unfolding turn_script
-returns-in_err-next g c =
-    let at = c.args.post.now in
-    rw (passed c.from_residual-in_err-next.result _ c.from_residual-in_err-next.ensures.1) (record {
-      reaches = record {
-        on = λ from here.
-            let node = rw (c.looking.ensures, node_is c.post.view_is) at
-            (c.in_ok-found.ensures.on at from (after_node at)) here in
-            c.in_err-next.ensures.reaches.on from (rw (
-              sym c.is_finished.ensures ∙ c.if-is_finished.false,
-              sym c.is_leaf.ensures ∙ c.if-is_leaf.true,
-            ) at node);
-      };
-    })
 
 pub inner-requires-clause-here : goal.inner-requires-clause-here
 unfolding turn_script
@@ -100,49 +78,46 @@ inner-requires-clause-here g c =
       ) at node;
     }
 
-pub returns-in_err-next-2 : goal.returns-in_err-next-2
+pub returns-then-is_finished : goal.returns-then-is_finished
 unfolding turn_script
-returns-in_err-next-2 g c =
-    let at = c.args.post.now in
-    rw (passed c.from_residual-in_err-next-2.result _ c.from_residual-in_err-next-2.ensures.1)
-    (record {
-      reaches = record {
-        on = λ from here.
-            let node = rw (c.looking.ensures, node_is c.post.view_is) at
-            (c.in_ok-found.ensures.on at from (after_node at)) here in
-            c.in_err-next-2.ensures.reaches.on from (rw (
-              sym c.is_finished.ensures ∙ c.if-is_finished.false,
-              sym c.is_leaf.ensures ∙ c.if-is_leaf.false,
-            ) at node);
-      };
-    })
-
-pub returns-in_ok-next : goal.returns-in_ok-next
-unfolding turn_script
-returns-in_ok-next g c =
+returns-then-is_finished g c =
     let at = c.args.post.now in
     record {
       reaches = record {
         on = λ from here.
             let node = rw (c.looking.ensures, node_is c.post.view_is) at
             (c.in_ok-found.ensures.on at from (after_node at)) here in
-            c.in_ok-next.ensures.reaches.on from (rw (
+            c.leave.ensures.reaches.on from
+            (rw (sym c.is_finished.ensures ∙ c.if-is_finished.true) at node);
+      };
+    }
+
+pub returns-then-is_leaf : goal.returns-then-is_leaf
+unfolding turn_script
+returns-then-is_leaf g c =
+    let at = c.args.post.now in
+    record {
+      reaches = record {
+        on = λ from here.
+            let node = rw (c.looking.ensures, node_is c.post.view_is) at
+            (c.in_ok-found.ensures.on at from (after_node at)) here in
+            c.leaf.ensures.reaches.on from (rw (
               sym c.is_finished.ensures ∙ c.if-is_finished.false,
               sym c.is_leaf.ensures ∙ c.if-is_leaf.true,
             ) at node);
       };
     }
 
-pub returns-in_ok-next-2 : goal.returns-in_ok-next-2
+pub returns-else-is_leaf : goal.returns-else-is_leaf
 unfolding turn_script
-returns-in_ok-next-2 g c =
+returns-else-is_leaf g c =
     let at = c.args.post.now in
     record {
       reaches = record {
         on = λ from here.
             let node = rw (c.looking.ensures, node_is c.post.view_is) at
             (c.in_ok-found.ensures.on at from (after_node at)) here in
-            c.in_ok-next-2.ensures.reaches.on from (rw (
+            c.inner.ensures.reaches.on from (rw (
               sym c.is_finished.ensures ∙ c.if-is_finished.false,
               sym c.is_leaf.ensures ∙ c.if-is_leaf.false,
             ) at node);

@@ -14,22 +14,22 @@ pub returns-in-Ok-clause-told : goal.returns-in-Ok-clause-told
 returns-in-Ok-clause-told c =
     (heard_ends c.args.job.now c.args.layout.now _ c.args.answer _ _ _ c.within_limits.ensures
     c.requires.serves.fits c.requires.going c.requires.admitted c.hear.ensures c.left.ensures _
-    c.in-Ok.is c.go_on.ensures.walking c.go_on.ensures.asked).told
+    c.in-Ok.is c.go_on.ensures.walking c.go_on.ensures.op).told
 
 pub returns-in-Ok-clause-serves : goal.returns-in-Ok-clause-serves
 returns-in-Ok-clause-serves c =
     (heard_ends c.args.job.now c.args.layout.now _ c.args.answer _ _ _ c.within_limits.ensures
     c.requires.serves.fits c.requires.going c.requires.admitted c.hear.ensures c.left.ensures _
-    c.in-Ok.is c.go_on.ensures.walking c.go_on.ensures.asked).serves
+    c.in-Ok.is c.go_on.ensures.walking c.go_on.ensures.op).serves
 
 pub returns-in-Err-clause-told : goal.returns-in-Err-clause-told
 returns-in-Err-clause-told c =
     (heard_asks c.args.job.now c.args.layout.now _ c.args.answer _ _ _ c.within_limits.ensures
     c.requires.serves.fits c.requires.going c.requires.admitted c.hear.ensures c.left.ensures _
-    c.in-Err.is c.hold.ensures.walking c.hold.ensures.asked).told
+    c.in-Err.is c.hold.ensures.walking c.hold.ensures.op).told
 
 pub returns-in-Err-clause-serves : goal.returns-in-Err-clause-serves
 returns-in-Err-clause-serves c =
     (heard_asks c.args.job.now c.args.layout.now _ c.args.answer _ _ _ c.within_limits.ensures
     c.requires.serves.fits c.requires.going c.requires.admitted c.hear.ensures c.left.ensures _
-    c.in-Err.is c.hold.ensures.walking c.hold.ensures.asked).serves
+    c.in-Err.is c.hold.ensures.walking c.hold.ensures.op).serves

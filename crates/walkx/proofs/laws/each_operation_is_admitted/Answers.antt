@@ -1,5 +1,5 @@
 use Rattle.walkx.proofs.Asking.{all_ask}
-use Rattle.walkx.proofs.laws.what_is_asked_is_admitted.Goals as goal
+use Rattle.walkx.proofs.laws.each_operation_is_admitted.Goals as goal
 
 pub returns : goal.returns
 returns c = all_ask

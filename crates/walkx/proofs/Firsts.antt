@@ -1,0 +1,49 @@
+-- A task asks for something, and what a rank in a block says.
+use Rattle.std.proofs.Common.{◌≡◌, ℕ, ◌<◌, nat_lt, IsTrue, true, Some, refl, inl, inr}
+use Rattle.std.proofs.lemmas.Bool.{cases_Bool, lt-ltb, ltb-true}
+use Rattle.pram_text.specs.Job.{JobData}
+use Rattle.pram_text.specs.declared.instr.Rule.{Rule}
+use Rattle.pram_text.specs.declared.instr.Rule.TheVariants.{Common, Priority, Crew}
+use Rattle.pram_words.specs.declared.phases.Kind.{Kind}
+use Rattle.pram_words.specs.declared.phases.Kind.TheVariants.{Compute, Apply, Verify}
+use Rattle.pram_words.specs.Phases.{step_at, kind_at}
+use Rattle.pram_words.specs.Words.{LayoutData, grain}
+use Rattle.walkx.specs.declared.operation.Op.{Op}
+use Rattle.walkx.specs.Scripts.{Script, first_op}
+use Rattle.walkx.specs.Tasks.{compute_task, apply_task, verify_task, claim_task}
+use Rattle.walkx.specs.Tasks.{priority_apply_task, crew_apply_task, crew_verify_task, task_of}
+use Rattle.walkx.specs.Walk.{Then, after_part, has_rank, part_script, processor_at}
+
+task_first : (rule : Rule) (kind : Kind) (job : JobData) (y : LayoutData) (t i : ℕ)
+    (after : Script Then) → (op : Op) × (first_op (task_of rule kind job y t i after) ≡ Some op)
+unfolding task_of compute_task apply_task verify_task claim_task priority_apply_task
+    crew_apply_task crew_verify_task
+task_first Common Compute job y t i after = (_, refl)
+task_first Common Apply job y t i after = (_, refl)
+task_first Common Verify job y t i after = (_, refl)
+task_first Priority Compute job y t i after = (_, refl)
+task_first Priority Apply job y t i after = (_, refl)
+task_first Priority Verify job y t i after = (_, refl)
+task_first Crew Compute job y t i after = (_, refl)
+task_first Crew Apply job y t i after = (_, refl)
+task_first Crew Verify job y t i after = (_, refl)
+
+pub part_first : (job : JobData) (y : LayoutData) (n q rank : ℕ) →
+    (op : Op) × (first_op (part_script job y n q rank) ≡ Some op)
+unfolding part_script
+part_first job y n q rank =
+    task_first job.rule (kind_at q) job y (step_at q) (processor_at y n rank)
+    (after_part y n q rank)
+
+pub rank_parts : (y : LayoutData) (n rank : ℕ) → IsTrue (has_rank y n rank) →
+    (rank < grain y) × (processor_at y n rank < y.procs)
+rank_parts y n rank there = elim (cases_Bool (nat_lt rank (grain y))) [
+  | inl e ↦ (let other : nat_lt (processor_at y n rank) y.procs ≡ true = rw e at there in
+      (ltb-true rank (grain y) e, ltb-true (processor_at y n rank) y.procs other))
+  | inr e ↦ absurd (let f = rw e at there in cc)
+]
+
+pub rank_there : (y : LayoutData) (n rank : ℕ) → rank < grain y → processor_at y n rank < y.procs →
+    has_rank y n rank ≡ true
+rank_there y n rank below proc =
+    rw (lt-ltb rank (grain y) below, lt-ltb (processor_at y n rank) y.procs proc) refl
