@@ -27,8 +27,8 @@ const OPERANDS = {
   TargetOne: ['two registers', ' r1 r0'],
   TargetTwo: ['three registers', ' r2 r0 r1'],
   Two: ['two registers', ' r0 r1'],
-  OnePlace: ['a register and a label', ' r0 again'],
-  Place: ['one label', ' again'],
+  RegisterIndex: ['a register and a label', ' r0 again'],
+  Index: ['one label', ' again'],
 };
 
 function usageOf(name) {

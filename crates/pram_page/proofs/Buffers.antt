@@ -21,7 +21,7 @@ use Rattle.pram_page.specs.declared.rows.EventRow.{EventRow}
 use Rattle.pram_page.specs.declared.scene.Scene.{Scene}
 use Rattle.pram_page.specs.declared.text.Refusal.TheVariants.{NoJob, TextTooLong, Memory}
 use Rattle.pram_page.specs.Findings.{IsKeptBehind, count_written, told_of, told_written}
-use Rattle.pram_page.specs.Requests.{IsAskedIn, IsKeptAsked}
+use Rattle.pram_page.specs.Requests.{AreRequestsAfter, IsKeptBehindRequests}
 use Rattle.pram_page.specs.Scenes.{IsNoted, bodies_told, hindered_as, words_told}
 
 pub set_same : {X : Type 0} (xs : List X) (n : ℕ) (x : X) → n < length xs →
@@ -90,42 +90,43 @@ pub kept_as_told : {X : Type 0} (f : Finding) (told : Told) (old now : List X) �
 kept_as_told f told old now is kept =
     subst (λ (n : ℕ). IsKeptBehind n old now) (sym (ap told_written is ∙ count_told f)) kept
 
-pub kept_as_asked : (f : Finding) (told : Told) (old now : List RequestRow) → told ≡ told_of f →
-    IsKeptAsked old now f → told.code ≢ MEMORY → IsKeptBehind (told_written told) old now
-kept_as_asked (Done step count) told old now is kept some =
+pub kept_as_requests : (f : Finding) (told : Told) (old now : List RequestRow) → told ≡ told_of f →
+    IsKeptBehindRequests old now f → told.code ≢ MEMORY → IsKeptBehind (told_written told) old now
+kept_as_requests (Done step count) told old now is kept some =
     kept_as_told (Done step count) told old now is kept
-kept_as_asked (Conflict fault count) told old now is kept some =
+kept_as_requests (Conflict fault count) told old now is kept some =
     kept_as_told (Conflict fault count) told old now is kept
-kept_as_asked (Unfinished step) told old now is kept some =
+kept_as_requests (Unfinished step) told old now is kept some =
     kept_as_told (Unfinished step) told old now is kept
-kept_as_asked (NoRoom needed) told old now is kept some =
+kept_as_requests (NoRoom needed) told old now is kept some =
     kept_as_told (NoRoom needed) told old now is kept
-kept_as_asked NoStep told old now is kept some = kept_as_told NoStep told old now is kept
-kept_as_asked TooFar told old now is kept some = kept_as_told TooFar told old now is kept
-kept_as_asked BadWorkers told old now is kept some = kept_as_told BadWorkers told old now is kept
-kept_as_asked (BadEvent number) told old now is kept some =
+kept_as_requests NoStep told old now is kept some = kept_as_told NoStep told old now is kept
+kept_as_requests TooFar told old now is kept some = kept_as_told TooFar told old now is kept
+kept_as_requests BadWorkers told old now is kept some = kept_as_told BadWorkers told old now is kept
+kept_as_requests (BadEvent number) told old now is kept some =
     kept_as_told (BadEvent number) told old now is kept
-kept_as_asked (Refused (NoJob fault)) told old now is kept some =
+kept_as_requests (Refused (NoJob fault)) told old now is kept some =
     kept_as_told (Refused (NoJob fault)) told old now is kept
-kept_as_asked (Refused TextTooLong) told old now is kept some =
+kept_as_requests (Refused TextTooLong) told old now is kept some =
     kept_as_told (Refused TextTooLong) told old now is kept
-kept_as_asked (Refused Memory) told old now is kept some =
+kept_as_requests (Refused Memory) told old now is kept some =
     absurd (some (ap (λ (t : Told). t.code) is))
 
-pub asked_kept : (job : JobData) (t : ℕ) (old rows : List RequestRow) (f : Finding) →
-    IsAskedIn job t rows f → IsKeptBehind job.procs old rows → IsKeptAsked old rows f
-asked_kept job t old rows (Done step count) asked kept =
-    subst (λ (n : ℕ). IsKeptBehind n old rows) (sym asked.2) kept
-asked_kept job t old rows (Conflict fault count) asked kept =
-    subst (λ (n : ℕ). IsKeptBehind n old rows) (sym asked.2) kept
-asked_kept job t old rows (Refused refusal) asked kept =
-    subst (λ r. IsKeptAsked old rows (Refused r)) (sym asked) tt
-asked_kept job t old rows (Unfinished step) asked kept = absurd asked
-asked_kept job t old rows (NoRoom needed) asked kept = absurd asked
-asked_kept job t old rows NoStep asked kept = absurd asked
-asked_kept job t old rows TooFar asked kept = absurd asked
-asked_kept job t old rows BadWorkers asked kept = absurd asked
-asked_kept job t old rows (BadEvent number) asked kept = absurd asked
+pub requests_kept : (job : JobData) (t : ℕ) (old rows : List RequestRow) (f : Finding) →
+    AreRequestsAfter job t rows f → IsKeptBehind job.procs old rows →
+    IsKeptBehindRequests old rows f
+requests_kept job t old rows (Done step count) requests kept =
+    subst (λ (n : ℕ). IsKeptBehind n old rows) (sym requests.2) kept
+requests_kept job t old rows (Conflict fault count) requests kept =
+    subst (λ (n : ℕ). IsKeptBehind n old rows) (sym requests.2) kept
+requests_kept job t old rows (Refused refusal) requests kept =
+    subst (λ r. IsKeptBehindRequests old rows (Refused r)) (sym requests) tt
+requests_kept job t old rows (Unfinished step) requests kept = absurd requests
+requests_kept job t old rows (NoRoom needed) requests kept = absurd requests
+requests_kept job t old rows NoStep requests kept = absurd requests
+requests_kept job t old rows TooFar requests kept = absurd requests
+requests_kept job t old rows BadWorkers requests kept = absurd requests
+requests_kept job t old rows (BadEvent number) requests kept = absurd requests
 
 -- a row of an event
 pub kept_noted : (row : EventRow) (from n all : ℕ) (first old now : List EventRow) →

@@ -17,6 +17,7 @@ fits_activity : (job : JobData) (d : Doing) → IsJob job →
 fits_activity job doing.Back limits phase = tt
 fits_activity job doing.Begin limits phase = tt
 fits_activity job (doing.Turn q) limits phase = let few = limits.steps in omega arith
+fits_activity job (doing.Part q rank) limits phase = let few = limits.steps in omega arith
 fits_activity job (doing.Over e) limits phase = tt
 
 fits_body : (s : WorldData) (b : ℕ) (body : Body) → IsInterleaved s →

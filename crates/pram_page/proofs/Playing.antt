@@ -17,6 +17,7 @@ use Rattle.pram_world.specs.Laws.{IsLawfulRun}
 use Rattle.pram_world.specs.Runs.{Act, event, twin, load, Run, begun, acted, TwinFits, TwinsFit}
 use Rattle.pram_world.proofs.Counting.{same_board}
 use Rattle.pram_world.proofs.Interleaving.{every_interleaving}
+use Rattle.pram_world.proofs.Keeping.{one_processor}
 use Rattle.pram_page.specs.declared.text.Refusal.TheVariants.{Memory}
 use Rattle.pram_page.specs.Texts.{IsRefused}
 use Rattle.pram_world.specs.Worlds.{WorldData, start}
@@ -218,8 +219,8 @@ played_lawfully : (text : List ℕ) (job : JobData) (workers : ℕ) (events : Li
     Spells text job → 1 ≤ workers → workers ≤ 64 → AreKnown (begun job Compact workers) events →
     IsLawfulRun job Compact workers (run_of job workers events)
 played_lawfully text job workers events spells some most known =
-    every_interleaving job Compact workers (map act_of events) (spells_lawful text job spells) some
-    most (twins_fit workers (begun job Compact workers) events refl known)
+    every_interleaving job Compact workers (map act_of events) (spells_lawful text job spells)
+    one_processor some most (twins_fit workers (begun job Compact workers) events refl known)
 
 -- ---- the board of a text
 

@@ -23,32 +23,35 @@ use Rattle.pram_page.specs.Texts.{OfJob}
 
 -- why there is no board
 abbrev pub finding_of : Hindrance → Finding
-finding_of (hindrance.Refused r) = Refused r
+finding_of (hindrance.Refused refusal) = Refused refusal
 finding_of hindrance.BadWorkers = BadWorkers
-finding_of (hindrance.BadEvent n) = BadEvent n
+finding_of (hindrance.BadEvent number) = BadEvent number
 
 abbrev pub IsNoBoard : List ℕ → ℕ → List Event → Finding → Type 0
 IsNoBoard text workers events BadWorkers = IsHindered text workers events hindrance.BadWorkers
-IsNoBoard text workers events (BadEvent n) = IsHindered text workers events (hindrance.BadEvent n)
-IsNoBoard text workers events (Refused r) = IsHindered text workers events (hindrance.Refused r)
+IsNoBoard text workers events (BadEvent number) =
+    IsHindered text workers events (hindrance.BadEvent number)
+IsNoBoard text workers events (Refused refusal) =
+    IsHindered text workers events (hindrance.Refused refusal)
 IsNoBoard text workers events _ = ⊥
 
 -- the board of the text after the events is such a world
 abbrev pub OfWorld : List ℕ → ℕ → List Event → (WorldData → Type 0) → Type 0
-OfWorld text workers events holds = (s : WorldData) × IsBoardAfter text workers events s × holds s
+OfWorld text workers events holds =
+    (world : WorldData) × IsBoardAfter text workers events world × holds world
 
 -- ---- what the board answers: the front of the buffer holds the cells
 
 abbrev pub IsOutcomeFound : List ℕ → ℕ → List Event → List ℕ → List ℕ → Finding → Type 0
 IsOutcomeFound text workers events old cells (Done step count) =
     OfWorld text workers events
-    (λ s. (step ≡ s.job.steps) × IsOutcome s (answer.Final (take count cells)))
+    (λ world. (step ≡ world.job.steps) × IsOutcome world (answer.Final (take count cells)))
 IsOutcomeFound text workers events old cells (Conflict fault count) =
-    OfWorld text workers events (λ s. (count ≡ 0) × IsOutcome s (answer.Conflict fault))
+    OfWorld text workers events (λ world. (count ≡ 0) × IsOutcome world (answer.Conflict fault))
 IsOutcomeFound text workers events old cells (Unfinished step) =
-    OfWorld text workers events (λ s. IsOutcome s (answer.Unfinished step))
+    OfWorld text workers events (λ world. IsOutcome world (answer.Unfinished step))
 IsOutcomeFound text workers events old cells (NoRoom needed) =
-    OfWorld text workers events (λ s. (found : List ℕ) × IsOutcome s (answer.Final found)
+    OfWorld text workers events (λ world. (found : List ℕ) × IsOutcome world (answer.Final found)
     × (needed ≡ length found) × (length old < needed))
 IsOutcomeFound text workers events old cells finding = IsNoBoard text workers events finding
 
@@ -64,35 +67,36 @@ row_of (At step value) = record { step = step; value = value }
 
 -- what the reader of a cell gets
 abbrev pub read_in : WorldData → ℕ → ReadRow
-read_in s cell = row_of (read_on s.words (reader_script s.layout cell))
+read_in world cell = row_of (read_on world.words (reader_script world.layout cell))
 
 abbrev pub AreRead : WorldData → List ReadRow → Type 0
-AreRead s rows = (cell : ℕ) → cell < s.job.cells → slice_get rows cell ≡ Some (read_in s cell)
+AreRead world rows =
+    (cell : ℕ) → cell < world.job.cells → slice_get rows cell ≡ Some (read_in world cell)
 
 -- the record after the loads of a script that are all answered by these words
 abbrev pub loaded : List ℕ → Record → Script Reading → Record
-loaded words r (asks op next) =
-    let found = operations.answer words op in loaded words (after r op found) (next found)
-loaded words r (ends reading) = r
+loaded words past (asks op next) =
+    let found = operations.answer words op in loaded words (after past op found) (next found)
+loaded words past (ends reading) = past
 
 -- *Lawful read*: each row is one of its cell, after the record of all atomic steps so far: what
 -- the cell held after a step that is reached, none that any body knew before being later.
 abbrev pub AreLawful : JobData → WorldData → Record → List ReadRow → Type 0
-AreLawful job s made rows =
+AreLawful job world made rows =
     (cell : ℕ) (row : ReadRow) → cell < job.cells → slice_get rows cell ≡ Some row →
-    IsLawfulRead job s.layout made (loaded s.words made (reader_script s.layout cell))
+    IsLawfulRead job world.layout made (loaded world.words made (reader_script world.layout cell))
     cell row.step row.value
 
 -- the rows of all cells, on this board, the record of all atomic steps on it being such a one
 abbrev pub AreAllRead : JobData → WorldData → Record → ℕ → ℕ → List ReadRow → Type 0
-AreAllRead job s made step count rows =
-    (step ≡ 0) × (count ≡ job.cells) × AreRead s rows × AreLawful job s made rows
+AreAllRead job world made step count rows =
+    (step ≡ 0) × (count ≡ job.cells) × AreRead world rows × AreLawful job world made rows
 
 abbrev pub AreReadsFound
     : List ℕ → ℕ → List Event → List ReadRow → List ReadRow → Finding → Type 0
 AreReadsFound text workers events old rows (Done step count) =
-    OfJob text (λ job. (s : WorldData) × BoardAfter workers events s job
-    × AreAllRead job s (run_of job workers events).made step count rows)
+    OfJob text (λ job. (world : WorldData) × BoardAfter workers events world job
+    × AreAllRead job world (run_of job workers events).made step count rows)
 AreReadsFound text workers events old rows (NoRoom needed) =
-    OfWorld text workers events (λ s. (needed ≡ s.job.cells) × (length old < needed))
+    OfWorld text workers events (λ world. (needed ≡ world.job.cells) × (length old < needed))
 AreReadsFound text workers events old rows finding = IsNoBoard text workers events finding

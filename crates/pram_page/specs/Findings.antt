@@ -24,14 +24,14 @@ counted code count = record {
 
 abbrev pub told_of : Finding → Told
 told_of (Done step count) = record (counted DONE count) { step = step }
-told_of (Conflict f count) = record {
+told_of (Conflict fault count) = record {
   code = CONFLICT;
   fault = 0;
   line = 0;
-  step = f.step;
-  cell = f.cell;
-  first = f.first;
-  second = f.second;
+  step = fault.step;
+  cell = fault.cell;
+  first = fault.first;
+  second = fault.second;
   count = count;
 }
 told_of (Unfinished step) = record (counted UNFINISHED 0) { step = step }
@@ -40,10 +40,10 @@ told_of NoStep = counted NO_STEP 0
 told_of TooFar = counted TOO_FAR 0
 told_of BadWorkers = counted BAD_WORKERS 0
 told_of (BadEvent number) = counted BAD_EVENT number
-told_of (Refused r) =
-    record (counted (refused_as r).code 0) {
-      fault = (refused_as r).fault;
-      line = (refused_as r).line;
+told_of (Refused refusal) =
+    record (counted (refused_as refusal).code 0) {
+      fault = (refused_as refusal).fault;
+      line = (refused_as refusal).line;
     }
 
 -- a finding of which this holds is told
@@ -55,7 +55,7 @@ IsToldOf holds told = (finding : Finding) × holds finding × (told ≡ told_of 
 -- so many elements of the buffer are written
 abbrev pub count_written : Finding → ℕ
 count_written (Done step count) = count
-count_written (Conflict f count) = count
+count_written (Conflict fault count) = count
 count_written _ = 0
 
 abbrev pub told_written : Told → ℕ

@@ -26,81 +26,81 @@ status_of job counter =
 
 -- the cell that processor i reads in a state
 abbrev pub cell_by : JobData → State → ℕ → Option Instr → Option ℕ
-cell_by job s i None = None
-cell_by job s i (Some instr) = cell_read job instr (operand_held job s i instr 0)
+cell_by job state i None = None
+cell_by job state i (Some instr) = cell_read job instr (operand_held job state i instr 0)
 
 abbrev pub cell_in : JobData → State → ℕ → Option ℕ
-cell_in job s i = cell_by job s i (slice_get job.code (counter job s i))
+cell_in job state i = cell_by job state i (slice_get job.code (counter job state i))
 
 -- a cell plus 1, or 0 for none, and what it holds
 abbrev pub cell_part : Option ℕ → ℕ
 cell_part None = 0
-cell_part (Some c) = c + 1
+cell_part (Some cell) = cell + 1
 
 abbrev pub held_part : State → Option ℕ → ℕ
-held_part s None = 0
-held_part s (Some c) = slice_index s c
+held_part state None = 0
+held_part state (Some cell) = slice_index state cell
 
 -- what a data write goes to: nothing, a cell, or a register of processor i; its number; the value
 abbrev pub target_of : JobData → ℕ → Option (ℕ × ℕ) → Target
 target_of job i None = record { kind = 0; number = 0; value = 0 }
-target_of job i (Some w) =
-    if nat_lt w.0 job.cells then record { kind = 1; number = w.0; value = w.1 }
-    else record { kind = 2; number = w.0 - job.cells - 4 * i; value = w.1 }
+target_of job i (Some put) =
+    if nat_lt put.0 job.cells then record { kind = 1; number = put.0; value = put.1 }
+    else record { kind = 2; number = put.0 - job.cells - 4 * i; value = put.1 }
 
 -- the request of processor i in a state
 abbrev pub row_in : JobData → State → ℕ → RequestRow
-row_in job s i =
-    let target = target_of job i (request_in job s i).put in
+row_in job state i =
+    let target = target_of job i (request_in job state i).put in
     record {
-      counter = counter job s i;
-      status = status_of job (counter job s i);
-      reads = cell_part (cell_in job s i);
-      held = held_part s (cell_in job s i);
+      counter = counter job state i;
+      status = status_of job (counter job state i);
+      reads = cell_part (cell_in job state i);
+      held = held_part state (cell_in job state i);
       target = target.kind;
       number = target.number;
       value = target.value;
-      next = (request_in job s i).next;
+      next = (request_in job state i).next;
     }
 
 -- the front of the buffer holds the requests of all processors
 abbrev pub AreRows : JobData → State → List RequestRow → Type 0
-AreRows job s rows = (i : ℕ) → i < job.procs → slice_get rows i ≡ Some (row_in job s i)
+AreRows job state rows = (i : ℕ) → i < job.procs → slice_get rows i ≡ Some (row_in job state i)
 
 -- ---- the step after t steps: it agrees, or is the first conflict, and the rows are told; or an
 -- earlier one is, and none are
 
 -- of a job that reaches the state after t steps, and has one step more
-abbrev pub IsAskedIn : JobData → ℕ → List RequestRow → Finding → Type 0
-IsAskedIn job t rows (Done step count) =
+abbrev pub AreRequestsAfter : JobData → ℕ → List RequestRow → Finding → Type 0
+AreRequestsAfter job t rows (Done step count) =
     (step ≡ t) × (t < job.steps) × (count ≡ job.procs) × IsReached job t × AgreesAfter job t
     × AreRows job (state_after job t) rows
-IsAskedIn job t rows (Conflict fault count) =
+AreRequestsAfter job t rows (Conflict fault count) =
     IsFirstConflict job fault × (fault.step ≡ t + 1) × (count ≡ job.procs)
     × AreRows job (state_after job t) rows
-IsAskedIn job t rows (Refused refusal) = refusal ≡ Memory
-IsAskedIn job t rows _ = ⊥
+AreRequestsAfter job t rows (Refused refusal) = refusal ≡ Memory
+AreRequestsAfter job t rows _ = ⊥
 
 -- the first conflict comes before this step
 abbrev pub IsDisputedBefore : JobData → ℕ → Fault → ℕ → Type 0
 IsDisputedBefore job t fault count =
     IsFirstConflict job fault × (fault.step ≤ t) × (count ≡ 0)
 
-abbrev pub IsAskedFor
+abbrev pub AreRequestsFound
     : List ℕ → ℕ → ℕ → List RequestRow → List RequestRow → Finding → Type 0
-IsAskedFor text t most old rows (Done step count) =
-    OfJob text (λ job. IsAskedIn job t rows (Done step count))
-IsAskedFor text t most old rows (Conflict fault count) =
-    OfJob text (λ job. IsAskedIn job t rows (Conflict fault count)
+AreRequestsFound text t most old rows (Done step count) =
+    OfJob text (λ job. AreRequestsAfter job t rows (Done step count))
+AreRequestsFound text t most old rows (Conflict fault count) =
+    OfJob text (λ job. AreRequestsAfter job t rows (Conflict fault count)
     ⊎ IsDisputedBefore job t fault count)
-IsAskedFor text t most old rows (NoRoom needed) =
+AreRequestsFound text t most old rows (NoRoom needed) =
     OfJob text (λ job. (needed ≡ job.procs) × (length old < needed))
-IsAskedFor text t most old rows NoStep = OfJob text (λ job. job.steps ≤ t)
-IsAskedFor text t most old rows TooFar = OfJob text (λ job. (most < t) × IsReached job most)
-IsAskedFor text t most old rows (Refused refusal) = IsRefused text refusal
-IsAskedFor text t most old rows _ = ⊥
+AreRequestsFound text t most old rows NoStep = OfJob text (λ job. job.steps ≤ t)
+AreRequestsFound text t most old rows TooFar = OfJob text (λ job. (most < t) × IsReached job most)
+AreRequestsFound text t most old rows (Refused refusal) = IsRefused text refusal
+AreRequestsFound text t most old rows _ = ⊥
 
 -- after the rows that are told nothing is written; out of memory the rows may be written
-abbrev pub IsKeptAsked : List RequestRow → List RequestRow → Finding → Type 0
-IsKeptAsked old rows (Refused Memory) = Unit {0}
-IsKeptAsked old rows finding = IsKeptBehind (count_written finding) old rows
+abbrev pub IsKeptBehindRequests : List RequestRow → List RequestRow → Finding → Type 0
+IsKeptBehindRequests old rows (Refused Memory) = Unit {0}
+IsKeptBehindRequests old rows finding = IsKeptBehind (count_written finding) old rows

@@ -45,58 +45,59 @@ use Rattle.pram_page.specs.Events.{run_from}
 -- what a word is: its form, which one, and its part
 abbrev pub form_of : Word → ℕ
 form_of Conflict = 0
-form_of (Node n) = 1
+form_of (Node node) = 1
 form_of (Asked i j) = 2
-form_of (Position w) = 3
-form_of (Stored p k) = 4
-form_of (Claim c) = 5
-form_of (Spare k) = 6
+form_of (Position worker) = 3
+form_of (Stored place which) = 4
+form_of (Claim cell) = 5
+form_of (Spare number) = 6
 
 abbrev pub which_of : Word → ℕ
 which_of Conflict = 0
-which_of (Node n) = n
+which_of (Node node) = node
 which_of (Asked i j) = i
-which_of (Position w) = w
-which_of (Stored p k) = p
-which_of (Claim c) = c
-which_of (Spare k) = k
+which_of (Position worker) = worker
+which_of (Stored place which) = place
+which_of (Claim cell) = cell
+which_of (Spare number) = number
 
 abbrev pub part_of : Word → ℕ
 part_of Conflict = 0
-part_of (Node n) = 0
+part_of (Node node) = 0
 part_of (Asked i j) = j
-part_of (Position w) = 0
-part_of (Stored p k) = k
-part_of (Claim c) = 0
-part_of (Spare k) = 0
+part_of (Position worker) = 0
+part_of (Stored place which) = which
+part_of (Claim cell) = 0
+part_of (Spare number) = 0
 
 -- the number of the older of the two words of a place
 abbrev pub older_at : LayoutData → List ℕ → ℕ → ℕ
-older_at y words p = stamps.older (held y words (Stored p 0)) (held y words (Stored p 1))
+older_at layout words place =
+    stamps.older (held layout words (Stored place 0)) (held layout words (Stored place 1))
 
 -- 1 where a word is the newer of the two words of its place
 abbrev pub newer_of : LayoutData → List ℕ → Word → ℕ
-newer_of y words (Stored p k) = if older_at y words p == k then 0 else 1
-newer_of y words _ = 0
+newer_of layout words (Stored place which) = if older_at layout words place == which then 0 else 1
+newer_of layout words _ = 0
 
 -- 1 where the word of a step, which held this before it, was the older one; the step changed no
 -- other word
 abbrev pub older_before : LayoutData → List ℕ → ℕ → Word → ℕ
-older_before y words before (Stored p zero) =
-    if stamps.older before (held y words (Stored p 1)) == 0 then 1 else 0
-older_before y words before (Stored p (suc k)) =
-    if stamps.older (held y words (Stored p 0)) before == 1 then 1 else 0
-older_before y words before _ = 0
+older_before layout words before (Stored place zero) =
+    if stamps.older before (held layout words (Stored place 1)) == 0 then 1 else 0
+older_before layout words before (Stored place (suc which)) =
+    if stamps.older (held layout words (Stored place 0)) before == 1 then 1 else 0
+older_before layout words before _ = 0
 
 abbrev pub word_in : LayoutData → List ℕ → ℕ → WordRow
-word_in y words k = record {
-  value = slice_index words k;
-  form = form_of (word_at y k);
-  which = which_of (word_at y k);
-  part = part_of (word_at y k);
-  newer = newer_of y words (word_at y k);
-  stamp = stamp_of (slice_index words k);
-  payload = payload_of (slice_index words k);
+word_in layout words number = record {
+  value = slice_index words number;
+  form = form_of (word_at layout number);
+  which = which_of (word_at layout number);
+  part = part_of (word_at layout number);
+  newer = newer_of layout words (word_at layout number);
+  stamp = stamp_of (slice_index words number);
+  payload = payload_of (slice_index words number);
 }
 
 -- ---- bodies
@@ -108,38 +109,46 @@ pass_of Verify = 3
 
 -- a worker that was lost
 abbrev pub lost : ℕ → BodyRow
-lost n = record { phase = 0; worker = n; doing = 0; node = 0; heard = 0; step = 0; pass = 0 }
+lost worker =
+    record { phase = 0; worker = worker; doing = 0; node = 0; heard = 0; step = 0; pass = 0 }
 
--- a worker that does this at a node, with so many answers heard
-abbrev pub active_row : Activity → BodyRow → ℕ → ℕ → BodyRow
-active_row activity.Back row node heard = record row { doing = 1; node = 0; heard = heard }
-active_row activity.Begin row node heard = record row { doing = 2; node = node; heard = heard }
-active_row (activity.Turn q) row node heard =
+-- a worker in a phase at a node, with so many answers heard
+abbrev pub working_row : ℕ → BodyRow → ℕ → ℕ → BodyRow
+working_row phase row node heard =
     record row {
-      phase = q;
+      phase = phase;
       doing = 3;
       node = node;
       heard = heard;
-      step = step_at q;
-      pass = pass_of (kind_at q);
+      step = step_at phase;
+      pass = pass_of (kind_at phase);
     }
+
+-- a worker that does this at a node, with so many answers heard; the task of a processor of a
+-- leaf's block is part of the turn there
+abbrev pub active_row : Activity → BodyRow → ℕ → ℕ → BodyRow
+active_row activity.Back row node heard = record row { doing = 1; node = 0; heard = heard }
+active_row activity.Begin row node heard = record row { doing = 2; node = node; heard = heard }
+active_row (activity.Turn phase) row node heard = working_row phase row node heard
+active_row (activity.Part phase rank) row node heard = working_row phase row node heard
 active_row (activity.Over ended.Done) row node heard =
     record row { doing = 4; node = node; heard = heard }
-active_row (activity.Over (ended.Conflict u)) row node heard =
-    record row { doing = 5; node = node; heard = heard; step = u }
+active_row (activity.Over (ended.Conflict step)) row node heard =
+    record row { doing = 5; node = node; heard = heard; step = step }
 
 abbrev pub standing_row : LayoutData → Standing → BodyRow
-standing_row y (standing.Walks w at activity heard) =
-    active_row activity (lost w) (unwrap_or at (first_leaf_in y w)) heard
-standing_row y (standing.Stopped w) = lost w
+standing_row layout (standing.Walks worker at activity heard) =
+    active_row activity (lost worker) (unwrap_or at (first_leaf_in layout worker)) heard
+standing_row layout (standing.Stopped worker) = lost worker
 
 abbrev pub body_row : LayoutData → Option Body → BodyRow
-body_row y None = lost 0
-body_row y (Some body) = standing_row y (standing_of body)
+body_row layout None = lost 0
+body_row layout (Some body) = standing_row layout (standing_of body)
 
 -- a phase is one that a job can have
 abbrev pub ActivityFits : Activity → Type 0
-ActivityFits (activity.Turn q) = q ≤ LAST_PHASE
+ActivityFits (activity.Turn phase) = phase ≤ LAST_PHASE
+ActivityFits (activity.Part phase rank) = phase ≤ LAST_PHASE
 ActivityFits _ = Unit {0}
 
 abbrev pub PhaseFits : Standing → Type 0
@@ -147,24 +156,24 @@ PhaseFits (standing.Walks _ _ activity _) = ActivityFits activity
 PhaseFits (standing.Stopped _) = Unit {0}
 
 abbrev pub body_in : WorldData → ℕ → BodyRow
-body_in s b = body_row s.layout (slice_get s.bodies b)
+body_in world body = body_row world.layout (slice_get world.bodies body)
 
 -- ---- what an event did, from one world to the next
 
 abbrev pub kind_of_step : Option Op → ℕ
 kind_of_step None = 0
-kind_of_step (Some (Load k)) = 1
-kind_of_step (Some (Store k value)) = 2
-kind_of_step (Some (Max k value)) = 3
-kind_of_step (Some (Swap k old new)) = 4
+kind_of_step (Some (Load word)) = 1
+kind_of_step (Some (Store word value)) = 2
+kind_of_step (Some (Max word value)) = 3
+kind_of_step (Some (Swap word old new)) = 4
 kind_of_step (Some (Over ended)) = 0
 
 abbrev pub word_of_step : Option Op → ℕ
 word_of_step None = 0
-word_of_step (Some (Load k)) = k
-word_of_step (Some (Store k value)) = k
-word_of_step (Some (Max k value)) = k
-word_of_step (Some (Swap k old new)) = k
+word_of_step (Some (Load word)) = word
+word_of_step (Some (Store word value)) = word
+word_of_step (Some (Max word value)) = word
+word_of_step (Some (Swap word old new)) = word
 word_of_step (Some (Over ended)) = 0
 
 abbrev pub step_word : Option Op → StepWord
@@ -173,21 +182,22 @@ step_word op = record { kind = kind_of_step op; word = word_of_step op }
 -- what the word of a step is, and whether it was the older word of its place; where none was made
 -- the form is 7
 abbrev pub step_meaning : LayoutData → List ℕ → StepWord → ℕ → StepMeaning
-step_meaning y words step before =
-    if step.kind == 0 || nat_le (length_of y) step.word
+step_meaning layout words step before =
+    if step.kind == 0 || nat_le (length_of layout) step.word
     then record { form = 7; which = 0; part = 0; older = 0 }
     else record {
-      form = form_of (word_at y step.word);
-      which = which_of (word_at y step.word);
-      part = part_of (word_at y step.word);
-      older = older_before y words before (word_at y step.word);
+      form = form_of (word_at layout step.word);
+      which = which_of (word_at layout step.word);
+      part = part_of (word_at layout step.word);
+      older = older_before layout words before (word_at layout step.word);
     }
 
 -- of an event that led to this world with this effect, the bodies before it being so many: a twin
 -- is the next body
 abbrev pub row_with : WorldData → Event → ℕ → Effect → EventRow
-row_with s e bodies effect =
-    let meaning = step_meaning s.layout s.words (step_word effect.op) effect.before in record {
+row_with world event bodies effect =
+    let meaning =
+    step_meaning world.layout world.words (step_word effect.op) effect.before in record {
       before = effect.before;
       after = effect.after;
       kind = kind_of_step effect.op;
@@ -196,24 +206,25 @@ row_with s e bodies effect =
       which = meaning.which;
       part = meaning.part;
       older = meaning.older;
-      event = e.kind;
-      body = if nat_lt e.kind 3 then e.body else bodies;
-      now = body_in s (if nat_lt e.kind 3 then e.body else bodies);
+      event = event.kind;
+      body = if nat_lt event.kind 3 then event.body else bodies;
+      now = body_in world (if nat_lt event.kind 3 then event.body else bodies);
     }
 
 abbrev pub event_row : WorldData → Event → EventRow
-event_row s e = row_with (moved s (act_of e)) e (length s.bodies) (effect_by s (act_of e))
+event_row world event = row_with (moved world (act_of event)) event (length world.bodies)
+    (effect_by world (act_of event))
 
--- the row of event n is put where there is room for it
-pub record IsNoted (row : EventRow) (from n : ℕ) (old new : List EventRow) : Type 0 where
-  pub inside : from ≤ n → n - from < length old → new ≡ slice_set old (n - from) row
-  pub outside : (from ≤ n → n - from < length old → ⊥) → new ≡ old
+-- the row of the event of this number is put where there is room for it
+pub record IsNoted (row : EventRow) (from number : ℕ) (old new : List EventRow) : Type 0 where
+  pub inside : from ≤ number → number - from < length old → new ≡ slice_set old (number - from) row
+  pub outside : (from ≤ number → number - from < length old → ⊥) → new ≡ old
 
 -- what the events from `from` on did, as many as there are rows for, from this run
 abbrev pub AreShown : Run → List Event → ℕ → List EventRow → Type 0
-AreShown r events from rows =
-    (i : ℕ) (e : Event) → i < length rows → slice_get events (from + i) ≡ Some e
-    → slice_get rows i ≡ Some (event_row (run_from r (take (from + i) events)).world e)
+AreShown run events from rows =
+    (at : ℕ) (event : Event) → at < length rows → slice_get events (from + at) ≡ Some event
+    → slice_get rows at ≡ Some (event_row (run_from run (take (from + at) events)).world event)
 
 -- so many rows are written
 abbrev pub count_shown : ℕ → ℕ → ℕ → ℕ
@@ -238,54 +249,57 @@ no_scene = record {
 
 -- why there is none
 abbrev pub hindered_as : Hindrance → Scene
-hindered_as (Refused r) =
+hindered_as (Refused refusal) =
     record no_scene {
-      code = (refused_as r).code;
-      fault = (refused_as r).fault;
-      line = (refused_as r).line;
+      code = (refused_as refusal).code;
+      fault = (refused_as refusal).fault;
+      line = (refused_as refusal).line;
     }
 hindered_as BadWorkers = record no_scene { code = BAD_WORKERS }
 hindered_as (BadEvent at) = record no_scene { code = BAD_EVENT; at = at }
 
 -- what a world shows at a glance, so many rows being written
 abbrev pub glance_of : WorldData → ℕ → Scene
-glance_of s shown = record no_scene {
-  root = root s.layout s.words;
-  words = length_of s.layout;
-  bodies = length s.bodies;
+glance_of world shown = record no_scene {
+  root = root world.layout world.words;
+  words = length_of world.layout;
+  bodies = length world.bodies;
   rows = shown;
-  leaves = s.layout.leaves;
-  finished = finished s.layout s.words;
-  conflict = conflict s.layout s.words;
+  leaves = world.layout.leaves;
+  finished = finished world.layout world.words;
+  conflict = conflict world.layout world.words;
 }
 
 -- the front of the buffers holds the words and the bodies
 abbrev pub AreWords : WorldData → List WordRow → Type 0
-AreWords s words =
-    (k : ℕ) → k < length_of s.layout → slice_get words k ≡ Some (word_in s.layout s.words k)
+AreWords world words =
+    (number : ℕ) → number < length_of world.layout →
+    slice_get words number ≡ Some (word_in world.layout world.words number)
 
 abbrev pub AreBodies : WorldData → List BodyRow → Type 0
-AreBodies s bodies = (b : ℕ) → b < length s.bodies → slice_get bodies b ≡ Some (body_in s b)
+AreBodies world bodies =
+    (body : ℕ) → body < length world.bodies → slice_get bodies body ≡ Some (body_in world body)
 
 -- the buffers have no room for them
 abbrev pub HaveNoRoom : WorldData → List WordRow → List BodyRow → Type 0
-HaveNoRoom s words bodies =
-    (length words < length_of s.layout) ⊎ (length bodies < length s.bodies)
+HaveNoRoom world words bodies =
+    (length words < length_of world.layout) ⊎ (length bodies < length world.bodies)
 
 -- the words and the bodies are told; or there is no room for them, and how many there are is told
 abbrev pub IsBoardTold : WorldData → ℕ → List WordRow → List BodyRow → Scene → Type 0
-IsBoardTold s shown words bodies told =
-    (AreWords s words × AreBodies s bodies × (told ≡ glance_of s shown))
-    ⊎ (HaveNoRoom s words bodies × (told ≡ record (glance_of s shown) { code = NO_ROOM }))
+IsBoardTold world shown words bodies told =
+    (AreWords world words × AreBodies world bodies × (told ≡ glance_of world shown))
+    ⊎ (HaveNoRoom world words bodies × (told ≡ record (glance_of world shown) { code = NO_ROOM }))
 
 -- what is told of the board of a text after events, and of what they did; or why there is none
 abbrev pub IsScene
     : List ℕ → ℕ → List Event → ℕ → List EventRow → List WordRow → List BodyRow → Scene → Type 0
 IsScene text workers events from rows words bodies told =
-    OfJob text (λ job. (s : WorldData) × BoardAfter workers events s job
+    OfJob text (λ job. (world : WorldData) × BoardAfter workers events world job
     × AreShown (begun job Compact workers) events from rows
-    × IsBoardTold s (count_shown (length events) from (length rows)) words bodies told)
-    ⊎ ((h : Hindrance) × IsHindered text workers events h × (told ≡ hindered_as h))
+    × IsBoardTold world (count_shown (length events) from (length rows)) words bodies told)
+    ⊎ ((hindrance : Hindrance) × IsHindered text workers events hindrance
+    × (told ≡ hindered_as hindrance))
 
 -- so many words and bodies are written, as is told
 abbrev pub words_told : Scene → ℕ

@@ -79,7 +79,7 @@ fn walking_row(activity: Activity, nothing: BodyRow, node: u32, heard: u32) -> B
             ..at
         },
         Activity::Begin => BodyRow { doing: 2, ..at },
-        Activity::Turn(phase) => BodyRow {
+        Activity::Turn(phase) | Activity::Part(phase, _) => BodyRow {
             phase,
             doing: 3,
             step: step_of(phase),

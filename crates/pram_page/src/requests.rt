@@ -5,7 +5,8 @@ ghost use Rattle.pram_step.specs.Machine.{register as register_of};
 ghost use Rattle.pram_step.specs.Runs.{IsStateAfter};
 ghost use Rattle.pram_page.specs.declared.codes.TheConstants.{MEMORY};
 ghost use Rattle.pram_page.specs.Findings.{IsKeptBehind, IsToldOf, told_written};
-ghost use Rattle.pram_page.specs.Requests.{AreRows, IsAskedFor, IsAskedIn, IsKeptAsked};
+ghost use Rattle.pram_page.specs.Requests.{AreRequestsAfter, AreRequestsFound, AreRows};
+ghost use Rattle.pram_page.specs.Requests.{IsKeptBehindRequests};
 ghost use Rattle.pram_page.specs.Requests.{cell_in, cell_part, held_part, row_in, status_of};
 ghost use Rattle.pram_page.specs.Requests.{target_of};
 
@@ -54,7 +55,7 @@ pub extern "C" fn pram_page_requests(
     rows: &mut [RequestRow],
     told: &mut Told,
 )
-    ensures told { IsToldOf (IsAskedFor text.now step most rows.old rows.new) told.new }
+    ensures told { IsToldOf (AreRequestsFound text.now step most rows.old rows.new) told.new }
     ensures behind { told.new.code ≢ MEMORY
         → IsKeptBehind (told_written told.new) rows.old rows.new }
 {
@@ -62,8 +63,8 @@ pub extern "C" fn pram_page_requests(
 }
 
 fn requests(alloc: Global, text: &[u8], step: u32, most: u32, rows: &mut [RequestRow]) -> Finding
-    ensures found { IsAskedFor text.now step most rows.old rows.new result }
-    ensures behind { IsKeptAsked rows.old rows.new result }
+    ensures found { AreRequestsFound text.now step most rows.old rows.new result }
+    ensures behind { IsKeptBehindRequests rows.old rows.new result }
 {
     let job = match take_job(alloc, text) {
         Ok(job) => job,
@@ -81,16 +82,22 @@ fn requests(alloc: Global, text: &[u8], step: u32, most: u32, rows: &mut [Reques
         Err(_) => Finding::Refused(Refusal::Memory),
         Ok(Arrival::TooFar) => Finding::TooFar,
         Ok(Arrival::Disputed(fault)) => Finding::Conflict { fault, count: 0 },
-        Ok(Arrival::Reached(state)) => ask(alloc, &job, step, state, rows),
+        Ok(Arrival::Reached(state)) => tell_requests(alloc, &job, step, state, rows),
     }
 }
 
 // The requests in this state, and whether they agree.
-fn ask(alloc: Global, job: &Job, step: u32, mut state: State, rows: &mut [RequestRow]) -> Finding
+fn tell_requests(
+    alloc: Global,
+    job: &Job,
+    step: u32,
+    mut state: State,
+    rows: &mut [RequestRow],
+) -> Finding
     requires reached { IsStateAfter job.now step state }
     requires within { step < job.now.steps }
     requires room { job.now.procs ≤ length rows.old }
-    ensures asked { IsAskedIn job.now step rows.new result }
+    ensures requests { AreRequestsAfter job.now step rows.new result }
     ensures behind { IsKeptBehind job.now.procs rows.old rows.new }
 {
     let count = u64::from(job.procs());
@@ -122,9 +129,9 @@ fn row(job: &Job, state: &State, processor: u32) -> RequestRow
     job.limits_hold();
     laws::states_have_all_places();
     let counter = counter(job, state, processor);
-    let asked = request_after(job, state, processor);
+    let request = request_after(job, state, processor);
     let reads = cell(job, state, processor, counter);
-    let target = aim(job, processor, asked.put);
+    let target = aim(job, processor, request.put);
     RequestRow {
         counter,
         status: status(job, counter),
@@ -133,7 +140,7 @@ fn row(job: &Job, state: &State, processor: u32) -> RequestRow
         target: target.kind,
         number: target.number,
         value: target.value,
-        next: asked.next,
+        next: request.next,
     }
 }
 

@@ -55,13 +55,13 @@ pub extern "C" fn pram_page_scene(
     ensures words { IsKeptBehind (words_told told.new) words.old words.new }
     ensures bodies { IsKeptBehind (bodies_told told.new) bodies.old bodies.new }
 {
-    let asked = Asked {
+    let query = Query {
         text,
         workers,
         events,
         from,
     };
-    *told = match show(alloc, &asked, rows, words, bodies) {
+    *told = match show(alloc, &query, rows, words, bodies) {
         Ok(scene) => scene,
         Err(hindrance) => hindered(hindrance),
     };
@@ -106,10 +106,10 @@ fn hindered(hindrance: Hindrance) -> Scene
     }
 }
 
-// What a scene is asked for: the board of a job and so many workers after events, and what the
+// What a scene has to show: the board of a job and so many workers after events, and what the
 // events did from `from` on.
 #[derive(Drop)]
-struct Asked<'a> {
+struct Query<'a> {
     text: &'a [u8],
     workers: u32,
     events: &'a [Event],
@@ -118,22 +118,22 @@ struct Asked<'a> {
 
 fn show(
     alloc: Global,
-    asked: &Asked<'_>,
+    query: &Query<'_>,
     rows: &mut [EventRow],
     words: &mut [WordRow],
     bodies: &mut [BodyRow],
 ) -> Result<Scene, Hindrance>
-    ensures shown { IfOk result (λ told. IsScene asked.now.text.now asked.now.workers
-        asked.now.events.now asked.now.from rows.new words.new bodies.new told) }
+    ensures shown { IfOk result (λ told. IsScene query.now.text.now query.now.workers
+        query.now.events.now query.now.from rows.new words.new bodies.new told) }
     ensures hindered { IfErr result
-        (λ h. IsHindered asked.now.text.now asked.now.workers asked.now.events.now h) }
-    ensures rows { IsKeptBehind (length asked.now.events.now - asked.now.from) rows.old rows.new }
+        (λ h. IsHindered query.now.text.now query.now.workers query.now.events.now h) }
+    ensures rows { IsKeptBehind (length query.now.events.now - query.now.from) rows.old rows.new }
     ensures words { IfOk result (λ told. IsKeptBehind (words_told told) words.old words.new) }
     ensures bodies { IfOk result (λ told. IsKeptBehind (bodies_told told) bodies.old bodies.new) }
     ensures kept { OnErr result ((words.new ≡ words.old) × (bodies.new ≡ bodies.old)) }
 {
-    let (events, from) = (asked.events, asked.from);
-    let mut world = match open(alloc, asked.text, asked.workers) {
+    let (events, from) = (query.events, query.from);
+    let mut world = match open(alloc, query.text, query.workers) {
         Ok(world) => world,
         Err(hindrance) => return Err(hindrance),
     };

@@ -19,8 +19,8 @@ use Rattle.walkx.specs.Requests.{heard_request}
 use Rattle.pram_words.specs.Stamps.{newer_payload}
 use Rattle.lawful_walk.specs.Board.{Stands, held, root, conflict, finished}
 use Rattle.lawful_walk.proofs.Facts.{facts}
-use Rattle.pram_world.specs.declared.outcome.Standing.{Standing}
-use Rattle.pram_world.specs.declared.outcome.Standing.TheVariants.{Disputed, Finished, Going}
+use Rattle.pram_world.specs.declared.outcome.Progress.{Progress}
+use Rattle.pram_world.specs.declared.outcome.Progress.TheVariants.{Disputed, Finished, Going}
 use Rattle.pram_world.specs.Inner.Telling.{Says}
 
 -- ---- the board's sizes
@@ -172,14 +172,14 @@ conflicting job y words requests step stands some are is =
 
 -- ---- what word 0 and the root say
 
-pub disputed : (job : JobData) (named r : ℕ) (s : Standing) → s ≡ Disputed →
+pub disputed : (job : JobData) (named r : ℕ) (s : Progress) → s ≡ Disputed →
     Says job named r s → named ≢ 0
 disputed job named r s is says = subst (Says job named r) is says
 
-pub finished_so : (job : JobData) (named r : ℕ) (s : Standing) → s ≡ Finished → Says job named r s →
+pub finished_so : (job : JobData) (named r : ℕ) (s : Progress) → s ≡ Finished → Says job named r s →
     (named ≡ 0) × (r ≡ 3 * job.steps)
 finished_so job named r s is says = subst (Says job named r) is says
 
-pub still : (job : JobData) (named r : ℕ) (s : Standing) → s ≡ Going → Says job named r s →
+pub still : (job : JobData) (named r : ℕ) (s : Progress) → s ≡ Going → Says job named r s →
     (named ≡ 0) × (r ≢ 3 * job.steps)
 still job named r s is says = subst (Says job named r) is says

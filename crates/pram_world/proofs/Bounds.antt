@@ -29,7 +29,7 @@ IsThere s b = (body : Body) × (slice_get s.bodies b ≡ Some body)
 -- it has made n steps, no more than the bound; while it is going the record has them
 record Bounded (s : WorldData) (made : Record) (b n : ℕ) : Type 0 where
   there : IsThere s b
-  most : n ≤ most_steps s.job s.layout
+  most : n ≤ most_steps s.job
   counted : going s b ≡ true → Counted s made b n
 
 -- ---- lists of bodies
@@ -94,7 +94,7 @@ own_bounded : (s : WorldData) (made : Record) (b n : ℕ) (w : Walking) →
 own_bounded s made b n w at runs holds h =
     let here : going s b ≡ true = ap goes at ∙ runs in
     let counted = h.counted here in
-    let less : n < most_steps s.job s.layout = fewer s made b n holds counted (goer s b here) in
+    let less : n < most_steps s.job = fewer s made b n holds counted (goer s b here) in
     let one : n + 1 ≡ 1 + n = omega arith in
     let new = walks (told s.job s.layout w (answer s.words (ask_of s.job s.layout w))) in
     record {
@@ -186,12 +186,12 @@ all_bounded job y r b n (a ∷ acts) fits leaves holds h =
     Bounded (all_acted (acted r a) acts).world (all_acted (acted r a) acts).made b k) sum rest
 
 pub every_body_is_bounded : EveryBodyIsBounded
-every_body_is_bounded job form workers acts later b w limits some most fits also at leaves =
+every_body_is_bounded job form workers acts later b w limits block some most fits also at leaves =
     let y = layout_of job form workers in
     let before = all_acted (begun job form workers) acts in
     let behind = all_acted before later in
     let h = all_hold job y (begun job form workers) acts fits
-    (begun_holds job form workers limits some most) in
+    (begun_holds job form workers limits block some most) in
     let after = all_hold job y before later also h in
     let start : Bounded before.world before.made b 0 = record {
       there = (walks w, at);
@@ -200,8 +200,6 @@ every_body_is_bounded job form workers acts later b w limits some most fits also
     } in
     let bounded = all_bounded job y before b 0 later also leaves h start in
     let count = bounded.most in
-    let all : steps_in before b later ≤ most_steps behind.world.job behind.world.layout =
+    let all : steps_in before b later ≤ most_steps behind.world.job =
     omega arith in
-    subst (λ (z : LayoutData). steps_in before b later ≤ most_steps job z) after.board_stays
-    (subst (λ (j : JobData). steps_in before b later ≤ most_steps j behind.world.layout)
-    after.job_stays all)
+    subst (λ (j : JobData). steps_in before b later ≤ most_steps j) after.job_stays all

@@ -6,7 +6,7 @@ use Rattle.pram_words.specs.Words.{LayoutData}
 use Rattle.walkx.proofs.Asking.{all_ask}
 use Rattle.walkx.proofs.Fitting.{fits_told, new_workers_fit}
 use Rattle.walkx.proofs.Going.{told_over}
-use Rattle.walkx.proofs.Knowing.{has_earlier, has_more, knows_next}
+use Rattle.walkx.proofs.Knowing.{knows_more, has_earlier, has_more, knows_next}
 use Rattle.walkx.specs.declared.operation.Ended.{Ended}
 use Rattle.walkx.specs.declared.operation.Ended.TheVariants as ended
 use Rattle.walkx.specs.declared.operation.Op.{Op}
@@ -17,12 +17,12 @@ use Rattle.walkx.specs.Bound.{told_all, history_of, most_steps}
 use Rattle.walkx.specs.Operations.{answer}
 use Rattle.walkx.specs.Records.{Record, after, Has, Knows}
 use Rattle.walkx.specs.Walk.{Walking, IsBoard, IsGoing, HearsAdmitted, ask_of}
-use Rattle.walkx.specs.Walk.{told, rest_of, end_of, heard_of, started, come_back}
+use Rattle.walkx.specs.Walk.{told, rest_of, end_of, started, come_back}
 use Rattle.lawful_walk.specs.Board.{Stands, root, conflict}
 use Rattle.lawful_walk.specs.Moments.{Backed}
 use Rattle.lawful_walk.specs.Walks.{Moves}
 use Rattle.lawful_walk.proofs.Sounding.{sound_of, sound_steps, sound_ends}
-use Rattle.lawful_walk.proofs.Staying.{answer_admitted}
+use Rattle.lawful_walk.proofs.Admitted.{answer_admitted}
 use Rattle.lawful_walk.proofs.Knowing.{root_now, conflict_now}
 use Rattle.lawful_walk.proofs.Turns.{workers_keep}
 use Rattle.pram_world.specs.Inner.Holding.{Fitting}
@@ -48,7 +48,7 @@ known_on job y r w found knows fits = knows_next job y r w found fits knows
 -- other workers stay known
 pub more : (job : JobData) (y : LayoutData) (r : Record) (op : Op) (found : ℕ) (w : Walking) →
     Knows job y r w → Knows job y (after r op found) w
-more job y r op found w knows = has_more r op found (heard_of job y w) knows
+more job y r op found w knows = knows_more job y r w op found knows
 
 pub has_on : (r : Record) (op : Op) (found : ℕ) (es : List (Op × ℕ)) →
     Has r es → Has (after r op found) es
@@ -83,15 +83,17 @@ going_of : (d : Doing) → end_of d ≡ None → IsGoing d
 going_of doing.Back e = tt
 going_of doing.Begin e = tt
 going_of (doing.Turn q) e = tt
+going_of (doing.Part q rank) e = tt
 going_of (doing.Over x) e = absurd (cc)
 
 -- A worker that is going has made fewer steps than the bound since a record knew it.
 pub own_steps : (job : JobData) (y : LayoutData) (r : Record)
     (w : Walking) (answers words : List ℕ) → Stands job y words → Backed job y r words →
     Has r (history_of job y w answers) → Fitting job y w →
-    end_of (told_all job y w answers).now ≡ None → length answers < most_steps job y
+    end_of (told_all job y w answers).now ≡ None → length answers < most_steps job
 own_steps job y r w answers words stands backed has fits going =
-    sound_steps job y r w answers stands.layout fits (sound_of job y r words stands backed) has
+    sound_steps job y r w answers (board_of job y words stands) fits
+    (sound_of job y r words stands backed) has
     (going_of (told_all job y w answers).now going)
 
 -- a worker that is over stays so

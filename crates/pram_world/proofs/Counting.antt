@@ -6,6 +6,8 @@ use Rattle.std.proofs.lemmas.Bool.{cases_lt}
 use Rattle.std.specs.Option.{is_none}
 use Rattle.pram_text.specs.Job.{JobData}
 use Rattle.pram_words.specs.Words.{LayoutData}
+use Rattle.pram_words.specs.Tree.{leaves_of}
+use Rattle.pram_words.proofs.Halvings.{leaves_most}
 use Rattle.walkx.specs.Bound.{told_all, history_of, most_steps}
 use Rattle.walkx.specs.Operations.{answer}
 use Rattle.walkx.specs.Records.{Record, after, Has}
@@ -54,15 +56,22 @@ pub counted_none : (s : WorldData) (made : Record) (b : ℕ) → Holds s made �
     IsGoing s b → Counted s made b 0
 counted_none s made b h g =
     let k = h.known b g.worker g.walks in
-    record { worker = g.worker; fits = k.1; answers = []; count = refl; at = g.walks; has = k.0 }
+    record {
+      worker = g.worker;
+      fits = k.1;
+      answers = [];
+      count = refl;
+      at = g.walks;
+      has = k.0.script;
+    }
 
 -- so it has made fewer than the bound
 pub fewer : (s : WorldData) (made : Record) (b n : ℕ) → Holds s made → Counted s made b n →
-    IsGoing s b → n < most_steps s.job s.layout
+    IsGoing s b → n < most_steps s.job
 fewer s made b n h c g =
     let same : g.worker ≡ told_all s.job s.layout c.worker c.answers =
     same_some g.worker (told_all s.job s.layout c.worker c.answers) (sym g.walks ∙ c.at) in
-    subst (λ (k : ℕ). k < most_steps s.job s.layout) c.count
+    subst (λ (k : ℕ). k < most_steps s.job) c.count
     (own_steps s.job s.layout made c.worker c.answers s.words h.stands h.backed c.has c.fits
     (subst (λ (w : Walking). end_of w.now ≡ None) same g.going))
   where
@@ -191,25 +200,24 @@ chained s b (suc n) h all =
 
 -- a body that was going before each of its steps has made no more than the bound
 pub finish_bound : (s : WorldData) (b n : ℕ) → Held s →
-    ((k : ℕ) → k < n → going (steps_of s b k) b ≡ true) → n ≤ most_steps s.job s.layout
+    ((k : ℕ) → k < n → going (steps_of s b k) b ≡ true) → n ≤ most_steps s.job
 finish_bound s b zero h all = omega arith
 finish_bound s b (suc n) h all =
     let c = chained s b n h (λ k le. all k (omega arith)) in
-    let less : n < most_steps (steps_of s b n).job (steps_of s b n).layout = fewer (steps_of s b n)
+    let less : n < most_steps (steps_of s b n).job = fewer (steps_of s b n)
     c.made b n c.holds c.counted (goer (steps_of s b n) b (all n (omega arith))) in
     let board = steps_board s b n in
-    let same : n < most_steps s.job s.layout = subst (λ (y : LayoutData). n < most_steps s.job y)
-    board.1 (subst (λ (job : JobData). n < most_steps job (steps_of s b n).layout) board.0 less) in
+    let same : n < most_steps s.job = subst (λ (job : JobData). n < most_steps job) board.0 less in
     omega arith
 
 -- the bound fits 64 bits
 pub bound_small : (job : JobData) (y : LayoutData) (words : List ℕ) →
-    Stands job y words → most_steps job y < 2 ^ 63
+    Stands job y words → most_steps job < 2 ^ 63
 bound_small job y words stands =
-    let l = stands.sizes.leaves in
-    let leaves : 300 * y.leaves ≤ 307200 = (let h = l.1 in omega arith) in
+    let l = leaves_most job.procs stands.limits.procs.0 stands.limits.procs.1 in
+    let leaves : 300 * leaves_of job.procs ≤ 307200 = (let h = l.1 in omega arith) in
     let steps : job.steps ≤ 4294967295 = (let h = stands.limits.steps in omega arith) in
-    let m : 300 * y.leaves * job.steps ≤ 307200 * 4294967295 = mul-le-mul leaves steps in
+    let m : 300 * leaves_of job.procs * job.steps ≤ 307200 * 4294967295 = mul-le-mul leaves steps in
     omega arith
 
 -- what one more step of the code comes to

@@ -5,7 +5,7 @@ use Rattle.std.proofs.lemmas.Bool.{cases_Bool}
 use Rattle.std.specs.Option.{is_none}
 use Rattle.pram_text.specs.Job.{JobData, IsJob}
 use Rattle.pram_words.specs.declared.layout.Form.{Form}
-use Rattle.pram_words.specs.Words.{LayoutData, layout_of}
+use Rattle.pram_words.specs.Words.{IsGrain, grain_of, LayoutData, layout_of}
 use Rattle.walkx.specs.declared.operation.Ended.{Ended}
 use Rattle.walkx.specs.declared.operation.Ended.TheVariants as ended
 use Rattle.walkx.specs.Doing as doing
@@ -174,19 +174,20 @@ all_hold job y r [] fits h = h
 all_hold job y r (a ∷ acts) fits h =
     all_hold job y (acted r a) acts fits.1 (acted_holds job y r a fits.0 h)
 
-pub begun_holds : (job : JobData) (form : Form) (workers : ℕ) → IsJob job → 1 ≤ workers →
-    workers ≤ 64 → RunHolds job (layout_of job form workers) (begun job form workers)
-begun_holds job form workers limits some most = record {
+pub begun_holds : (job : JobData) (form : Form) (workers : ℕ) → IsJob job →
+    IsGrain (grain_of form) → 1 ≤ workers → workers ≤ 64 →
+    RunHolds job (layout_of job form workers) (begun job form workers)
+begun_holds job form workers limits block some most = record {
   job_stays = refl;
   board_stays = refl;
-  holds = holds_start_on job form workers limits some most;
+  holds = holds_start_on job form workers limits block some most;
   observed = tt;
 }
 
 pub every_interleaving : EveryInterleaving
-every_interleaving job form workers acts limits some most fits =
+every_interleaving job form workers acts limits block some most fits =
     let h = all_hold job (layout_of job form workers)
-    (begun job form workers) acts fits (begun_holds job form workers limits some most) in
+    (begun job form workers) acts fits (begun_holds job form workers limits block some most) in
     record {
       job_stays = h.job_stays;
       board_stays = h.board_stays;

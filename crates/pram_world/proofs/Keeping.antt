@@ -8,7 +8,7 @@ use Rattle.pram_words.specs.declared.layout.Form.{Form}
 use Rattle.pram_words.specs.declared.layout.Form.TheVariants.{Compact}
 use Rattle.pram_words.specs.declared.words.Word.{Word}
 use Rattle.pram_words.specs.declared.words.Word.TheVariants.{Position}
-use Rattle.pram_words.specs.Words.{IsWord, layout_of}
+use Rattle.pram_words.specs.Words.{IsGrain, grain_of, IsWord, layout_of}
 use Rattle.walkx.specs.Operations.{answer}
 use Rattle.walkx.specs.Records.{Record, empty, after, Knows}
 use Rattle.walkx.specs.Walk.{Walking, ask_of, told, started, come_back}
@@ -64,16 +64,17 @@ starts_at low (suc n) (suc at) body e =
 
 -- ---- the start
 
-pub holds_start_on : (job : JobData) (form : Form) (workers : ℕ) → IsJob job → 1 ≤ workers →
-    workers ≤ 64 → Holds (start_on job form workers) empty
-holds_start_on job form workers limits some most = record {
-  stands = starts_stand job form workers limits some most;
+pub holds_start_on : (job : JobData) (form : Form) (workers : ℕ) → IsJob job →
+    IsGrain (grain_of form) → 1 ≤ workers → workers ≤ 64 → Holds (start_on job form workers) empty
+holds_start_on job form workers limits block some most = record {
+  stands = starts_stand job form workers limits block some most;
   backed = tt;
   known = λ b w is.
       let s = starts_at 0 workers b (walks w) is in
       let e : w ≡ started s.worker = same_walking w (started s.worker) s.is in
       let below = s.below in (
-        subst (λ (v : Walking). Knows job (layout_of job form workers) empty v) (sym e) tt,
+        subst (λ (v : Walking). Knows job (layout_of job form workers) empty v) (sym e)
+            (record { script = tt; block = tt }),
         subst (Fitting job (layout_of job form workers))
             (sym e) (start_fits job (layout_of job form workers) s.worker (omega arith)),
       );
@@ -81,9 +82,14 @@ holds_start_on job form workers limits some most = record {
       let below = s.below in subst (λ (x : Body). number x < workers) (sym s.is) (omega arith);
 }
 
+-- a leaf of the compact form stands for one processor
+pub one_processor : IsGrain (grain_of Compact)
+one_processor = ((0, refl), omega arith)
+
 pub holds_start : (job : JobData) (workers : ℕ) → IsJob job → 1 ≤ workers → workers ≤ 64 →
     Holds (start job workers) empty
-holds_start job workers = holds_start_on job Compact workers
+holds_start job workers limits some most =
+    holds_start_on job Compact workers limits one_processor some most
 
 -- ---- a step
 
@@ -132,7 +138,7 @@ started_known s n below = (
   below,
   λ w is made.
       let e : started n ≡ w = same_walking (started n) w is in (
-        subst (λ (x : Walking). Knows s.job s.layout made x) e tt,
+        subst (λ (x : Walking). Knows s.job s.layout made x) e (record { script = tt; block = tt }),
         subst (Fitting s.job s.layout) e (start_fits s.job s.layout n below),
       ),
 )
@@ -142,7 +148,7 @@ back_known s n below = (
   below,
   λ w is made.
       let e : come_back n ≡ w = same_walking (come_back n) w is in (
-        subst (λ (x : Walking). Knows s.job s.layout made x) e tt,
+        subst (λ (x : Walking). Knows s.job s.layout made x) e (record { script = tt; block = tt }),
         subst (Fitting s.job s.layout) e (back_fits s.job s.layout n below),
       ),
 )

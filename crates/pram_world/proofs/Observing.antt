@@ -21,12 +21,12 @@ was_observed job y r h =
 
 pub every_read_is_lawful : EveryReadIsLawful
 every_read_is_lawful job form workers
-    acts later c step value answers limits some most fits also cell is read =
+    acts later c step value answers limits block some most fits also cell is read =
     let y = layout_of job form workers in
     let before = all_acted (begun job form workers) acts in
     let behind = all_acted before later in
     let h = all_hold job y before later also (all_hold job y
-    (begun job form workers) acts fits (begun_holds job form workers limits some most)) in
+    (begun job form workers) acts fits (begun_holds job form workers limits block some most)) in
     let was = subst (λ (r : Record). WasBacked job y r) read (was_observed job y behind h) in
     let good = was_read job y before.loads c step value answers cell is was in (
       subst (λ (r : Record). IsLawfulRead job y before.loads r c step value) (sym read) good.0,

@@ -30,6 +30,7 @@ over_by : (d : Doing) → is_none (end_of d) ≡ false → (e : Ended) × (d ≡
 over_by doing.Back e = absurd (cc)
 over_by doing.Begin e = absurd (cc)
 over_by (doing.Turn q) e = absurd (cc)
+over_by (doing.Part q rank) e = absurd (cc)
 over_by (doing.Over x) e = (x, refl)
 
 asks_over : (job : JobData) (y : LayoutData) (w : Walking) (e : Ended) →

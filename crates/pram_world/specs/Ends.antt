@@ -9,33 +9,33 @@ use Rattle.pram_world.specs.Worlds.{WorldData, Body, walks, stopped, going, happ
 -- how the body ended, if it is a worker that is over
 abbrev pub end_by : Option Body → Option Ended
 end_by None = None
-end_by (Some (stopped n)) = None
-end_by (Some (walks w)) = end_of w.now
+end_by (Some (stopped worker)) = None
+end_by (Some (walks walking)) = end_of walking.now
 
 abbrev pub end_in : WorldData → ℕ → Option Ended
-end_in s b = end_by (slice_get s.bodies b)
+end_in world body = end_by (slice_get world.bodies body)
 
--- the world after so many steps of body b
+-- the world after so many steps of the body
 abbrev pub steps_of : WorldData → ℕ → ℕ → WorldData
-steps_of s b zero = s
-steps_of s b (suc n) = happens (steps_of s b n) (Go b)
+steps_of world body zero = world
+steps_of world body (suc count) = happens (steps_of world body count) (Go body)
 
--- Body b made atomic steps until it was over, each while it was going, and no more than the
+-- The body made atomic steps until it was over, each while it was going, and no more than the
 -- own-step bound.
-pub record Finished (s : WorldData) (b : ℕ) (now : WorldData) (e : Ended) : Type 0 where
+pub record Finished (world : WorldData) (body : ℕ) (now : WorldData) (ended : Ended) : Type 0 where
   pub steps : ℕ
-  pub is : now ≡ steps_of s b steps
-  pub going : (k : ℕ) → k < steps → going (steps_of s b k) b ≡ true
-  pub over : end_in now b ≡ Some e
-  pub most : steps ≤ most_steps s.job s.layout
+  pub is : now ≡ steps_of world body steps
+  pub going : (earlier : ℕ) → earlier < steps → going (steps_of world body earlier) body ≡ true
+  pub over : end_in now body ≡ Some ended
+  pub most : steps ≤ most_steps world.job
 
 -- no body has the number, or it is stopped
 abbrev pub IsLost : Option Body → Type 0
 IsLost None = Unit {0}
-IsLost (Some (stopped n)) = Unit {0}
-IsLost (Some (walks w)) = ⊥
+IsLost (Some (stopped worker)) = Unit {0}
+IsLost (Some (walks walking)) = ⊥
 
 -- Nothing changed where the body is unknown or stopped, and otherwise it is over.
 abbrev pub Finishes : WorldData → ℕ → WorldData → Option Ended → Type 0
-Finishes s b now None = IsLost (slice_get s.bodies b) × (now ≡ s)
-Finishes s b now (Some e) = Finished s b now e
+Finishes world body now None = IsLost (slice_get world.bodies body) × (now ≡ world)
+Finishes world body now (Some ended) = Finished world body now ended

@@ -21,53 +21,59 @@ use Rattle.pram_world.specs.Worlds.{WorldData, Walks, IsLawful, StaleChangesNoth
 
 -- ---- what the words show of the machine
 
--- the payload of the newest word of a place with a stamp up to x, a and b being its two words
+-- of the two words of a place the payload of the newest with a stamp up to this step
 abbrev pub newest_by : ℕ → ℕ → ℕ → Option ℕ
-newest_by x a b =
-    if nat_le (stamp_of a) x then (if nat_le (stamp_of b) x then Some (newer_payload a b)
-    else Some (payload_of a))
-    else (if nat_le (stamp_of b) x then Some (payload_of b) else None)
+newest_by step first second =
+    if nat_le (stamp_of first) step
+    then (if nat_le (stamp_of second) step then Some (newer_payload first second)
+    else Some (payload_of first))
+    else (if nat_le (stamp_of second) step then Some (payload_of second) else None)
 
 abbrev pub newest_upto : LayoutData → List ℕ → ℕ → ℕ → Option ℕ
-newest_upto y words x p = newest_by x (held y words (Stored p 0)) (held y words (Stored p 1))
+newest_upto layout words step place =
+    newest_by step (held layout words (Stored place 0)) (held layout words (Stored place 1))
 
 -- The words show t steps to be finished: the root is 3t, 3t + 1 or 3t + 2, or it is 3t + 3 and word
 -- 0 names step t + 1. These steps are reached, and the words hold the machine's state after the
 -- last of them, and of the earlier ones what they still have of it. A greater stamp is that of the
 -- next step, which writes the place, and there is none while the root is 3t.
-pub record ShowsMachine (job : JobData) (y : LayoutData) (words : List ℕ) (t : ℕ) : Type 0 where
-  pub low : 3 * t ≤ root y words
-  pub high : root y words ≤ 3 * t + 3
-  pub full : root y words ≡ 3 * t + 3 → conflict y words ≡ suc t
+pub record ShowsMachine (job : JobData) (layout : LayoutData) (words : List ℕ) (t : ℕ) :
+    Type 0 where
+  pub low : 3 * t ≤ root layout words
+  pub high : root layout words ≤ 3 * t + 3
+  pub full : root layout words ≡ 3 * t + 3 → conflict layout words ≡ suc t
   pub reached : IsReached job t
-  pub now : (p : ℕ) → p < places_of y →
-      newest_upto y words t p ≡ Some (slice_index (state_after job t) p)
-  pub before : (x p : ℕ) → x ≤ t → p < places_of y →
-      IfSome (newest_upto y words x p) (λ v. v ≡ slice_index (state_after job x) p)
-  pub next : (p k : ℕ) → IsWord y (Stored p k) → t < stamp_at y words p k →
-      (stamp_at y words p k ≡ suc t) × IsWritten job t p × (3 * t + 1 ≤ root y words)
+  pub now : (place : ℕ) → place < places_of layout →
+      newest_upto layout words t place ≡ Some (slice_index (state_after job t) place)
+  pub before : (step place : ℕ) → step ≤ t → place < places_of layout →
+      IfSome (newest_upto layout words step place)
+      (λ value. value ≡ slice_index (state_after job step) place)
+  pub next : (place which : ℕ) → IsWord layout (Stored place which) →
+      t < stamp_at layout words place which →
+      (stamp_at layout words place which ≡ suc t) × IsWritten job t place
+      × (3 * t + 1 ≤ root layout words)
 
 -- ---- a world between two events
 
 -- how a worker ended is true: the last step is finished, or word 0 names the first conflict
 abbrev pub IsTrueEnd : JobData → LayoutData → List ℕ → Ended → Type 0
-IsTrueEnd job y words Done = (root y words ≡ 3 * job.steps) × IsReached job job.steps
-IsTrueEnd job y words (Conflict u) = (conflict y words ≡ u) × IsConflict job u
+IsTrueEnd job layout words Done = (root layout words ≡ 3 * job.steps) × IsReached job job.steps
+IsTrueEnd job layout words (Conflict step) = (conflict layout words ≡ step) × IsConflict job step
 
 -- The words are admitted and lawful. They bear out the record of all atomic steps, which knows each
 -- body that is a worker. They show the machine. Whatever happens next, they grow, and a late worker
 -- changes none but its own position. Who is over tells the truth.
-pub record Interleaves (s : WorldData) (made : Record) : Type 0 where
-  pub lawful : IsLawful s
-  pub backed : Backed s.job s.layout made s.words
-  pub known : (b : ℕ) (w : Walking) → Walks s b w →
-      Knows s.job s.layout made w × Fits s.job s.layout w
-  pub shows : ShowsMachine s.job s.layout s.words (finished s.layout s.words)
-  pub grows : (e : Event) → Grows s.layout s.words (happens s e).words
-  pub stale : (e : Event) → StaleChangesNothing s e (happens s e)
-  pub ends : (b : ℕ) (w : Walking) (e : Ended) → Walks s b w → w.now ≡ doing.Over e →
-      IsTrueEnd s.job s.layout s.words e
+pub record Interleaves (world : WorldData) (made : Record) : Type 0 where
+  pub lawful : IsLawful world
+  pub backed : Backed world.job world.layout made world.words
+  pub known : (body : ℕ) (walking : Walking) → Walks world body walking →
+      Knows world.job world.layout made walking × Fits world.job world.layout walking
+  pub shows : ShowsMachine world.job world.layout world.words (finished world.layout world.words)
+  pub grows : (event : Event) → Grows world.layout world.words (happens world event).words
+  pub stale : (event : Event) → StaleChangesNothing world event (happens world event)
+  pub ends : (body : ℕ) (walking : Walking) (ended : Ended) → Walks world body walking →
+      walking.now ≡ doing.Over ended → IsTrueEnd world.job world.layout world.words ended
 
 -- there is such a record
 abbrev pub IsInterleaved : WorldData → Type 0
-IsInterleaved s = (made : Record) × Interleaves s made
+IsInterleaved world = (made : Record) × Interleaves world made

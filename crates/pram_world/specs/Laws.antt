@@ -1,8 +1,8 @@
--- What holds of every run: of each job, of its rule, and of boards of both forms.
+-- What holds of every run: of each job, rule and form of a board, with blocks of any size.
 use Rattle.std.specs.Prelude.{◌≡◌, ℕ, ◌<◌, ◌≤◌, List, length}
 use Rattle.pram_text.specs.Job.{JobData, IsJob}
 use Rattle.pram_words.specs.declared.layout.Form.{Form}
-use Rattle.pram_words.specs.Words.{layout_of}
+use Rattle.pram_words.specs.Words.{IsGrain, grain_of, layout_of}
 use Rattle.walkx.specs.declared.operation.Reading.TheVariants.{At}
 use Rattle.walkx.specs.Bound.{most_steps}
 use Rattle.walkx.specs.Reads.{reader_script}
@@ -16,38 +16,43 @@ use Rattle.pram_world.specs.Worlds.{Walks}
 
 -- the job and the board stay, and the world is as said above, with the record of all atomic steps;
 -- the observer's record is borne out too
-pub record IsLawfulRun (job : JobData) (form : Form) (workers : ℕ) (r : Run) : Type 0 where
-  pub job_stays : r.world.job ≡ job
-  pub board_stays : r.world.layout ≡ layout_of job form workers
-  pub interleaves : Interleaves r.world r.made
-  pub observed : Backed r.world.job r.world.layout r.loads r.world.words
+pub record IsLawfulRun (job : JobData) (form : Form) (workers : ℕ) (run : Run) : Type 0 where
+  pub job_stays : run.world.job ≡ job
+  pub board_stays : run.world.layout ≡ layout_of job form workers
+  pub interleaves : Interleaves run.world run.made
+  pub observed : Backed run.world.job run.world.layout run.loads run.world.words
 
 -- *every interleaving*: each beginning of a run is a run, so this holds at every moment
 abbrev pub EveryInterleaving : Type 0
 EveryInterleaving = (job : JobData) (form : Form) (workers : ℕ) (acts : List Act) → IsJob job →
-    1 ≤ workers → workers ≤ 64 → TwinsFit workers acts →
+    IsGrain (grain_of form) → 1 ≤ workers → workers ≤ 64 → TwinsFit workers acts →
     IsLawfulRun job form workers (all_acted (begun job form workers) acts)
 
 -- After such acts, an observer that reads a cell, whatever happens between its loads, has a lawful
 -- read within five of them.
 abbrev pub EveryReadIsLawful : Type 0
 EveryReadIsLawful =
-    (job : JobData) (form : Form) (workers : ℕ) (acts later : List Act) (c step value : ℕ)
+    (job : JobData) (form : Form) (workers : ℕ) (acts later : List Act) (cell step value : ℕ)
     (answers : List ℕ) →
-    IsJob job → 1 ≤ workers → workers ≤ 64 → TwinsFit workers acts → TwinsFit workers later →
-    c < job.cells →
-    let y = layout_of job form workers in let before =
+    IsJob job → IsGrain (grain_of form) → 1 ≤ workers → workers ≤ 64 →
+    TwinsFit workers acts → TwinsFit workers later →
+    cell < job.cells →
+    let layout = layout_of job form workers in let before =
     all_acted (begun job form workers) acts in let now = all_acted before later in
-    rest (reader_script y c) answers ≡ ends (At step value) →
-    now.loads ≡ afters before.loads (heard_in (reader_script y c) answers) →
-    IsLawfulRead job y before.loads now.loads c step value
-    × (length (heard_in (reader_script y c) answers) ≤ 5)
+    rest (reader_script layout cell) answers ≡ ends (At step value) →
+    now.loads ≡ afters before.loads (heard_in (reader_script layout cell) answers) →
+    IsLawfulRead job layout before.loads now.loads cell step value
+    × (length (heard_in (reader_script layout cell) answers) ≤ 5)
 
 -- After such acts, a body makes no more atomic steps than the own-step bound, whatever happens,
 -- until it is stopped or brought back.
 abbrev pub EveryBodyIsBounded : Type 0
 EveryBodyIsBounded =
-    (job : JobData) (form : Form) (workers : ℕ) (acts later : List Act) (b : ℕ) (w : Walking) →
-    IsJob job → 1 ≤ workers → workers ≤ 64 → TwinsFit workers acts → TwinsFit workers later →
-    let y = layout_of job form workers in let before = all_acted (begun job form workers) acts in
-    Walks before.world b w → AllLeave b later → steps_in before b later ≤ most_steps job y
+    (job : JobData) (form : Form) (workers : ℕ) (acts later : List Act) (body : ℕ)
+    (walking : Walking) →
+    IsJob job → IsGrain (grain_of form) → 1 ≤ workers → workers ≤ 64 →
+    TwinsFit workers acts → TwinsFit workers later →
+    let layout = layout_of job form workers in let before =
+    all_acted (begun job form workers) acts in
+    Walks before.world body walking → AllLeave body later →
+    steps_in before body later ≤ most_steps job

@@ -11,11 +11,14 @@ use Rattle.pram_world.specs.Worlds.{WorldData}
 -- Where word 0 is not 0 the job's answer, a conflict; else, where the root shows the last step, the
 -- job's answer, the cells; else the number of steps that the root shows, all of which agree.
 abbrev pub IsTold : JobData → LayoutData → List ℕ → RunAnswer → Type 0
-IsTold job y words (Conflict fault) = (conflict y words ≢ 0) × IsAnswer job (Conflict fault)
-IsTold job y words (Final cells) = (conflict y words ≡ 0) × (root y words ≡ 3 * job.steps)
+IsTold job layout words (Conflict fault) =
+    (conflict layout words ≢ 0) × IsAnswer job (Conflict fault)
+IsTold job layout words (Final cells) =
+    (conflict layout words ≡ 0) × (root layout words ≡ 3 * job.steps)
     × IsAnswer job (Final cells)
-IsTold job y words (Unfinished t) = (conflict y words ≡ 0) × (root y words ≢ 3 * job.steps)
-    × (t ≡ root y words / 3) × IsReached job t
+IsTold job layout words (Unfinished t) =
+    (conflict layout words ≡ 0) × (root layout words ≢ 3 * job.steps)
+    × (t ≡ root layout words / 3) × IsReached job t
 
 abbrev pub IsOutcome : WorldData → RunAnswer → Type 0
-IsOutcome s = IsTold s.job s.layout s.words
+IsOutcome world = IsTold world.job world.layout world.words

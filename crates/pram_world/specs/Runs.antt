@@ -33,37 +33,38 @@ begun job form workers = record { world = start_on job form workers; made = empt
 
 -- the record with the next atomic step of this body, if it is a worker that is not over
 abbrev pub noted_by : WorldData → Option Body → Record → Record
-noted_by s None made = made
-noted_by s (Some (stopped n)) made = made
-noted_by s (Some (walks w)) made =
-    if is_none (end_of w.now) then after made (ask_of s.job s.layout w)
-    (answer s.words (ask_of s.job s.layout w)) else made
+noted_by world None made = made
+noted_by world (Some (stopped worker)) made = made
+noted_by world (Some (walks walking)) made =
+    if is_none (end_of walking.now) then after made (ask_of world.job world.layout walking)
+    (answer world.words (ask_of world.job world.layout walking)) else made
 
 abbrev pub noted : WorldData → Event → Record → Record
-noted s (Go b) made = noted_by s (slice_get s.bodies b) made
-noted s (Stop b) made = made
-noted s (Back b) made = made
+noted world (Go body) made = noted_by world (slice_get world.bodies body) made
+noted world (Stop body) made = made
+noted world (Back body) made = made
 
 abbrev pub acted : Run → Act → Run
-acted r (event e) = record {
-  world = happens r.world e;
-  made = noted r.world e r.made;
+acted run (event happening) = record {
+  world = happens run.world happening;
+  made = noted run.world happening run.made;
   loads =
-      r.loads;
+      run.loads;
 }
-acted r (twin w) = record r { world = twinned r.world w }
-acted r (load k) = record r { loads = after r.loads (Load k) (slice_index r.world.words k) }
+acted run (twin worker) = record run { world = twinned run.world worker }
+acted run (load word) =
+    record run { loads = after run.loads (Load word) (slice_index run.world.words word) }
 
 -- one after the other
 abbrev pub all_acted : Run → List Act → Run
-all_acted r [] = r
-all_acted r (a ∷ acts) = all_acted (acted r a) acts
+all_acted run [] = run
+all_acted run (act ∷ acts) = all_acted (acted run act) acts
 
 -- a twin is that of one of the workers
 abbrev pub TwinFits : ℕ → Act → Type 0
-TwinFits workers (event e) = Unit {0}
-TwinFits workers (twin w) = w < workers
-TwinFits workers (load k) = Unit {0}
+TwinFits workers (event happening) = Unit {0}
+TwinFits workers (twin worker) = worker < workers
+TwinFits workers (load word) = Unit {0}
 
 abbrev pub TwinsFit : ℕ → List Act → Type 0
 TwinsFit workers = AllByRecursion (TwinFits workers)
@@ -72,23 +73,23 @@ TwinsFit workers = AllByRecursion (TwinFits workers)
 
 -- how many atomic steps the body makes
 abbrev pub steps_at : WorldData → ℕ → Act → ℕ
-steps_at s b (event (Go c)) = if (c == b) && going s c then 1 else 0
-steps_at s b (event (Stop c)) = 0
-steps_at s b (event (Back c)) = 0
-steps_at s b (twin w) = 0
-steps_at s b (load k) = 0
+steps_at world body (event (Go other)) = if (other == body) && going world other then 1 else 0
+steps_at world body (event (Stop other)) = 0
+steps_at world body (event (Back other)) = 0
+steps_at world body (twin worker) = 0
+steps_at world body (load word) = 0
 
 abbrev pub steps_in : Run → ℕ → List Act → ℕ
-steps_in r b [] = 0
-steps_in r b (a ∷ acts) = steps_at r.world b a + steps_in (acted r a) b acts
+steps_in run body [] = 0
+steps_in run body (act ∷ acts) = steps_at run.world body act + steps_in (acted run act) body acts
 
 -- it is neither stopped nor brought back
 abbrev pub Leaves : ℕ → Act → Type 0
-Leaves b (event (Go c)) = Unit {0}
-Leaves b (event (Stop c)) = c ≢ b
-Leaves b (event (Back c)) = c ≢ b
-Leaves b (twin w) = Unit {0}
-Leaves b (load k) = Unit {0}
+Leaves body (event (Go other)) = Unit {0}
+Leaves body (event (Stop other)) = other ≢ body
+Leaves body (event (Back other)) = other ≢ body
+Leaves body (twin worker) = Unit {0}
+Leaves body (load word) = Unit {0}
 
 abbrev pub AllLeave : ℕ → List Act → Type 0
-AllLeave b = AllByRecursion (Leaves b)
+AllLeave body = AllByRecursion (Leaves body)

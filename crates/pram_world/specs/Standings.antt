@@ -6,5 +6,6 @@ use Rattle.pram_world.specs.declared.event.Standing.TheVariants as standing
 use Rattle.pram_world.specs.Worlds.{Body, walks, stopped}
 
 abbrev pub standing_of : Body → Standing
-standing_of (walks w) = standing.Walks w.number w.node (activity_of w.now) (length w.heard)
-standing_of (stopped n) = standing.Stopped n
+standing_of (walks walking) =
+    standing.Walks walking.number walking.node (activity_of walking.now) (length walking.heard)
+standing_of (stopped worker) = standing.Stopped worker

@@ -27,8 +27,8 @@ pub data Body : Type 0 where
   stopped : ℕ → Body
 
 abbrev pub number : Body → ℕ
-number (walks w) = w.number
-number (stopped n) = n
+number (walks walking) = walking.number
+number (stopped worker) = worker
 
 pub record WorldData : Type 0 where
   pub job : JobData
@@ -42,112 +42,117 @@ start_on job form workers = record {
   job = job;
   layout = layout_of job form workers;
   words = start_words (layout_of job form workers) job;
-  bodies = map (λ w. walks (started w)) (range_with_len 0 workers);
+  bodies = map (λ worker. walks (started worker)) (range_with_len 0 workers);
 }
 
 -- the world of the code has the compact form
 abbrev pub start : JobData → ℕ → WorldData
 start job workers = start_on job Compact workers
 
--- with one body more, worker w newly started
+-- with one body more, this worker newly started
 abbrev pub twinned : WorldData → ℕ → WorldData
-twinned s w = record s { bodies = s.bodies ++ walks (started w) ∷ [] }
+twinned world worker = record world { bodies = world.bodies ++ walks (started worker) ∷ [] }
 
--- b is the body that was added
+-- the body is the one that was added
 abbrev pub IsTwinned : WorldData → ℕ → ℕ → WorldData → Type 0
-IsTwinned s w b now = (b ≡ length s.bodies) × (now ≡ twinned s w)
+IsTwinned world worker body now = (body ≡ length world.bodies) × (now ≡ twinned world worker)
 
 -- ---- what happens
 
 -- The body's next operation is made, and it hears the answer. One that is over asks for nothing,
 -- and hears nothing.
 abbrev pub went : WorldData → ℕ → Option Body → WorldData
-went s b None = s
-went s b (Some (stopped n)) = s
-went s b (Some (walks w)) = record s {
-  words = words_after s.words (ask_of s.job s.layout w);
-  bodies = slice_set s.bodies b
-      (walks (told s.job s.layout w (answer s.words (ask_of s.job s.layout w))));
+went world body None = world
+went world body (Some (stopped worker)) = world
+went world body (Some (walks walking)) = record world {
+  words = words_after world.words (ask_of world.job world.layout walking);
+  bodies = slice_set world.bodies body
+      (walks (told world.job world.layout walking
+      (answer world.words (ask_of world.job world.layout walking))));
 }
 
 abbrev pub replaced : WorldData → ℕ → (ℕ → Body) → Option Body → WorldData
-replaced s b new None = s
-replaced s b new (Some body) = record s { bodies = slice_set s.bodies b (new (number body)) }
+replaced world body new None = world
+replaced world body new (Some old) =
+    record world { bodies = slice_set world.bodies body (new (number old)) }
 
 abbrev pub happens : WorldData → Event → WorldData
-happens s (Go b) = went s b (slice_get s.bodies b)
-happens s (Stop b) = replaced s b stopped (slice_get s.bodies b)
-happens s (Back b) = replaced s b (λ n. walks (come_back n)) (slice_get s.bodies b)
+happens world (Go body) = went world body (slice_get world.bodies body)
+happens world (Stop body) = replaced world body stopped (slice_get world.bodies body)
+happens world (Back body) =
+    replaced world body (λ worker. walks (come_back worker)) (slice_get world.bodies body)
 
 -- one event after the other
 abbrev pub run : WorldData → List Event → WorldData
-run s [] = s
-run s (e ∷ es) = run (happens s e) es
+run world [] = world
+run world (event ∷ events) = run (happens world event) events
 
 -- the words stand: they are admitted and lawful
 abbrev pub IsLawful : WorldData → Type 0
-IsLawful s = Stands s.job s.layout s.words
+IsLawful world = Stands world.job world.layout world.words
 
 -- so they do between the events
 abbrev pub IsLawfulThroughout : WorldData → List Event → Type 0
-IsLawfulThroughout s events = (k : ℕ) → IsLawful (run s (take k events))
+IsLawfulThroughout world events = (count : ℕ) → IsLawful (run world (take count events))
 
 -- the job and the board are the same
 abbrev pub KeepsBoard : WorldData → WorldData → Type 0
-KeepsBoard s now = (now.job ≡ s.job) × (now.layout ≡ s.layout)
+KeepsBoard world now = (now.job ≡ world.job) × (now.layout ≡ world.layout)
 
 -- ---- what an event shows
 
 abbrev pub nothing : Effect
 nothing = record { op = None; before = 0; after = 0 }
 
--- an atomic step on word k
+-- an atomic step on a word
 abbrev pub step_on : ℕ → List ℕ → Op → Effect
-step_on k words op = record {
+step_on word words op = record {
   op = Some op;
-  before = slice_index words k;
+  before = slice_index words word;
   after =
-      slice_index (words_after words op) k;
+      slice_index (words_after words op) word;
 }
 
 abbrev pub effect_of : List ℕ → Op → Effect
-effect_of words (Load k) = step_on k words (Load k)
-effect_of words (Store k value) = step_on k words (Store k value)
-effect_of words (Max k value) = step_on k words (Max k value)
-effect_of words (Swap k old new) = step_on k words (Swap k old new)
+effect_of words (Load word) = step_on word words (Load word)
+effect_of words (Store word value) = step_on word words (Store word value)
+effect_of words (Max word value) = step_on word words (Max word value)
+effect_of words (Swap word old new) = step_on word words (Swap word old new)
 effect_of words (Over ended) = nothing
 
 abbrev pub shown_by : WorldData → Option Body → Effect
-shown_by s None = nothing
-shown_by s (Some (stopped n)) = nothing
-shown_by s (Some (walks w)) = effect_of s.words (ask_of s.job s.layout w)
+shown_by world None = nothing
+shown_by world (Some (stopped worker)) = nothing
+shown_by world (Some (walks walking)) =
+    effect_of world.words (ask_of world.job world.layout walking)
 
 abbrev pub shown : WorldData → Event → Effect
-shown s (Go b) = shown_by s (slice_get s.bodies b)
-shown s (Stop b) = nothing
-shown s (Back b) = nothing
+shown world (Go body) = shown_by world (slice_get world.bodies body)
+shown world (Stop body) = nothing
+shown world (Back body) = nothing
 
 -- ---- bodies
 
--- body b is this worker
+-- the body is this worker
 abbrev pub Walks : WorldData → ℕ → Walking → Type 0
-Walks s b w = slice_get s.bodies b ≡ Some (walks w)
+Walks world body walking = slice_get world.bodies body ≡ Some (walks walking)
 
 -- it is neither stopped nor over
 abbrev pub goes : Option Body → Bool
 goes None = false
-goes (Some (stopped n)) = false
-goes (Some (walks w)) = is_none (end_of w.now)
+goes (Some (stopped worker)) = false
+goes (Some (walks walking)) = is_none (end_of walking.now)
 
 abbrev pub going : WorldData → ℕ → Bool
-going s b = goes (slice_get s.bodies b)
+going world body = goes (slice_get world.bodies body)
 
 -- *A stale write changes no word*: where the phase of a body is at most the root, its step changes
 -- no word but its own position.
 abbrev pub StaleChangesNothing : WorldData → Event → WorldData → Type 0
-StaleChangesNothing s (Go b) now = (w : Walking) → Walks s b w →
-    phase_now w.now ≤ root s.layout s.words → (a : Word) → IsWord s.layout a →
-    a ≢ Position w.number →
-    held s.layout now.words a ≡ held s.layout s.words a
-StaleChangesNothing s (Stop b) now = now.words ≡ s.words
-StaleChangesNothing s (Back b) now = now.words ≡ s.words
+StaleChangesNothing world (Go body) now = (walking : Walking) → Walks world body walking →
+    phase_now walking.now ≤ root world.layout world.words → (word : Word) →
+    IsWord world.layout word →
+    word ≢ Position walking.number →
+    held world.layout now.words word ≡ held world.layout world.words word
+StaleChangesNothing world (Stop body) now = now.words ≡ world.words
+StaleChangesNothing world (Back body) now = now.words ≡ world.words

@@ -13,8 +13,9 @@ pub fn every_read_is_lawful()
     ensures { EveryReadIsLawful }
 {}
 
-/// A body that nobody stops or brings back makes at most 300 L T + 8 atomic steps, L being the
-/// leaves and T the steps of the job, whatever the others do.
+/// A body that nobody stops or brings back makes at most 300 L T + 8 atomic steps, whatever the
+/// others do. T is the number of the job's steps, and L the least power of two that is at least the
+/// number of its processors.
 pub fn every_body_is_bounded()
     ensures { EveryBodyIsBounded }
 {}

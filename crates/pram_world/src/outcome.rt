@@ -24,10 +24,10 @@ pub(crate) fn answer(
     ensures { IfOk result (IsTold job.now layout.now words.now) }
 {
     let (named, root) = glance(layout, words);
-    match standing_of(job, named, root) {
-        Standing::Disputed => Ok(RunAnswer::Conflict(conflict(alloc, job, layout, words)?)),
-        Standing::Finished => Ok(RunAnswer::Final(cells(alloc, job, layout, words)?)),
-        Standing::Going => Ok(RunAnswer::Unfinished {
+    match progress_of(job, named, root) {
+        Progress::Disputed => Ok(RunAnswer::Conflict(conflict(alloc, job, layout, words)?)),
+        Progress::Finished => Ok(RunAnswer::Final(cells(alloc, job, layout, words)?)),
+        Progress::Going => Ok(RunAnswer::Unfinished {
             step: (root / 3) as u32,
         }),
     }
@@ -35,21 +35,21 @@ pub(crate) fn answer(
 
 /// What word 0 and the root say of a run.
 #[derive(Clone, Copy)]
-pub enum Standing {
+pub enum Progress {
     Disputed,
     Finished,
     Going,
 }
 
-fn standing_of(job: &Job, named: u64, root: u64) -> Standing
+fn progress_of(job: &Job, named: u64, root: u64) -> Progress
     ensures { Says job.now named root result }
 {
     if named != 0 {
-        Standing::Disputed
+        Progress::Disputed
     } else if root == 3 * u64::from(job.steps()) {
-        Standing::Finished
+        Progress::Finished
     } else {
-        Standing::Going
+        Progress::Going
     }
 }
 

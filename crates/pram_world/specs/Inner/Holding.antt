@@ -22,45 +22,46 @@ Fitting = Fits
 
 -- The words stand, and bear out one record of all steps, which knows every worker; each body has
 -- the number of a worker.
-pub record Holds (s : WorldData) (made : Record) : Type 0 where
-  pub stands : Stands s.job s.layout s.words
-  pub backed : Backed s.job s.layout made s.words
-  pub known : (b : ℕ) (w : Walking) → Walks s b w →
-      Knows s.job s.layout made w × Fitting s.job s.layout w
-  pub numbers : (b : ℕ) (body : Body) → slice_get s.bodies b ≡ Some body →
-      number body < s.layout.workers
+pub record Holds (world : WorldData) (made : Record) : Type 0 where
+  pub stands : Stands world.job world.layout world.words
+  pub backed : Backed world.job world.layout made world.words
+  pub known : (body : ℕ) (walking : Walking) → Walks world body walking →
+      Knows world.job world.layout made walking × Fitting world.job world.layout walking
+  pub numbers : (at : ℕ) (body : Body) → slice_get world.bodies at ≡ Some body →
+      number body < world.layout.workers
 
 -- the same, with some record
-pub record Held (s : WorldData) : Type 0 where
+pub record Held (world : WorldData) : Type 0 where
   pub made : Record
-  pub holds : Holds s made
+  pub holds : Holds world made
 
 -- what a body is to contracts
 abbrev pub body_of : Runner → Body
-body_of (runner.Walks k) = walks k.walking
-body_of (runner.Stopped n) = stopped n
+body_of (runner.Walks worker) = walks worker.walking
+body_of (runner.Stopped worker) = stopped worker
 
 abbrev pub world_of : JobData → LayoutData → List ℕ → List Runner → WorldData
-world_of job y words runners =
-    record { job = job; layout = y; words = words; bodies = map body_of runners }
+world_of job layout words runners =
+    record { job = job; layout = layout; words = words; bodies = map body_of runners }
 
 -- the bodies keep their stages
 abbrev pub AllServe : JobData → LayoutData → List Runner → Type 0
-AllServe job y runners = (b : ℕ) (k : WorkerData) → slice_get runners b ≡ Some (runner.Walks k) →
-    Serves job y k
+AllServe job layout runners =
+    (body : ℕ) (worker : WorkerData) → slice_get runners body ≡ Some (runner.Walks worker) →
+    Serves job layout worker
 
-pub record IsWorld (job : JobData) (y : LayoutData) (words : List ℕ) (runners : List Runner) :
+pub record IsWorld (job : JobData) (layout : LayoutData) (words : List ℕ) (runners : List Runner) :
     Type 0 where
   pub made : Record
-  pub holds : Holds (world_of job y words runners) made
-  pub serve : AllServe job y runners
+  pub holds : Holds (world_of job layout words runners) made
+  pub serve : AllServe job layout runners
 
 -- an operation on one of the first so many words
 abbrev pub IsOnBoard : ℕ → Op → Type 0
-IsOnBoard most (Load k) = k < most
-IsOnBoard most (Store k value) = k < most
-IsOnBoard most (Max k value) = k < most
-IsOnBoard most (Swap k old new) = k < most
+IsOnBoard most (Load word) = word < most
+IsOnBoard most (Store word value) = word < most
+IsOnBoard most (Max word value) = word < most
+IsOnBoard most (Swap word old new) = word < most
 IsOnBoard most (Over ended) = Unit {0}
 
 -- what a worker hears of a step that had this effect
@@ -70,5 +71,7 @@ IsHeard effect found = (words : List ℕ) (op : Op) → effect ≡ effect_of wor
 
 -- so many workers, newly started, on any board that has them
 pub record AreStarted (workers : ℕ) (runners : List Runner) : Type 0 where
-  pub bodies : map body_of runners ≡ map (λ w. walks (started w)) (range_with_len 0 workers)
-  pub serve : (job : JobData) (y : LayoutData) → workers ≤ y.workers → AllServe job y runners
+  pub bodies : map body_of runners ≡ map (λ worker. walks (started worker))
+      (range_with_len 0 workers)
+  pub serve : (job : JobData) (layout : LayoutData) → workers ≤ layout.workers →
+      AllServe job layout runners

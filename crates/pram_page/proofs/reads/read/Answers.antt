@@ -1,6 +1,6 @@
 use Rattle.std.proofs.Common.{rules, arith, ◌≡◌, ◌<◌, sym, ap, subst, ◌∙◌}
 use Rattle.pram_words.specs.Words.{Admits, length_of}
-use Rattle.lawful_walk.proofs.Staying.{word_admitted}
+use Rattle.lawful_walk.proofs.Admitted.{word_admitted}
 use Rattle.walkx.specs.declared.operation.ReadOp.TheVariants as read
 use Rattle.walkx.specs.Reads.{HeardAdmitted, Looking, LooksFit, look_of, looked, looks_for}
 use Rattle.walkx.specs.Serving.{Follows}

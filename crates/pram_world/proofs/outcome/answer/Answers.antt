@@ -14,23 +14,23 @@ overflow_cast-result c =
 pub returns-in_ok-conflict-in-Disputed : goal.returns-in_ok-conflict-in-Disputed
 returns-in_ok-conflict-in-Disputed c =
     let some = disputed c.args.job.now c.glance-named.result.0
-    c.glance-named.result.1 c.standing_of.result c.in-Disputed.is c.standing_of.ensures in
+    c.glance-named.result.1 c.progress_of.result c.in-Disputed.is c.progress_of.ensures in
     ((λ e. some (c.glance-named.ensures.conflict ∙ e)), c.in_ok-conflict-in-Disputed.ensures)
 
 pub cells-requires-clause-clear : goal.cells-requires-clause-clear
 cells-requires-clause-clear c =
     sym c.glance-named.ensures.conflict ∙ (finished_so c.args.job.now c.glance-named.result.0
-    c.glance-named.result.1 c.standing_of.result c.in-Finished.is c.standing_of.ensures).0
+    c.glance-named.result.1 c.progress_of.result c.in-Finished.is c.progress_of.ensures).0
 
 pub cells-requires-clause-done : goal.cells-requires-clause-done
 cells-requires-clause-done c =
     sym c.glance-named.ensures.root ∙ (finished_so c.args.job.now c.glance-named.result.0
-    c.glance-named.result.1 c.standing_of.result c.in-Finished.is c.standing_of.ensures).1
+    c.glance-named.result.1 c.progress_of.result c.in-Finished.is c.progress_of.ensures).1
 
 pub returns-in_ok-cells-in-Finished : goal.returns-in_ok-cells-in-Finished
 returns-in_ok-cells-in-Finished c =
     let says = finished_so c.args.job.now c.glance-named.result.0
-    c.glance-named.result.1 c.standing_of.result c.in-Finished.is c.standing_of.ensures in
+    c.glance-named.result.1 c.progress_of.result c.in-Finished.is c.progress_of.ensures in
     let none : conflict c.args.layout.now c.args.words.now ≡ 0 =
     sym c.glance-named.ensures.conflict ∙ says.0 in
     let full : root c.args.layout.now c.args.words.now ≡ 3 * c.args.job.now.steps =
@@ -51,7 +51,7 @@ returns-in_ok-cells-in-Finished c =
 pub returns-in-Going : goal.returns-in-Going
 returns-in-Going c =
     let says = still c.args.job.now c.glance-named.result.0
-    c.glance-named.result.1 c.standing_of.result c.in-Going.is c.standing_of.ensures in
+    c.glance-named.result.1 c.progress_of.result c.in-Going.is c.progress_of.ensures in
     let none : conflict c.args.layout.now c.args.words.now ≡ 0 =
     sym c.glance-named.ensures.conflict ∙ says.0 in
     let same : root c.args.layout.now c.args.words.now ≡ c.glance-named.result.1 =

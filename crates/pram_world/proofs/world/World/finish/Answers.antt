@@ -22,7 +22,7 @@ all_going c =
     (subst (λ (x : WorldData). going x c.args.b ≡ true) c.loop-self.invariant.is now)
 
 most : (c : goal.After-go) →
-    c.loop-self.made + 1 ≤ most_steps c.args.self.now.job c.args.self.now.layout
+    c.loop-self.made + 1 ≤ most_steps c.args.self.now.job
 most c =
     finish_bound c.args.self.now c.args.b
     (c.loop-self.made + 1) c.invariant_holds.ensures (all_going c)
@@ -58,7 +58,7 @@ walks_on s b (Some (stopped n)) at on = absurd (cc)
 walks_on s b (Some (walks w)) at on = (_, get_set_same s.bodies b _ (walks w) at)
 
 ends : (s now : WorldData) (b n : ℕ) (e : Option Ended) (w : Walking) → now ≡ steps_of s b n →
-    ((k : ℕ) → k < n → going (steps_of s b k) b ≡ true) → n ≤ most_steps s.job s.layout →
+    ((k : ℕ) → k < n → going (steps_of s b k) b ≡ true) → n ≤ most_steps s.job →
     slice_get now.bodies b ≡ Some (walks w) → going now b ≡ false → e ≡ end_in now b →
     Finishes s b now e
 ends s now b n None w is all few at over end = grind (arith, common_steps)
@@ -66,7 +66,7 @@ ends s now b n (Some e) w is all few at over end =
     record { steps = n; is = is; going = all; over = sym end; most = few }
 
 finishes : (s now : WorldData) (b n : ℕ) (e : Option Ended) → now ≡ steps_of s b n →
-    ((k : ℕ) → k < n → going (steps_of s b k) b ≡ true) → n ≤ most_steps s.job s.layout →
+    ((k : ℕ) → k < n → going (steps_of s b k) b ≡ true) → n ≤ most_steps s.job →
     going now b ≡ false → e ≡ end_in now b → Finishes s b now e
 finishes s now b zero e is all few over end = grind (arith, common_steps)
 finishes s now b (suc n) e is all few over end =

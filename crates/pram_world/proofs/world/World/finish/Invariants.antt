@@ -8,8 +8,8 @@ abbrev pub invariant-loop-self : goal.invariant-loop-self
 invariant-loop-self l = record {
   is : l.self ≡ steps_of l.initial.self l.b l.made;
   goes : (k : ℕ) → k < l.made → going (steps_of l.initial.self l.b k) l.b ≡ true;
-  most : l.made ≤ most_steps l.initial.self.job l.initial.self.layout;
+  most : l.made ≤ most_steps l.initial.self.job;
 }
 
 abbrev pub decreases-loop-self : goal.decreases-loop-self
-decreases-loop-self l = most_steps l.initial.self.job l.initial.self.layout - l.made
+decreases-loop-self l = most_steps l.initial.self.job - l.made

@@ -1,9 +1,9 @@
 use Rattle.std.proofs.Common.{rules, arith, subst, refl}
 use Rattle.pram_page.specs.Requests.{AreRows}
-use Rattle.pram_page.proofs.requests.ask.Goals as goal
+use Rattle.pram_page.proofs.requests.tell_requests.Goals as goal
 
-pub returns-in-Ok-None-clause-asked : goal.returns-in-Ok-None-clause-asked
-returns-in-Ok-None-clause-asked c =
+pub returns-in-Ok-None-clause-requests : goal.returns-in-Ok-None-clause-requests
+returns-in-Ok-None-clause-requests c =
     let job = c.args.job.now in
     let made = rw c.in-Ok-None.field-0-is at c.in-Ok-None.ensures in (
       refl,
