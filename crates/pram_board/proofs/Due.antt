@@ -1,18 +1,22 @@
 -- A worker's next operation is one that its seat may make.
 use Rattle.std.proofs.Common.{◌≡◌, ℕ, List, [], ◌∷◌, ◌++◌, Some, refl, sym, ap, subst, inl, ◌∙◌}
 use Rattle.walkx.specs.declared.operation.Op.{Op}
-use Rattle.walkx.specs.Records.{Record, Has}
+use Rattle.walkx.specs.Records.{Record, Has, HasBlock, Knows}
 use Rattle.walkx.specs.Scripts.{Script, asks, rest, first_op, heard_in}
-use Rattle.walkx.specs.Walk.{Then, Walking, Fits, AllAdmitted, AsksAdmitted, ask_of, heard_of}
-use Rattle.walkx.specs.Walk.{phase_begun, rest_of, script_of}
+use Rattle.walkx.specs.Walk.{Then, Walking, Fits, AllAdmitted, AsksAdmitted, ask_of}
+use Rattle.walkx.specs.Walk.{node_of, phase_begun, rest_of, script_of}
 use Rattle.walkx.proofs.Asking.{all_ask, going_steps}
 use Rattle.walkx.proofs.Going.{matches_of, next_of}
+use Rattle.walkx.proofs.Knowing.{block_more}
+use Rattle.pram_text.specs.Job.{JobData}
+use Rattle.pram_words.specs.Words.{LayoutData}
+use Rattle.walkx.specs.Doing.{Doing}
 use Rattle.lawful_walk.specs.Moments.{afters}
 use Rattle.pram_board.specs.declared.task.Task.{Task}
 use Rattle.pram_board.specs.Rules.{May}
-use Rattle.pram_board.specs.Seats.{Place, hears_all}
+use Rattle.pram_board.specs.Seats.{SeatData, hears_all}
 use Rattle.pram_board.specs.Inner.Plays.{Drives, Driving}
-use Rattle.pram_board.proofs.Asked.{none_of}
+use Rattle.pram_board.proofs.Next.{none_of}
 use Rattle.pram_board.proofs.Playing.{admitted_more}
 use Rattle.pram_board.proofs.Steps.{may_step}
 
@@ -24,6 +28,12 @@ has_afters : (r : Record) (steps begun : List (Op × ℕ)) → Has r begun →
     Has (afters r steps) (steps ++ begun)
 has_afters r [] begun has = has
 has_afters r (e ∷ es) begun has = inl (refl, has_afters r es begun has)
+
+block_afters : (job : JobData) (y : LayoutData) (r : Record) (w n : ℕ) (d : Doing)
+    (steps : List (Op × ℕ)) → HasBlock job y r w n d → HasBlock job y (afters r steps) w n d
+block_afters job y r w n d [] block = block
+block_afters job y r w n d (e ∷ es) block =
+    block_more job y (afters r es) w n d e.0 e.1 (block_afters job y r w n d es block)
 
 module _ (t : Task) (from : Driving × Script Then) (d : Driving) (op : Op)
     (next : ℕ → Script Then) (h : Drives t from d (asks op next)) where
@@ -43,16 +53,18 @@ module _ (t : Task) (from : Driving × Script Then) (d : Driving) (op : Op)
   begun_known : Has from.0.seat.record_of (phase_begun t.layout h.by.now)
   begun_known = subst (λ (found : List ℕ). Has from.0.seat.record_of
       (heard_in (script_of t.job t.layout h.by) found ++ phase_begun t.layout h.by.now))
-      h.fresh h.knows
+      h.fresh h.knows.script
 
-  now_known : Has d.seat.record_of (heard_of t.job t.layout now)
+  now_known : Knows t.job t.layout d.seat.record_of now
   now_known =
-      let grown : d.seat ≡ hears_all from.0.seat (heard_in (script_of t.job t.layout h.by)
-      h.plays.answers) =
+      let steps = heard_in (script_of t.job t.layout h.by) h.plays.answers in
+      let grown : d.seat ≡ hears_all from.0.seat steps =
       h.plays.seat ∙ ap (hears_all from.0.seat) (sym played) in
-      subst (λ (p : Place). Has p.record_of (heard_of t.job t.layout now)) (sym grown)
-      (has_afters from.0.seat.record_of (heard_in (script_of t.job t.layout h.by) h.plays.answers)
-      (phase_begun t.layout h.by.now) begun_known)
+      subst (λ (p : SeatData). Knows t.job t.layout p.record_of now) (sym grown) (record {
+        script = has_afters from.0.seat.record_of steps (phase_begun t.layout h.by.now) begun_known;
+        block = block_afters t.job t.layout from.0.seat.record_of h.by.number
+            (node_of t.layout h.by) h.by.now steps h.knows.block;
+      })
 
   first : first_op (rest_of t.job t.layout now) ≡ Some op
   first = ap (λ (s : Script Then). first_op (rest s h.plays.answers)) h.begun
@@ -63,6 +75,7 @@ module _ (t : Task) (from : Driving × Script Then) (d : Driving) (op : Op)
     number = h.fits.number;
     node = h.fits.node;
     phase = h.fits.phase;
+    block = h.fits.block;
     admitted = admitted_more t.job t.layout _ (phase_begun t.layout h.by.now)
         (subst (AllAdmitted t.job t.layout) (sym played) h.plays.admitted) begun_admitted;
     matches = matches_of h.by.now _ h.going (record { op = op; first = first });

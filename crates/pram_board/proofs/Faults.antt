@@ -21,29 +21,29 @@ use Rattle.lawful_walk.specs.Seen.{Heard}
 use Rattle.lawful_walk.proofs.Knowing.{conflict_now}
 use Rattle.lawful_walk.proofs.Sounding.{sound_conflict, was_part}
 use Rattle.pram_board.specs.declared.task.Task.{Task}
-use Rattle.pram_board.specs.Seats.{Place, hears, HasLoaded, KnowsConflict}
+use Rattle.pram_board.specs.Seats.{SeatData, hears, HasLoaded, KnowsConflict}
 use Rattle.pram_board.proofs.Begins.{heard_afters}
 
-pub still_heard : (t : Task) (n : ℕ) (p q : Place) (u : ℕ) → HasLoaded n p q →
+pub still_heard : (t : Task) (n : ℕ) (p q : SeatData) (u : ℕ) → HasLoaded n p q →
     Heard t.layout p.record_of Conflict u → Heard t.layout q.record_of Conflict u
-still_heard t n p q u loads heard = subst (λ (z : Place). Heard t.layout z.record_of Conflict u)
+still_heard t n p q u loads heard = subst (λ (z : SeatData). Heard t.layout z.record_of Conflict u)
     (sym loads.is) (heard_afters t.layout p.record_of loads.steps Conflict u heard)
 
 -- word 0, once heard as another value than 0, keeps it
-pub named_again : (t : Task) (p q : Place) (k found u : ℕ) → k ≡ number_of t.layout Conflict →
+pub named_again : (t : Task) (p q : SeatData) (k found u : ℕ) → k ≡ number_of t.layout Conflict →
     q ≡ hears p (Load k) found → Sound t.job t.layout q.record_of → u ≢ 0 →
     Heard t.layout p.record_of Conflict u → found ≡ u
 named_again t p q k found u at is sound some heard =
     let was : WasBacked t.job t.layout
     (after p.record_of (Load (number_of t.layout Conflict)) found) =
     subst (λ (j : ℕ). Sound t.job t.layout (after p.record_of (Load j) found)) at
-    (subst (λ (z : Place). Sound t.job t.layout z.record_of) is sound) in
+    (subst (λ (z : SeatData). Sound t.job t.layout z.record_of) is sound) in
     let m = was.backed in
     m.heard ∙ conflict_now t.job t.layout p.record_of u m.words m.earlier heard some
 
 -- ---- a request
 
-pub part_heard : (t : Task) (p q : Place) (k i j found s : ℕ) → IsBoard t.job t.layout →
+pub part_heard : (t : Task) (p q : SeatData) (k i j found s : ℕ) → IsBoard t.job t.layout →
     i < t.job.procs → j < 3 → k ≡ number_of t.layout (Asked i j) → q ≡ hears p (Load k) found →
     Sound t.job t.layout q.record_of →
     Heard t.layout p.record_of Conflict (suc s) →
@@ -53,7 +53,7 @@ part_heard t p q k i j found s board below few at is sound heard =
     let was : WasBacked t.job t.layout
     (after p.record_of (Load (number_of t.layout (Asked i j))) found) =
     subst (λ (n : ℕ). Sound t.job t.layout (after p.record_of (Load n) found)) at
-    (subst (λ (z : Place). Sound t.job t.layout z.record_of) is sound) in
+    (subst (λ (z : SeatData). Sound t.job t.layout z.record_of) is sound) in
     was_part t.job t.layout p.record_of s i j found heard (omega arith) few was
 
 whole : (word t part : ℕ) → stamp_of word ≡ t → payload_of word ≡ part →

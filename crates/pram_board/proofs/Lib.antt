@@ -2,7 +2,7 @@ pub mod Keeps
 pub mod Begins
 pub mod Steps
 pub mod Told
-pub mod Asked
+pub mod Next
 pub mod Looking
 pub mod Works
 pub mod Memory

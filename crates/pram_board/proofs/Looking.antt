@@ -18,7 +18,7 @@ use Rattle.lawful_walk.specs.Walks.{IsLawfulRead}
 use Rattle.lawful_walk.specs.Moments.{afters}
 use Rattle.lawful_walk.proofs.Sounding.{was_read}
 use Rattle.pram_board.specs.declared.task.Task.{Task}
-use Rattle.pram_board.specs.Seats.{Place, hears, WasRead}
+use Rattle.pram_board.specs.Seats.{SeatData, hears, WasRead}
 
 -- ---- a script of loads
 
@@ -90,7 +90,7 @@ starts_asking y c r e = cc
 
 -- ---- a reader under way: the seat has its loads, and they were borne out
 
-pub record Looks (t : Task) (p q : Place) (c : ℕ) (x : Looking) : Type 0 where
+pub record Looks (t : Task) (p q : SeatData) (c : ℕ) (x : Looking) : Type 0 where
   pub cell : x.cell ≡ c
   pub is : q ≡ record {
     desk = p.desk;
@@ -98,13 +98,14 @@ pub record Looks (t : Task) (p q : Place) (c : ℕ) (x : Looking) : Type 0 where
   }
   pub was : (x.heard ≡ []) ⊎ WasBacked t.job t.layout q.record_of
 
-pub looks_at_first : (t : Task) (p : Place) (c : ℕ) (x : Looking) →
+pub looks_at_first : (t : Task) (p : SeatData) (c : ℕ) (x : Looking) →
     x ≡ record { cell = c; heard = [] } → Looks t p p c x
 looks_at_first t p c x e =
     subst (Looks t p p c) (sym e) (record { cell = refl; is = refl; was = inl refl })
 
 -- the seat and the reader with one load more
-pub looks_on : (t : Task) (p q : Place) (c k found : ℕ) (x : Looking) (q' : Place) (x' : Looking) →
+pub looks_on : (t : Task) (p q : SeatData)
+    (c k found : ℕ) (x : Looking) (q' : SeatData) (x' : Looking) →
     Looks t p q c x → looks_for (look_of t.layout x) ≡ read.Load k → q' ≡ hears q (Load k) found →
     Sound t.job t.layout q'.record_of → x' ≡ looked x found (look_of t.layout x) →
     Looks t p q' c x'
@@ -120,19 +121,19 @@ looks_on t p q c k found x q' x' l e grows sound told =
       desk = p.desk;
       record_of = afters p.record_of (heard_in (reader_script t.layout c) (found ∷ x.heard));
     } =
-    grows ∙ ap (λ (z : Place). hears z (Load k) found) l.is ∙ ap (λ (h : List (Op × ℕ)). record {
+    grows ∙ ap (λ (z : SeatData). hears z (Load k) found) l.is ∙ ap (λ (h : List (Op × ℕ)). record {
       desk = p.desk;
       record_of = afters p.record_of (h ++ heard_in (reader_script t.layout c) x.heard);
     }) (sym made) in
     let was : WasBacked t.job t.layout (after q.record_of (Load k) found) =
-    subst (λ (z : Place). Sound t.job t.layout z.record_of) grows sound in
+    subst (λ (z : SeatData). Sound t.job t.layout z.record_of) grows sound in
     subst (Looks t p q' c) (sym now) (record {
       cell = l.cell;
       is = longer;
-      was = inr (subst (λ (z : Place). WasBacked t.job t.layout z.record_of) (sym grows) was);
+      was = inr (subst (λ (z : SeatData). WasBacked t.job t.layout z.record_of) (sym grows) was);
     })
 
-was_read_now : (t : Task) (p q : Place) (c : ℕ) (answers : List ℕ) (reading : Reading) →
+was_read_now : (t : Task) (p q : SeatData) (c : ℕ) (answers : List ℕ) (reading : Reading) →
     c < t.layout.cells → q ≡ record {
       desk = p.desk;
       record_of = afters p.record_of (heard_in (reader_script t.layout c) answers);
@@ -142,19 +143,19 @@ was_read_now : (t : Task) (p q : Place) (c : ℕ) (answers : List ℕ) (reading 
 was_read_now t p q c answers (At step value) cell is over was =
     let w : WasBacked t.job t.layout
     (afters p.record_of (heard_in (reader_script t.layout c) answers)) =
-    subst (λ (z : Place). WasBacked t.job t.layout z.record_of) is was in
+    subst (λ (z : SeatData). WasBacked t.job t.layout z.record_of) is was in
     record {
       answers = answers;
       is = is;
       over = over;
       few = (was_read t.job t.layout p.record_of c step value answers cell over w).1;
       lawful =
-          subst (λ (z : Place). IsLawfulRead t.job t.layout p.record_of z.record_of c step value)
+          subst (λ (z : SeatData). IsLawfulRead t.job t.layout p.record_of z.record_of c step value)
           (sym is) ((was_read t.job t.layout p.record_of c step value answers cell over w).0);
     }
 
 -- the end of a reader
-pub looks_over : (t : Task) (p q : Place) (c : ℕ) (x : Looking) (reading : Reading) →
+pub looks_over : (t : Task) (p q : SeatData) (c : ℕ) (x : Looking) (reading : Reading) →
     c < t.layout.cells → Looks t p q c x →
     looks_for (look_of t.layout x) ≡ read.Over reading → WasRead t p q c reading
 looks_over t p q c x reading cell l e =

@@ -16,7 +16,7 @@ use Rattle.lawful_walk.specs.Moments.{Sound, afters}
 use Rattle.lawful_walk.specs.Seen.{KnowsStep}
 use Rattle.lawful_walk.proofs.Sounding.{was_place}
 use Rattle.pram_board.specs.declared.task.Task.{Task}
-use Rattle.pram_board.specs.Seats.{Place, hears, hears_all, IsLoad, HasLoaded}
+use Rattle.pram_board.specs.Seats.{SeatData, hears, hears_all, IsLoad, HasLoaded}
 use Rattle.pram_board.proofs.Begins.{knows_afters}
 
 -- a cell is a place of the board
@@ -26,7 +26,7 @@ cell_place t p board cell =
     let e : t.layout.cells ≡ t.job.cells = ap (λ (y : LayoutData). y.cells) board.is in omega arith
 
 -- both words were loaded, one after the other
-pub loaded : (t : Task) (q second : Place) (p word a b : ℕ) →
+pub loaded : (t : Task) (q second : SeatData) (p word a b : ℕ) →
     KnowsStep t.layout q.record_of t.job.steps → p < places_of t.layout →
     word ≡ number_of t.layout (Stored p 0) → word + 1 ≡ number_of t.layout (Stored p 1) →
     second ≡ hears (hears q (Load word) a) (Load (word + 1)) b →
@@ -34,7 +34,7 @@ pub loaded : (t : Task) (q second : Place) (p word a b : ℕ) →
     newer_payload a b ≡ slice_index (state_after t.job t.job.steps) p
 loaded t q second p word a b knows place e f is sound =
     let s : Sound t.job t.layout (after (after q.record_of (Load word) a) (Load (word + 1)) b) =
-    subst (λ (z : Place). Sound t.job t.layout z.record_of) is sound in
+    subst (λ (z : SeatData). Sound t.job t.layout z.record_of) is sound in
     let u : Sound t.job t.layout (after (after q.record_of
     (Load (number_of t.layout (Stored p 0))) a) (Load (number_of t.layout (Stored p 1))) b) =
     subst (λ (x : ℕ × ℕ). Sound t.job t.layout
@@ -43,20 +43,20 @@ loaded t q second p word a b knows place e f is sound =
 
 -- ---- loads, one after the other
 
-pub no_loads : (p : Place) → HasLoaded 0 p p
+pub no_loads : (p : SeatData) → HasLoaded 0 p p
 no_loads p = record { steps = []; is = refl; loads = tt; count = refl }
 
-pub one_load : (n k found : ℕ) (p q r : Place) → HasLoaded n p q →
+pub one_load : (n k found : ℕ) (p q r : SeatData) → HasLoaded n p q →
     r ≡ hears q (Load k) found → HasLoaded (n + 1) p r
 one_load n k found p q r so_far is =
     record {
       steps = (Load k, found) ∷ so_far.steps;
-      is = is ∙ ap (λ (z : Place). hears z (Load k) found) so_far.is;
+      is = is ∙ ap (λ (z : SeatData). hears z (Load k) found) so_far.is;
       loads = (tt, so_far.loads);
       count = (let e = so_far.count in omega arith);
     }
 
-pub two_loads : (k a j b : ℕ) (p q r : Place) → q ≡ hears p (Load k) a →
+pub two_loads : (k a j b : ℕ) (p q r : SeatData) → q ≡ hears p (Load k) a →
     r ≡ hears q (Load j) b → HasLoaded 2 p r
 two_loads k a j b p q r first second =
     one_load 1 j b p q r (one_load 0 k a p p q (no_loads p) first) second
@@ -71,12 +71,12 @@ all_append : (xs ys : List (Op × ℕ)) → AllByRecursion (λ (e : Op × ℕ). 
 all_append [] ys all more = more
 all_append (x ∷ xs) ys all more = (all.0, all_append xs ys all.1 more)
 
-pub more_loads : (n m : ℕ) (p q r : Place) → HasLoaded n p q →
+pub more_loads : (n m : ℕ) (p q r : SeatData) → HasLoaded n p q →
     HasLoaded m q r → HasLoaded (n + m) p r
 more_loads n m p q r first second =
     record {
       steps = second.steps ++ first.steps;
-      is = second.is ∙ ap (λ (z : Place). hears_all z second.steps) first.is
+      is = second.is ∙ ap (λ (z : SeatData). hears_all z second.steps) first.is
           ∙ ap (λ (s : Record). record { desk = p.desk; record_of = s })
           (sym (afters_append p.record_of second.steps first.steps));
       loads = all_append second.steps first.steps second.loads first.loads;
@@ -85,9 +85,9 @@ more_loads n m p q r first second =
           let b = second.count in omega arith);
     }
 
-pub still_known : (t : Task) (n : ℕ) (p q : Place) (s : ℕ) → HasLoaded n p q →
+pub still_known : (t : Task) (n : ℕ) (p q : SeatData) (s : ℕ) → HasLoaded n p q →
     KnowsStep t.layout p.record_of s → KnowsStep t.layout q.record_of s
-still_known t n p q s loads knows = subst (λ (z : Place). KnowsStep t.layout z.record_of s)
+still_known t n p q s loads knows = subst (λ (z : SeatData). KnowsStep t.layout z.record_of s)
     (sym loads.is) (knows_afters t.layout p.record_of loads.steps s knows)
 
 -- one cell more

@@ -11,7 +11,7 @@ use Rattle.lawful_walk.specs.Moments.{afters}
 use Rattle.walkx.specs.Records.{Record, after}
 use Rattle.pram_board.specs.declared.task.Task.{Task}
 use Rattle.pram_board.specs.Seats.{hears}
-use Rattle.pram_board.specs.Inner.Plays.{AllAsked, Driving, Plays}
+use Rattle.pram_board.specs.Inner.Plays.{AllAnswer, Driving, Plays}
 
 -- the rest after further answers
 rest_more : (s : Script Then) (more before : List ℕ) → rest s (more ++ before) ≡ rest
@@ -27,13 +27,13 @@ heard_more s (found ∷ more) before =
     rw (rest_more s more before, heard_more s more before) (sym (append_assoc (op_with (rest
     (rest s before) more) found) (heard_in (rest s before) more) (heard_in s before)))
 
-asked_more : (s : Script Then) (more before : List ℕ) → AllAsked s before →
-    AllAsked (rest s before) more → AllAsked s (more ++ before)
-asked_more s [] before first second = first
-asked_more s (found ∷ more) before first second = (
+answer_more : (s : Script Then) (more before : List ℕ) → AllAnswer s before →
+    AllAnswer (rest s before) more → AllAnswer s (more ++ before)
+answer_more s [] before first second = first
+answer_more s (found ∷ more) before first second = (
   subst (λ (r : Script Then). (op : Op) × (first_op r ≡ Some op)) (sym
       (rest_more s more before)) second.0,
-  asked_more s more before first second.1,
+  answer_more s more before first second.1,
 )
 
 pub admitted_more : (job : JobData) (y : LayoutData) (xs ys : List (Op × ℕ)) →
@@ -67,7 +67,7 @@ still_count m = omega arith
 pub still : (t : Task) (s : Script Then) (p : Driving) → Plays t s p s p
 still t s p = record {
   answers = [];
-  asked = tt;
+  each = tt;
   comes = refl;
   admitted = tt;
   desk = refl;
@@ -77,12 +77,12 @@ still t s p = record {
 }
 
 -- one step
-pub asked : (t : Task) (op : Op) (next : ℕ → Script Then) (found : ℕ) (p q : Driving) →
+pub one_step : (t : Task) (op : Op) (next : ℕ → Script Then) (found : ℕ) (p q : Driving) →
     HearsAdmitted t.job t.layout op found → q.desk ≡ p.desk → q.seat ≡ hears p.seat op found →
     q.made ≡ (p.made + 1) % 2 ^ 64 → Plays t (asks op next) p (next found) q
-asked t op next found p q ok desk seat count = record {
+one_step t op next found p q ok desk seat count = record {
   answers = found ∷ [];
-  asked = ((op, refl), tt);
+  each = ((op, refl), tt);
   comes = refl;
   admitted = (ok, tt);
   desk = desk;
@@ -96,8 +96,8 @@ pub joined : (t : Task) (s u v : Script Then) (a b c : Driving) →
     Plays t s a u b → Plays t u b v c → Plays t s a v c
 joined t s u v a b c first second = record {
   answers = second.answers ++ first.answers;
-  asked = asked_more s second.answers first.answers first.asked
-      (subst (λ (r : Script Then). AllAsked r second.answers) (sym first.comes) second.asked);
+  each = answer_more s second.answers first.answers first.each
+      (subst (λ (r : Script Then). AllAnswer r second.answers) (sym first.comes) second.each);
   comes = rest_more s second.answers first.answers
       ∙ ap (λ (r : Script Then). rest r second.answers) first.comes ∙ second.comes;
   admitted = rw (heard_more s second.answers first.answers) (admitted_more t.job t.layout _ _

@@ -7,6 +7,9 @@ use Rattle.pram_words.specs.Words.{number_of}
 use Rattle.walkx.specs.declared.operation.Op.{Op}
 use Rattle.walkx.specs.declared.operation.Op.TheVariants.{Load}
 use Rattle.walkx.specs.Reads.{Looking, reader_script}
+use Rattle.walkx.specs.Doing.{Doing}
+use Rattle.walkx.specs.Doing as doing
+use Rattle.walkx.specs.Records.{Record, HasBlock}
 use Rattle.walkx.specs.Scripts.{heard_in}
 use Rattle.walkx.specs.Walk.{Walking}
 use Rattle.walkx.proofs.Knowing.{has_left, has_right}
@@ -15,65 +18,86 @@ use Rattle.lawful_walk.specs.Walks.{steps_of}
 use Rattle.lawful_walk.specs.Seen.{Heard, KnowsStep}
 use Rattle.pram_board.specs.declared.look.Progress.{Progress}
 use Rattle.pram_board.specs.declared.task.Task.{Task}
-use Rattle.pram_board.specs.Seats.{Desk, Place, hears_all, unites, HasLoaded}
-use Rattle.pram_board.specs.Seats.{IsLater, KnowsConflict, Progressed, Remembers}
+use Rattle.pram_board.specs.Seats.{Desk, SeatData, hears_all, unites, HasLoaded}
+use Rattle.pram_board.specs.Seats.{IsLater, KnowsConflict, Progressed, Remembers, StillKnows}
 use Rattle.pram_board.specs.Worked.{Ran}
 use Rattle.pram_board.proofs.Begins.{has_afters}
 use Rattle.pram_board.proofs.Looking.{Looks}
 
-pub remembers_more : (p q : Place) (made : List (Op × ℕ)) → q ≡ hears_all p made →
+block_still : (t : Task) (r s : Record) → Remembers r s → (w n : ℕ) (d : Doing) →
+    HasBlock t.job t.layout r w n d → HasBlock t.job t.layout s w n d
+block_still t r s keeps w n doing.Back block = tt
+block_still t r s keeps w n doing.Begin block = tt
+block_still t r s keeps w n (doing.Turn q) block = tt
+block_still t r s keeps w n (doing.Part q rank) block = λ earlier less.
+    ((block earlier less).0, (block earlier less).1, keeps _ (block earlier less).2)
+block_still t r s keeps w n (doing.Over e) block = tt
+
+-- what remembers all still knows each worker
+pub still_knows : (t : Task) (r s : Record) → Remembers r s → StillKnows t r s
+still_knows t r s keeps w knows = record {
+  script = keeps _ knows.script;
+  block = block_still t r s keeps w.number _ w.now knows.block;
+}
+
+pub remembers_more : (p q : SeatData) (made : List (Op × ℕ)) → q ≡ hears_all p made →
     Remembers p.record_of q.record_of
 remembers_more p q made is =
-    subst (λ (s : Place). Remembers p.record_of s.record_of) (sym is) (has_afters p.record_of made)
+    subst (λ (s : SeatData). Remembers p.record_of s.record_of)
+    (sym is) (has_afters p.record_of made)
 
-pub remembers_loads : (n : ℕ) (p q : Place) → HasLoaded n p q → Remembers p.record_of q.record_of
+pub remembers_loads : (n : ℕ) (p q : SeatData) → HasLoaded n p q → Remembers p.record_of q.record_of
 remembers_loads n p q loads = remembers_more p q loads.steps loads.is
 
-pub later_loads : (d : Desk) (n : ℕ) (p q : Place) → p.desk ≡ d → HasLoaded n p q →
+pub later_loads : (d : Desk) (n : ℕ) (p q : SeatData) → p.desk ≡ d → HasLoaded n p q →
     Sound d.task.job d.task.layout q.record_of → IsLater d p q
 later_loads d n p q desk loads sound = record {
-  desk = ap (λ (z : Place). z.desk) loads.is ∙ desk;
+  desk = ap (λ (z : SeatData). z.desk) loads.is ∙ desk;
   keeps = remembers_loads n p q loads;
+  knows = still_knows d.task p.record_of q.record_of (remembers_loads n p q loads);
   sound = sound;
 }
 
-pub remembers_ran : (t : Task) (p : Place) (w : Walking) (n : ℕ) (q : Place) (now : Walking) →
+pub remembers_ran : (t : Task) (p : SeatData) (w : Walking) (n : ℕ) (q : SeatData) (now : Walking) →
     Ran t p w n q now → Remembers p.record_of q.record_of
 remembers_ran t p w n q now ran =
     remembers_more p q (steps_of t.job t.layout w ran.answers) ran.seat
 
-pub later_ran : (d : Desk) (p : Place) (w : Walking) (n : ℕ) (q : Place) (now : Walking) →
+pub later_ran : (d : Desk) (p : SeatData) (w : Walking) (n : ℕ) (q : SeatData) (now : Walking) →
     q.desk ≡ d → Ran d.task p w n q now → Sound d.task.job d.task.layout q.record_of → IsLater d p q
 later_ran d p w n q now desk ran sound = record {
   desk = desk;
   keeps = remembers_ran d.task p w n q now ran;
+  knows = still_knows d.task p.record_of q.record_of (remembers_ran d.task p w n q now ran);
   sound = sound;
 }
 
-pub remembers_first : (p q joined : Place) → joined ≡ unites p q →
+pub remembers_first : (p q joined : SeatData) → joined ≡ unites p q →
     Remembers p.record_of joined.record_of
-remembers_first p q joined is = subst (λ (s : Place). Remembers p.record_of s.record_of) (sym is)
+remembers_first p q joined is = subst (λ (s : SeatData). Remembers p.record_of s.record_of) (sym is)
     (has_left p.record_of q.record_of)
 
-pub remembers_second : (p q joined : Place) → joined ≡ unites p q →
+pub remembers_second : (p q joined : SeatData) → joined ≡ unites p q →
     Remembers q.record_of joined.record_of
-remembers_second p q joined is = subst (λ (s : Place). Remembers q.record_of s.record_of) (sym is)
+remembers_second p q joined is =
+    subst (λ (s : SeatData). Remembers q.record_of s.record_of) (sym is)
     (has_right p.record_of q.record_of)
 
 -- ---- progress
 
-pub remembers_progress : (t : Task) (p q : Place) (progress : Progress) →
+pub remembers_progress : (t : Task) (p q : SeatData) (progress : Progress) →
     Progressed t p q progress → Remembers p.record_of q.record_of
 remembers_progress t p q progress h =
     remembers_more p q ((Load (number_of t.layout Conflict), h.named)
     ∷ (Load (number_of t.layout (Node 1)), h.root) ∷ []) h.is
 
-pub progress_known : (t : Task) (p q : Place) (progress : Progress) → Progressed t p q progress →
+pub progress_known : (t : Task) (p q : SeatData) (progress : Progress) → Progressed t p q progress →
     progress.step ≡ t.job.steps → KnowsStep t.layout q.record_of t.job.steps
 progress_known t p q progress h last =
     subst (λ (n : ℕ). KnowsStep t.layout q.record_of n) last (inl h.well.shows)
 
-pub progress_conflict : (t : Task) (p q : Place) (progress : Progress) → Progressed t p q progress →
+pub progress_conflict : (t : Task) (p q : SeatData) (progress : Progress) →
+    Progressed t p q progress →
     IfSome progress.conflict (λ step. KnowsConflict t.layout q.record_of)
 progress_conflict t p q progress h = elim (cases_Bool (h.named == 0)) [
   | inl same ↦ subst (λ (o : Option ℕ). IfSome o (λ step. KnowsConflict t.layout q.record_of))
@@ -83,7 +107,8 @@ progress_conflict t p q progress h = elim (cases_Bool (h.named == 0)) [
         step = h.named;
         some = eqb-false h.named 0 apart;
         heard =
-            subst (λ (s : Place). Heard t.layout s.record_of Conflict h.named) (sym h.is) (record {
+            subst (λ (s : SeatData). Heard t.layout s.record_of Conflict h.named) (sym h.is)
+            (record {
               op = Load (number_of t.layout Conflict);
               hears = refl;
               has = inl (refl, tt);
@@ -93,7 +118,7 @@ progress_conflict t p q progress h = elim (cases_Bool (h.named == 0)) [
 
 -- ---- reads
 
-pub remembers_looks : (t : Task) (p q : Place) (c : ℕ) (x : Looking) → Looks t p q c x →
+pub remembers_looks : (t : Task) (p q : SeatData) (c : ℕ) (x : Looking) → Looks t p q c x →
     Remembers p.record_of q.record_of
 remembers_looks t p q c x looks =
     remembers_more p q (heard_in (reader_script t.layout c) x.heard) looks.is

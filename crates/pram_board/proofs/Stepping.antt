@@ -1,17 +1,19 @@
 -- One atomic step of a driver.
-use Rattle.std.proofs.Common.{◌≡◌, ℕ, ◌+◌, ◌%◌, ◌^◌, refl, sym, ap, subst, ◌∙◌}
+use Rattle.std.proofs.Common.{◌≡◌, ℕ, zero, suc, ◌+◌, ◌%◌, ◌^◌, refl, sym, ap, subst, ◌∙◌}
+use Rattle.pram_text.specs.Job.{JobData}
+use Rattle.pram_words.specs.Words.{LayoutData}
 use Rattle.walkx.specs.declared.operation.Op.{Op}
-use Rattle.walkx.specs.Records.{after}
+use Rattle.walkx.specs.Records.{after, script_at_rank}
 use Rattle.walkx.specs.Scripts.{Script, asks}
-use Rattle.walkx.specs.Turns.{turning}
-use Rattle.walkx.specs.Walk.{Then, HearsAdmitted, turn_script}
+use Rattle.walkx.specs.Turns.{doing_at, working}
+use Rattle.walkx.specs.Walk.{Then, HearsAdmitted, IsGoing, script_of}
 use Rattle.lawful_walk.specs.Moments.{Sound}
 use Rattle.pram_board.specs.declared.task.Task.{Task}
 use Rattle.pram_board.specs.Rules.{May}
-use Rattle.pram_board.specs.Seats.{Place, hears}
+use Rattle.pram_board.specs.Seats.{SeatData, hears}
 use Rattle.pram_board.specs.Inner.Plays.{Drives, Driving, Walks}
 use Rattle.pram_board.proofs.Due.{due_asks, due_may}
-use Rattle.pram_board.proofs.Playing.{asked, joined, still}
+use Rattle.pram_board.proofs.Playing.{joined, one_step, still}
 use Rattle.pram_board.proofs.Steps.{admits}
 
 pub driver_may : (t : Task) (from : Driving × Script Then) (d : Driving) (op : Op)
@@ -21,7 +23,7 @@ driver_may t from d op next h =
     (due_may t from d op next h)
 
 module _ (t : Task) (from : Driving × Script Then) (d : Driving) (op : Op)
-    (next : ℕ → Script Then) (found : ℕ) (q : Place) (h : Drives t from d (asks op next))
+    (next : ℕ → Script Then) (found : ℕ) (q : SeatData) (h : Drives t from d (asks op next))
     (grows : q ≡ hears d.seat op found)
     (sound : Sound d.desk.task.job d.desk.task.layout q.record_of) where
   pub driver_hears : HearsAdmitted t.job t.layout op found
@@ -29,7 +31,7 @@ module _ (t : Task) (from : Driving × Script Then) (d : Driving) (op : Op)
       let here : Sound t.job t.layout q.record_of =
       subst (λ (u : Task). Sound u.job u.layout q.record_of) h.here.task sound in
       let now : Sound t.job t.layout (after d.seat.record_of op found) =
-      subst (λ (x : Place). Sound t.job t.layout x.record_of) grows here in
+      subst (λ (x : SeatData). Sound t.job t.layout x.record_of) grows here in
       admits t d.seat.record_of op found now (due_asks t from d op next h)
 
   pub driver_makes : (n : ℕ) → n ≡ (d.made + 1) % 2 ^ 64 →
@@ -38,7 +40,7 @@ module _ (t : Task) (from : Driving × Script Then) (d : Driving) (op : Op)
       let e : Driving = record { desk = d.desk; seat = q; made = n } in
       record {
         here = record {
-          desk = ap (λ (x : Place). x.desk) grows ∙ h.here.desk;
+          desk = ap (λ (x : SeatData). x.desk) grows ∙ h.here.desk;
           task = h.here.task;
           board = h.here.board;
         };
@@ -49,19 +51,31 @@ module _ (t : Task) (from : Driving × Script Then) (d : Driving) (op : Op)
         knows = h.knows;
         begun = h.begun;
         plays = joined t from.1 (asks op next) (next found) from.0 d e h.plays
-            (asked t op next found d e driver_hears refl grows count);
+            (one_step t op next found d e driver_hears refl grows count);
       }
 
+-- the script of a worker at its start
+pub working_goes : (q rank : ℕ) → IsGoing (doing_at q rank)
+working_goes q zero = tt
+working_goes q (suc rank) = tt
+
+pub working_script : (job : JobData) (y : LayoutData) (number n q rank : ℕ) →
+    script_of job y (working number n q rank) ≡ script_at_rank job y number n q rank
+working_script job y number n q zero = refl
+working_script job y number n q (suc rank) = refl
+
 -- nothing was made yet
-pub driver_starts : (t : Task) (d : Driving) (number n q : ℕ) → Walks t d (turning number n q) →
-    Drives t (d, turn_script t.job t.layout number n q) d (turn_script t.job t.layout number n q)
-driver_starts t d number n q walks = record {
+pub driver_starts : (t : Task) (d : Driving) (number n q rank : ℕ) →
+    Walks t d (working number n q rank) →
+    Drives t (d, script_at_rank t.job t.layout number n q rank) d
+    (script_at_rank t.job t.layout number n q rank)
+driver_starts t d number n q rank walks = record {
   here = walks.here;
-  by = turning number n q;
+  by = working number n q rank;
   fresh = refl;
-  going = tt;
+  going = working_goes q rank;
   fits = walks.fits;
   knows = walks.knows;
-  begun = refl;
-  plays = still t (turn_script t.job t.layout number n q) d;
+  begun = working_script t.job t.layout number n q rank;
+  plays = still t (script_at_rank t.job t.layout number n q rank) d;
 }

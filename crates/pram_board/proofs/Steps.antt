@@ -13,9 +13,9 @@ use Rattle.walkx.specs.Walk.{AsksAdmitted, HearsAdmitted, IsStepOn, ask_of}
 use Rattle.walkx.proofs.Boards.{root_most, conflict_most}
 use Rattle.lawful_walk.specs.Board.{Stands}
 use Rattle.lawful_walk.specs.Moments.{Backed, Moment, Sound, WasBacked}
+use Rattle.lawful_walk.proofs.Admitted.{answer_admitted}
 use Rattle.lawful_walk.proofs.Moments.{load_keeps}
 use Rattle.lawful_walk.proofs.Starting.{starts_stand}
-use Rattle.lawful_walk.proofs.Staying.{answer_admitted}
 use Rattle.lawful_walk.proofs.Turns.{workers_keep}
 use Rattle.pram_board.specs.declared.task.Task.{Task}
 use Rattle.pram_board.specs.Rules.{May}
@@ -28,7 +28,7 @@ starts job y words limits sizes is e =
     let w = sizes.workers in
     subst (Stands job y) (sym e)
     (subst (λ (z : LayoutData). Stands job z (start_words z job)) (sym is)
-    (starts_stand job y.form y.workers limits w.0 w.1))
+    (starts_stand job y.form y.workers limits sizes.block w.0 w.1))
 
 -- ---- what may be done
 

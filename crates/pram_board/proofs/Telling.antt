@@ -1,29 +1,35 @@
 -- A worker that was told all answers of a script that was played.
-use Rattle.std.proofs.Common.{◌≡◌, ℕ, ◌+◌, ◌%◌, ◌^◌, ◌<◌, List, [], ◌∷◌, ◌++◌, length, Option, Some}
-use Rattle.std.proofs.Common.{None, refl, sym, ap, ap₂, subst, ◌∙◌, arith}
+use Rattle.std.proofs.Common.{◌≡◌, ℕ, zero, suc, ◌≤◌, ◌+◌, ◌%◌, ◌^◌, ◌<◌, List, [], ◌∷◌, ◌++◌}
+use Rattle.std.proofs.Common.{length, Some, None, refl, sym, ap, ap₂, subst, ◌∙◌, arith}
 use Rattle.pram_text.specs.Job.{JobData}
 use Rattle.pram_words.specs.Words.{LayoutData}
 use Rattle.walkx.specs.declared.operation.Op.{Op}
 use Rattle.walkx.specs.Bound.{told_all}
 use Rattle.walkx.specs.Inner.Posts.{PostData}
 use Rattle.walkx.specs.Records.{Record, Knows}
-use Rattle.walkx.specs.Rests.{leads, turn_of}
+use Rattle.walkx.specs.Doing.{Doing}
+use Rattle.walkx.specs.Doing as doing
+use Rattle.walkx.specs.Rests.{leads, script_at}
 use Rattle.walkx.specs.Scripts.{Script, asks, ends, rest_after, rest, first_op, heard_in}
-use Rattle.walkx.specs.Turns.{beginning, turning}
-use Rattle.walkx.specs.Walk.{Then, begins, turns, Walking, Fits, AllAdmitted, IsBoard, IsGoing}
-use Rattle.walkx.specs.Walk.{ask_of, goes_on, script_of, told, turn_script}
+use Rattle.walkx.specs.Turns.{beginning, doing_at, turning, working}
+use Rattle.walkx.specs.declared.turns.Turned.{Turned}
+use Rattle.walkx.specs.declared.turns.Turned.TheVariants as turned
+use Rattle.walkx.specs.Walk.{Then, begins, turns, works, Walking, Fits, AllAdmitted, IsBoard}
+use Rattle.walkx.specs.Walk.{IsGoing, ask_of, goes_on, script_of, told, turn_script}
+use Rattle.walkx.proofs.Firsts.{part_first}
 use Rattle.walkx.proofs.Fitting.{fits_told}
 use Rattle.walkx.proofs.Going.{next_of, op_with_first, told_going}
 use Rattle.walkx.proofs.Knowing.{knows_next}
 use Rattle.lawful_walk.specs.Moments.{afters}
 use Rattle.lawful_walk.specs.Walks.{steps_of}
 use Rattle.pram_board.specs.declared.task.Task.{Task}
-use Rattle.pram_board.specs.Seats.{Place, hears_all}
+use Rattle.pram_board.specs.Seats.{SeatData, hears_all}
 use Rattle.pram_board.specs.Worked.{Ran}
-use Rattle.pram_board.specs.Inner.Plays.{AllAsked, Drives, Driving, IsAt, Led, Plays, Walks, Went}
-use Rattle.pram_board.specs.Inner.Plays.{led_to, task_at, turning_at}
+use Rattle.pram_board.specs.Inner.Plays.{AllAnswer, Drives, Driving, IsAt, Led, Plays, Walks, Went}
+use Rattle.pram_board.specs.Inner.Plays.{led_to, task_at, working_at}
 use Rattle.pram_board.proofs.Due.{hearing}
 use Rattle.pram_board.proofs.Playing.{afters_more, length_more}
+use Rattle.pram_board.proofs.Stepping.{working_goes, working_script}
 
 goes_on_asks : (w : Walking) (found : ℕ) (s : Script Then) (op : Op) → first_op s ≡ Some op →
     goes_on w found s ≡ record w { heard = found ∷ w.heard }
@@ -32,7 +38,7 @@ goes_on_asks w found (ends r) op a = absurd (cc)
 
 module _ (t : Task) (w : Walking) (fresh : w.heard ≡ []) (going : IsGoing w.now) where
   -- as long as the script asks, the worker keeps the answers
-  tells_on : (answers : List ℕ) (op : Op) → AllAsked (script_of t.job t.layout w) answers →
+  tells_on : (answers : List ℕ) (op : Op) → AllAnswer (script_of t.job t.layout w) answers →
       first_op (rest (script_of t.job t.layout w) answers) ≡ Some op →
       told_all t.job t.layout w answers ≡ hearing w answers
   tells_on [] op all first = ap (λ (h : List ℕ). record w { heard = h }) fresh
@@ -44,7 +50,7 @@ module _ (t : Task) (w : Walking) (fresh : w.heard ≡ []) (going : IsGoing w.no
       (script_of t.job t.layout w) earlier) found) op first
 
   -- its steps are the script's
-  tells_steps : (answers : List ℕ) → AllAsked (script_of t.job t.layout w) answers →
+  tells_steps : (answers : List ℕ) → AllAnswer (script_of t.job t.layout w) answers →
       steps_of t.job t.layout w answers ≡ heard_in (script_of t.job t.layout w) answers
   tells_steps [] all = refl
   tells_steps (found ∷ earlier) all =
@@ -57,7 +63,7 @@ module _ (t : Task) (w : Walking) (fresh : w.heard ≡ []) (going : IsGoing w.no
 
   -- at the script's end it goes on as the script says
   tells_end : (found : ℕ) (earlier : List ℕ) (end : Then) →
-      AllAsked (script_of t.job t.layout w) (found ∷ earlier) →
+      AllAnswer (script_of t.job t.layout w) (found ∷ earlier) →
       rest (script_of t.job t.layout w) (found ∷ earlier) ≡ ends end →
       told_all t.job t.layout w (found ∷ earlier) ≡ goes_on (hearing w earlier) found (ends end)
   tells_end found earlier end all comes =
@@ -88,7 +94,7 @@ told_known t r w (found ∷ earlier) board fits all knows =
 module _ (t : Task) (w : Walking) (p q : Driving) (end : Then) (now : Walking)
     (fresh : w.heard ≡ []) (going : IsGoing w.now) (here : IsAt t q) (fits : Fits t.job t.layout w)
     (knows : Knows t.job t.layout p.seat.record_of w) where
-  led_by : (answers : List ℕ) → AllAsked (script_of t.job t.layout w) answers →
+  led_by : (answers : List ℕ) → AllAnswer (script_of t.job t.layout w) answers →
       rest (script_of t.job t.layout w) answers ≡ ends end →
       AllAdmitted t.job t.layout (heard_in (script_of t.job t.layout w) answers) →
       q.desk ≡ p.desk → q.seat ≡ hears_all p.seat (heard_in (script_of t.job t.layout w) answers) →
@@ -112,7 +118,7 @@ module _ (t : Task) (w : Walking) (p q : Driving) (end : Then) (now : Walking)
           here = here;
           fits = subst (Fits t.job t.layout) (sym is)
               (told_fits t w (found ∷ earlier) here.board fits good);
-          knows = subst (λ (x : Place × Walking). Knows t.job t.layout x.0.record_of x.1)
+          knows = subst (λ (x : SeatData × Walking). Knows t.job t.layout x.0.record_of x.1)
               (λ i. (sym grown i, sym is i))
               (told_known t p.seat.record_of w (found ∷ earlier) here.board fits good knows);
         };
@@ -130,7 +136,7 @@ module _ (t : Task) (w : Walking) (p q : Driving) (end : Then) (now : Walking)
       ((found : ℕ) (earlier : List ℕ) → goes_on (hearing w earlier) found (ends end) ≡ now) →
       Plays t (script_of t.job t.layout w) p (ends end) q → Led t p w q now
   led some leads played =
-      led_by played.answers played.asked played.comes played.admitted played.desk played.seat
+      led_by played.answers played.each played.comes played.admitted played.desk played.seat
       played.count played.small some leads
 
 -- a turn asks first
@@ -138,25 +144,58 @@ asks_some : (op : Op) (next : ℕ → Script Then) (end : Then) → asks op next
 asks_some op next end e =
     let no : Some op ≡ None = ap (λ (s : Script Then). first_op s) e in absurd (cc)
 
-turn_asks : (job : JobData) (y : LayoutData) (w n q : ℕ) (end : Then) →
-    turn_script job y w n q ≡ ends end → ⊥
+script_asks : (job : JobData) (y : LayoutData) (w n q rank : ℕ) (end : Then) →
+    script_of job y (working w n q rank) ≡ ends end → ⊥
 unfolding turn_script
-turn_asks job y w n q end e = asks_some _ _ end e
+script_asks job y w n q zero end e = asks_some _ _ end e
+script_asks job y w n q (suc rank) end e =
+    let first = part_first job y n q (suc rank) in
+    let none : first_op (ends end) ≡ Some first.0 = sym (ap first_op e) ∙ first.1 in cc
 
--- a turn leads to another one, or to a begin
-pub led_turn : (at : PostData) (p z : Driving) (next : Option ℕ) →
-    Walks (task_at at) p (turning_at at) →
-    Drives (task_at at) (p, turn_of at) z (ends (leads at next)) →
-    Led (task_at at) p (turning_at at) z (led_to at next)
-led_turn at p z None walks drives =
-    led (task_at at) (turning_at at) p z (begins 1) (beginning at.worker 1) refl tt drives.here
-    walks.fits walks.knows (turn_asks at.job at.layout at.worker at.node at.phase (begins 1))
-    (λ found earlier. refl) drives.plays
-led_turn at p z (Some m) walks drives =
-    led (task_at at) (turning_at at) p z (turns m at.phase) (turning at.worker m at.phase) refl tt
-    drives.here walks.fits walks.knows
-    (turn_asks at.job at.layout at.worker at.node at.phase (turns m at.phase))
-    (λ found earlier. refl) drives.plays
+-- a task in a block leads to one of a later rank
+same_rank : (q rank : ℕ) → 1 ≤ rank → doing.Part q rank ≡ doing_at q rank
+same_rank q zero some = absurd (omega arith)
+same_rank q (suc rank) some = refl
+
+-- a script leads to another one, or to a begin
+pub led_script : (at : PostData) (p z : Driving) (next : Turned) →
+    Walks (task_at at) p (working_at at) →
+    Drives (task_at at) (p, script_at at) z (ends (leads at next)) →
+    Led (task_at at) p (working_at at) z (led_to at next)
+led_script at p z next walks drives = by next played
+  where
+    script : script_of at.job at.layout (working_at at) ≡ script_at at
+    script = working_script at.job at.layout at.worker at.node at.phase at.rank
+
+    played : Plays (task_at at) (script_of at.job at.layout (working_at at)) p
+        (ends (leads at next)) z
+    played = subst (λ (s : Script Then). Plays (task_at at) s p (ends (leads at next)) z)
+        (sym script) drives.plays
+
+    goes : (end : Then) (now : Walking) →
+        ((found : ℕ) (earlier : List ℕ) →
+        goes_on (hearing (working_at at) earlier) found (ends end) ≡ now) →
+        Plays (task_at at) (script_of at.job at.layout (working_at at)) p (ends end) z →
+        Led (task_at at) p (working_at at) z now
+    goes end now leads_to plays = led (task_at at) (working_at at) p z end now refl
+        (working_goes at.phase at.rank) drives.here walks.fits walks.knows
+        (script_asks at.job at.layout at.worker at.node at.phase at.rank end) leads_to plays
+
+    by : (to : Turned) → Plays (task_at at) (script_of at.job at.layout (working_at at)) p
+        (ends (leads at to)) z → Led (task_at at) p (working_at at) z (led_to at to)
+    by turned.Finished plays = goes (begins 1) (beginning at.worker 1) (λ found earlier. refl) plays
+    by (turned.To m) plays =
+        goes (turns m at.phase) (turning at.worker m at.phase) (λ found earlier. refl) plays
+    by (turned.Within rank) plays =
+        let within = goes (works at.node at.phase rank) (record {
+          number = at.worker;
+          node = Some at.node;
+          now = doing.Part at.phase rank;
+          heard = [];
+        }) (λ found earlier. refl) plays in
+        subst (λ (d : Doing). Led (task_at at) p (working_at at) z
+        (record { number = at.worker; node = Some at.node; now = d; heard = [] }))
+        (same_rank at.phase rank within.walks.fits.block.1) within
 
 -- ---- ticks after ticks
 
@@ -174,15 +213,17 @@ steps_more t w [] before = refl
 steps_more t w (found ∷ more) before = ap₂ (λ (v : Walking) (es : List (Op × ℕ)).
     (ask_of t.job t.layout v, found) ∷ es) (told_more t w more before) (steps_more t w more before)
 
-pub ran_more : (t : Task) (p : Place) (w : Walking) (n : ℕ) (q : Place) (mid : Walking) (m : ℕ)
-    (z : Place) (now : Walking) → Ran t p w n q mid → Ran t q mid m z now → Ran t p w (n + m) z now
+pub ran_more : (t : Task) (p : SeatData)
+    (w : Walking) (n : ℕ) (q : SeatData) (mid : Walking) (m : ℕ)
+    (z : SeatData) (now : Walking) → Ran t p w n q mid →
+    Ran t q mid m z now → Ran t p w (n + m) z now
 ran_more t p w n q mid m z now first second = record {
   answers = second.answers ++ first.answers;
   count = length_more second.answers first.answers ∙ (let a = first.count in let b =
       second.count in omega arith);
   seat =
       second.seat
-      ∙ ap₂ (λ (x : Place) (v : Walking). hears_all x (steps_of t.job t.layout v second.answers))
+      ∙ ap₂ (λ (x : SeatData) (v : Walking). hears_all x (steps_of t.job t.layout v second.answers))
       first.seat first.worker
       ∙ ap (λ (r : Record). record {
         desk = p.desk;

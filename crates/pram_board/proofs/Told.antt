@@ -17,21 +17,22 @@ use Rattle.lawful_walk.specs.Walks.{ProgressWell}
 use Rattle.lawful_walk.proofs.Sounding.{sound_ends, was_progress}
 use Rattle.pram_board.specs.declared.look.Progress.{Progress}
 use Rattle.pram_board.specs.declared.task.Task.{Task}
-use Rattle.pram_board.specs.Seats.{Place, hears, Progressed}
+use Rattle.pram_board.specs.Seats.{SeatData, hears, Progressed}
 use Rattle.pram_board.specs.Worked.{EndShows, Ticked}
 
 pub going_of : (d : Doing) → end_of d ≡ None → IsGoing d
 going_of doing.Back e = tt
 going_of doing.Begin e = tt
 going_of (doing.Turn q) e = tt
+going_of (doing.Part q rank) e = tt
 going_of (doing.Over x) e = absurd (cc)
 
 -- it stays known
-pub knows_told : (t : Task) (p : Place) (w : Walking) (q : Place) (now : Walking) →
+pub knows_told : (t : Task) (p : SeatData) (w : Walking) (q : SeatData) (now : Walking) →
     Ticked t p w q now → Fits t.job t.layout w → Knows t.job t.layout p.record_of w →
     Knows t.job t.layout q.record_of now
 knows_told t p w q now made fits knows =
-    subst (λ (x : Place × Walking). Knows t.job t.layout x.0.record_of x.1)
+    subst (λ (x : SeatData × Walking). Knows t.job t.layout x.0.record_of x.1)
     (λ i. (sym made.seat i, sym made.worker i))
     (knows_next t.job t.layout p.record_of w made.found fits knows)
 
@@ -41,6 +42,7 @@ end_shown : (t : Task) (r : Record) (w : Walking) (d : Doing) → d ≡ w.now �
 end_shown t r w doing.Back is sound fits knows = tt
 end_shown t r w doing.Begin is sound fits knows = tt
 end_shown t r w (doing.Turn q) is sound fits knows = tt
+end_shown t r w (doing.Part q rank) is sound fits knows = tt
 end_shown t r w (doing.Over ended.Done) is sound fits knows =
     (sound_ends t.job t.layout r w sound fits knows).0 (sym is)
 end_shown t r w (doing.Over (ended.Conflict u)) is sound fits knows =
@@ -53,7 +55,7 @@ shows_end t r w o is sound fits knows =
 
 -- ---- progress
 
-pub progressed : (t : Task) (p q : Place) (root u k j : ℕ) (progress : Progress) →
+pub progressed : (t : Task) (p q : SeatData) (root u k j : ℕ) (progress : Progress) →
     k ≡ number_of t.layout (Node 1) →
     j ≡ number_of t.layout Conflict → q ≡ hears (hears p (Load k) root) (Load j) u →
     progress.step ≡ step_seen root u → progress.conflict ≡ (if u == 0 then None else Some u) →
@@ -65,7 +67,7 @@ progressed t p q root u k j progress at_root at_conflict grows seen named sound 
     (λ i. (at_root i, at_conflict i)) in
     let s : Sound t.job t.layout (after (after p.record_of
     (Load (number_of t.layout (Node 1))) root) (Load (number_of t.layout Conflict)) u) =
-    subst (λ (x : Place). Sound t.job t.layout x.record_of) is sound in
+    subst (λ (x : SeatData). Sound t.job t.layout x.record_of) is sound in
     let w : ProgressWell t.job t.layout p.record_of (after (after p.record_of
     (Load (number_of t.layout (Node 1))) root) (Load (number_of t.layout Conflict)) u)
     (step_seen root u) u = was_progress t.job t.layout p.record_of root u s in
@@ -75,6 +77,7 @@ progressed t p q root u k j progress at_root at_conflict grows seen named sound 
       is = is;
       step = seen;
       conflict = named;
-      well = subst (λ (x : Place × ℕ). ProgressWell t.job t.layout p.record_of x.0.record_of x.1 u)
+      well =
+          subst (λ (x : SeatData × ℕ). ProgressWell t.job t.layout p.record_of x.0.record_of x.1 u)
           (λ i. (sym is i, sym seen i)) w;
     }

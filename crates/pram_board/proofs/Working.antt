@@ -4,19 +4,23 @@ use Rattle.std.proofs.Common.{IfSome, eqb, eqb-true, true, false, true≢false, 
 use Rattle.std.proofs.Common.{◌∙◌, inl, inr, arith}
 use Rattle.std.specs.Option.{is_some, option_eq}
 use Rattle.walkx.specs.Bound.{most_steps}
+use Rattle.walkx.specs.declared.turns.Turned.{Turned}
+use Rattle.walkx.specs.Inner.Posts.{PostData, at_rank, post_data}
 use Rattle.walkx.specs.Inner.Workers.{WorkerData}
 use Rattle.walkx.specs.Records.{Knows}
 use Rattle.walkx.specs.Serving.{Serves}
+use Rattle.walkx.specs.Turns.{working}
 use Rattle.walkx.specs.Walk.{Walking, Fits, IsBoard, end_of}
 use Rattle.lawful_walk.specs.Moments.{Sound}
 use Rattle.pram_board.specs.declared.task.Task.{Task}
-use Rattle.pram_board.specs.Seats.{Desk, Place, IsLater}
+use Rattle.pram_board.specs.Seats.{Desk, SeatData, IsLater}
 use Rattle.pram_board.specs.declared.work.Stay.{Stay}
 use Rattle.pram_board.specs.declared.work.Stay.TheVariants as stay
 use Rattle.pram_board.specs.Worked.{Ran, StaysAs, Ticked, Worked, Works, end_in}
 use Rattle.pram_board.proofs.Remembering.{later_ran}
 use Rattle.pram_board.proofs.Told.{shows_end}
 use Rattle.pram_board.specs.Inner.Plays.{Driving, GoesOn, IsAt, Led, Walks, Went}
+use Rattle.pram_board.specs.Inner.Plays.{led_to, task_at, working_at}
 use Rattle.pram_board.proofs.Telling.{ran_more, went_more}
 use Rattle.pram_board.proofs.Works.{bound_small, fewer, ran_none, ran_on, room}
 
@@ -30,17 +34,17 @@ exactly : (m n k : ℕ) → n % 2 ^ 64 ≡ (m + k) % 2 ^ 64 → n < 2 ^ 64 → m
 exactly m n k count small few = omega arith
 
 -- a worker that goes with a board, at the start of its ticks
-pub record Begun (b : Desk) (p : Place) (w : Walking) : Type 0 where
+pub record Begun (b : Desk) (p : SeatData) (w : Walking) : Type 0 where
   pub board : IsBoard b.task.job b.task.layout
   pub fits : Fits b.task.job b.task.layout w
   pub knows : Knows b.task.job b.task.layout p.record_of w
 
-module _ (p : Place) (w : Walking) (d : Driving) (mid : WorkerData) (e : Driving)
+module _ (p : SeatData) (w : Walking) (d : Driving) (mid : WorkerData) (e : Driving)
     (now : WorkerData) (begun : Begun d.desk p w)
     (ran : Ran d.desk.task p w d.made d.seat mid.walking)
     (sound : Sound d.desk.task.job d.desk.task.layout d.seat.record_of)
     (going : end_of mid.walking.now ≡ None) where
-  before : d.made < most_steps d.desk.task.job d.desk.task.layout
+  before : d.made < most_steps d.desk.task.job
   before =
       fewer d.desk.task p w d.made d.seat mid.walking begun.board begun.fits begun.knows ran sound
       going
@@ -51,7 +55,7 @@ module _ (p : Place) (w : Walking) (d : Driving) (mid : WorkerData) (e : Driving
     all = ran_more d.desk.task p w d.made d.seat mid.walking goes.went.ticks e.seat now.walking ran
         goes.went.ran
 
-    few : d.made + goes.went.ticks ≤ most_steps d.desk.task.job d.desk.task.layout
+    few : d.made + goes.went.ticks ≤ most_steps d.desk.task.job
     few = elim goes.single [
       | inl one ↦ (let h = before in omega arith)
       | inr far ↦
@@ -66,7 +70,7 @@ module _ (p : Place) (w : Walking) (d : Driving) (mid : WorkerData) (e : Driving
     counted =
         let h = few in
         let k = before in
-        let bound : most_steps d.desk.task.job d.desk.task.layout < 2 ^ 63 =
+        let bound : most_steps d.desk.task.job < 2 ^ 63 =
         bound_small d.desk.task begun.board in
         exactly d.made e.made goes.went.ticks goes.went.count
         (goes.went.small (omega arith)) (omega arith)
@@ -76,16 +80,16 @@ module _ (p : Place) (w : Walking) (d : Driving) (mid : WorkerData) (e : Driving
         subst (λ (x : Desk × ℕ). Ran x.0.task p w x.1 e.seat now.walking)
         (λ i. (sym goes.went.desk i, sym counted i)) all
 
-    pub most_so_far : e.made ≤ most_steps e.desk.task.job e.desk.task.layout
+    pub most_so_far : e.made ≤ most_steps e.desk.task.job
     most_so_far =
-        subst (λ (x : Desk × ℕ). x.1 ≤ most_steps x.0.task.job x.0.task.layout)
+        subst (λ (x : Desk × ℕ). x.1 ≤ most_steps x.0.task.job)
         (λ i. (sym goes.went.desk i, sym counted i)) few
 
-    pub nearer : most_steps e.desk.task.job e.desk.task.layout - e.made <
-        most_steps d.desk.task.job d.desk.task.layout - d.made
+    pub nearer : most_steps e.desk.task.job - e.made <
+        most_steps d.desk.task.job - d.made
     nearer =
-        subst (λ (b : Desk). most_steps b.task.job b.task.layout - e.made <
-        most_steps d.desk.task.job d.desk.task.layout - d.made) (sym goes.went.desk)
+        subst (λ (b : Desk). most_steps b.task.job - e.made <
+        most_steps d.desk.task.job - d.made) (sym goes.went.desk)
         (let some = goes.some in let h = before in let k = counted in omega arith)
 
 -- whole turns bring the count nearer to its bound
@@ -94,14 +98,14 @@ pub turns_on : (t : Task) (p : Driving) (w : Walking) (q : Driving) (mid : Walki
     Knows t.job t.layout p.seat.record_of w → (first : Went t p w q mid) →
     (second : Went t q mid z now) → 1 ≤ second.ticks → end_of now.now ≡ None →
     Sound t.job t.layout z.seat.record_of → p.made < 2 ^ 63 →
-    p.made + most_steps t.job t.layout - z.made < p.made + most_steps t.job t.layout - q.made
+    p.made + most_steps t.job - z.made < p.made + most_steps t.job - q.made
 turns_on t p w q mid z now board fits knows first second some none sound small_start =
     let both : Went t p w z now = went_more t p w q mid z now first second in
     let small : q.made < 2 ^ 64 = first.small (omega arith) in
     let small_too : z.made < 2 ^ 64 = second.small small in
-    let few : both.ticks < most_steps t.job t.layout =
+    let few : both.ticks < most_steps t.job =
     fewer t p.seat w both.ticks z.seat now board fits knows both.ran sound none in
-    let bound : most_steps t.job t.layout < 2 ^ 63 = bound_small t board in
+    let bound : most_steps t.job < 2 ^ 63 = bound_small t board in
     let is : q.made ≡ p.made + first.ticks =
     exactly p.made q.made first.ticks first.count small (omega arith) in
     let is_too : z.made ≡ p.made + both.ticks =
@@ -175,6 +179,25 @@ led_more t p w q mid z now first second = record {
   some = (let h = second.some in omega arith);
 }
 
+-- where a script of a phase leads, from a node at a rank
+pub led_from : (t : Task) (first at : PostData) (number n q rank : ℕ) (p z : Driving)
+    (to : Turned) → first ≡ post_data t.job t.layout number n q 0 → at ≡ at_rank first rank →
+    Led (task_at at) p (working_at at) z (led_to at to) →
+    Led t p (working number n q rank) z (led_to (post_data t.job t.layout number n q rank) to)
+led_from t first at number n q rank p z to is_first is led =
+    subst (λ (x : PostData). Led (task_at x) p (working_at x) z (led_to x to))
+    (is ∙ ap (λ (x : PostData). at_rank x rank) is_first) led
+
+-- so to the start of another one
+pub led_on : (t : Task) (first at : PostData) (number n q rank m next : ℕ) (p z : Driving)
+    (to : Turned) → first ≡ post_data t.job t.layout number n q 0 → at ≡ at_rank first rank →
+    Led (task_at at) p (working_at at) z (led_to at to) →
+    led_to (post_data t.job t.layout number n q rank) to ≡ working number m q next →
+    Led t p (working number n q rank) z (working number m q next)
+led_on t first at number n q rank m next p z to is_first is led leads =
+    subst (λ (w : Walking). Led t p (working number n q rank) z w) leads
+    (led_from t first at number n q rank p z to is_first is led)
+
 -- ---- the worker that the code has, and its board
 
 pub walks_of : (t : Task) (d : Driving) (w v : Walking) → t ≡ d.desk.task → w ≡ v →
@@ -215,17 +238,17 @@ end_as : (limit : Option ℕ) (n : ℕ) (now : Walking) (stay : Stay) → StaysA
 end_as limit n now (stay.Ended e) stays = sym stays
 end_as limit n now stay.Stopped stays = sym stays.1
 
-pub record Finished (b : Desk) (p : Place) (w : Walking) (limit : Option ℕ) (q : Place)
+pub record Finished (b : Desk) (p : SeatData) (w : Walking) (limit : Option ℕ) (q : SeatData)
     (now : WorkerData) (stay : Stay) : Type 0 where
   pub worked : Worked b.task p w limit q now.walking stay
   pub later : IsLater b p q
   pub works : Works b q now
 
-pub finished : (b : Desk) (p : Place) (w : Walking) (limit : Option ℕ) (d : Driving)
+pub finished : (b : Desk) (p : SeatData) (w : Walking) (limit : Option ℕ) (d : Driving)
     (now : WorkerData) (stay : Stay) → d.desk ≡ b → Works d.desk d.seat now →
     Sound d.desk.task.job d.desk.task.layout d.seat.record_of →
     Ran d.desk.task p w d.made d.seat now.walking →
-    d.made ≤ most_steps d.desk.task.job d.desk.task.layout → IfSome limit (λ k. d.made ≤ k) →
+    d.made ≤ most_steps d.desk.task.job → IfSome limit (λ k. d.made ≤ k) →
     StaysAs limit d.made now.walking stay → Finished b p w limit d.seat now stay
 finished b p w limit d now stay same works sound ran most within stays =
     subst (λ (x : Desk). Finished x p w limit d.seat now stay) same (record {

@@ -10,10 +10,10 @@ use Rattle.pram_text.specs.declared.instr.Instr.TheVariants.{Halt}
 use Rattle.pram_text.specs.declared.instr.Operands.{Operands}
 use Rattle.pram_text.specs.declared.instr.Operands.TheVariants.{Bare, Target, TargetNumber}
 use Rattle.pram_text.specs.declared.instr.Operands.TheVariants.{TargetOne, TargetTwo, Two}
-use Rattle.pram_text.specs.declared.instr.Operands.TheVariants.{OnePlace, Place}
+use Rattle.pram_text.specs.declared.instr.Operands.TheVariants.{RegisterIndex, Index}
 use Rattle.pram_text.specs.Instructions as Instructions
-use Rattle.pram_text.specs.Instructions.{bare, target, target_number, target_one, target_two}
-use Rattle.pram_text.specs.Instructions.{pair, one_place, at_place, row_of, table}
+use Rattle.pram_text.specs.Instructions.{bare, only_target, target_number, target_one, target_two}
+use Rattle.pram_text.specs.Instructions.{pair, register_index, only_index, row_of, table}
 use Rattle.pram_text.specs.Lines.{Word}
 use Rattle.pram_text.specs.declared.instr.Rule.{Rule}
 use Rattle.pram_text.specs.declared.instr.Rule.TheVariants.{Common, Priority, Crew}
@@ -32,7 +32,7 @@ rule_number Crew = 2
 rule_from : ℕ → Rule
 rule_from zero = Common
 rule_from (suc zero) = Priority
-rule_from (suc (suc n)) = Crew
+rule_from (suc (suc more)) = Crew
 
 rule_again : (rule : Rule) → rule_from (rule_number rule) ≡ rule
 unfolding rule_number rule_from
@@ -44,23 +44,23 @@ rule_again Crew = refl
 
 parts_by : Operands → ℕ × (ℕ × ℕ)
 parts_by Bare = (0, (0, 0))
-parts_by (Target r) = (r, (0, 0))
-parts_by (TargetNumber r k) = (r, (k, 0))
-parts_by (TargetOne r a) = (r, (a, 0))
-parts_by (TargetTwo r a b) = (r, (a, b))
-parts_by (Two a b) = (a, (b, 0))
-parts_by (OnePlace r place) = (r, (place, 0))
-parts_by (Place place) = (place, (0, 0))
+parts_by (Target target) = (target, (0, 0))
+parts_by (TargetNumber target number) = (target, (number, 0))
+parts_by (TargetOne target register) = (target, (register, 0))
+parts_by (TargetTwo target first second) = (target, (first, second))
+parts_by (Two first second) = (first, (second, 0))
+parts_by (RegisterIndex register index) = (register, (index, 0))
+parts_by (Index index) = (index, (0, 0))
 
 made_by : Instructions.Form → ℕ × (ℕ × ℕ) → Instr
 made_by (bare instr) parts = instr
-made_by (target make) parts = make parts.0
+made_by (only_target make) parts = make parts.0
 made_by (target_number make) parts = make parts.0 parts.1.0
 made_by (target_one make) parts = make parts.0 parts.1.0
 made_by (target_two make) parts = make parts.0 parts.1.0 parts.1.1
 made_by (pair make) parts = make parts.0 parts.1.0
-made_by (one_place make) parts = make parts.0 parts.1.0
-made_by (at_place make) parts = make parts.0
+made_by (register_index make) parts = make parts.0 parts.1.0
+made_by (only_index make) parts = make parts.0
 
 -- the first row of this name
 row_number : List (Word × Instructions.Form) → Word → ℕ
@@ -86,16 +86,16 @@ instr_again instr = grind arith
 
 form_number : Form → ℕ
 form_number Compact = 0
-form_number Wide = 1
+form_number (Wide grain) = suc grain
 
 form_from : ℕ → Form
 form_from zero = Compact
-form_from (suc n) = Wide
+form_from (suc grain) = Wide grain
 
 form_again : (form : Form) → form_from (form_number form) ≡ form
 unfolding form_number form_from
 form_again Compact = refl
-form_again Wide = refl
+form_again (Wide grain) = refl
 
 -- ---- tasks
 

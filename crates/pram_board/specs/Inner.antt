@@ -1,3 +1,3 @@
 -- What private contracts cite.
-pub mod Asked
+pub mod Next
 pub mod Plays

@@ -12,9 +12,10 @@ use Rattle.walkx.specs.declared.operation.Op.TheVariants.{Load}
 use Rattle.walkx.specs.declared.operation.Reading.{Reading}
 use Rattle.walkx.specs.declared.operation.Reading.TheVariants.{At}
 use Rattle.walkx.specs.Reads.{step_seen, reader_script}
-use Rattle.walkx.specs.Records.{Record, empty, after, both, Has}
+use Rattle.walkx.specs.Records.{Record, empty, after, both, Has, Knows}
 use Rattle.walkx.specs.Codes.{coded_record}
 use Rattle.walkx.specs.Scripts.{ends, rest, heard_in}
+use Rattle.walkx.specs.Walk.{Walking}
 use Rattle.lawful_walk.specs.Moments.{Sound, afters}
 use Rattle.lawful_walk.specs.Seen.{Heard}
 use Rattle.lawful_walk.specs.Walks.{IsLawfulRead, ProgressWell}
@@ -33,27 +34,27 @@ coded_desk =
     (λ parts. record { id = parts.0; task = parts.1 }) (λ _. refl)
 
 -- a seat of a board, with the record of its steps
-pub record Place : Type 0 where
+pub record SeatData : Type 0 where
   pub desk : Desk
   pub record_of : Record
 
-abbrev pub coded_place : Coded Place
-coded_place =
+abbrev pub coded_seat : Coded SeatData
+coded_seat =
     code_by (Desk × Record) (coded× coded_desk coded_record)
-    (λ place. (place.desk, place.record_of))
+    (λ seat. (seat.desk, seat.record_of))
     (λ parts. record { desk = parts.0; record_of = parts.1 }) (λ _. refl)
 
 -- a new board, with a seat of it that has seen nothing
-abbrev pub IsOpened : JobData → Form → ℕ → Desk × Place → Type 0
+abbrev pub IsOpened : JobData → Form → ℕ → Desk × SeatData → Type 0
 IsOpened job form workers made =
     (made.0.task.job ≡ job) × (made.0.task.layout ≡ layout_of job form workers)
     × (made.1 ≡ record { desk = made.0; record_of = empty })
 
 -- the seat with one more step, and with more steps, the newest first
-abbrev pub hears : Place → Op → ℕ → Place
+abbrev pub hears : SeatData → Op → ℕ → SeatData
 hears seat op found = record { desk = seat.desk; record_of = after seat.record_of op found }
 
-abbrev pub hears_all : Place → List (Op × ℕ) → Place
+abbrev pub hears_all : SeatData → List (Op × ℕ) → SeatData
 hears_all seat steps = record { desk = seat.desk; record_of = afters seat.record_of steps }
 
 -- so many loads more
@@ -61,14 +62,14 @@ abbrev pub IsLoad : Op → Type 0
 IsLoad (Load word) = Unit {0}
 IsLoad _ = ⊥
 
-pub record HasLoaded (loaded : ℕ) (before later : Place) : Type 0 where
+pub record HasLoaded (loaded : ℕ) (before later : SeatData) : Type 0 where
   pub steps : List (Op × ℕ)
   pub is : later ≡ hears_all before steps
   pub loads : AllByRecursion (λ (step : Op × ℕ). IsLoad step.0) steps
   pub count : length steps ≡ loaded
 
 -- the seat that has seen what two had seen
-abbrev pub unites : Place → Place → Place
+abbrev pub unites : SeatData → SeatData → SeatData
 unites first second =
     record { desk = first.desk; record_of = both first.record_of second.record_of }
 
@@ -76,10 +77,17 @@ unites first second =
 abbrev pub Remembers : Record → Record → Type 0
 Remembers before later = (steps : List (Op × ℕ)) → Has before steps → Has later steps
 
--- the seat later: it is of this board still, has what it had, and what it heard is sound
-pub record IsLater (board : Desk) (before later : Place) : Type 0 where
+-- it still knows each worker that it knew
+abbrev pub StillKnows : Task → Record → Record → Type 0
+StillKnows task before later = (walking : Walking) →
+    Knows task.job task.layout before walking → Knows task.job task.layout later walking
+
+-- the seat later: it is of this board still, has what it had, knows the workers that it knew, and
+-- what it heard is sound
+pub record IsLater (board : Desk) (before later : SeatData) : Type 0 where
   pub desk : later.desk ≡ board
   pub keeps : Remembers before.record_of later.record_of
+  pub knows : StillKnows board.task before.record_of later.record_of
   pub sound : Sound board.task.job board.task.layout later.record_of
 
 -- the record heard word 0 as another value than 0
@@ -91,7 +99,7 @@ pub record KnowsConflict (layout : LayoutData) (known : Record) : Type 0 where
 -- ---- progress
 
 -- a load of the root and then one of word 0, and what they show
-pub record Progressed (task : Task) (before later : Place) (progress : Progress) : Type 0 where
+pub record Progressed (task : Task) (before later : SeatData) (progress : Progress) : Type 0 where
   pub root : ℕ
   pub named : ℕ
   pub is : later ≡ hears (hears before (Load (number_of task.layout (Node 1))) root)
@@ -108,7 +116,7 @@ IsReading task before later cell (At step value) =
 
 -- the loads of a reader of the cell, at most five, what it then answers, and that this is a lawful
 -- read
-pub record WasRead (task : Task) (before later : Place) (cell : ℕ)
+pub record WasRead (task : Task) (before later : SeatData) (cell : ℕ)
     (reading : Reading) : Type 0 where
   pub answers : List ℕ
   pub is : later ≡ hears_all before (heard_in (reader_script task.layout cell) answers)

@@ -13,31 +13,31 @@ use Rattle.lawful_walk.specs.Walks.{DoneWell, IsConflict, steps_of}
 use Rattle.pram_board.specs.declared.task.Task.{Task}
 use Rattle.pram_board.specs.declared.work.Stay.{Stay}
 use Rattle.pram_board.specs.declared.work.Stay.TheVariants as stay
-use Rattle.pram_board.specs.Seats.{Desk, Place, hears, hears_all}
+use Rattle.pram_board.specs.Seats.{Desk, SeatData, hears, hears_all}
 
 -- the seat is of this board, the worker goes with the board, and the seat knows it
-pub record Works (board : Desk) (seat : Place) (worker : WorkerData) : Type 0 where
+pub record Works (board : Desk) (seat : SeatData) (worker : WorkerData) : Type 0 where
   pub desk : seat.desk ≡ board
   pub serves : Serves board.task.job board.task.layout worker
   pub knows : Knows board.task.job board.task.layout seat.record_of worker.walking
 
 -- one atomic step, the worker's next one: the record has it with its answer, which the worker was
 -- told
-pub record Ticked (task : Task) (before : Place) (walking : Walking) (later : Place)
+pub record Ticked (task : Task) (before : SeatData) (walking : Walking) (later : SeatData)
     (now : Walking) : Type 0 where
   pub found : ℕ
   pub seat : later ≡ hears before (ask_of task.job task.layout walking) found
   pub worker : now ≡ told task.job task.layout walking found
 
 -- a tick of a worker, which does nothing where the worker is over
-pub record IsTick (task : Task) (before : Place) (worker : WorkerData) (later : Place)
+pub record IsTick (task : Task) (before : SeatData) (worker : WorkerData) (later : SeatData)
     (now : WorkerData) : Type 0 where
   pub over : (ended : Ended) → end_of worker.walking.now ≡ Some ended →
       (later ≡ before) × (now ≡ worker)
   pub step : end_of worker.walking.now ≡ None → Ticked task before worker.walking later now.walking
 
 -- so many of them, one after the other, all in the record
-pub record Ran (task : Task) (before : Place) (walking : Walking) (ticks : ℕ) (later : Place)
+pub record Ran (task : Task) (before : SeatData) (walking : Walking) (ticks : ℕ) (later : SeatData)
     (now : Walking) : Type 0 where
   pub answers : List ℕ
   pub count : length answers ≡ ticks
@@ -64,11 +64,11 @@ StaysAs limit ticks now stay.Stopped = (limit ≡ Some ticks) × (end_of now.now
 
 -- some ticks, all in the record, at most the limit and at most 300 L T + 8, how they ended, and
 -- what the record shows of that
-pub record Worked (task : Task) (before : Place) (walking : Walking) (limit : Option ℕ)
-    (later : Place) (now : Walking) (stay : Stay) : Type 0 where
+pub record Worked (task : Task) (before : SeatData) (walking : Walking) (limit : Option ℕ)
+    (later : SeatData) (now : Walking) (stay : Stay) : Type 0 where
   pub ticks : ℕ
   pub ran : Ran task before walking ticks later now
-  pub most : ticks ≤ most_steps task.job task.layout
+  pub most : ticks ≤ most_steps task.job
   pub within : IfSome limit (λ bound. ticks ≤ bound)
   pub stays : StaysAs limit ticks now stay
   pub shows : EndShows task later.record_of (end_in stay)

@@ -38,6 +38,7 @@ impl Model for Board {
 
 impl Board {
     ghost use Rattle.std.specs.Prelude.{◌≡◌, ◌≤◌, IfOk};
+    ghost use Rattle.pram_words.specs.Words.{IsGrain, grain_for};
     ghost use Rattle.pram_words.specs.declared.layout.Form.TheVariants.{Compact, Wide};
     ghost use Rattle.walkx.specs.Walk.{IsBoard, IsLayoutOf};
     ghost use Rattle.lawful_walk.specs.Moments.{Sound};
@@ -55,13 +56,29 @@ impl Board {
     }
 
     /// The same in the wide form, in which workers start far apart and do not share lines of
-    /// memory: it is the faster one with two workers and more.
+    /// memory: it is the faster one with two workers and more. A leaf stands for a block of
+    /// processors, of a size that leaves each worker some leaves.
     pub fn open_wide(alloc: Global, job: &Job, workers: u32) -> Result<(Board, Seat), AllocError>
         requires some { 1 ≤ workers }
         requires most { workers ≤ 64 }
-        ensures { IfOk result (IsOpened job.now Wide workers) }
+        ensures { IfOk result (IsOpened job.now (Wide (grain_for job.now.procs workers)) workers) }
     {
         Board::of_layout(alloc, job, Layout::wide(job, workers))
+    }
+
+    /// The same in the wide form with blocks of so many processors, a power of two up to 64.
+    pub fn open_with_blocks(
+        alloc: Global,
+        job: &Job,
+        workers: u32,
+        grain: u32,
+    ) -> Result<(Board, Seat), AllocError>
+        requires some { 1 ≤ workers }
+        requires most { workers ≤ 64 }
+        requires grain { IsGrain grain }
+        ensures { IfOk result (IsOpened job.now (Wide grain) workers) }
+    {
+        Board::of_layout(alloc, job, Layout::with_blocks(job, workers, grain))
     }
 
     // A new board of this layout.

@@ -6,7 +6,7 @@ use crate::seat::Seat;
 use crate::task::Task;
 use crate::work::Stay;
 use stop_plan::Gate;
-use walkx::turns::turn;
+use walkx::turns::{Turned, script};
 use walkx::{Op, Post, Steps, Stopped, Worker};
 
 /// Makes the atomic steps of a worker on a board, passing the gate before each, and counts them.
@@ -41,7 +41,7 @@ impl<'a, G: Gate> Driver<'a, G> {
     ghost use Rattle.pram_board.specs.Rules.{May};
     ghost use Rattle.pram_board.specs.Seats.{IsLater, hears};
     ghost use Rattle.pram_board.specs.Inner.Plays.{GoesOn, Led, Walks, driving, led_to};
-    ghost use Rattle.pram_board.specs.Inner.Plays.{task_at, turning_at};
+    ghost use Rattle.pram_board.specs.Inner.Plays.{task_at, working_at};
 
     /// A driver that has made no step.
     #[inline(always)]
@@ -159,7 +159,8 @@ impl<'a, G: Gate> Driver<'a, G> {
         worker.begin_at(1);
     }
 
-    // Turns of a phase, from the start of the one at this node until the root is finished.
+    // Turns of a phase, from the start of the one at this node until the root is finished, with the
+    // tasks of blocks between them.
     #[inline(always)]
     fn turns(&mut self, task: &Task, number: u32, start: u32, phase: u64)
         requires room { self.old.made < 2 ^ 63 }
@@ -169,23 +170,28 @@ impl<'a, G: Gate> Driver<'a, G> {
             (driving self.new) (beginning number 1) }
     {
         let layout = task.layout;
-        let mut node = start;
-        while let Some(next) = self.turn(&Post::new(&task.job, &layout, number, node, phase)) {
+        let (mut node, mut rank) = (start, 0);
+        loop {
+            let post = Post::new(&task.job, &layout, number, node, phase).at_rank(rank);
+            match self.script(&post) {
+                Turned::Finished => return,
+                Turned::To(next) => (node, rank) = (next, 0),
+                Turned::Within(next) => rank = next,
+            }
             self.seat.facts();
-            node = next;
         }
     }
 
-    // A turn, and the node where the next one is; `None` where the root is finished.
+    // A turn, or the task of another processor of a block, and what comes of it.
     #[inline(always)]
-    fn turn(&mut self, post: &Post) -> Option<u32>
-        requires walks { Walks (task_at post.now) (driving self.old) (turning_at post.now) }
+    fn script(&mut self, post: &Post) -> Turned
+        requires walks { Walks (task_at post.now) (driving self.old) (working_at post.now) }
         ensures same { self.new.seat.ghost_name ≡ self.old.seat.ghost_name }
-        ensures led { Led (task_at post.now) (driving self.old) (turning_at post.now)
+        ensures led { Led (task_at post.now) (driving self.old) (working_at post.now)
             (driving self.new) (led_to post.now result) }
     {
-        match turn(self, post) {
-            Ok(next) => next,
+        match script(self, post) {
+            Ok(turned) => turned,
             Err(_) => unreachable!(),
         }
     }

@@ -12,11 +12,11 @@ pub struct Seat {
 impl Model for Seat {
     ghost use Rattle.std.specs.Prelude.{◌≡◌, true, []};
     ghost use Rattle.lawful_walk.specs.Moments.{Sound};
-    ghost use Rattle.pram_board.specs.Seats.{Place, coded_place};
+    ghost use Rattle.pram_board.specs.Seats.{SeatData, coded_seat};
 
-    ghost Value = { Place };
+    ghost Value = { SeatData };
 
-    ghost coded = { coded_place };
+    ghost coded = { coded_seat };
 
     ghost view = { λ s. record {
       desk = record { id = s.seat.table_id; task = s.seat.me.0.task };

@@ -3,7 +3,7 @@ ghost use Rattle.std.specs.Prelude.{◌≡◌, ◌<◌, ◌≤◌, IfOk};
 ghost use Rattle.pram_board.specs.Worked.{Works};
 
 use super::*;
-use pram_step::{Cells, Fault, RunAnswer};
+use pram_step::{Cells, Fault, RunAnswer, plain_answer};
 use pram_text::{Job, read_job};
 use std::process::Abort;
 use std::sync::atomic::{AtomicU64, Ordering};
@@ -18,6 +18,11 @@ const BELOW_ZERO: &str =
     "pram 1\ncells 1\nprocs 1\nsteps 3\ncode\nset r1 1\nsub r2 r0 r1\nst r0 r2\n";
 
 const TWO: &str = "pram 1\ncells 2\nprocs 2\nsteps 1\ncode\npid r0\n";
+
+// Each processor doubles a cell: they are in two blocks of at most four.
+const DOUBLED: &str = "pram 1\ncells 5\nprocs 5\nsteps 4\n\
+    init 0 10\ninit 1 11\ninit 2 12\ninit 3 13\ninit 4 14\ncode\n\
+    pid r0\nld r1 r0\nadd r1 r1 r1\nst r0 r1\n";
 
 // Processors 1 and 3 write 1 and 3 to cell 4 in step 5.
 const DISPUTED: &str = "pram 1\ncells 5\nprocs 4\nsteps 5\ninit 1 1\ninit 3 1\ncode\n\
@@ -40,6 +45,21 @@ fn opened(rt: &(impl AllocGlobal + Abort), text: &str, cells: u32) -> Result<(Bo
     let job = read_job(rt.alloc(), text.as_bytes())?;
     assert!(rt; job.cells() == cells);
     Ok(Board::open(rt.alloc(), &job, 2)?)
+}
+
+// The same with blocks of four processors.
+fn opened_with_blocks(
+    rt: &(impl AllocGlobal + Abort),
+    text: &str,
+    cells: u32,
+) -> Result<(Board, Seat), Fail>
+    ensures seat { IfOk result (λ made. made.1.desk ≡ made.0) }
+    ensures workers { IfOk result (λ made. made.0.task.layout.workers ≡ 2) }
+    ensures cells { IfOk result (λ made. made.0.task.job.cells ≡ cells) }
+{
+    let job = read_job(rt.alloc(), text.as_bytes())?;
+    assert!(rt; job.cells() == cells);
+    Ok(Board::open_with_blocks(rt.alloc(), &job, 2, 4)?)
 }
 
 // Lets a worker go on to its end, and answers as a run does.
@@ -80,18 +100,33 @@ fn is_answer(answer: &RunAnswer, cells: Option<&[u32]>) -> bool {
     }
 }
 
-// A row of the worked ones: its text, its cells, and what they hold in the end, if it ends.
+// A row of the worked ones: its text, its cells, whether its board has blocks, and what the cells
+// hold in the end, if it ends.
 #[derive(Clone, Copy)]
 struct Row<'a> {
     text: &'a str,
     cells: u32,
+    blocks: bool,
     answer: Option<&'a [u32]>,
+}
+
+// A board of a row, for two workers.
+fn laid(rt: &(impl AllocGlobal + Abort), row: &Row) -> Result<(Board, Seat), Fail>
+    ensures seat { IfOk result (λ made. made.1.desk ≡ made.0) }
+    ensures workers { IfOk result (λ made. made.0.task.layout.workers ≡ 2) }
+    ensures cells { IfOk result (λ made. made.0.task.job.cells ≡ row.now.cells) }
+{
+    if row.blocks {
+        opened_with_blocks(rt, row.text, row.cells)
+    } else {
+        opened(rt, row.text, row.cells)
+    }
 }
 
 // Worker 0 makes so many steps and is given up, worker 1 finishes, and worker 0 comes back. It
 // tells whether worker 0 was over before.
 fn lost(rt: &(impl AllocGlobal + Abort), row: &Row, steps: u64) -> Result<bool, Fail> {
-    let (board, seat) = opened(rt, row.text, row.cells)?;
+    let (board, seat) = laid(rt, row)?;
     let (mut seat, mut other) = board.split(seat);
     let mut worker = Worker::start(0);
     if let Stay::Ended(_) = board.work(&mut seat, &mut worker, &Open, Some(steps)) {
@@ -126,7 +161,7 @@ fn take_turns(
 // Two workers of number 0 take turns; one is given up, the other finishes. It tells whether the
 // first was over before.
 fn twins(rt: &(impl AllocGlobal + Abort), row: &Row, steps: u64) -> Result<bool, Fail> {
-    let (board, seat) = opened(rt, row.text, row.cells)?;
+    let (board, seat) = laid(rt, row)?;
     let (mut seat, mut other) = board.split(seat);
     let mut worker = Worker::start(0);
     let mut twin = Worker::start(0);
@@ -159,6 +194,7 @@ fn a_worker_lost_at_each_step(rt: HostRuntime) -> Result<(), Fail> {
     let row = Row {
         text: SWAP,
         cells: 2,
+        blocks: false,
         answer: Some(&[9, 7]),
     };
     survives_loss(&rt, &row)?;
@@ -171,6 +207,7 @@ fn a_worker_lost_before_a_conflict(rt: HostRuntime) -> Result<(), Fail> {
     let row = Row {
         text: text.as_str(),
         cells: 5,
+        blocks: false,
         answer: None,
     };
     survives_loss(&rt, &row)?;
@@ -183,10 +220,54 @@ fn a_worker_lost_under_crew(rt: HostRuntime) -> Result<(), Fail> {
     let row = Row {
         text: text.as_str(),
         cells: 5,
+        blocks: false,
         answer: None,
     };
     survives_loss(&rt, &row)?;
     survives_twins(&rt, &row)
+}
+
+// A worker that comes back begins its block again.
+#[test]
+fn a_worker_lost_in_a_block(rt: HostRuntime) -> Result<(), Fail> {
+    survives_loss(&rt, &with_blocks(DOUBLED, Some(&[20, 22, 24, 26, 28])))
+}
+
+#[test]
+fn twins_in_a_block(rt: HostRuntime) -> Result<(), Fail> {
+    survives_twins(&rt, &with_blocks(DOUBLED, Some(&[20, 22, 24, 26, 28])))
+}
+
+#[test]
+fn a_conflict_within_a_block(rt: HostRuntime) -> Result<(), Fail> {
+    survives_loss(&rt, &with_blocks(DISPUTED, None))
+}
+
+fn with_blocks<'a>(text: &'a str, answer: Option<&'a [u32]>) -> Row<'a> {
+    Row {
+        text,
+        cells: 5,
+        blocks: true,
+        answer,
+    }
+}
+
+// Two workers take turns and are given up, and a third one ends what they began.
+#[test]
+fn blocks_answer_as_the_plain_machine(rt: HostRuntime) -> Result<(), Fail> {
+    let job = read_job(rt.alloc(), DOUBLED.as_bytes())?;
+    let (board, seat) = Board::open_with_blocks(rt.alloc(), &job, 3, 4)?;
+    let (mut seat, rest) = board.split(seat);
+    let (mut other, mut last) = board.split(rest);
+    let mut worker = Worker::start(0);
+    let mut twin = Worker::start(1);
+    take_turns(&board, &mut seat, &mut worker, &mut other, &mut twin, 100);
+    let answer = finished(&rt, &board, &mut last, &mut Worker::start(2))?;
+    match plain_answer(rt.alloc(), &job)? {
+        RunAnswer::Final(cells) => assert!(rt; is_answer(&answer, Some(cells.as_slice()))),
+        _ => panic!(rt; "not final"),
+    }
+    Ok(())
 }
 
 #[test]
@@ -205,6 +286,7 @@ fn under_priority(text: &str) -> Row<'_> {
     Row {
         text,
         cells: 5,
+        blocks: false,
         answer: Some(&[0, 1, 0, 1, 1]),
     }
 }

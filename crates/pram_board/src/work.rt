@@ -19,7 +19,7 @@ pub enum Stay {
 impl Board {
     ghost use Rattle.std.specs.Prelude.{◌≡◌, None};
     ghost use Rattle.walkx.specs.Walk.{end_of};
-    ghost use Rattle.pram_board.specs.Inner.Asked.{Asks};
+    ghost use Rattle.pram_board.specs.Inner.Next.{IsNext};
     ghost use Rattle.pram_board.specs.Seats.{IsLater};
     ghost use Rattle.pram_board.specs.Worked.{EndShows, IsTick, Ticked, Worked, Works};
 
@@ -46,8 +46,8 @@ impl Board {
 
     /// Ticks until the worker is over or has made as many atomic steps as the limit. The gate is
     /// passed before each atomic step, with the worker's number and the steps made so far in this
-    /// call. Without a limit it makes at most 300 L T + 8 steps, L being the leaves and T the steps
-    /// of the job, whatever other seats do.
+    /// call. Without a limit it makes at most 300 L T + 8 steps, T being the steps of the job and L
+    /// the least power of two with a place for each processor, whatever other seats do.
     pub fn work<G: Gate>(
         &self,
         seat: &mut Seat,
@@ -67,10 +67,10 @@ impl Board {
         stay
     }
 
-    // One atomic step of a worker, which asks for it.
+    // One atomic step of a worker, its next operation.
     fn advance(&self, seat: &mut Seat, worker: &mut Worker, op: Op)
         requires works { Works self.now seat.old worker.old }
-        requires asks { Asks self.now.task worker.old.walking op }
+        requires next { IsNext self.now.task worker.old.walking op }
         requires going { end_of worker.old.walking.now ≡ None }
         ensures ticked { Ticked self.now.task seat.old worker.old.walking seat.new
             worker.new.walking }

@@ -34,7 +34,7 @@ use Rattle.pram_board.specs.declared.look.Progress.{Progress}
 use Rattle.pram_board.specs.declared.task.Task.{Task}
 use Rattle.pram_board.specs.declared.work.Stay.{Stay}
 use Rattle.pram_board.specs.declared.work.Stay.TheVariants as stay
-use Rattle.pram_board.specs.Seats.{Desk, Place, Progressed, HasLoaded}
+use Rattle.pram_board.specs.Seats.{Desk, SeatData, Progressed, HasLoaded}
 use Rattle.pram_board.specs.Seats.{IsLoad, KnowsConflict, hears_all, unites}
 use Rattle.pram_board.specs.Worked.{EndShows, Worked, end_in}
 use Rattle.pram_run.specs.Inner.Obeying.{GoesOn, EndsOrStops, AllEndOrStop}
@@ -43,27 +43,27 @@ use Rattle.pram_run.proofs.Records.{left_all, right_all, heard_all, shows_all, s
 
 -- ---- a seat goes on
 
-pub goes_self : (p : Place) → GoesOn p p
+pub goes_self : (p : SeatData) → GoesOn p p
 goes_self p = record { desk = refl; begins = begins_self p.record_of }
 
-pub goes_trans : (p q r : Place) → GoesOn p q → GoesOn q r → GoesOn p r
+pub goes_trans : (p q r : SeatData) → GoesOn p q → GoesOn q r → GoesOn p r
 goes_trans p q r h k = record {
   desk = k.desk ∙ h.desk;
   begins = begins_trans p.record_of q.record_of r.record_of h.begins k.begins;
 }
 
-pub goes_all : (p q : Place) (steps : List (Op × ℕ)) → q ≡ hears_all p steps → GoesOn p q
+pub goes_all : (p q : SeatData) (steps : List (Op × ℕ)) → q ≡ hears_all p steps → GoesOn p q
 goes_all p q steps is = record {
-  desk = ap (λ (s : Place). s.desk) is;
-  begins = subst (λ (s : Place). BeginsWith p.record_of s.record_of)
+  desk = ap (λ (s : SeatData). s.desk) is;
+  begins = subst (λ (s : SeatData). BeginsWith p.record_of s.record_of)
       (sym is) (begins_afters p.record_of steps);
 }
 
-pub goes_united : (first p q later : Place) → later ≡ unites p q → GoesOn first p →
+pub goes_united : (first p q later : SeatData) → later ≡ unites p q → GoesOn first p →
     GoesOn first q → GoesOn first later
 goes_united first p q later is h k = record {
-  desk = ap (λ (s : Place). s.desk) is ∙ h.desk;
-  begins = subst (λ (s : Place). BeginsWith first.record_of s.record_of)
+  desk = ap (λ (s : SeatData). s.desk) is ∙ h.desk;
+  begins = subst (λ (s : SeatData). BeginsWith first.record_of s.record_of)
       (sym is) (inr (h.begins, k.begins));
 }
 
@@ -81,28 +81,28 @@ end_shown t r ended.Done h = inl h.shows
 end_shown t r (ended.Conflict u) h = inr (u, not_zero t.job u h.1, h.0)
 
 -- work without a limit ends with the worker
-pub unlimited_ends : (t : Task) (p : Place) (w : Walking)
-    (q : Place) (now : Walking) (stay : Stay) → Worked t p w None q now stay →
+pub unlimited_ends : (t : Task) (p : SeatData) (w : Walking)
+    (q : SeatData) (now : Walking) (stay : Stay) → Worked t p w None q now stay →
     EndShows t q.record_of (end_in stay) → ShowsEnd t q.record_of
 unlimited_ends t p w q now (stay.Ended e) worked shows = end_shown t q.record_of e shows
 unlimited_ends t p w q now stay.Stopped worked shows = absurd (let e = worked.stays.0 in cc)
 
 -- ---- joined seats
 
-pub ends_front : (rows : List Row) (worker : ℕ) (p q later : Place) → later ≡ unites p q →
+pub ends_front : (rows : List Row) (worker : ℕ) (p q later : SeatData) → later ≡ unites p q →
     EndsOrStops rows worker p → EndsOrStops rows worker later
 ends_front rows worker p q later is h =
-    subst (λ (s : Place). EndsOrStops rows worker s) (sym is) (by h)
+    subst (λ (s : SeatData). EndsOrStops rows worker s) (sym is) (by h)
   where
     by : EndsOrStops rows worker p → EndsOrStops rows worker (unites p q)
     by (inl s) = inl (end_all p.desk.task p.record_of (both p.record_of q.record_of)
         (left_all p.record_of q.record_of) s)
     by (inr s) = inr s
 
-pub ends_back : (rows : List Row) (worker : ℕ) (p q later : Place) → q.desk ≡ p.desk →
+pub ends_back : (rows : List Row) (worker : ℕ) (p q later : SeatData) → q.desk ≡ p.desk →
     later ≡ unites p q → EndsOrStops rows worker q → EndsOrStops rows worker later
 ends_back rows worker p q later desk is h =
-    subst (λ (s : Place). EndsOrStops rows worker s) (sym is) (by h)
+    subst (λ (s : SeatData). EndsOrStops rows worker s) (sym is) (by h)
   where
     by : EndsOrStops rows worker q → EndsOrStops rows worker (unites p q)
     by (inl s) = inl (subst (λ (d : Desk). ShowsEnd d.task (both p.record_of q.record_of)) desk
@@ -140,14 +140,14 @@ some_named n o e f = elim (cases_Bool (n == 0)) [
   | inr apart ↦ eqb-false n 0 apart
 ]
 
-heard_named : (t : Task) (p q : Place) (progress : Progress) (h : Progressed t p q progress) →
+heard_named : (t : Task) (p q : SeatData) (progress : Progress) (h : Progressed t p q progress) →
     Heard t.layout q.record_of Conflict h.named
 heard_named t p q progress h =
-    subst (λ (x : Place). Heard t.layout x.record_of Conflict h.named) (sym h.is)
+    subst (λ (x : SeatData). Heard t.layout x.record_of Conflict h.named) (sym h.is)
     (record { op = Load (number_of t.layout Conflict); hears = refl; has = inl (refl, tt) })
 
 -- a conflict is heard
-pub progress_heard : (t : Task) (p q : Place) (progress : Progress) → Progressed t p q progress →
+pub progress_heard : (t : Task) (p q : SeatData) (progress : Progress) → Progressed t p q progress →
     is_some progress.conflict ≡ true → KnowsConflict t.layout q.record_of
 progress_heard t p q progress h some =
     record {
@@ -156,13 +156,13 @@ progress_heard t p q progress h some =
       heard = heard_named t p q progress h;
     }
 
-pub progress_goes : (t : Task) (p q : Place) (progress : Progress) →
+pub progress_goes : (t : Task) (p q : SeatData) (progress : Progress) →
     Progressed t p q progress → GoesOn p q
 progress_goes t p q progress h = goes_all p q ((Load (number_of t.layout Conflict), h.named)
     ∷ (Load (number_of t.layout (Node 1)), h.root) ∷ []) h.is
 
 -- where no conflict is heard and the last step is not seen, the end is not shown
-unended : (t : Task) (p q : Place) (progress : Progress) →
+unended : (t : Task) (p q : SeatData) (progress : Progress) →
     Progressed t p q progress → Sound t.job t.layout q.record_of →
     is_some progress.conflict ≡ false → progress.step < t.job.steps → ShowsEnd t q.record_of → ⊥
 unended t p q progress h sound none low (inl shows) =
@@ -170,36 +170,36 @@ unended t p q progress h sound none low (inl shows) =
 unended t p q progress h sound none low (inr s) =
     none_heard t.job t.layout
     (after p.record_of (Load (number_of t.layout (Node 1))) h.root) h.named s.0
-    (subst (λ (x : Place). Sound t.job t.layout x.record_of) h.is sound)
+    (subst (λ (x : SeatData). Sound t.job t.layout x.record_of) h.is sound)
     (none_named h.named progress.conflict h.conflict none) s.1
-    (subst (λ (x : Place). Heard t.layout x.record_of Conflict s.0) h.is s.2)
+    (subst (λ (x : SeatData). Heard t.layout x.record_of Conflict s.0) h.is s.2)
 
 -- ---- what a look at the board ends with
 
-pub worked_goes : (t : Task) (p : Place) (w : Walking) (limit : Option ℕ) (q : Place)
+pub worked_goes : (t : Task) (p : SeatData) (w : Walking) (limit : Option ℕ) (q : SeatData)
     (now : Walking) (stay : Stay) → Worked t p w limit q now stay → GoesOn p q
 worked_goes t p w limit q now stay h =
     goes_all p q (steps_of t.job t.layout w h.ran.answers) h.ran.seat
 
-pub loads_go : (n : ℕ) (p q : Place) → HasLoaded n p q → GoesOn p q
+pub loads_go : (n : ℕ) (p q : SeatData) → HasLoaded n p q → GoesOn p q
 loads_go n p q h = goes_all p q h.steps h.is
 
-pub same_goes : (p q : Place) → q ≡ p → GoesOn p q
-same_goes p q is = subst (λ (x : Place). GoesOn p x) (sym is) (goes_self p)
+pub same_goes : (p q : SeatData) → q ≡ p → GoesOn p q
+same_goes p q is = subst (λ (x : SeatData). GoesOn p x) (sym is) (goes_self p)
 
-pub shows_goes : (y : LayoutData) (p q : Place) (t : ℕ) → GoesOn p q →
+pub shows_goes : (y : LayoutData) (p q : SeatData) (t : ℕ) → GoesOn p q →
     Shows y p.record_of t → Shows y q.record_of t
 shows_goes y p q t goes s =
     shows_all y p.record_of q.record_of t (begins_all p.record_of q.record_of goes.begins) s
 
 -- the last step is shown
-pub last_shown : (t : Task) (p q : Place) (progress : Progress) → Progressed t p q progress →
+pub last_shown : (t : Task) (p q : SeatData) (progress : Progress) → Progressed t p q progress →
     t.job.steps ≤ progress.step → Shows t.layout q.record_of t.job.steps
 last_shown t p q progress h le =
     shows_earlier t.layout q.record_of progress.step t.job.steps le h.well.shows
 
 -- the conflict that was heard is the one that is answered
-pub conflict_shown : (t : Task) (p q later : Place) (progress : Progress) (fault : Fault) →
+pub conflict_shown : (t : Task) (p q later : SeatData) (progress : Progress) (fault : Fault) →
     Progressed t p q progress → is_some progress.conflict ≡ true →
     GoesOn q later → IsFault t.job fault → Heard t.layout later.record_of Conflict fault.step
 conflict_shown t p q later progress fault h some goes is =
@@ -210,7 +210,7 @@ conflict_shown t p q later progress fault h some goes is =
     (heard_all t.layout q.record_of later.record_of Conflict h.named
     (begins_all q.record_of later.record_of goes.begins) (heard_named t p q progress h))
 
-pub unfinished_shown : (t : Task) (p q : Place) (progress : Progress) →
+pub unfinished_shown : (t : Task) (p q : SeatData) (progress : Progress) →
     Progressed t p q progress → Sound t.job t.layout q.record_of →
     is_some progress.conflict ≡ false → progress.step < t.job.steps →
     Tells t q.record_of (Unfinished progress.step)
@@ -234,26 +234,26 @@ loads_both : (xs ys : List (Op × ℕ)) → AllByRecursion (λ (e : Op × ℕ). 
 loads_both [] ys h k = k
 loads_both (x ∷ xs) ys h k = (h.0, loads_both xs ys h.1 k)
 
-pub looked_more : (p q r : Place) → HasLooked p q → HasLooked q r → HasLooked p r
+pub looked_more : (p q r : SeatData) → HasLooked p q → HasLooked q r → HasLooked p r
 looked_more p q r h k = (
   length (k.1.steps ++ h.1.steps),
   record {
     steps = k.1.steps ++ h.1.steps;
-    is = k.1.is ∙ ap (λ (x : Place). hears_all x k.1.steps) h.1.is
-        ∙ ap (λ (s : Record). (let x : Place = record { desk = p.desk; record_of = s } in x))
+    is = k.1.is ∙ ap (λ (x : SeatData). hears_all x k.1.steps) h.1.is
+        ∙ ap (λ (s : Record). (let x : SeatData = record { desk = p.desk; record_of = s } in x))
         (afters_both p.record_of h.1.steps k.1.steps);
     loads = loads_both k.1.steps h.1.steps k.1.loads h.1.loads;
     count = refl;
   },
 )
 
-pub looked_same : (p q : Place) → q ≡ p → HasLooked p q
+pub looked_same : (p q : SeatData) → q ≡ p → HasLooked p q
 looked_same p q is = (0, record { steps = []; is = is; loads = tt; count = refl })
 
-pub looked_goes : (p q : Place) → HasLooked p q → GoesOn p q
+pub looked_goes : (p q : SeatData) → HasLooked p q → GoesOn p q
 looked_goes p q h = loads_go h.0 p q h.1
 
-pub progress_looks : (t : Task) (p q : Place) (progress : Progress) →
+pub progress_looks : (t : Task) (p q : SeatData) (progress : Progress) →
     Progressed t p q progress → HasLooked p q
 progress_looks t p q progress h = (
   2,
@@ -268,7 +268,7 @@ progress_looks t p q progress h = (
 
 -- ---- an act of a row
 
-pub acts_goes : (a : Act) (t : Task) (number ticks : ℕ) (p : Place) (w : Walking) (q : Place)
+pub acts_goes : (a : Act) (t : Task) (number ticks : ℕ) (p : SeatData) (w : Walking) (q : SeatData)
     (now : Walking) → Acts a t number ticks p w q now → GoesOn p q
 acts_goes act.Go t number ticks p w q now h = worked_goes t p w (Some ticks) q now h.0 h.1
 acts_goes act.Sleep t number ticks p w q now h = same_goes p q h.0
@@ -283,7 +283,7 @@ not_shown t r (Final cells) un h shows = un
 not_shown t r (answer.Conflict fault) un h shows = un
 not_shown t r (Unfinished step) un h shows = h.unended shows
 
-pub run_at : (t : Task) (plan : PlanData) (p later : Place) (a : RunAnswer) →
+pub run_at : (t : Task) (plan : PlanData) (p later : SeatData) (a : RunAnswer) →
     p.desk.task ≡ t → AllEndOrStop plan p → HasLooked p later → Tells t later.record_of a →
     IsRun t plan later.record_of a
 run_at t plan p later a is all looked h = record {
@@ -296,13 +296,14 @@ run_at t plan p later a is all looked h = record {
   ];
 }
 
-pub run_of : {E : Type 0} (t : Task) (plan : PlanData) (p later : Place) (r : Result RunAnswer E) →
+pub run_of : {E : Type 0} (t : Task)
+    (plan : PlanData) (p later : SeatData) (r : Result RunAnswer E) →
     p.desk.task ≡ t → AllEndOrStop plan p → HasLooked p later →
     IfOk r (Tells t later.record_of) → IfOk r (IsRun t plan later.record_of)
 run_of t plan p later (Ok a) is all looked h = run_at t plan p later a is all looked h
 run_of t plan p later (Err e) is all looked h = h
 
 -- all that ended or stopped did so to a seat that is joined
-pub all_front : (plan : PlanData) (p q later : Place) → later ≡ unites p q →
+pub all_front : (plan : PlanData) (p q later : SeatData) → later ≡ unites p q →
     AllEndOrStop plan p → AllEndOrStop plan later
 all_front plan p q later is all worker lt = ends_front plan.rows worker p q later is (all worker lt)

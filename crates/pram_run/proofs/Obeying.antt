@@ -8,7 +8,7 @@ use Rattle.stop_plan.specs.declared.plan.Act.TheVariants.{Stop}
 use Rattle.stop_plan.specs.declared.plan.Row.{Row}
 use Rattle.pram_board.specs.declared.task.Task.{Task}
 use Rattle.pram_board.specs.declared.work.Stay.{Stay}
-use Rattle.pram_board.specs.Seats.{Place}
+use Rattle.pram_board.specs.Seats.{SeatData}
 use Rattle.pram_board.specs.Worked.{Worked}
 use Rattle.pram_run.specs.Obeyed.{DoesRow, Obeys}
 
@@ -18,13 +18,14 @@ next_row rows i d lt =
     drop-cons rows i d lt ∙ ap (λ (n : ℕ). get_or rows i d ∷ drop n rows) (sym (add-one i))
 
 pub other_row : (t : Task) (number : ℕ) (rows : List Row) (i : ℕ) (d : Row)
-    (p : Place) (w : Walking) (q : Place) → i < length rows → (get_or rows i d).worker ≢ number →
+    (p : SeatData) (w : Walking) (q : SeatData) →
+    i < length rows → (get_or rows i d).worker ≢ number →
     Obeys t number (drop (i + 1) rows) p w q → Obeys t number (drop i rows) p w q
 other_row t number rows i d p w q lt apart h =
     subst (λ (rs : List Row). Obeys t number rs p w q) (sym (next_row rows i d lt)) (inl (apart, h))
 
-pub own_row : (t : Task) (number : ℕ) (rows : List Row) (i : ℕ) (d : Row) (p : Place)
-    (w : Walking) (next : Place) (now : Walking) (q : Place) → i < length rows →
+pub own_row : (t : Task) (number : ℕ) (rows : List Row) (i : ℕ) (d : Row) (p : SeatData)
+    (w : Walking) (next : SeatData) (now : Walking) (q : SeatData) → i < length rows →
     (get_or rows i d).worker ≡ number → (get_or rows i d).act ≢ Stop →
     DoesRow t (get_or rows i d) p w next now → Obeys t number (drop (i + 1) rows) next now q →
     Obeys t number (drop i rows) p w q
@@ -32,15 +33,16 @@ own_row t number rows i d p w next now q lt own goes does h =
     subst (λ (rs : List Row). Obeys t number rs p w q) (sym (next_row rows i d lt))
     (inr (inr (own, goes, next, now, does, h)))
 
-pub stop_row : (t : Task) (number : ℕ) (rows : List Row) (i : ℕ) (d : Row) (p : Place) (w : Walking)
-    (q : Place) → i < length rows → (get_or rows i d).worker ≡ number →
+pub stop_row : (t : Task) (number : ℕ) (rows : List Row) (i : ℕ)
+    (d : Row) (p : SeatData) (w : Walking)
+    (q : SeatData) → i < length rows → (get_or rows i d).worker ≡ number →
     (get_or rows i d).act ≡ Stop → q ≡ p → Obeys t number (drop i rows) p w q
 stop_row t number rows i d p w q lt own stops is =
     subst (λ (rs : List Row). Obeys t number rs p w q)
     (sym (next_row rows i d lt)) (inr (inl (own, stops, is)))
 
 pub no_row : (t : Task) (number : ℕ) (rows : List Row)
-    (i : ℕ) (p : Place) (w : Walking) (q : Place) (now : Walking) (stay : Stay) → length rows ≤ i →
-    Worked t p w None q now stay → Obeys t number (drop i rows) p w q
+    (i : ℕ) (p : SeatData) (w : Walking) (q : SeatData) (now : Walking) (stay : Stay) →
+    length rows ≤ i → Worked t p w None q now stay → Obeys t number (drop i rows) p w q
 no_row t number rows i p w q now stay le worked = subst (λ (rs : List Row). Obeys t number rs p w q)
     (sym (drop_all i rows le)) (now, stay, worked)

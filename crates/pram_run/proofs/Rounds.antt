@@ -5,7 +5,7 @@ use Rattle.std.proofs.Common.{refl, sym, ap, subst, ◌∙◌, inl, inr, arith}
 use Rattle.std.proofs.lemmas.Bool.{cases_Bool, cases_lt}
 use Rattle.pram_text.specs.Job.{JobData, IsJob}
 use Rattle.pram_words.specs.declared.layout.Form.TheVariants.{Compact}
-use Rattle.pram_words.specs.Words.{LayoutData, layout_of}
+use Rattle.pram_words.specs.Words.{layout_of}
 use Rattle.stop_plan.specs.Schedule.{after_turns, after_rounds}
 use Rattle.walkx.specs.Bound.{most_steps}
 use Rattle.walkx.specs.Operations.{answer}
@@ -148,20 +148,19 @@ module _ (job : JobData) (workers : ℕ) where
   pub rounds_fewer : (b n : ℕ) (es : List Event) →
       IsJob job → 1 ≤ workers → workers ≤ 64 → b < workers →
       running job workers (after_rounds world_events (running job workers) workers n es) b ≡ true →
-      n < most_steps job (layout_of job Compact workers)
+      n < most_steps job
   rounds_fewer b n es limits some most below runs =
       let h : Held (After es) = run_holds (start job workers) es
       (record { made = empty; holds = holds_start job workers limits some most }) in
       let all = after_rounds world_events (running job workers) workers n es in
       let t = rounds_track b n es below h in
       let board = run_board (start job workers) all in
-      let less : n < most_steps (After all).job (After all).layout =
+      let less : n < most_steps (After all).job =
       fewer (After all) t.made b n t.holds (t.counted runs) (goer (After all) b runs) in
-      subst (λ (y : LayoutData). n < most_steps job y) board.1
-      (subst (λ (j : JobData). n < most_steps j (After all).layout) board.0 less)
+      subst (λ (j : JobData). n < most_steps j) board.0 less
 
   -- the bound fits 64 bits
   pub rounds_small : IsJob job → 1 ≤ workers → workers ≤ 64 →
-      most_steps job (layout_of job Compact workers) < 2 ^ 63
+      most_steps job < 2 ^ 63
   rounds_small limits some most = bound_small job (layout_of job Compact workers)
       (start job workers).words (holds_start job workers limits some most).stands

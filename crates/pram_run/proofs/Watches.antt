@@ -14,7 +14,7 @@ use Rattle.walkx.specs.Reads.{reader_script}
 use Rattle.walkx.specs.Scripts.{heard_in}
 use Rattle.lawful_walk.specs.Seen.{KnowsStep}
 use Rattle.pram_board.specs.declared.task.Task.{Task}
-use Rattle.pram_board.specs.Seats.{Place, WasRead, unites}
+use Rattle.pram_board.specs.Seats.{SeatData, WasRead, unites}
 use Rattle.pram_run.specs.declared.sight.Sight.{Sight}
 use Rattle.pram_run.specs.declared.watcher.Watched.{Watched}
 use Rattle.stop_plan.specs.Plan.{PlanData}
@@ -24,23 +24,24 @@ use Rattle.pram_run.specs.Inner.Obeying.{GoesOn, IsToWatch}
 use Rattle.pram_run.proofs.Records.{begins_all, knows_all}
 use Rattle.pram_run.proofs.Endings.{goes_self, goes_trans, goes_all, looked_more, looked_same}
 
-abbrev Read : Task → Place → Place → Sight → Type 0
+abbrev Read : Task → SeatData → SeatData → Sight → Type 0
 Read t p q s = WasRead t p q s.cell (At s.step s.value)
 
 -- one read more, after the others
-pub has_read_more : (t : Task) (p q next : Place) (ss : List Sight) (s : Sight) → HasRead t p ss q →
+pub has_read_more : (t : Task) (p q next : SeatData) (ss : List Sight) (s : Sight) →
+    HasRead t p ss q →
     Read t q next s → HasRead t p (ss ++ s ∷ []) next
-has_read_more t p q next [] s h r = (next, subst (λ (x : Place). Read t x next s) h r, refl)
+has_read_more t p q next [] s h r = (next, subst (λ (x : SeatData). Read t x next s) h r, refl)
 has_read_more t p q next (first ∷ ss) s h r = (h.0, h.1, has_read_more t h.0 q next ss s h.2 r)
 
-read_goes : (t : Task) (p q : Place) (s : Sight) → Read t p q s → GoesOn p q
+read_goes : (t : Task) (p q : SeatData) (s : Sight) → Read t p q s → GoesOn p q
 read_goes t p q s r = goes_all p q (heard_in (reader_script t.layout s.cell) r.answers) r.is
 
-pub reads_go : (t : Task) (p q : Place) (ss : List Sight) → HasRead t p ss q → GoesOn p q
-reads_go t p q [] h = subst (λ (x : Place). GoesOn p x) (sym h) (goes_self p)
+pub reads_go : (t : Task) (p q : SeatData) (ss : List Sight) → HasRead t p ss q → GoesOn p q
+reads_go t p q [] h = subst (λ (x : SeatData). GoesOn p x) (sym h) (goes_self p)
 reads_go t p q (s ∷ ss) h = goes_trans p h.0 q (read_goes t p h.0 s h.1) (reads_go t h.0 q ss h.2)
 
-all_tell : (t : Task) (p q : Place) (ss : List Sight) →
+all_tell : (t : Task) (p q : SeatData) (ss : List Sight) →
     HasRead t p ss q → All (λ s. IsTrueSight t s) ss
 all_tell t p q [] h = All-nil (λ s. IsTrueSight t s)
 all_tell t p q (s ∷ ss) h =
@@ -49,7 +50,7 @@ all_tell t p q (s ∷ ss) h =
     (record { reached = lawful.reached; value = lawful.holds }) (all_tell t h.0 q ss h.2)
 
 -- no step is below one that was known before
-all_least : (t : Task) (p q : Place) (ss : List Sight) (known : ℕ) → HasRead t p ss q →
+all_least : (t : Task) (p q : SeatData) (ss : List Sight) (known : ℕ) → HasRead t p ss q →
     KnowsStep t.layout p.record_of known → All (λ s. known ≤ s.step) ss
 all_least t p q [] known h k = All-nil (λ s. known ≤ s.step)
 all_least t p q (s ∷ ss) known h k =
@@ -66,7 +67,7 @@ rises_more s ss all rises zero (suc j) d le lt = all j d (omega arith)
 rises_more s ss all rises (suc i) zero d le lt = absurd (omega arith)
 rises_more s ss all rises (suc i) (suc j) d le lt = rises i j d (omega arith) (omega arith)
 
-all_rise : (t : Task) (p q : Place) (ss : List Sight) → HasRead t p ss q →
+all_rise : (t : Task) (p q : SeatData) (ss : List Sight) → HasRead t p ss q →
     IsNonDecreasingBy (λ x. x.step) ss
 all_rise t p q [] h = λ i j d le lt. absurd (omega arith)
 all_rise t p q (s ∷ ss) h =
@@ -77,7 +78,8 @@ all_rise t p q (s ∷ ss) h =
     rises_more s ss (λ k d lt. let low : known.0 ≤ (get_or ss k d).step = least k d lt in
     let near : s.step ≤ known.0 = known.2 in omega arith) (all_rise t next q ss h.2)
 
-pub is_watch : (t : Task) (cells : List ℕ) (rounds : ℕ) (p : Place) (ss : List Sight) (q : Place) →
+pub is_watch : (t : Task) (cells : List ℕ)
+    (rounds : ℕ) (p : SeatData) (ss : List Sight) (q : SeatData) →
     map (λ (s : Sight). s.cell) ss ≡ repeat rounds cells → HasRead t p ss q →
     IsWatch t cells rounds p ss q
 is_watch t cells rounds p ss q listed reads = record {
@@ -123,22 +125,22 @@ room_more n rounds l room lt all =
     omega (arith, count_more n l)
 
 -- what the reader's thread kept, of the seat that it was given
-pub watch_of : (t : Task) (cells : List ℕ) (rounds : ℕ) (first : Place) (promise : Watched)
-    (sights : List Sight) (p : Place) → IsToWatch cells rounds first promise →
+pub watch_of : (t : Task) (cells : List ℕ) (rounds : ℕ) (first : SeatData) (promise : Watched)
+    (sights : List Sight) (p : SeatData) → IsToWatch cells rounds first promise →
     first.desk.task ≡ t → GoesOn promise.before.value p
     × IsWatch promise.before.value.desk.task promise.cells.now promise.rounds promise.before.value
     sights p → IsWatch t cells rounds first sights p
-watch_of t cells rounds first promise sights p asked task h =
-    let h1 = subst (λ (x : Place).
-    IsWatch x.desk.task promise.cells.now promise.rounds x sights p) asked.seat h.1 in
+watch_of t cells rounds first promise sights p promised task h =
+    let h1 = subst (λ (x : SeatData).
+    IsWatch x.desk.task promise.cells.now promise.rounds x sights p) promised.seat h.1 in
     let h2 = subst (λ (x : List ℕ). IsWatch first.desk.task x promise.rounds first sights p)
-    asked.cells h1 in
-    let h3 = subst (λ (x : ℕ). IsWatch first.desk.task cells x first sights p) asked.rounds h2 in
+    promised.cells h1 in
+    let h3 = subst (λ (x : ℕ). IsWatch first.desk.task cells x first sights p) promised.rounds h2 in
     subst (λ (x : Task). IsWatch x cells rounds first sights p) task h3
 
 -- the seat of the reader is joined last
 pub watched_of : (t : Task) (plan : PlanData)
-    (cells : List ℕ) (rounds : ℕ) (first p q later : Place) (sights : List Sight) →
+    (cells : List ℕ) (rounds : ℕ) (first p q later : SeatData) (sights : List Sight) →
     AllObeyed t plan.rows first plan.workers p → IsWatch t cells rounds first sights q →
     later ≡ unites p q → HasWatched t plan cells rounds first sights later
 watched_of t plan cells rounds first p q later sights obeyed watch is =
@@ -150,7 +152,8 @@ watched_of t plan cells rounds first p q later sights obeyed watch is =
       looked = looked_same (unites p q) later is;
     }
 
-pub watched_later : (t : Task) (plan : PlanData) (cells : List ℕ) (rounds : ℕ) (first p q : Place)
+pub watched_later : (t : Task) (plan : PlanData) (cells : List ℕ)
+    (rounds : ℕ) (first p q : SeatData)
     (sights : List Sight) → HasWatched t plan cells rounds first sights p → HasLooked p q →
     HasWatched t plan cells rounds first sights q
 watched_later t plan cells rounds first p q sights h looked = record {

@@ -7,45 +7,49 @@ use Rattle.stop_plan.specs.declared.plan.Row.{Row}
 use Rattle.stop_plan.specs.Plan.{PlanData}
 use Rattle.pram_board.specs.declared.task.Task.{Task}
 use Rattle.pram_board.specs.declared.work.Stay.{Stay}
-use Rattle.pram_board.specs.Seats.{Place, HasLoaded, unites}
+use Rattle.pram_board.specs.Seats.{SeatData, HasLoaded, unites}
 use Rattle.pram_board.specs.Worked.{Worked}
 
--- What an act makes of a worker at the seat p: it works up to so many ticks; it does nothing; it
+-- What an act makes of a worker at a seat: it works up to so many ticks; it does nothing; it
 -- comes back, knowing its number alone; or it is lost, and does nothing.
-abbrev pub Acts : Act → Task → ℕ → ℕ → Place → Walking → Place → Walking → Type 0
-Acts Go t number ticks p w q now = (stay : Stay) × Worked t p w (Some ticks) q now stay
-Acts Sleep t number ticks p w q now = (q ≡ p) × (now ≡ w)
-Acts Back t number ticks p w q now = (q ≡ p) × (now ≡ come_back number)
-Acts Stop t number ticks p w q now = (q ≡ p) × (now ≡ w)
+abbrev pub Acts : Act → Task → ℕ → ℕ → SeatData → Walking → SeatData → Walking → Type 0
+Acts Go task number ticks before walking later now =
+    (stay : Stay) × Worked task before walking (Some ticks) later now stay
+Acts Sleep task number ticks before walking later now = (later ≡ before) × (now ≡ walking)
+Acts Back task number ticks before walking later now = (later ≡ before) × (now ≡ come_back number)
+Acts Stop task number ticks before walking later now = (later ≡ before) × (now ≡ walking)
 
 -- one row of the worker
-abbrev pub DoesRow : Task → Row → Place → Walking → Place → Walking → Type 0
-DoesRow t row p w q now = Acts row.act t row.worker row.ticks p w q now
+abbrev pub DoesRow : Task → Row → SeatData → Walking → SeatData → Walking → Type 0
+DoesRow task row before walking later now =
+    Acts row.act task row.worker row.ticks before walking later now
 
--- From the seat p, the worker does the rows of its number in order, and then works without a limit;
--- a row that stops it is its last. So the seat q comes about.
-abbrev pub Obeys : Task → ℕ → List Row → Place → Walking → Place → Type 0
-Obeys t number [] p w q = (now : Walking) × (stay : Stay) × Worked t p w None q now stay
-Obeys t number (row ∷ rows) p w q = ((row.worker ≢ number) × Obeys t number rows p w q)
-    ⊎ (((row.worker ≡ number) × (row.act ≡ Stop) × (q ≡ p))
-    ⊎ ((row.worker ≡ number) × (row.act ≢ Stop) × (next : Place) × (now : Walking)
-    × DoesRow t row p w next now × Obeys t number rows next now q))
+-- From a seat, the worker does the rows of its number in order, and then works without a limit;
+-- a row that stops it is its last. So the later seat comes about.
+abbrev pub Obeys : Task → ℕ → List Row → SeatData → Walking → SeatData → Type 0
+Obeys task number [] before walking later =
+    (now : Walking) × (stay : Stay) × Worked task before walking None later now stay
+Obeys task number (row ∷ rows) before walking later =
+    ((row.worker ≢ number) × Obeys task number rows before walking later)
+    ⊎ (((row.worker ≡ number) × (row.act ≡ Stop) × (later ≡ before))
+    ⊎ ((row.worker ≡ number) × (row.act ≢ Stop) × (next : SeatData) × (now : Walking)
+    × DoesRow task row before walking next now × Obeys task number rows next now later))
 
--- The first n workers each obeyed the rows from the given seat, and their seats were joined to it,
--- one after the other: the seat q.
-abbrev pub AllObeyed : Task → List Row → Place → ℕ → Place → Type 0
-AllObeyed t rows given zero q = q ≡ given
-AllObeyed t rows given (suc n) q = (before : Place) × (theirs : Place)
-    × AllObeyed t rows given n before × Obeys t n rows given (started n) theirs
-    × (q ≡ unites before theirs)
+-- The first so many workers each obeyed the rows from the given seat, and their seats were joined
+-- to it, one after the other: the later seat.
+abbrev pub AllObeyed : Task → List Row → SeatData → ℕ → SeatData → Type 0
+AllObeyed task rows given zero later = later ≡ given
+AllObeyed task rows given (suc worker) later = (before : SeatData) × (theirs : SeatData)
+    × AllObeyed task rows given worker before × Obeys task worker rows given (started worker) theirs
+    × (later ≡ unites before theirs)
 
 -- some loads more
-abbrev pub HasLooked : Place → Place → Type 0
-HasLooked p q = (n : ℕ) × HasLoaded n p q
+abbrev pub HasLooked : SeatData → SeatData → Type 0
+HasLooked before later = (loads : ℕ) × HasLoaded loads before later
 
 -- The plan's workers obeyed it from the given seat, and the seat that joins theirs looked at the
 -- board.
-pub record HasRun (t : Task) (plan : PlanData) (given later : Place) : Type 0 where
-  pub seat : Place
-  pub obeyed : AllObeyed t plan.rows given plan.workers seat
+pub record HasRun (task : Task) (plan : PlanData) (given later : SeatData) : Type 0 where
+  pub seat : SeatData
+  pub obeyed : AllObeyed task plan.rows given plan.workers seat
   pub looked : HasLooked seat later

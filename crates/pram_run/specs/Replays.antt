@@ -14,11 +14,12 @@ use Rattle.pram_run.specs.Traces.{trace_of}
 
 -- a world's events
 abbrev pub world_events : Events Event
-world_events = record { go = λ b. Go b; stop = λ b. Stop b; back = λ b. Back b }
+world_events =
+    record { go = λ worker. Go worker; stop = λ worker. Stop worker; back = λ worker. Back worker }
 
 -- whether a worker still runs after these events
 abbrev pub running : JobData → ℕ → Running Event
-running job workers events b = going (run (start job workers) events) b
+running job workers events worker = going (run (start job workers) events) worker
 
 -- The outcome of the world after the plan's schedule, and the atomic steps of that run. It is
 -- unfinished only where the plan stops every worker.

@@ -16,10 +16,10 @@ row_with worker kind word before after =
 
 -- the row of a step on these words, if it is an atomic step
 abbrev pub row_by : ℕ → ℕ → ℕ → Op → Option TraceRow
-row_by worker before after (op.Load k) = Some (row_with worker Load k before after)
-row_by worker before after (op.Store k value) = Some (row_with worker Store k before after)
-row_by worker before after (op.Max k value) = Some (row_with worker Max k before after)
-row_by worker before after (op.Swap k old new) = Some (row_with worker Swap k before after)
+row_by worker before after (op.Load word) = Some (row_with worker Load word before after)
+row_by worker before after (op.Store word value) = Some (row_with worker Store word before after)
+row_by worker before after (op.Max word value) = Some (row_with worker Max word before after)
+row_by worker before after (op.Swap word old new) = Some (row_with worker Swap word before after)
 row_by worker before after (op.Over ended) = None
 
 abbrev pub row_of : ℕ → Option Op → ℕ → ℕ → Option TraceRow
@@ -32,14 +32,15 @@ listed (Some row) = row ∷ []
 
 -- the rows of what an event of this worker showed: one for an atomic step, else none
 abbrev pub rows_of : ℕ → Effect → List TraceRow
-rows_of worker e = listed (row_of worker e.op e.before e.after)
+rows_of worker effect = listed (row_of worker effect.op effect.before effect.after)
 
 abbrev pub body_of : Event → ℕ
-body_of (Go b) = b
-body_of (Stop b) = b
-body_of (Back b) = b
+body_of (Go body) = body
+body_of (Stop body) = body
+body_of (Back body) = body
 
 -- the atomic steps of a run, in order
 unfoldable pub trace_of : WorldData → List Event → List TraceRow
-trace_of s [] = []
-trace_of s (e ∷ es) = rows_of (body_of e) (shown s e) ++ trace_of (happens s e) es
+trace_of world [] = []
+trace_of world (event ∷ events) =
+    rows_of (body_of event) (shown world event) ++ trace_of (happens world event) events

@@ -7,7 +7,7 @@ use Rattle.walkx.specs.declared.operation.Reading.TheVariants.{At}
 use Rattle.lawful_walk.specs.Seen.{KnowsStep}
 use Rattle.pram_board.specs.declared.task.Task.{Task}
 use Rattle.stop_plan.specs.Plan.{PlanData}
-use Rattle.pram_board.specs.Seats.{Place, WasRead, unites}
+use Rattle.pram_board.specs.Seats.{SeatData, WasRead, unites}
 use Rattle.pram_run.specs.Obeyed.{AllObeyed, HasLooked}
 use Rattle.pram_run.specs.declared.sight.Sight.{Sight}
 
@@ -17,34 +17,35 @@ cells_of sights = map (λ sight. sight.cell) sights
 
 -- the reads of a list, one after the other, each lawful, from one seat's record to the one after
 -- them
-abbrev pub HasRead : Task → Place → List Sight → Place → Type 0
-HasRead t p [] q = q ≡ p
-HasRead t p (sight ∷ sights) q = (next : Place)
-    × WasRead t p next sight.cell (At sight.step sight.value) × HasRead t next sights q
+abbrev pub HasRead : Task → SeatData → List Sight → SeatData → Type 0
+HasRead task before [] later = later ≡ before
+HasRead task before (sight ∷ sights) later = (next : SeatData)
+    × WasRead task before next sight.cell (At sight.step sight.value)
+    × HasRead task next sights later
 
 -- what the cell holds after the step, which is reached
-pub record IsTrueSight (t : Task) (sight : Sight) : Type 0 where
-  pub reached : IsReached t.job sight.step
-  pub value : sight.value ≡ slice_index (state_after t.job sight.step) sight.cell
+pub record IsTrueSight (task : Task) (sight : Sight) : Type 0 where
+  pub reached : IsReached task.job sight.step
+  pub value : sight.value ≡ slice_index (state_after task.job sight.step) sight.cell
 
--- The list has so many rounds through the cells, in order, from the seat p to the seat q: each
--- entry is a read, so it tells what its cell holds after its step; no step is below one that p
--- knew, and the steps never fall.
-pub record IsWatch (t : Task) (cells : List ℕ) (rounds : ℕ) (p : Place) (sights : List Sight) (q :
-    Place) : Type 0 where
+-- The list has so many rounds through the cells, in order, from one seat to a later one: each
+-- entry is a read, so it tells what its cell holds after its step; no step is below one that the
+-- seat before knew, and the steps never fall.
+pub record IsWatch (task : Task) (cells : List ℕ) (rounds : ℕ) (before : SeatData)
+    (sights : List Sight) (later : SeatData) : Type 0 where
   pub listed : cells_of sights ≡ repeat rounds cells
-  pub reads : HasRead t p sights q
-  pub tells : All (λ sight. IsTrueSight t sight) sights
-  pub least : All (λ sight. (known : ℕ) → KnowsStep t.layout p.record_of known →
+  pub reads : HasRead task before sights later
+  pub tells : All (λ sight. IsTrueSight task sight) sights
+  pub least : All (λ sight. (known : ℕ) → KnowsStep task.layout before.record_of known →
       known ≤ sight.step) sights
   pub rises : IsNonDecreasingBy (λ sight. sight.step) sights
 
 -- The plan's workers obeyed it from the given seat, and a reader beside them made this watch from
 -- it; the seat that joins theirs, the reader's last, looked at the board.
-pub record HasWatched (t : Task) (plan : PlanData) (cells : List ℕ) (rounds : ℕ) (given : Place)
-    (sights : List Sight) (later : Place) : Type 0 where
-  pub seat : Place
-  pub obeyed : AllObeyed t plan.rows given plan.workers seat
-  pub reader : Place
-  pub watch : IsWatch t cells rounds given sights reader
+pub record HasWatched (task : Task) (plan : PlanData) (cells : List ℕ) (rounds : ℕ)
+    (given : SeatData) (sights : List Sight) (later : SeatData) : Type 0 where
+  pub seat : SeatData
+  pub obeyed : AllObeyed task plan.rows given plan.workers seat
+  pub reader : SeatData
+  pub watch : IsWatch task cells rounds given sights reader
   pub looked : HasLooked (unites seat reader) later

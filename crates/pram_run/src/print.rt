@@ -23,7 +23,7 @@ const HEADER: &str = "tick,worker,op,word,before,after\n";
 const SIGHTS_HEADER: &str = "step,cell,value\n";
 
 /// The most rows that are put into the sink at once.
-const PIECE: usize = 512;
+const PIECE: usize = 2048;
 
 /// Prints the rows of a trace below a header, the ticks counted from 1. They go out piece by piece,
 /// so that the text of all of them never stands in memory. Out of memory, a beginning of
@@ -75,7 +75,8 @@ fn lines_between(
     }
 }
 
-// The fields of a row are numbers and words, which csv writes without quotes.
+// The fields of a row are numbers and words, which csv writes without quotes. Most steps leave
+// their word as it was: then one text serves twice.
 fn write_row<W: Write + Drop>(
     writer: &mut Writer<W>,
     tick: u64,
@@ -91,13 +92,19 @@ fn write_row<W: Write + Drop>(
     let mut words = Buffer::new();
     let mut befores = Buffer::new();
     let mut afters = Buffer::new();
+    let before = number_text(&mut befores, row.before);
+    let after = if row.after == row.before {
+        before
+    } else {
+        number_text(&mut afters, row.after)
+    };
     writer.write_fields(&[
         number_text(&mut ticks, tick),
         number_text(&mut workers, u64::from(row.worker)),
         row.kind.word().as_bytes(),
         number_text(&mut words, u64::from(row.word)),
-        number_text(&mut befores, row.before),
-        number_text(&mut afters, row.after),
+        before,
+        after,
     ])
 }
 

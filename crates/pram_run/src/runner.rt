@@ -5,7 +5,7 @@ ghost use Rattle.pram_board.specs.Worked.{Works};
 ghost use Rattle.walkx.specs.Walk.{started};
 ghost use Rattle.lawful_walk.specs.Seen.{BeginsWith};
 ghost use Rattle.pram_run.specs.Inner.Obeying.{AllWorked, EndsOrStops, GoesOn, HasObeyed};
-ghost use Rattle.pram_run.specs.Inner.Obeying.{WasAsked};
+ghost use Rattle.pram_run.specs.Inner.Obeying.{IsToObey};
 ghost use Rattle.pram_run.specs.Obeyed.{AllObeyed, DoesRow, HasRun, Obeys};
 ghost use Rattle.pram_run.specs.Running.{IsBoardFor, IsRun};
 
@@ -107,8 +107,8 @@ fn start_all<'s, E, G: Gate + Sync>(
     requires empty { vec_len threads.old ≡ 0 }
     requires room { crew.now.plan.now.workers ≤ vec_capacity threads.old }
     ensures seat { result.0 ≡ seat }
-    ensures asked { (k : ℕ) (d : _) → k < vec_len threads.new →
-        WasAsked crew.now.plan.now.rows k seat (slice_index_or threads.new.items k d).promise }
+    ensures promised { (k : ℕ) (d : _) → k < vec_len threads.new →
+        IsToObey crew.now.plan.now.rows k seat (slice_index_or threads.new.items k d).promise }
     ensures all { OnOk result.1 (vec_len threads.new ≡ crew.now.plan.now.workers) }
 {
     let (board, plan, gate) = (crew.board, crew.plan, crew.gate);
@@ -146,8 +146,8 @@ fn join_all<'s, R: Threads>(
     threads: Vec<PromisedHandle<Seat, Obeyed<'s>>>,
 ) -> Seat
     requires seat { seat.desk ≡ board.now }
-    requires asked { (k : ℕ) (d : _) → k < vec_len threads →
-        WasAsked plan.now.rows k seat (slice_index_or threads.items k d).promise }
+    requires promised { (k : ℕ) (d : _) → k < vec_len threads →
+        IsToObey plan.now.rows k seat (slice_index_or threads.items k d).promise }
     ensures ends { (k : ℕ) → k < vec_len threads.entry → EndsOrStops plan.now.rows k result }
     ensures obeyed { AllObeyed board.now.task plan.now.rows seat (vec_len threads.entry) result }
     ensures goes_on { GoesOn seat result }

@@ -20,6 +20,9 @@ const SET: &str = "pram 1\ncells 1\nprocs 1\nsteps 1\ncode\nset r0 7\n";
 const SWAP: &str = "pram 1\ncells 2\nprocs 2\nsteps 5\ninit 0 7\ninit 1 9\ncode\n\
     pid r0\nset r1 1\nsub r1 r1 r0\nld r2 r1\nst r0 r2\n";
 
+const LONG_SWAP: &str = "pram 1\ncells 2\nprocs 2\nsteps 20\ninit 0 7\ninit 1 9\ncode\n\
+    pid r0\nset r1 1\nsub r1 r1 r0\nld r2 r1\nst r0 r2\n";
+
 const TWO: &str = "pram 1\ncells 2\nprocs 2\nsteps 1\ncode\npid r0\n";
 
 // A replay of a text under rows of a plan.
@@ -177,7 +180,7 @@ impl Write for Failing {
 
 // The trace of two workers at a job, and its text.
 fn written(rt: &(impl AllocGlobal + Abort)) -> Result<(Trace, Vec<u8>), Fail> {
-    let trace = ends_with(rt, SWAP, 2, "", &[9, 7])?;
+    let trace = ends_with(rt, LONG_SWAP, 2, "", &[9, 7])?;
     match write_trace(rt.alloc(), &trace, Vec::new(rt.alloc())) {
         Ok(text) => Ok((trace, text)),
         Err(_) => panic!(rt; "not written"),
@@ -187,10 +190,10 @@ fn written(rt: &(impl AllocGlobal + Abort)) -> Result<(Trace, Vec<u8>), Fail> {
 #[test]
 fn each_write_that_fails_is_told(rt: HostRuntime) -> Result<(), Fail> {
     let (trace, _) = written(&rt)?;
-    // the header is put by itself, and then the rows, 512 at a time
-    assert!(rt; trace.rows().len() > 512);
+    // the header is put by itself, and then the rows, 2,048 at a time
+    assert!(rt; trace.rows().len() > 2048);
     let mut was_written = false;
-    for left in 0..400 {
+    for left in 0..1000 {
         match write_trace(rt.alloc(), &trace, Failing { left }) {
             Ok(_) => was_written = true,
             Err(fault) => {

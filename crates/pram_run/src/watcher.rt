@@ -3,7 +3,7 @@ ghost use Rattle.std.specs.Prelude.{◌≡◌, ◌≤◌, ◌<◌, ◌+◌, ◌*
 ghost use Rattle.std.specs.Prelude.{vec_capacity};
 ghost use Rattle.walkx.specs.declared.operation.Reading.TheVariants.{At};
 ghost use Rattle.lawful_walk.specs.Seen.{BeginsWith};
-ghost use Rattle.pram_board.specs.Seats.{Place};
+ghost use Rattle.pram_board.specs.Seats.{SeatData};
 ghost use Rattle.pram_run.specs.Inner.Obeying.{AllEndOrStop, GoesOn, IsToWatch};
 ghost use Rattle.pram_run.specs.Running.{IsBoardFor, IsRun};
 ghost use Rattle.pram_run.specs.Watching.{HasRead, HasWatched, IsWatch, cells_of};
@@ -241,7 +241,7 @@ fn read_round<G: Gate>(round: &Round<'_, G>, seat: &mut Seat, sights: &mut Vec<S
     requires seat { seat.old.desk ≡ round.now.board.now }
     requires room { vec_len sights.old + length round.now.cells.now ≤ vec_capacity sights.old }
     ensures desk { seat.new.desk ≡ round.now.board.now }
-    ensures reads { (p : Place) → HasRead round.now.board.now.task p sights.old.items seat.old →
+    ensures reads { (p : SeatData) → HasRead round.now.board.now.task p sights.old.items seat.old →
         HasRead round.now.board.now.task p sights.new.items seat.new }
     ensures cells { cells_of sights.new.items ≡ cells_of sights.old.items ++ round.now.cells.now }
     ensures len { vec_len sights.new ≡ vec_len sights.old + length round.now.cells.now }

@@ -6,17 +6,19 @@ use Rattle.walkx.specs.Inner.Posts.{PostData}
 use Rattle.walkx.specs.Inner.Workers.{WorkerData}
 use Rattle.walkx.specs.Records.{Knows}
 use Rattle.walkx.specs.Scripts.{Script, rest, first_op, heard_in}
-use Rattle.walkx.specs.Turns.{beginning, turning}
+use Rattle.walkx.specs.Turns.{beginning, turning, working}
+use Rattle.walkx.specs.declared.turns.Turned.{Turned}
+use Rattle.walkx.specs.declared.turns.Turned.TheVariants as turned
 use Rattle.walkx.specs.Walk.{Then, Walking, Fits, IsBoard, IsGoing, AllAdmitted, end_of, script_of}
 use Rattle.pram_board.specs.declared.driver.Driver.{Driver}
 use Rattle.pram_board.specs.declared.task.Task.{Task}
-use Rattle.pram_board.specs.Seats.{Desk, Place, hears_all}
+use Rattle.pram_board.specs.Seats.{Desk, SeatData, hears_all}
 use Rattle.pram_board.specs.Worked.{Ran, Works}
 
 -- what contracts see of a driver: its board, its seat, and how many atomic steps it made
 pub record Driving : Type 0 where
   pub desk : Desk
-  pub seat : Place
+  pub seat : SeatData
   pub made : ℕ
 
 abbrev pub driving : {G : Type 0} → Driver G → Driving
@@ -33,17 +35,17 @@ pub record IsAt (given : Task) (driver : Driving) : Type 0 where
   pub board : IsBoard given.job given.layout
 
 -- each of these answers, the newest first, was one to an operation of the script
-abbrev pub AllAsked : Script Then → List ℕ → Type 0
-AllAsked script [] = Unit {0}
-AllAsked script (found ∷ earlier) = ((op : Op) × (first_op (rest script earlier) ≡ Some op))
-    × AllAsked script earlier
+abbrev pub AllAnswer : Script Then → List ℕ → Type 0
+AllAnswer script [] = Unit {0}
+AllAnswer script (found ∷ earlier) = ((op : Op) × (first_op (rest script earlier) ≡ Some op))
+    × AllAnswer script earlier
 
 -- The driver played the script until this is left of it: there are answers that the board gave to
 -- the operations of the script, in its order, and no step beside them.
 pub record Plays (task : Task) (script : Script Then) (before : Driving) (left : Script Then)
     (later : Driving) : Type 0 where
   pub answers : List ℕ
-  pub asked : AllAsked script answers
+  pub each : AllAnswer script answers
   pub comes : rest script answers ≡ left
   pub admitted : AllAdmitted task.job task.layout (heard_in script answers)
   pub desk : later.desk ≡ before.desk
@@ -102,10 +104,11 @@ pub record Led (task : Task) (before : Driving) (walking : Walking) (later : Dri
   pub went : Went task before walking later now
   pub some : 1 ≤ went.ticks
 
--- the worker of a post at the start of its turn, and where the turn leads it
-abbrev pub turning_at : PostData → Walking
-turning_at at = turning at.worker at.node at.phase
+-- the worker of a post at the start of its script, and where the script leads it
+abbrev pub working_at : PostData → Walking
+working_at at = working at.worker at.node at.phase at.rank
 
-abbrev pub led_to : PostData → Option ℕ → Walking
-led_to at None = beginning at.worker 1
-led_to at (Some node) = turning at.worker node at.phase
+abbrev pub led_to : PostData → Turned → Walking
+led_to at turned.Finished = beginning at.worker 1
+led_to at (turned.To node) = turning at.worker node at.phase
+led_to at (turned.Within rank) = working at.worker at.node at.phase rank

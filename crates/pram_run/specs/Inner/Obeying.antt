@@ -4,7 +4,7 @@ use Rattle.walkx.specs.Walk.{started}
 use Rattle.lawful_walk.specs.Seen.{BeginsWith}
 use Rattle.stop_plan.specs.declared.plan.Row.{Row}
 use Rattle.stop_plan.specs.Plan.{PlanData, stops}
-use Rattle.pram_board.specs.Seats.{Place}
+use Rattle.pram_board.specs.Seats.{SeatData}
 use Rattle.pram_board.specs.declared.task.Task.{Task}
 use Rattle.pram_run.specs.Obeyed.{AllObeyed, Obeys}
 use Rattle.pram_run.specs.Running.{ShowsEnd}
@@ -12,37 +12,38 @@ use Rattle.pram_run.specs.declared.runner.Obeyed.{Obeyed}
 use Rattle.pram_run.specs.declared.watcher.Watched.{Watched}
 
 -- a seat of the same board, each part of whose record begins with that of the earlier one
-pub record GoesOn (before after : Place) : Type 0 where
+pub record GoesOn (before after : SeatData) : Type 0 where
   pub desk : after.desk ≡ before.desk
   pub begins : BeginsWith before.record_of after.record_of
 
 -- the seat shows the end, unless the rows stop the worker
-abbrev pub EndsOrStops : List Row → ℕ → Place → Type 0
-EndsOrStops rows worker p = ShowsEnd p.desk.task p.record_of ⊎ (stops rows worker ≡ true)
+abbrev pub EndsOrStops : List Row → ℕ → SeatData → Type 0
+EndsOrStops rows worker seat = ShowsEnd seat.desk.task seat.record_of ⊎ (stops rows worker ≡ true)
 
 -- so for all workers of the plan
-abbrev pub AllEndOrStop : PlanData → Place → Type 0
-AllEndOrStop plan p = (worker : ℕ) → worker < plan.workers → EndsOrStops plan.rows worker p
+abbrev pub AllEndOrStop : PlanData → SeatData → Type 0
+AllEndOrStop plan seat = (worker : ℕ) → worker < plan.workers → EndsOrStops plan.rows worker seat
 
 -- The plan's workers obeyed it from the given seat, and each shows the end unless it is stopped.
-pub record AllWorked (t : Task) (plan : PlanData) (given later : Place) : Type 0 where
+pub record AllWorked (task : Task) (plan : PlanData) (given later : SeatData) : Type 0 where
   pub ends : AllEndOrStop plan later
-  pub obeyed : AllObeyed t plan.rows given plan.workers later
+  pub obeyed : AllObeyed task plan.rows given plan.workers later
 
 -- What a thread has to keep of the seat that it was given: the seat goes on, shows the end unless
 -- the rows stop the worker, and came about by obeying them.
-abbrev pub HasObeyed : List Row → ℕ → Place → Place → Type 0
+abbrev pub HasObeyed : List Row → ℕ → SeatData → SeatData → Type 0
 HasObeyed rows worker given seat = GoesOn given seat × EndsOrStops rows worker seat
     × Obeys given.desk.task worker rows given (started worker) seat
 
--- what a thread has to keep: it was given this seat, as this worker under these rows
-pub record WasAsked (plan : List Row) (number : ℕ) (given : Place) (promise : Obeyed) : Type 0 where
+-- what a thread has to keep: it was given this seat, to obey these rows as this worker
+pub record IsToObey (plan : List Row) (number : ℕ) (given : SeatData) (promise : Obeyed)
+    : Type 0 where
   pub rows : promise.rows.now ≡ plan
   pub worker : promise.worker ≡ number
   pub seat : promise.before.value ≡ given
 
 -- what the reader's thread has to keep: it was given this seat, for so many rounds
-pub record IsToWatch (listed : List ℕ) (count : ℕ) (given : Place) (promise : Watched) :
+pub record IsToWatch (listed : List ℕ) (count : ℕ) (given : SeatData) (promise : Watched) :
     Type 0 where
   pub cells : promise.cells.now ≡ listed
   pub rounds : promise.rounds ≡ count

@@ -11,16 +11,16 @@ use Rattle.pram_run.specs.Replays.{running, world_events}
 use Rattle.pram_run.specs.Traces.{trace_of}
 
 -- the world is the one after these events, and the rows are its atomic steps so far
-pub record IsAfter (job : JobData) (workers : ℕ) (events : List Event) (s : WorldData) (rows :
+pub record IsAfter (job : JobData) (workers : ℕ) (events : List Event) (now : WorldData) (rows :
     List TraceRow) : Type 0 where
-  pub world : s ≡ run (start job workers) events
+  pub world : now ≡ run (start job workers) events
   pub trace : rows ≡ trace_of (start job workers) events
 
 -- whatever was made before, this has come of it
 abbrev pub Makes : WorldData → List TraceRow → WorldData → List TraceRow →
     (JobData → ℕ → List Event → List Event) → Type 0
-Makes s rows now later next = (job : JobData) (workers : ℕ) (events : List Event) →
-    IsAfter job workers events s rows → IsAfter job workers (next job workers events) now later
+Makes before rows now later next = (job : JobData) (workers : ℕ) (events : List Event) →
+    IsAfter job workers events before rows → IsAfter job workers (next job workers events) now later
 
 -- a worker's events, those of a row, and a round
 abbrev pub one_step : ℕ → JobData → ℕ → List Event → List Event

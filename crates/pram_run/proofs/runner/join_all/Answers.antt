@@ -5,7 +5,7 @@ use Rattle.pram_board.specs.Seats.{Desk}
 use Rattle.pram_run.specs.Inner.Obeying.{HasObeyed}
 use Rattle.pram_run.specs.Obeyed.{AllObeyed}
 use Rattle.pram_run.proofs.Endings.{goes_self, goes_united}
-use Rattle.pram_run.proofs.Joining.{Thread, asked_next, kept_as, ends_more, obeyed_more}
+use Rattle.pram_run.proofs.Joining.{Thread, promised_next, kept_as, ends_more, obeyed_more}
 use Rattle.pram_run.proofs.runner.join_all.Goals as goal
 
 pub loop-thread-init : goal.loop-thread-init
@@ -22,13 +22,13 @@ join-seat-requires-clause-first g c = c.loop-thread.invariant.goes_on.desk ∙ c
 
 pub join-seat-requires-clause-second : goal.join-seat-requires-clause-second
 join-seat-requires-clause-second g c =
-    let asked =
-    asked_next c.args.plan.now.rows c.args.seat (vec_items c.args.threads) c.loop-thread.yielded
+    let promised =
+    promised_next c.args.plan.now.rows c.args.seat (vec_items c.args.threads) c.loop-thread.yielded
     c.in-Some.thread (into_iter_items c.next.new.self) _ c.in-Some.ensures.steps.0
     c.loop-thread.invariant.order
-    (λ k d lt. c.requires.asked k d (omega (arith, c.args.threads.ok))) in
+    (λ k d lt. c.requires.promised k d (omega (arith, c.args.threads.ok))) in
     (kept_as c.args.plan.now.rows (length c.loop-thread.yielded) c.args.seat c.join.result
-    c.in-Some.thread.promise asked c.join.ensures).0.desk ∙ c.requires.seat
+    c.in-Some.thread.promise promised c.join.ensures).0.desk ∙ c.requires.seat
 
 pub loop-thread-preserved : goal.loop-thread-preserved
 loop-thread-preserved g c =
@@ -38,10 +38,10 @@ loop-thread-preserved g c =
     let thread = c.in-Some.thread in
     let done = c.loop-thread.yielded in
     let rows = c.args.plan.now.rows in
-    let asked = asked_next rows c.args.seat (vec_items c.args.threads) done thread rest _
-    step.0 was.order (λ k d lt. c.requires.asked k d (omega (arith, c.args.threads.ok))) in
+    let promised = promised_next rows c.args.seat (vec_items c.args.threads) done thread rest _
+    step.0 was.order (λ k d lt. c.requires.promised k d (omega (arith, c.args.threads.ok))) in
     let theirs : HasObeyed rows (length done) c.args.seat c.join.result =
-    kept_as rows (length done) c.args.seat c.join.result thread.promise asked c.join.ensures in
+    kept_as rows (length done) c.args.seat c.join.result thread.promise promised c.join.ensures in
     let order : done ++ (thread ∷ rest) ≡ vec_items c.args.threads =
     ap (λ (l : List Thread). done ++ l) (sym step.0) ∙ was.order in
     let more : length (done ++ thread ∷ []) ≡ length done + 1 = length-append done (thread ∷ []) in

@@ -1,6 +1,6 @@
 use Rattle.std.proofs.Common.{drop}
 use Rattle.walkx.specs.Walk.{started}
-use Rattle.pram_board.specs.Seats.{Place}
+use Rattle.pram_board.specs.Seats.{SeatData}
 use Rattle.pram_board.specs.Worked.{Works}
 use Rattle.pram_run.specs.Inner.Obeying.{GoesOn}
 use Rattle.pram_run.specs.Obeyed.{Obeys}
@@ -11,7 +11,7 @@ abbrev pub invariant-loop-row : goal.invariant-loop-row
 invariant-loop-row g l = record {
   goes_on : GoesOn l.fn.seat l.seat;
   works : Works l.board l.seat l.worker;
-  obeys : (q : Place) →
+  obeys : (q : SeatData) →
       Obeys l.board.task l.number (drop l.row-index l.rows) l.seat l.worker.walking q →
       Obeys l.board.task l.number l.rows l.fn.seat (started l.number) q;
 }

@@ -1,5 +1,5 @@
 use Rattle.std.proofs.Common.{◌≡◌, ℕ, ◌<◌, get_or, vec_len, vec_items, vec_capacity}
-use Rattle.pram_run.specs.Inner.Obeying.{WasAsked}
+use Rattle.pram_run.specs.Inner.Obeying.{IsToObey}
 use Rattle.pram_run.proofs.runner.start_all.Given as goal
 
 abbrev pub invariant-loop-worker : goal.invariant-loop-worker
@@ -7,6 +7,6 @@ invariant-loop-worker g l = record {
   seat : l.seat ≡ l.fn.seat;
   len : vec_len l.threads ≡ l.worker;
   capacity : vec_capacity l.threads ≡ vec_capacity l.initial.threads;
-  asked : (k : ℕ) (d : _) → k < l.worker →
-      WasAsked l.crew.plan.now.rows k l.fn.seat (get_or (vec_items l.threads) k d).promise;
+  promised : (k : ℕ) (d : _) → k < l.worker →
+      IsToObey l.crew.plan.now.rows k l.fn.seat (get_or (vec_items l.threads) k d).promise;
 }

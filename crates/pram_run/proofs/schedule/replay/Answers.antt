@@ -1,8 +1,6 @@
 use Rattle.std.proofs.Common.{◌≡◌, ◌<◌, ◌≤◌, List, true, ◌++◌, get_or}
 use Rattle.std.proofs.Common.{take, length, sym, subst, ap, ◌∙◌, arith}
 use Rattle.std.proofs.lemmas.List.{take_all}
-use Rattle.pram_words.specs.declared.layout.Form.TheVariants.{Compact}
-use Rattle.pram_words.specs.Words.{layout_of}
 use Rattle.stop_plan.specs.declared.plan.Row.{Row}
 use Rattle.stop_plan.specs.declared.plan.Act.TheVariants.{Go as GoOn}
 use Rattle.stop_plan.specs.Schedule.{after_rounds, events_of_act, events_of_rows}
@@ -13,7 +11,7 @@ use Rattle.pram_run.specs.Inner.Progress.{IsAfter}
 use Rattle.pram_run.specs.Replays.{running, world_events}
 use Rattle.pram_run.specs.Traces.{trace_of}
 use Rattle.pram_run.proofs.After.{rows_more, rounds_more}
-use Rattle.pram_run.proofs.Rounds.{rounds_fewer}
+use Rattle.pram_run.proofs.Rounds.{rounds_fewer, rounds_small}
 use Rattle.pram_run.proofs.Stops.{replayed}
 use Rattle.pram_run.proofs.schedule.replay.Goals as goal
 
@@ -50,8 +48,7 @@ loop-world-init c = record {
 }
 
 -- in a round that is made some worker goes
-fewer : (c : goal.In_ok-make_round) → c.loop-world.rounds
-    < most_steps c.args.job.now (layout_of c.args.job.now Compact c.args.workers)
+fewer : (c : goal.In_ok-make_round) → c.loop-world.rounds < most_steps c.args.job.now
 fewer c =
     let some = c.some_goes.ensures.some c.loop-world-test.true in
     let runs : running c.args.job.now c.args.workers
@@ -61,6 +58,12 @@ fewer c =
     rounds_fewer c.args.job.now c.args.workers some.0 c.loop-world.rounds
     (events_of_rows world_events c.args.plan.now.rows) c.limits_hold.ensures
     c.requires.some c.requires.most some.1 runs
+
+pub overflow_add-rounds : goal.overflow_add-rounds
+overflow_add-rounds c =
+    let small = rounds_small c.args.job.now c.args.workers
+    c.limits_hold.ensures c.requires.some c.requires.most in
+    let less = fewer c in omega arith
 
 pub loop-world-smaller : goal.loop-world-smaller
 loop-world-smaller c = let less = fewer c in omega arith

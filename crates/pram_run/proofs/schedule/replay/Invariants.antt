@@ -1,6 +1,4 @@
 use Rattle.std.proofs.Common.{◌-◌, ◌≤◌, take}
-use Rattle.pram_words.specs.declared.layout.Form.TheVariants.{Compact}
-use Rattle.pram_words.specs.Words.{layout_of}
 use Rattle.stop_plan.specs.Schedule.{after_rounds, events_of_rows}
 use Rattle.walkx.specs.Bound.{most_steps}
 use Rattle.pram_run.specs.Inner.Progress.{IsAfter}
@@ -16,8 +14,8 @@ invariant-loop-world l = record {
   after : IsAfter l.job l.workers
       (after_rounds world_events (running l.job l.workers) l.workers l.rounds
       (events_of_rows world_events l.plan.rows)) l.world l.trace;
-  most : l.rounds ≤ most_steps l.job (layout_of l.job Compact l.workers);
+  most : l.rounds ≤ most_steps l.job;
 }
 
 abbrev pub decreases-loop-world : goal.decreases-loop-world
-decreases-loop-world l = most_steps l.job (layout_of l.job Compact l.workers) - l.rounds
+decreases-loop-world l = most_steps l.job - l.rounds

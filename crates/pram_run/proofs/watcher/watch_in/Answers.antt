@@ -1,5 +1,5 @@
 use Rattle.std.proofs.Common.{◌≡◌, ap, subst}
-use Rattle.pram_board.specs.Seats.{Desk, Place}
+use Rattle.pram_board.specs.Seats.{Desk, SeatData}
 use Rattle.pram_run.specs.Inner.Obeying.{AllWorked, IsToWatch}
 use Rattle.pram_run.proofs.Endings.{same_goes, all_front}
 use Rattle.pram_run.proofs.Watches.{watch_of, watched_of}
@@ -25,14 +25,14 @@ returns-in-Ok-worked-clause-sights g c =
     let cells = c.args.lookout.now.cells.now in
     let rounds = c.args.lookout.now.rounds in
     let given : c.split-seat.result.1 ≡ c.args.seat = c.split-seat.ensures.second in
-    let asked : IsToWatch cells rounds c.args.seat c.in-Ok.reader.promise =
-    subst (λ (p : Place). IsToWatch cells rounds p c.in-Ok.reader.promise) given
+    let promised : IsToWatch cells rounds c.args.seat c.in-Ok.reader.promise =
+    subst (λ (p : SeatData). IsToWatch cells rounds p c.in-Ok.reader.promise) given
     c.in-Ok.ensures in
     let all : AllWorked task plan c.args.seat c.work_in-seat.result.0 =
-    subst (λ (p : Place). AllWorked task plan p c.work_in-seat.result.0)
+    subst (λ (p : SeatData). AllWorked task plan p c.work_in-seat.result.0)
     c.split-seat.ensures.first (rw c.in-Ok-worked.is at c.work_in-seat.ensures.worked) in
     watched_of task plan cells rounds c.args.seat c.work_in-seat.result.0 c.join-theirs.result.0
     c.join-seat.result c.join-theirs.result.1.items all.obeyed
     (watch_of task cells rounds c.args.seat c.in-Ok.reader.promise c.join-theirs.result.1.items
-    c.join-theirs.result.0 asked (ap (λ (d : Desk). d.task) c.requires.seat)
+    c.join-theirs.result.0 promised (ap (λ (d : Desk). d.task) c.requires.seat)
     c.join-theirs.ensures) c.join-seat.ensures.unites

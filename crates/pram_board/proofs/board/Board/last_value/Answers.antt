@@ -2,7 +2,7 @@ use Rattle.std.proofs.Common.{◌+◌, ◌<◌, ap, ◌∙◌, arith}
 use Rattle.pram_words.specs.Words.{length_of}
 use Rattle.walkx.specs.declared.operation.Op.TheVariants.{Load}
 use Rattle.walkx.proofs.Boards.{length_small}
-use Rattle.pram_board.specs.Seats.{Place, hears}
+use Rattle.pram_board.specs.Seats.{SeatData, hears}
 use Rattle.pram_board.proofs.Memory.{loaded, two_loads}
 use Rattle.pram_board.proofs.Steps.{may_load}
 use Rattle.pram_board.proofs.board.Board.last_value.Goals as goal
@@ -27,7 +27,8 @@ returns-clause-value c =
     c.newer_payload.ensures ∙ loaded c.args.self.now.task c.args.seat.now c.step-second.new.seat
     c.args.cell c.cell_word-word.result c.step-first.result c.step-second.result c.requires.knows
     c.cell_word-word.ensures.place c.cell_word-word.ensures.first c.cell_word-word.ensures.second
-    (c.step-second.ensures.grows ∙ ap (λ (z : Place). hears z (Load (c.cell_word-word.result + 1))
+    (c.step-second.ensures.grows
+    ∙ ap (λ (z : SeatData). hears z (Load (c.cell_word-word.result + 1))
     c.step-second.result) c.step-first.ensures.grows) c.step-second.ensures.sound
 
 pub overflow_add-word : goal.overflow_add-word

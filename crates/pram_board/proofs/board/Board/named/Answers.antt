@@ -2,7 +2,7 @@ use Rattle.std.proofs.Common.{◌≡◌, ◌<◌, ◌^◌, subst, arith}
 use Rattle.pram_words.specs.Words.{length_of, number_of}
 use Rattle.pram_words.specs.declared.words.Word.TheVariants.{Conflict}
 use Rattle.lawful_walk.specs.Moments.{Sound}
-use Rattle.pram_board.specs.Seats.{Desk, Place}
+use Rattle.pram_board.specs.Seats.{Desk, SeatData}
 use Rattle.pram_board.proofs.Faults.{named_again}
 use Rattle.pram_board.proofs.Memory.{no_loads, one_load}
 use Rattle.pram_board.proofs.Steps.{may_load, conflict_small}
@@ -22,7 +22,7 @@ overflow_cast-result c =
     c.conflict_word.ensures.value)
     (subst (λ (d : Desk). c.conflict_word.result < length_of d.task.layout)
     c.self.view_is c.conflict_word.ensures.below)
-    (subst (λ (p : Place). Sound t.job t.layout p.record_of)
+    (subst (λ (p : SeatData). Sound t.job t.layout p.record_of)
     c.step.ensures.grows c.step.ensures.sound) in
     omega arith
 

@@ -3,9 +3,9 @@ use Rattle.pram_words.specs.Words.{length_of, number_of}
 use Rattle.pram_words.specs.declared.words.Word.TheVariants.{Conflict, Node}
 use Rattle.walkx.specs.declared.operation.Op.TheVariants.{Load}
 use Rattle.lawful_walk.specs.Moments.{Sound}
-use Rattle.pram_board.specs.Seats.{Desk, Place, hears}
+use Rattle.pram_board.specs.Seats.{Desk, SeatData, hears}
 use Rattle.pram_board.proofs.Steps.{may_load, root_small, conflict_small}
-use Rattle.pram_board.proofs.Remembering.{progress_conflict, progress_known, remembers_progress}
+use Rattle.pram_board.proofs.Remembering.{progress_conflict, progress_known, remembers_progress, still_knows}
 use Rattle.pram_board.proofs.Told.{progressed}
 use Rattle.pram_board.proofs.board.Board.progress.Goals as goal
 
@@ -27,7 +27,7 @@ seen_step-requires c =
     c.self.view_is c.node_word.ensures.value)
     (subst (λ (d : Desk). c.node_word.result < length_of d.task.layout)
     c.self.view_is c.node_word.ensures.below)
-    (subst (λ (p : Place). Sound t.job t.layout p.record_of)
+    (subst (λ (p : SeatData). Sound t.job t.layout p.record_of)
     c.step-root.ensures.grows c.step-root.ensures.sound)
 
 pub named_step-requires : goal.named_step-requires
@@ -39,7 +39,7 @@ named_step-requires c =
     c.conflict_word.ensures.value)
     (subst (λ (d : Desk). c.conflict_word.result < length_of d.task.layout)
     c.self.view_is c.conflict_word.ensures.below)
-    (subst (λ (p : Place). Sound t.job t.layout p.record_of)
+    (subst (λ (p : SeatData). Sound t.job t.layout p.record_of)
     c.step-named.ensures.grows c.step-named.ensures.sound)
 
 pub returns-clause-progressed : goal.returns-clause-progressed
@@ -50,7 +50,7 @@ returns-clause-progressed c =
     c.self.view_is c.node_word.ensures.value)
     (subst (λ (d : Desk). c.conflict_word.result ≡ number_of d.task.layout Conflict)
     c.self.view_is c.conflict_word.ensures.value)
-    (c.step-named.ensures.grows ∙ ap (λ (p : Place).
+    (c.step-named.ensures.grows ∙ ap (λ (p : SeatData).
     hears p (Load c.conflict_word.result) c.step-named.result) c.step-root.ensures.grows)
     c.seen_step.ensures c.named_step.ensures c.step-named.ensures.sound
 
@@ -62,8 +62,10 @@ returns-clause-conflict c = progress_conflict _ _ _ _ (returns-clause-progressed
 
 pub returns-clause-later : goal.returns-clause-later
 returns-clause-later c = record {
-  desk = ap (λ (p : Place). p.desk) c.step-named.ensures.grows
-      ∙ ap (λ (p : Place). p.desk) c.step-root.ensures.grows ∙ c.requires;
+  desk = ap (λ (p : SeatData). p.desk) c.step-named.ensures.grows
+      ∙ ap (λ (p : SeatData). p.desk) c.step-root.ensures.grows ∙ c.requires;
   keeps = remembers_progress _ _ _ _ (returns-clause-progressed c);
+  knows = still_knows c.args.self.now.task _ _
+      (remembers_progress _ _ _ _ (returns-clause-progressed c));
   sound = c.step-named.ensures.sound;
 }

@@ -7,9 +7,9 @@ use Rattle.walkx.proofs.Boards.{same_cells}
 use Rattle.walkx.specs.Reads.{HeardAdmitted, LooksFit, LooksOnBoard, look_of, looked, looks_for}
 use Rattle.walkx.specs.Records.{after}
 use Rattle.lawful_walk.specs.Moments.{Sound}
-use Rattle.pram_board.specs.Seats.{Desk, Place}
+use Rattle.pram_board.specs.Seats.{Desk, SeatData}
 use Rattle.pram_board.proofs.Looking.{looks_on, looks_over}
-use Rattle.pram_board.proofs.Remembering.{remembers_looks}
+use Rattle.pram_board.proofs.Remembering.{remembers_looks, still_knows}
 use Rattle.pram_board.proofs.Steps.{admits}
 use Rattle.pram_board.proofs.board.Board.read.Goals as goal
 
@@ -19,6 +19,7 @@ returns-in-Over-clause-later c =
     record {
       desk = i.desk;
       keeps = remembers_looks _ _ _ _ _ i.looks;
+      knows = still_knows c.args.self.now.task _ _ (remembers_looks _ _ _ _ _ i.looks);
       sound = i.sound;
     }
 
@@ -45,7 +46,7 @@ tell-requires-clause-admitted c =
     subst (LooksOnBoard t.layout) c.in-Load.is (subst (λ (d : Desk).
     LooksOnBoard d.task.layout c.ask.result) c.self.view_is c.ask.ensures.on_board) in
     let sound : Sound t.job t.layout (after r (Load c.in-Load.word) found) =
-    subst (λ (p : Place). Sound t.job t.layout p.record_of)
+    subst (λ (p : SeatData). Sound t.job t.layout p.record_of)
     c.step-answer.ensures.grows c.step-answer.ensures.sound in
     let heard : HeardAdmitted t.job t.layout (read.Load c.in-Load.word) found =
     admits t r (Load c.in-Load.word) found sound ok in
@@ -63,7 +64,7 @@ loop-reading-preserved c =
     sym (c.ask.ensures.asks ∙ ap (λ d. looks_for (look_of d.task.layout x)) c.self.view_is)
     ∙ c.in-Load.is in
     record {
-      desk = ap (λ (p : Place). p.desk) c.step-answer.ensures.grows ∙ i.desk;
+      desk = ap (λ (p : SeatData). p.desk) c.step-answer.ensures.grows ∙ i.desk;
       follows = subst (λ (d : Desk). Follows d.task.layout c.tell.new.self)
           c.self.view_is c.tell.ensures.follows;
       fits = subst (λ (d : Desk). LooksFit d.task.job d.task.layout c.tell.new.self.looking)

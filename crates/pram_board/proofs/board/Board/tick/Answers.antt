@@ -1,12 +1,12 @@
 use Rattle.std.proofs.Common.{Some, ap, sym, subst, ◌∙◌}
 use Rattle.lawful_walk.specs.Moments.{Sound}
 use Rattle.pram_board.specs.Seats.{Desk}
-use Rattle.pram_board.proofs.Asked.{asks_of}
+use Rattle.pram_board.proofs.Next.{is_next}
 use Rattle.pram_board.proofs.Told.{shows_end}
 use Rattle.pram_board.proofs.board.Board.tick.Goals as goal
 
-pub advance-requires-clause-asks : goal.advance-requires-clause-asks
-advance-requires-clause-asks c = asks_of c.self.inside.task c.args.self.now.task
+pub advance-requires-clause-next : goal.advance-requires-clause-next
+advance-requires-clause-next c = is_next c.self.inside.task c.args.self.now.task
     c.args.worker.now.walking c.ask-op.result (ap (λ d. d.task) c.self.view_is)
     c.ask-op.ensures.asks c.ask-op.ensures.admitted c.ask-op.ensures.step
 

@@ -1,12 +1,21 @@
-use Rattle.std.proofs.Common.{◌≡◌, None, sym, subst, ◌∙◌}
-use Rattle.walkx.specs.Walk.{end_of}
+use Rattle.std.proofs.Common.{◌≡◌, None, arith, sym, subst, ◌∙◌}
+use Rattle.walkx.specs.Walk.{IsBoard, end_of}
 use Rattle.lawful_walk.specs.Moments.{Sound}
 use Rattle.pram_board.specs.Inner.Plays.{driving}
 use Rattle.pram_board.specs.Seats.{Desk}
 use Rattle.pram_board.specs.declared.work.Stay.TheVariants as stay
+use Rattle.pram_board.proofs.Works.{bound_small}
 use Rattle.pram_board.proofs.Working.{Begun, counted, finished, is_limit, most_so_far, nearer}
 use Rattle.pram_board.proofs.Working.{ran_so_far, within_limit}
 use Rattle.pram_board.proofs.driver.Driver.work.Goals as goal
+
+pub go_on-requires-clause-room : goal.go_on-requires-clause-room
+go_on-requires-clause-room g c =
+    let i = c.loop-ended.invariant in
+    let board = subst (λ (b : Desk). IsBoard b.task.job b.task.layout) (sym i.board)
+    c.facts.ensures in
+    let small = bound_small c.loop-ended.self.board.now.task board in
+    let most = i.most in omega arith
 
 pub loop-ended-preserved : goal.loop-ended-preserved
 loop-ended-preserved g c =

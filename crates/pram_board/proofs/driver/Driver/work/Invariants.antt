@@ -12,10 +12,10 @@ invariant-loop-ended g l = record {
   sound : Sound l.self.board.now.task.job l.self.board.now.task.layout l.self.seat.now.record_of;
   ran : Ran l.self.board.now.task l.fn.self.seat.now l.fn.worker.walking l.self.made
       l.self.seat.now l.worker.walking;
-  most : l.self.made ≤ most_steps l.self.board.now.task.job l.self.board.now.task.layout;
+  most : l.self.made ≤ most_steps l.self.board.now.task.job;
   within : IfSome l.limit (λ k. l.self.made ≤ k);
 }
 
 abbrev pub decreases-loop-ended : goal.decreases-loop-ended
 decreases-loop-ended g l =
-    most_steps l.self.board.now.task.job l.self.board.now.task.layout - l.self.made
+    most_steps l.self.board.now.task.job - l.self.made
