@@ -4,23 +4,23 @@ use Rattle.std.proofs.lemmas.List.Elements.{All-weaker}
 use Rattle.std.specs.Prelude.{slice_index}
 use Rattle.pram_text.specs.Job.{JobData}
 use Rattle.pram_step.specs.Runs.{IsReached, state_after}
-use Rattle.pram_words.specs.declared.layout.Form.TheVariants.{Wide}
 use Rattle.stop_plan.specs.Plan.{PlanData}
-use Rattle.pram_board.specs.Seats.{Desk, Place, IsOpened}
+use Rattle.pram_board.specs.Seats.{Desk, SeatData}
 use Rattle.pram_board.specs.declared.task.Task.{Task}
 use Rattle.pram_run.specs.Watching.{HasWatched, IsTrueSight}
 use Rattle.pram_run.specs.declared.sight.Sight.{Sight}
-use Rattle.pram_commands.specs.Threads.{HasSights, IsTrueOf}
+use Rattle.pram_commands.specs.Threads.{HasSights, IsNewBoard, IsTrueOf}
 
 -- what an opened board is
-pub job_of : (job : JobData) (workers : ℕ) (made : Desk × Place) →
-    IsOpened job Wide workers made → made.0.task.job ≡ job
-job_of job workers made opened = opened.0
+pub job_of : (job : JobData) (plan : PlanData) (made : Desk × SeatData) →
+    IsNewBoard job plan made → made.0.task.job ≡ job
+job_of job plan made opened = opened.1.0
 
 -- the same board with a seat of the same value
-pub opened_as : (job : JobData) (workers : ℕ) (desk : Desk) (p q : Place) → q ≡ p →
-    IsOpened job Wide workers (desk, p) → IsOpened job Wide workers (desk, q)
-opened_as job workers desk p q is opened = (opened.0, opened.1, is ∙ opened.2)
+pub opened_as : (job : JobData) (plan : PlanData) (desk : Desk) (p q : SeatData) → q ≡ p →
+    IsNewBoard job plan (desk, p) → IsNewBoard job plan (desk, q)
+opened_as job plan desk p q is opened =
+    (opened.0, (opened.1.0, opened.1.1, is ∙ opened.1.2))
 
 is_true : (t : Task) (job : JobData) (sight : Sight) → t.job ≡ job →
     IsTrueSight t sight → IsTrueOf job sight
@@ -31,8 +31,8 @@ is_true t job sight same told = record {
 }
 
 pub has_sights : (t : Task) (job : JobData) (plan : PlanData)
-    (cells : List ℕ) (rounds : ℕ) (p : Place) (sights : List Sight) (later : Place) → t.job ≡ job →
-    HasWatched t plan cells rounds p sights later → HasSights job cells rounds sights
+    (cells : List ℕ) (rounds : ℕ) (p : SeatData) (sights : List Sight) (later : SeatData) →
+    t.job ≡ job → HasWatched t plan cells rounds p sights later → HasSights job cells rounds sights
 has_sights t job plan cells rounds p sights later same watched = record {
   listed = watched.watch.listed;
   tells =

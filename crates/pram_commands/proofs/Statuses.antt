@@ -128,8 +128,8 @@ module _ (taken : Taking) (w : Writing) where
       let comes = prints.work.comes in
       absurd (ended-plain prints.work.job comes.ended prints.answer comes.ends.0
       comes.gives (sym prints.is ∙ three))
-  stops (line.Run file workers name progress pace) status prints three = refl
-  stops (line.Watch file workers cells rounds name progress pace) status prints three = refl
+  stops (line.Run file name manner) status prints three = refl
+  stops (line.Watch file name manner cells rounds) status prints three = refl
   stops (line.Replay file workers name) status prints three = refl
 
   module _ (line : Line) where

@@ -18,16 +18,16 @@ abbrev pub file_of : Line → List ℕ
 file_of (Check file) = file.now
 file_of (Plain file) = file.now
 file_of (Steps file from to) = file.now
-file_of (Run file workers plan progress pace) = file.now
-file_of (Watch file workers cells rounds plan progress pace) = file.now
+file_of (Run file plan manner) = file.now
+file_of (Watch file plan manner cells rounds) = file.now
 file_of (Replay file workers plan) = file.now
 
 abbrev pub plan_of : Line → Option (List ℕ)
 plan_of (Check file) = None
 plan_of (Plain file) = None
 plan_of (Steps file from to) = None
-plan_of (Run file workers plan progress pace) = text_of plan
-plan_of (Watch file workers cells rounds plan progress pace) = text_of plan
+plan_of (Run file plan manner) = text_of plan
+plan_of (Watch file plan manner cells rounds) = text_of plan
 plan_of (Replay file workers plan) = text_of plan
 
 -- what the line comes to: its command says which bytes it prints on a job and a plan, and how it
@@ -36,13 +36,13 @@ abbrev pub command_of : Line → Command
 command_of (Check file) = checking
 command_of (Plain file) = plainly
 command_of (Steps file from to) = stepping (record { from = from; to = to })
-command_of (Run file workers plan progress pace) = running workers.count
-command_of (Watch file workers cells rounds plan progress pace) =
-    watching workers.count (cells_of cells.text.now) rounds
+command_of (Run file plan manner) = running manner.workers.count
+command_of (Watch file plan manner cells rounds) =
+    watching manner.workers.count (cells_of cells.text.now) rounds
 command_of (Replay file workers plan) = replaying workers.count
 
 -- The line is done by the thread that calls.
 abbrev pub StartsNoThread : Line → Type 0
-StartsNoThread (Run file workers plan progress pace) = ⊥
-StartsNoThread (Watch file workers cells rounds plan progress pace) = ⊥
+StartsNoThread (Run file plan manner) = ⊥
+StartsNoThread (Watch file plan manner cells rounds) = ⊥
 StartsNoThread _ = ⊤

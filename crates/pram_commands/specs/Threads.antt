@@ -1,33 +1,48 @@
 -- What the commands come to that run a job on threads.
-use Rattle.std.specs.Prelude.{◌≡◌, ℕ, List, [], Some, ⊤, map, slice_index, All}
+use Rattle.std.specs.Prelude.{◌≡◌, ◌^◌, ℕ, List, [], Option, None, Some, ⊤, map, slice_index, All}
 use Rattle.std.specs.List.{repeat}
 use Rattle.std.specs.List.Sorted.{IsNonDecreasingBy}
 use Rattle.pram_text.specs.Job.{JobData}
 use Rattle.pram_step.specs.Runs.{IsReached, state_after}
 use Rattle.pram_step.specs.declared.answer.RunAnswer.{RunAnswer}
 use Rattle.pram_words.specs.declared.layout.Form.TheVariants.{Wide}
+pub use Rattle.pram_words.specs.Words.{IsGrain, grain_for}
 use Rattle.stop_plan.specs.Plan.{PlanData}
-use Rattle.pram_board.specs.Seats.{Desk, Place, IsOpened}
+use Rattle.pram_board.specs.Seats.{Desk, SeatData, IsOpened}
 use Rattle.pram_run.specs.Obeyed.{HasRun}
 use Rattle.pram_run.specs.Printed.{sights_text}
 use Rattle.pram_run.specs.Running.{IsRun}
 use Rattle.pram_run.specs.Watching.{HasWatched}
 use Rattle.pram_run.specs.declared.sight.Sight.{Sight}
 use Rattle.pram_commands.specs.Did.{Answering, Command}
+use Rattle.pram_commands.specs.declared.block.Block.{Block}
 use Rattle.pram_commands.specs.declared.sources.Inputs.{Inputs}
+
+-- how many processors a block has
+abbrev pub size_of : Block → ℕ
+size_of block = 2 ^ block.exponent
+
+-- how many processors a leaf stands for: as the block says, or else as the board chooses
+abbrev pub grain_by : Option Block → (procs workers : ℕ) → ℕ
+grain_by (Some block) procs workers = size_of block
+grain_by None procs workers = grain_for procs workers
+
+-- a new board for the job and the plan's workers, with blocks of some size, and its first seat
+abbrev pub IsNewBoard : JobData → PlanData → Desk × SeatData → Type 0
+IsNewBoard job plan made = (grain : ℕ) × IsOpened job (Wide grain) plan.workers made
 
 -- The seat is the one that a run of the plan's workers came to, from the first seat of a new board
 -- of the job; and its record tells the answer.
-pub record EndsAt (job : JobData) (plan : PlanData) (later : Place) (answer : RunAnswer)
+pub record EndsAt (job : JobData) (plan : PlanData) (later : SeatData) (answer : RunAnswer)
     : Type 0 where
-  pub made : Desk × Place
-  pub opened : IsOpened job Wide plan.workers made
+  pub made : Desk × SeatData
+  pub opened : IsNewBoard job plan made
   pub ran : HasRun made.0.task plan made.1 later
   pub told : IsRun made.0.task plan later.record_of answer
 
 -- some run came to the answer
 abbrev pub IsEnd : JobData → PlanData → RunAnswer → Type 0
-IsEnd job plan answer = (later : Place) × EndsAt job plan later answer
+IsEnd job plan answer = (later : SeatData) × EndsAt job plan later answer
 
 -- it prints the answer of a run of the job under the plan
 abbrev pub running : ℕ → Command
@@ -53,14 +68,14 @@ pub record HasSights (job : JobData) (cells : List ℕ) (rounds : ℕ) (sights :
 -- The seat is the one that such a run came to, with a reader of these cells beside its workers, who
 -- saw the sights; and its record tells the answer.
 pub record WatchEndsAt (job : JobData) (plan : PlanData) (cells : List ℕ) (rounds : ℕ)
-    (later : Place) (sights : List Sight) (answer : RunAnswer) : Type 0 where
-  pub made : Desk × Place
-  pub opened : IsOpened job Wide plan.workers made
+    (later : SeatData) (sights : List Sight) (answer : RunAnswer) : Type 0 where
+  pub made : Desk × SeatData
+  pub opened : IsNewBoard job plan made
   pub ran : HasWatched made.0.task plan cells rounds made.1 sights later
   pub told : IsRun made.0.task plan later.record_of answer
 
 -- The same, and what each sight says is true.
-pub record IsWatched (inputs : Inputs) (cells : List ℕ) (rounds : ℕ) (later : Place)
+pub record IsWatched (inputs : Inputs) (cells : List ℕ) (rounds : ℕ) (later : SeatData)
     (sights : List Sight) (answer : RunAnswer) : Type 0 where
   pub saw : HasSights inputs.job cells rounds sights
   pub ends : WatchEndsAt inputs.job inputs.plan cells rounds later sights answer
@@ -68,7 +83,7 @@ pub record IsWatched (inputs : Inputs) (cells : List ℕ) (rounds : ℕ) (later 
 -- some run came to the sights and the answer
 pub record IsWatchEnd (job : JobData) (plan : PlanData) (cells : List ℕ) (rounds : ℕ)
     (sights : List Sight) (answer : RunAnswer) : Type 0 where
-  pub later : Place
+  pub later : SeatData
   pub at_it : WatchEndsAt job plan cells rounds later sights answer
 
 -- A watch came to this answer, and these bytes tell what its reader saw.

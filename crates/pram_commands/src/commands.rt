@@ -16,7 +16,6 @@ use crate::fault::CommandFault;
 use crate::line::Line;
 use crate::refusal::{CONFLICT, DONE, UNFINISHED};
 use crate::sources::Sources;
-use crate::threads::Manner;
 pub use checks::check;
 pub use plain_runs::plain;
 use pram_rows::Window;
@@ -74,24 +73,13 @@ pub(crate) fn do_on_threads<
         (writing O.Sink out.old out.new) tells_status result }
 {
     match *line {
-        Line::Run {
-            workers,
-            progress,
-            pace,
-            ..
-        } => {
-            let manner = Manner::new(workers, progress, pace);
-            ended(run(rt, alloc, manner, sources, out))
-        }
+        Line::Run { manner, .. } => ended(run(rt, alloc, manner, sources, out)),
         Line::Watch {
-            workers,
+            manner,
             cells,
             rounds,
-            progress,
-            pace,
             ..
         } => {
-            let manner = Manner::new(workers, progress, pace);
             let reads = Reads {
                 manner,
                 cells,

@@ -2,6 +2,7 @@
 //! status.
 #![tactic(auto)]
 
+mod block;
 mod cell_list;
 mod commands;
 mod fault;
@@ -17,6 +18,7 @@ mod tests;
 mod threads;
 mod workers;
 
+pub use block::Block;
 pub use cell_list::CellList;
 pub use commands::{Reads, check, plain, replay, run, steps, watch};
 pub use fault::CommandFault;

@@ -3,6 +3,7 @@ ghost use Rattle.std.specs.Prelude.{◌≡◌};
 ghost use Rattle.pram_commands.specs.Line.{file_of, plan_of, text_of};
 
 use crate::cell_list::CellList;
+use crate::threads::Manner;
 use crate::workers::Workers;
 
 /// What the program is asked for. A file is named as its word names it.
@@ -23,25 +24,19 @@ pub enum Line<'a> {
         from: u32,
         to: u32,
     },
-    /// Run the job on threads. Where `progress` is asked for, standard error tells how far it is.
-    /// The pace is the pause before each tick of a worker, in microseconds; where there is none,
-    /// the workers do not wait.
+    /// Run the job on threads, in this manner.
     Run {
         file: &'a str,
-        workers: Workers,
         plan: Option<&'a str>,
-        progress: bool,
-        pace: Option<u32>,
+        manner: Manner,
     },
     /// The same, with a reader beside the workers, which goes so many rounds through the cells.
     Watch {
         file: &'a str,
-        workers: Workers,
+        plan: Option<&'a str>,
+        manner: Manner,
         cells: CellList<'a>,
         rounds: u32,
-        plan: Option<&'a str>,
-        progress: bool,
-        pace: Option<u32>,
     },
     /// Run the job on one thread, by the plan, and print each step.
     Replay {

@@ -41,7 +41,8 @@ pub(crate) struct Teller {
 
 impl Teller {
     pub fn new(wanted: bool, steps: u32) -> Teller
-        ensures { result.steps ≡ steps }
+        ensures wanted { result.wanted ≡ wanted }
+        ensures steps { result.steps ≡ steps }
     {
         Teller {
             wanted,
@@ -56,9 +57,9 @@ impl Teller {
     }
 }
 
-/// Where the teller is wanted, starts a thread of the scope that tells on standard error how far
-/// the board is, until the work is done. It asks about four times a second, and tells each step
-/// once.
+/// Starts a thread of the scope that tells on standard error how far the board is, until the work
+/// is done; a teller that is not wanted starts none. It asks about four times a second, and tells
+/// each step once.
 pub(crate) fn start_teller<'s, E, R: Clock + Eprint + Sync>(
     scope: &Scope<'s, E>,
     rt: &'s R,

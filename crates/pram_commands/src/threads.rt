@@ -3,8 +3,9 @@ ghost use Rattle.std.specs.Prelude.{◌≡◌, ◌<◌, ◌*◌, All, IfOk};
 ghost use Rattle.std.specs.Duration.{as_nanos};
 ghost use Rattle.pram_words.specs.declared.layout.Form.TheVariants.{Wide};
 ghost use Rattle.pram_board.specs.Seats.{IsOpened};
-ghost use Rattle.pram_commands.specs.Threads.{EndsAt, IsWatched};
+ghost use Rattle.pram_commands.specs.Threads.{EndsAt, IsNewBoard, IsWatched, grain_by};
 
+use crate::block::Block;
 use crate::progress::{Teller, start_teller};
 use crate::sources::Inputs;
 use crate::workers::Workers;
@@ -20,25 +21,14 @@ use std::time::Duration;
 use stop_plan::{Gate, Open, Paced};
 
 /// How a job goes on threads: with so many workers; whether standard error is told how far they
-/// are; and the pause before each tick of a worker, in microseconds. Where there is none, the
-/// workers do not wait.
+/// are; the pause before each tick of a worker, in microseconds, where there is one, since else
+/// they do not wait; and the board's block, where the board is not to choose it.
 #[derive(Clone, Copy, Debug, PartialEq, Eq)]
 pub struct Manner {
     pub workers: Workers,
     pub progress: bool,
     pub pace: Option<u32>,
-}
-
-impl Manner {
-    pub(crate) fn new(workers: Workers, progress: bool, pace: Option<u32>) -> Manner
-        ensures { result ≡ record { workers = workers; progress = progress; pace = pace } }
-    {
-        Manner {
-            workers,
-            progress,
-            pace,
-        }
-    }
+    pub block: Option<Block>,
 }
 
 /// A job and its plan, with what a reader beside the workers reads: so many rounds through cells of
@@ -68,6 +58,19 @@ fn paced<R: Clock>(rt: &R, micros: u32) -> Paced<'_, R>
     Paced::new(rt, Duration::from_micros(u64::from(micros)))
 }
 
+// A new board with blocks of this size, or of the size that the board chooses.
+fn open(alloc: Global, inputs: &Inputs, block: Option<Block>) -> Result<(Board, Seat), AllocError>
+    ensures { IfOk result (IsOpened inputs.now.job
+        (Wide (grain_by block inputs.now.job.procs inputs.now.plan.workers))
+        inputs.now.plan.workers) }
+{
+    let workers = inputs.plan.workers();
+    match block {
+        Some(block) => Board::open_with_blocks(alloc, &inputs.job, workers, block.size()),
+        None => Board::open_wide(alloc, &inputs.job, workers),
+    }
+}
+
 /// Runs the plan's workers, and answers how the job ended, with the seat that saw it.
 pub(crate) fn run_job<R: Threads + Wait + Clock + Eprint + Sync>(
     rt: &R,
@@ -78,8 +81,8 @@ pub(crate) fn run_job<R: Threads + Wait + Clock + Eprint + Sync>(
     ensures { IfOk result (λ ended. EndsAt inputs.now.job inputs.now.plan ended.1 ended.0) }
 {
     match manner.pace {
-        None => run_past(rt, alloc, inputs, manner.progress, &Open),
-        Some(micros) => run_past(rt, alloc, inputs, manner.progress, &paced(rt, micros)),
+        None => run_past(rt, alloc, inputs, manner, &Open),
+        Some(micros) => run_past(rt, alloc, inputs, manner, &paced(rt, micros)),
     }
 }
 
@@ -88,20 +91,19 @@ fn run_past<R: Threads + Wait + Clock + Eprint + Sync, G: Gate + Sync>(
     rt: &R,
     alloc: Global,
     inputs: &Inputs,
-    progress: bool,
+    manner: Manner,
     gate: &G,
 ) -> Result<(RunAnswer, Seat), AllocError>
     ensures { IfOk result (λ ended. EndsAt inputs.now.job inputs.now.plan ended.1 ended.0) }
 {
-    let (board, seat) = Board::open_wide(alloc, &inputs.job, inputs.plan.workers())?;
-    let teller = Teller::new(progress, inputs.job.steps());
+    let (board, seat) = open(alloc, inputs, manner.block)?;
+    let teller = Teller::new(manner.progress, inputs.job.steps());
     let (board, teller) = (&board, &teller);
     thread::scope(
         thread::scope_env(),
         rt,
         |scope| -> Result<(RunAnswer, Seat), AllocError>
-            requires opened { IsOpened inputs.now.job Wide inputs.now.plan.workers
-                (board.now, seat) }
+            requires opened { IsNewBoard inputs.now.job inputs.now.plan (board.now, seat) }
             requires steps { teller.now.steps ≡ board.now.task.job.steps }
             ensures { IfOk result
                 (λ ended. EndsAt inputs.entry.now.job inputs.entry.now.plan ended.1 ended.0) }
@@ -125,7 +127,7 @@ fn run_on<'s, E, R: Threads + Wait + Clock + Eprint + Sync, G: Gate + Sync>(
     inputs: &Inputs,
     seat: Seat,
 ) -> Result<(RunAnswer, Seat), AllocError>
-    requires { IsOpened inputs.now.job Wide inputs.now.plan.workers (floor.now.board.now, seat) }
+    requires { IsNewBoard inputs.now.job inputs.now.plan (floor.now.board.now, seat) }
     ensures { IfOk result (λ ended. EndsAt inputs.now.job inputs.now.plan ended.1 ended.0) }
 {
     let (board, gate, teller) = (floor.board, floor.gate, floor.teller);
@@ -148,8 +150,8 @@ pub(crate) fn watch_job<R: Threads + Wait + Clock + Eprint + Sync>(
         watched.now.rounds ended.2 ended.1.items ended.0) }
 {
     match manner.pace {
-        None => watch_past(rt, alloc, watched, manner.progress, &Open),
-        Some(micros) => watch_past(rt, alloc, watched, manner.progress, &paced(rt, micros)),
+        None => watch_past(rt, alloc, watched, manner, &Open),
+        Some(micros) => watch_past(rt, alloc, watched, manner, &paced(rt, micros)),
     }
 }
 
@@ -158,22 +160,21 @@ fn watch_past<R: Threads + Wait + Clock + Eprint + Sync, G: Gate + Sync>(
     rt: &R,
     alloc: Global,
     watched: &Watched<'_>,
-    progress: bool,
+    manner: Manner,
     gate: &G,
 ) -> Result<(RunAnswer, Vec<Sight>, Seat), AllocError>
     ensures { IfOk result (λ ended. IsWatched watched.now.inputs.now watched.now.cells.now
         watched.now.rounds ended.2 ended.1.items ended.0) }
 {
     let (inputs, cells, rounds) = (watched.inputs, watched.cells, watched.rounds);
-    let (board, seat) = Board::open_wide(alloc, &inputs.job, inputs.plan.workers())?;
-    let teller = Teller::new(progress, inputs.job.steps());
+    let (board, seat) = open(alloc, inputs, manner.block)?;
+    let teller = Teller::new(manner.progress, inputs.job.steps());
     let (board, teller) = (&board, &teller);
     thread::scope(
         thread::scope_env(),
         rt,
         |scope| -> Result<(RunAnswer, Vec<Sight>, Seat), AllocError>
-            requires opened { IsOpened inputs.now.job Wide inputs.now.plan.workers
-                (board.now, seat) }
+            requires opened { IsNewBoard inputs.now.job inputs.now.plan (board.now, seat) }
             requires within { All (λ cell. cell < inputs.now.job.cells) cells.now }
             requires steps { teller.now.steps ≡ board.now.task.job.steps }
             ensures { IfOk result (λ ended. IsWatched inputs.entry.now cells.entry.now rounds
@@ -203,7 +204,7 @@ fn watch_on<'s, E, R: Threads + Wait + Clock + Eprint + Sync, G: Gate + Sync>(
     watched: &Watched<'_>,
     seat: Seat,
 ) -> Result<(RunAnswer, Vec<Sight>, Seat), AllocError>
-    requires { IsOpened watched.now.inputs.now.job Wide watched.now.inputs.now.plan.workers
+    requires { IsNewBoard watched.now.inputs.now.job watched.now.inputs.now.plan
         (floor.now.board.now, seat) }
     ensures { IfOk result (λ ended. IsWatched watched.now.inputs.now watched.now.cells.now
         watched.now.rounds ended.2 ended.1.items ended.0) }

@@ -1,6 +1,7 @@
 -- The program's command, and what a line holds of the matches of its words.
 use Rattle.std.specs.Prelude.{◌≡◌, ◌≢◌, ◌≤◌, ◌⊎◌, ◌-◌, ◌^◌, MatchOption, ℕ, Bool, true, false, []}
 use Rattle.std.specs.Prelude.{List, Option, Some, None, Result, IsErrAnd, IsSomeAnd, codes, pos}
+use Rattle.std.specs.Prelude.{option_map}
 use Rattle.std.specs.Str.Parse.{digits_value, without_leading_plus}
 use Rattle.clap.specs.Words.{App, FailsBy, IsAmong, Row, Rule, Text}
 use Rattle.clap.specs.Words.{fault_of, first_of, kind_of, new_app, new_rule}
@@ -12,6 +13,9 @@ use Rattle.clap.specs.declared.error.kind.ErrorKind.TheVariants.{OutOfMemory, Va
 use Rattle.clap.specs.declared.builder.value_parser.ValueParser.TheVariants.{Signed}
 use Rattle.pram_commands.specs.CellLists.{SpellsCells}
 use Rattle.pram_commands.specs.Line.{text_of}
+use Rattle.pram_commands.specs.declared.block.Block.{Block}
+use Rattle.pram_commands.specs.declared.threads.Manner.{Manner}
+use Rattle.pram_commands.specs.Threads.{IsGrain, size_of}
 use Rattle.pram_commands.specs.declared.refusal.TheConstants.{DONE, FAILED, MEMORY}
 use Rattle.pram_commands.specs.declared.line.Line.{Line}
 use Rattle.pram_commands.specs.declared.line.Line.TheVariants.{Check, Plain, Steps}
@@ -51,18 +55,22 @@ with_workers name =
     with_rule (with_rule (on_file name) (needed (number_rule (codes "workers") 1 64)))
     (option_rule (codes "plan"))
 
--- what a run and a watch take last: [--progress] [--pace MICROSECONDS]
+-- [--progress] [--pace MICROSECONDS]
 abbrev pub with_progress : App → App
 with_progress app = with_rule (with_rule app (flag_rule (codes "progress")))
     (number_rule (codes "pace") 0 1000000)
 
--- run FILE --workers W [--plan P] [--progress] [--pace MICROSECONDS]
-abbrev pub on_run : App
-on_run = with_progress (with_workers (codes "run"))
+-- what a run and a watch take last: these, and [--block G]
+abbrev pub with_manner : App → App
+with_manner app = with_rule (with_progress app) (number_rule (codes "block") 1 64)
 
--- watch FILE --workers W --cells C,C,.. --rounds R [--plan P] [--progress] [--pace MICROSECONDS]
+-- run FILE --workers W [--plan P], and these
+abbrev pub on_run : App
+on_run = with_manner (with_workers (codes "run"))
+
+-- watch FILE --workers W --cells C,C,.. --rounds R [--plan P], and these
 abbrev pub on_watch : App
-on_watch = with_progress (with_rule (with_rule (with_workers (codes "watch"))
+on_watch = with_manner (with_rule (with_rule (with_workers (codes "watch"))
     (needed (option_rule (codes "cells")))) (needed (number_rule (codes "rounds") 1 1000000)))
 
 -- the program without its subcommands, of which one must stand
@@ -93,22 +101,19 @@ pub record HasFile (matches : Option (Text × List Row)) (name file : Text) : Ty
   pub met : matches ≡ Some (name, rows)
   pub has_file : first_of (codes "file") rows ≡ Some file
 
--- The subcommand of this name was met, with this file, these workers, and this plan if it has one.
-pub record HasWorkers (matches : Option (Text × List Row)) (name file : Text) (workers : ℕ)
-    (plan : Option Text) : Type 0 where
-  pub rows : List Row
-  pub met : matches ≡ Some (name, rows)
-  pub has_file : first_of (codes "file") rows ≡ Some file
-  pub has_workers : IsSomeAnd (one_of (codes "workers") rows)
-      (λ text. workers ≡ digits_value 10 (without_leading_plus text))
-  pub some : 1 ≤ workers
-  pub few : workers ≤ 64
-  pub has_plan : first_of (codes "plan") rows ≡ plan
-
 -- The number is that of the option's value.
 abbrev pub IsNumberOf : Text → List Row → ℕ → Type 0
 IsNumberOf option rows number = IsSomeAnd (one_of option rows)
     (λ text. number ≡ digits_value 10 (without_leading_plus text))
+
+-- The subcommand of this name was met, with this file, these workers, and this plan if it has one.
+pub record HasWorkers (matches : Option (Text × List Row)) (name file : Text) (workers : ℕ)
+    (plan : Option Text) : Type 0 where
+  pub of_file : HasFile matches name file
+  pub has_workers : IsNumberOf (codes "workers") of_file.rows workers
+  pub some : 1 ≤ workers
+  pub few : workers ≤ 64
+  pub has_plan : first_of (codes "plan") of_file.rows ≡ plan
 
 -- The same, or this number where the option is left out.
 abbrev pub IsNumberOr : Text → List Row → ℕ → ℕ → Type 0
@@ -133,32 +138,42 @@ pub record IsFlag (found : Option Text) (flag : Bool) : Type 0 where
   pub unset : found ≡ Some (codes "false") → flag ≡ false
   pub none : found ≡ None → flag ≡ false
 
--- The subcommand of this name was met as above, with this flag for its progress, and this pace if
--- it has one.
-pub record HasRun (matches : Option (Text × List Row)) (name file : Text) (workers : ℕ)
-    (plan : Option Text) (progress : Bool) (pace : Option ℕ) : Type 0 where
-  pub has_workers : HasWorkers matches name file workers plan
-  pub has_progress : IsFlag (one_of (codes "progress") has_workers.rows) progress
-  pub has_pace : IsNumberIfSet (codes "pace") has_workers.rows pace
+-- The size of the block is the number of its option; there is none where that is left out.
+abbrev pub IsBlockIfSet : List Row → Option Block → Type 0
+IsBlockIfSet rows block =
+    IsNumberIfSet (codes "block") rows (option_map size_of block)
+
+-- What was met is of this manner: its workers, a flag for its progress, and its pace and its block
+-- if it has one.
+pub record HasManner (rows : List Row) (manner : Manner) : Type 0 where
+  pub has_workers : IsNumberOf (codes "workers") rows manner.workers.count
+  pub has_progress : IsFlag (one_of (codes "progress") rows) manner.progress
+  pub has_pace : IsNumberIfSet (codes "pace") rows manner.pace
+  pub has_block : IsBlockIfSet rows manner.block
+
+-- The subcommand of this name was met, with this file, this plan if it has one, and this manner.
+pub record HasRun (matches : Option (Text × List Row)) (name file : Text) (plan : Option Text)
+    (manner : Manner) : Type 0 where
+  pub of_file : HasFile matches name file
+  pub has_plan : first_of (codes "plan") of_file.rows ≡ plan
+  pub has_manner : HasManner of_file.rows manner
 
 -- The same, with this text for its cells and these rounds.
-pub record HasWatch (matches : Option (Text × List Row)) (name file : Text) (workers : ℕ)
-    (cells : Text) (rounds : ℕ) (plan : Option Text) (progress : Bool) (pace : Option ℕ)
-    : Type 0 where
-  pub has_run : HasRun matches name file workers plan progress pace
-  pub has_cells : first_of (codes "cells") has_run.has_workers.rows ≡ Some cells
-  pub has_rounds : IsNumberOf (codes "rounds") has_run.has_workers.rows rounds
+pub record HasWatch (matches : Option (Text × List Row)) (name file : Text) (plan : Option Text)
+    (manner : Manner) (cells : Text) (rounds : ℕ) : Type 0 where
+  pub has_run : HasRun matches name file plan manner
+  pub has_cells : first_of (codes "cells") has_run.of_file.rows ≡ Some cells
+  pub has_rounds : IsNumberOf (codes "rounds") has_run.of_file.rows rounds
 
 -- the line is what was met
 abbrev pub IsMet : Option (Text × List Row) → Line → Type 0
 IsMet matches (Check file) = HasFile matches (codes "check") file.now
 IsMet matches (Plain file) = HasFile matches (codes "plain") file.now
 IsMet matches (Steps file from to) = HasSteps matches (codes "steps") file.now from to
-IsMet matches (Run file workers plan progress pace) =
-    HasRun matches (codes "run") file.now workers.count (text_of plan) progress pace
-IsMet matches (Watch file workers cells rounds plan progress pace) =
-    HasWatch matches (codes "watch") file.now workers.count cells.text.now rounds (text_of plan)
-    progress pace
+IsMet matches (Run file plan manner) =
+    HasRun matches (codes "run") file.now (text_of plan) manner
+IsMet matches (Watch file plan manner cells rounds) =
+    HasWatch matches (codes "watch") file.now (text_of plan) manner cells.text.now rounds
 IsMet matches (Replay file workers plan) =
     HasWorkers matches (codes "replay") file.now workers.count (text_of plan)
 
@@ -170,15 +185,28 @@ pub record HasBadCells (matches : Option (Text × List Row)) : Type 0 where
   pub has_cells : first_of (codes "cells") rows ≡ Some cells
   pub bad : ¬ SpellsCells cells
 
--- The command does not take the words, or they are those of a watch without cells.
-abbrev pub AreRefused : List Text → Type 0
-AreRefused words = (takes pramx words ≡ false) ⊎ HasBadCells (subcommand_of pramx words)
+-- A subcommand was met, and the number of its block is no size of a block.
+pub record HasBadBlock (matches : Option (Text × List Row)) : Type 0 where
+  pub name : Text
+  pub rows : List Row
+  pub size : ℕ
+  pub met : matches ≡ Some (name, rows)
+  pub has_block : IsNumberOf (codes "block") rows size
+  pub bad : ¬ IsGrain size
 
--- An error is of the kind that the command gives at the words, or of a watch without cells; or
--- memory ran out.
+-- A watch was met without cells, or a block of no such size.
+abbrev pub HasBadValue : Option (Text × List Row) → Type 0
+HasBadValue matches = HasBadCells matches ⊎ HasBadBlock matches
+
+-- The command does not take the words, or one of their values is bad.
+abbrev pub AreRefused : List Text → Type 0
+AreRefused words = (takes pramx words ≡ false) ⊎ HasBadValue (subcommand_of pramx words)
+
+-- An error is of the kind that the command gives at the words, or of a bad value; or memory ran
+-- out.
 abbrev pub FailsByWords : {T : Type 0} → List Text → Result T Error → Type 0
 FailsByWords words result = FailsBy (fault_of pramx words) result
-    ⊎ (HasBadCells (subcommand_of pramx words)
+    ⊎ (HasBadValue (subcommand_of pramx words)
     × IsErrAnd result (λ error. (kind_of error ≡ OutOfMemory) ⊎ (kind_of error ≡ ValueValidation)))
 
 -- Where the words are wrong, or ask for help or the version, the status is that of a failure, or

@@ -3,15 +3,16 @@ ghost use Rattle.std.specs.Prelude.{◌≡◌, ◌≢◌, ◌-◌, ◌^◌, Some
 ghost use Rattle.std.specs.Prelude.{false, map, IfOk, IfErr, IfSome};
 ghost use Rattle.clap.specs.Words.{app_of, first_of, found_of, kind_of};
 ghost use Rattle.clap.specs.Words.{rows_of, rule_of, subcommand_of, subcommand_rows_of};
-ghost use Rattle.pramx.specs.CommandLine.{AreRefused, FailsByWords, HasBadCells, IsMet};
-ghost use Rattle.pramx.specs.CommandLine.{IsNumberIfSet, IsNumberOf, IsNumberOr, pramx};
+ghost use Rattle.pramx.specs.CommandLine.{AreRefused, FailsByWords, HasBadBlock, HasBadCells};
+ghost use Rattle.pramx.specs.CommandLine.{HasManner, IsBlockIfSet, IsMet, IsNumberIfSet, IsNumberOf};
+ghost use Rattle.pramx.specs.CommandLine.{IsNumberOr, pramx};
 ghost use Rattle.pramx.specs.CommandLine.{needed, on_file, on_machine, on_run, on_steps, on_watch};
-ghost use Rattle.pramx.specs.CommandLine.{option_rule, with_progress, with_workers};
+ghost use Rattle.pramx.specs.CommandLine.{option_rule, with_manner, with_progress, with_workers};
 
 use clap::builder::ValueParser;
 use clap::error::ErrorKind;
 use clap::{Arg, ArgAction, ArgMatches, Command, Error, value_parser};
-use pram_commands::{CellList, Line, Workers};
+use pram_commands::{Block, CellList, Line, Manner, Workers};
 use std::alloc::{AllocError, Global};
 
 const EXAMPLES: &str = "\
@@ -46,6 +47,9 @@ pub fn read_line<'a>(alloc: Global, words: &'a [&'a str]) -> Result<Line<'a>, Er
     if let Some(text) = bad_cells(&matches) {
         return Err(cells_error(alloc, text)?);
     }
+    if let Some((name, text)) = bad_block(&matches) {
+        return Err(block_error(alloc, name, text)?);
+    }
     match line_of(&matches) {
         Some(line) => Ok(line),
         None => Err(Error::from(AllocError)),
@@ -74,8 +78,41 @@ fn cells_error(alloc: Global, text: &str) -> Result<Error, AllocError>
     let message = format!(in alloc;
         "invalid value '{text}' for '--cells <C,C,..>': cells are numbers with commas between"
     )?;
-    let mut command = watch_command(alloc)?.bin_name("pramx watch")?;
-    command.error(ErrorKind::ValueValidation, message.as_str())
+    let command = watch_command(alloc)?.bin_name("pramx watch")?;
+    value_error(command, message.as_str())
+}
+
+// The name of what has a block, and what stands for it, if that is no size of a block.
+fn bad_block<'a>(matches: &ArgMatches<'a>) -> Option<(&'a str, &'a str)>
+    ensures { IfSome result (λ bad. HasBadBlock (subcommand_rows_of matches.now)) }
+{
+    let (name, inner) = matches.subcommand()?;
+    let text = inner.get_str("block")?;
+    let size = inner.get_one::<u32>("block")?;
+    match Block::of(size) {
+        Some(_) => None,
+        None => Some((name, text)),
+    }
+}
+
+fn block_error(alloc: Global, name: &str, text: &str) -> Result<Error, AllocError>
+    ensures { IfOk result (λ error. kind_of error ≡ ErrorKind.ValueValidation) }
+{
+    let message = format!(in alloc;
+        "invalid value '{text}' for '--block <G>': {text} is not a power of two"
+    )?;
+    let command = match name {
+        "watch" => watch_command(alloc)?.bin_name("pramx watch")?,
+        _ => run_command(alloc)?.bin_name("pramx run")?,
+    };
+    value_error(command, message.as_str())
+}
+
+// What is told of a value that the command takes and the line does not.
+fn value_error(mut command: Command<'_>, message: &str) -> Result<Error, AllocError>
+    ensures { IfOk result (λ error. kind_of error ≡ ErrorKind.ValueValidation) }
+{
+    command.error(ErrorKind::ValueValidation, message)
 }
 
 fn command<'a>(alloc: Global) -> Result<Command<'a>, AllocError>
@@ -144,7 +181,7 @@ fn run_command<'a>(alloc: Global) -> Result<Command<'a>, AllocError>
     ensures { IfOk result (λ command. app_of command ≡ on_run) }
 {
     let command = workers_command(alloc, "run", "Run a job on threads")?;
-    with_progress(alloc, command)
+    with_manner(alloc, command)
 }
 
 fn watch_command<'a>(alloc: Global) -> Result<Command<'a>, AllocError>
@@ -169,10 +206,22 @@ fn watch_command<'a>(alloc: Global) -> Result<Command<'a>, AllocError>
     )?
     .arg(needed(cells))?
     .arg(needed(numbered(rounds, value_parser!(u32).range(1..=MOST_ROUNDS))))?;
-    with_progress(alloc, command)
+    with_manner(alloc, command)
 }
 
 // The command with what a run and a watch take last.
+fn with_manner<'a>(alloc: Global, command: Command<'a>) -> Result<Command<'a>, AllocError>
+    ensures { IfOk result (λ made. app_of made ≡ with_manner (app_of command.entry)) }
+{
+    let block = option(
+        alloc,
+        "block",
+        "G",
+        "How many processors a leaf of the board stands for, a power of two from 1 to 64",
+    );
+    with_progress(alloc, command)?.arg(numbered(block, value_parser!(u32).range(1..=64)))
+}
+
 fn with_progress<'a>(alloc: Global, command: Command<'a>) -> Result<Command<'a>, AllocError>
     ensures { IfOk result (λ made. app_of made ≡ with_progress (app_of command.entry)) }
 {
@@ -258,50 +307,67 @@ fn line_of<'a>(matches: &ArgMatches<'a>) -> Option<Line<'a>>
 {
     let (name, inner) = matches.subcommand()?;
     let file = inner.get_str("file")?;
+    let plan = inner.get_str("plan");
     match name {
-        "check" => return Some(Line::Check { file }),
-        "plain" => return Some(Line::Plain { file }),
+        "check" => Some(Line::Check { file }),
+        "plain" => Some(Line::Plain { file }),
         "steps" => {
             let (from, to) = window_of(inner)?;
-            return Some(Line::Steps { file, from, to });
+            Some(Line::Steps { file, from, to })
         }
-        _ => {}
+        "run" => {
+            let manner = manner_of(inner)?;
+            Some(Line::Run { file, plan, manner })
+        }
+        "watch" => {
+            let manner = manner_of(inner)?;
+            let (cells, rounds) = reads_of(inner)?;
+            Some(Line::Watch {
+                file,
+                plan,
+                manner,
+                cells,
+                rounds,
+            })
+        }
+        "replay" => {
+            let workers = workers_of(inner)?;
+            Some(Line::Replay {
+                file,
+                workers,
+                plan,
+            })
+        }
+        _ => None,
     }
+}
+
+// How many workers there are.
+fn workers_of(inner: &ArgMatches<'_>) -> Option<Workers>
+    ensures { IfSome result (λ workers. IsNumberOf (codes "workers")
+        (rows_of (found_of inner.now)) workers.count) }
+{
     let count = inner.get_one::<u32>("workers")?;
     if count == 0 || count > 64 {
         return None;
     }
-    let workers = Workers { count };
-    let plan = inner.get_str("plan");
+    Some(Workers { count })
+}
+
+// How a run or a watch goes on threads.
+fn manner_of(inner: &ArgMatches<'_>) -> Option<Manner>
+    ensures { IfSome result (HasManner (rows_of (found_of inner.now))) }
+{
+    let workers = workers_of(inner)?;
     let progress = inner.get_flag("progress");
     let pace = number_if_set(inner, "pace")?;
-    match name {
-        "run" => Some(Line::Run {
-            file,
-            workers,
-            plan,
-            progress,
-            pace,
-        }),
-        "watch" => {
-            let (cells, rounds) = reads_of(inner)?;
-            Some(Line::Watch {
-                file,
-                workers,
-                cells,
-                rounds,
-                plan,
-                progress,
-                pace,
-            })
-        }
-        "replay" => Some(Line::Replay {
-            file,
-            workers,
-            plan,
-        }),
-        _ => None,
-    }
+    let block = block_if_set(inner)?;
+    Some(Manner {
+        workers,
+        progress,
+        pace,
+        block,
+    })
 }
 
 // The steps of a window.
@@ -340,6 +406,17 @@ fn number_if_set(inner: &ArgMatches<'_>, option: &str) -> Option<Option<u32>>
         }
         None => Some(None),
     }
+}
+
+// The block of a run or a watch, if it stands.
+fn block_if_set(inner: &ArgMatches<'_>) -> Option<Option<Block>>
+    ensures { IfSome result (IsBlockIfSet (rows_of (found_of inner.now))) }
+{
+    let Some(size) = number_if_set(inner, "block")? else {
+        return Some(None);
+    };
+    let block = Block::of(size)?;
+    Some(Some(block))
 }
 
 // The cells and the rounds of a watch.

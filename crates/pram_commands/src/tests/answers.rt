@@ -1,19 +1,13 @@
 //! What is printed for a text. In texts and outputs `/` stands for a line feed.
-use crate::tests::served::of_text;
+use crate::tests::served::{lines_of, of_text};
 use crate::{check, plain};
 use pram_streams::IntoWrite;
-use std::alloc::{AllocError, Global};
+use std::alloc::Global;
 use std::process::Abort;
 use std::test::Fail;
 
 /// A text, and what is printed for it.
 pub type Row = (&'static str, &'static str);
-
-fn lines_of(alloc: Global, row: &str) -> Result<Vec<u8>, AllocError> {
-    row.bytes()
-        .map(|byte| if byte == b'/' { b'\n' } else { byte })
-        .collect(alloc)
-}
 
 /// Runs each job on the plain machine.
 pub fn expect_answers(rt: &impl Abort, alloc: Global, rows: &[Row]) -> Result<(), Fail> {

@@ -19,6 +19,7 @@ const SILENT: Manner = Manner {
     workers: TWO,
     progress: false,
     pace: None,
+    block: None,
 };
 
 fn sources() -> Sources<FromRead<&'static [u8]>, FromRead<&'static [u8]>>

@@ -2,7 +2,7 @@
 use crate::tests::served::{
     CHECK, Drip, FILE, PLAIN, Served, serve_source, serve_sources, serve_text,
 };
-use crate::{Console, Line, Sources, Workers, serve};
+use crate::{Console, Line, Manner, Sources, Workers, serve};
 use pram_streams::{Empty, FromRead, IntoWrite, MOST};
 use std::test::Fail;
 
@@ -14,10 +14,13 @@ const REPLAY: Line<'static> = Line::Replay {
 
 const RUN: Line<'static> = Line::Run {
     file: FILE,
-    workers: Workers { count: 2 },
     plan: Some("plan.csv"),
-    progress: false,
-    pace: None,
+    manner: Manner {
+        workers: Workers { count: 2 },
+        progress: false,
+        pace: None,
+        block: None,
+    },
 };
 
 const JOB: &[u8] = b"pram 1\ncells 1\nprocs 1\nsteps 0\ncode\nhalt\n";

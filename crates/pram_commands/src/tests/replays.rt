@@ -2,9 +2,8 @@
 //! feed.
 ghost use Rattle.std.specs.Prelude.{◌≤◌};
 
-use crate::tests::served::{FILE, Served, serve_sources, serve_text};
+use crate::tests::served::{FILE, Served, lines_of, serve_rows, serve_text};
 use crate::{Line, Workers};
-use pram_streams::FromRead;
 use std::alloc::{AllocError, Global};
 use std::rt::Clock;
 use std::sync::Wait;
@@ -18,20 +17,15 @@ const TWO: &str = "pram 1/cells 2/procs 2/steps 1/code/pid r0/";
 const SHARED: &str = "pram 1/cells 5/procs 4/steps 5/init 1 1/init 3 1/code/\
                       pid r0/ld r1 r0/jz r1 end/set r2 4/st r2 r1/end: halt/";
 
-pub(crate) fn lines_of(alloc: Global, row: &str) -> Result<Vec<u8>, AllocError> {
-    row.bytes()
-        .map(|byte| if byte == b'/' { b'\n' } else { byte })
-        .collect(alloc)
-}
-
-fn replay_line(count: u32, plan: Option<&'static str>) -> Line<'static>
+// A replay by so many workers under a plan.
+fn replay_line(count: u32) -> Line<'static>
     requires some { 1 ≤ count }
     requires most { count ≤ 64 }
 {
     Line::Replay {
         file: FILE,
         workers: Workers { count },
-        plan,
+        plan: Some("plan.csv"),
     }
 }
 
@@ -46,28 +40,12 @@ fn replayed<R: Threads + Wait + Clock + Eprint + Sync>(
     requires most { workers ≤ 64 }
 {
     let text = lines_of(alloc, text)?;
-    let line = replay_line(workers, None);
+    let line = Line::Replay {
+        file: FILE,
+        workers: Workers { count: workers },
+        plan: None,
+    };
     Ok(serve_text(rt, alloc, &line, text.as_slice()))
-}
-
-// A replay of a text under the rows of a plan.
-fn planned<R: Threads + Wait + Clock + Eprint + Sync>(
-    rt: &R,
-    alloc: Global,
-    text: &str,
-    workers: u32,
-    rows: &str,
-) -> Result<Served, AllocError>
-    requires some { 1 ≤ workers }
-    requires most { workers ≤ 64 }
-{
-    let text = lines_of(alloc, text)?;
-    let rows = format!(in alloc; "worker,act,ticks/{rows}")?;
-    let rows = lines_of(alloc, rows.as_str())?;
-    let line = replay_line(workers, Some("plan.csv"));
-    let job = FromRead::new(text.as_slice());
-    let plan = FromRead::new(rows.as_slice());
-    Ok(serve_sources(rt, alloc, &line, job, plan))
 }
 
 // How many lines stand above the answer, and the answer, with `/` for each line feed.
@@ -177,7 +155,7 @@ fn plans_are_obeyed(rt: HostRuntime) -> Result<(), Fail> {
     ];
     for (text, workers, plan, answer, status, lines) in rows {
         let answer = lines_of(alloc, answer)?;
-        let served = planned(&rt, alloc, text, workers, plan)?;
+        let served = serve_rows(&rt, alloc, &replay_line(workers), text, plan)?;
         let above = lines_above(served.out.as_slice(), answer.as_slice());
         assert_eq!(rt; above, Some(lines), "{plan}");
         assert_eq!(rt; served.status, status, "{plan}");
@@ -198,13 +176,13 @@ fn plans_are_refused(rt: HostRuntime) -> Result<(), Fail> {
     ];
     for (plan, err) in rows {
         let err = lines_of(alloc, err)?;
-        let served = planned(&rt, alloc, SHARED, 4, plan)?;
+        let served = serve_rows(&rt, alloc, &replay_line(4), SHARED, plan)?;
         assert_eq!(rt; served.err.as_slice(), err.as_slice(), "{plan}");
         assert_eq!(rt; served.status, 2, "{plan}");
         assert!(rt; served.out.is_empty());
     }
     // the job is judged first
-    let served = planned(&rt, alloc, "pram 1/cells 0/", 4, "4,go,1/")?;
+    let served = serve_rows(&rt, alloc, &replay_line(4), "pram 1/cells 0/", "4,go,1/")?;
     assert_eq!(rt;
         served.err.as_slice(),
         "text line=2 kind=OutOfLimits\n".as_bytes()

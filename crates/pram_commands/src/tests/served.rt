@@ -3,7 +3,7 @@ ghost use Rattle.std.specs.Prelude.{◌≡◌, false};
 
 use crate::{Console, Line, Sources, serve};
 use pram_streams::{Empty, Failed, FromRead, IntoWrite, Source};
-use std::alloc::Global;
+use std::alloc::{AllocError, Global};
 use std::rt::Clock;
 use std::sync::Wait;
 use std::thread::Threads;
@@ -67,6 +67,29 @@ pub fn serve_text<R: Threads + Wait + Clock + Eprint + Sync>(
     text: &[u8],
 ) -> Served {
     serve_source(rt, alloc, line, FromRead::new(text))
+}
+
+/// A row of a table as bytes: in rows `/` stands for a line feed.
+pub fn lines_of(alloc: Global, row: &str) -> Result<Vec<u8>, AllocError> {
+    row.bytes()
+        .map(|byte| if byte == b'/' { b'\n' } else { byte })
+        .collect(alloc)
+}
+
+/// Serves a line over a text and the rows of a plan below their header.
+pub fn serve_rows<R: Threads + Wait + Clock + Eprint + Sync>(
+    rt: &R,
+    alloc: Global,
+    line: &Line<'_>,
+    text: &str,
+    rows: &str,
+) -> Result<Served, AllocError> {
+    let text = lines_of(alloc, text)?;
+    let rows = format!(in alloc; "worker,act,ticks/{rows}")?;
+    let rows = lines_of(alloc, rows.as_str())?;
+    let job = FromRead::new(text.as_slice());
+    let plan = FromRead::new(rows.as_slice());
+    Ok(serve_sources(rt, alloc, line, job, plan))
 }
 
 /// The source of a text, and no plan.

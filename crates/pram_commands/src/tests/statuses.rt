@@ -1,7 +1,7 @@
 //! What a line that was served writes and answers. In texts and outputs `/` stands for a line feed.
 use crate::Line;
-use crate::tests::served::{CHECK, FILE, PLAIN, serve_text};
-use std::alloc::{AllocError, Global};
+use crate::tests::served::{CHECK, FILE, PLAIN, lines_of, serve_text};
+use std::alloc::Global;
 use std::process::Abort;
 use std::rt::Clock;
 use std::sync::Wait;
@@ -10,12 +10,6 @@ use std::thread::Threads;
 
 /// A text, and what is written to the output and to standard error, with the status.
 type Row = (&'static str, &'static str, &'static str, u8);
-
-fn lines_of(alloc: Global, row: &str) -> Result<Vec<u8>, AllocError> {
-    row.bytes()
-        .map(|byte| if byte == b'/' { b'\n' } else { byte })
-        .collect(alloc)
-}
 
 fn expect<R: Abort + Threads + Wait + Clock + Eprint + Sync>(
     rt: &R,

@@ -2,11 +2,10 @@
 //! for a line feed.
 ghost use Rattle.std.specs.Prelude.{◌≤◌};
 
-use crate::tests::replays::{lines_above, lines_of};
-use crate::tests::served::{FILE, Served, serve_sources};
-use crate::{CellList, Line, Workers};
-use pram_streams::FromRead;
-use std::alloc::{AllocError, Global};
+use crate::tests::replays::lines_above;
+use crate::tests::served::{FILE, Served, lines_of, serve_rows};
+use crate::{Block, CellList, Line, Manner, Workers};
+use std::alloc::Global;
 use std::rt::Clock;
 use std::sync::Wait;
 use std::test::Fail;
@@ -21,47 +20,37 @@ const SWAP: &str = "pram 1/cells 2/procs 2/steps 5/init 0 7/init 1 9/code/\
 const DISPUTED: &str = "pram 1/cells 2/procs 4/steps 4/code/\
                         pid r0/set r1 1/and r2 r0 r1/st r2 r0/";
 
-// A line served over a text and the rows of a plan.
-fn served<R: Threads + Wait + Clock + Eprint + Sync>(
-    rt: &R,
-    alloc: Global,
-    line: &Line<'_>,
-    text: &str,
-    rows: &str,
-) -> Result<Served, AllocError> {
-    let text = lines_of(alloc, text)?;
-    let rows = format!(in alloc; "worker,act,ticks/{rows}")?;
-    let rows = lines_of(alloc, rows.as_str())?;
-    let job = FromRead::new(text.as_slice());
-    let plan = FromRead::new(rows.as_slice());
-    Ok(serve_sources(rt, alloc, line, job, plan))
-}
+// Two workers that do not wait, and of which nothing is told.
+const TWO: Manner = Manner {
+    workers: Workers { count: 2 },
+    progress: false,
+    pace: None,
+    block: None,
+};
 
-fn run_line(count: u32, progress: bool) -> Line<'static>
-    requires some { 1 ≤ count }
-    requires most { count ≤ 64 }
-{
+// Two workers that pause for four milliseconds.
+const SLOW: Manner = Manner {
+    workers: Workers { count: 2 },
+    progress: false,
+    pace: Some(4_000),
+    block: None,
+};
+
+fn run_line(manner: Manner) -> Line<'static> {
     Line::Run {
         file: FILE,
-        workers: Workers { count },
         plan: Some("plan.csv"),
-        progress,
-        pace: None,
+        manner,
     }
 }
 
-fn watch_line(count: u32, cells: CellList<'_>, rounds: u32) -> Line<'_>
-    requires some { 1 ≤ count }
-    requires most { count ≤ 64 }
-{
+fn watch_line(manner: Manner, cells: CellList<'_>, rounds: u32) -> Line<'_> {
     Line::Watch {
         file: FILE,
-        workers: Workers { count },
+        plan: Some("plan.csv"),
+        manner,
         cells,
         rounds,
-        plan: Some("plan.csv"),
-        progress: false,
-        pace: None,
     }
 }
 
@@ -98,7 +87,8 @@ fn runs_answer_with_a_status(rt: HostRuntime) -> Result<(), Fail> {
         let out = lines_of(alloc, out)?;
         let err = lines_of(alloc, err)?;
         for progress in [false, true] {
-            let served = served(&rt, alloc, &run_line(2, progress), text, plan)?;
+            let line = run_line(Manner { progress, ..TWO });
+            let served = serve_rows(&rt, alloc, &line, text, plan)?;
             assert_eq!(rt; served.out.as_slice(), out.as_slice(), "{text}");
             assert_eq!(rt; served.err.as_slice(), err.as_slice(), "{text}");
             assert_eq!(rt; served.status, status, "{text}");
@@ -121,7 +111,7 @@ fn watches_print_their_reads(rt: HostRuntime) -> Result<(), Fail> {
         let Some(cells) = CellList::read("1,0") else {
             panic!(rt; "no list");
         };
-        let served = served(&rt, alloc, &watch_line(2, cells, 3), text, plan)?;
+        let served = serve_rows(&rt, alloc, &watch_line(TWO, cells, 3), text, plan)?;
         let above = lines_above(served.out.as_slice(), answer.as_slice());
         assert_eq!(rt; above, Some(7), "{text}");
         assert!(rt;
@@ -136,6 +126,28 @@ fn watches_print_their_reads(rt: HostRuntime) -> Result<(), Fail> {
     Ok(())
 }
 
+const MANY: &str = "pram 1/cells 5/procs 5/steps 4/code/pid r0/set r1 3/add r1 r1 r0/st r0 r1/";
+
+// Blocks of every size give the plain machine's answer, and no other size is one of a block.
+#[test]
+fn blocks_of_each_size(rt: HostRuntime) -> Result<(), Fail> {
+    let alloc = rt.alloc();
+    let answer = lines_of(alloc, "done steps=4/0: 3/1: 4/2: 5/3: 6/4: 7/")?;
+    let mut blocks = 0;
+    for size in 0..130 {
+        let block = Block::of(size);
+        if block.is_some() {
+            blocks += 1;
+            let line = run_line(Manner { block, ..TWO });
+            let served = served(&rt, alloc, &line, MANY, "0,go,40/0,back,0/")?;
+            assert_eq!(rt; served.out.as_slice(), answer.as_slice(), "{size}");
+            assert_eq!(rt; served.status, 0);
+        }
+    }
+    assert_eq!(rt; blocks, 7);
+    Ok(())
+}
+
 // How long a line takes, over a job under the rows of a plan, and what it prints.
 fn timed<R: Threads + Wait + Clock + Eprint + Sync>(
     rt: &R,
@@ -144,7 +156,7 @@ fn timed<R: Threads + Wait + Clock + Eprint + Sync>(
     rows: &str,
 ) -> Result<(Duration, Served), Fail> {
     let start = rt.monotonic()?;
-    let served = served(rt, alloc, line, SET, rows)?;
+    let served = serve_rows(rt, alloc, line, SET, rows)?;
     Ok((rt.monotonic()?.saturating_sub(start), served))
 }
 
@@ -152,28 +164,14 @@ fn timed<R: Threads + Wait + Clock + Eprint + Sync>(
 #[test]
 fn a_pace_is_kept(rt: HostRuntime) -> Result<(), Fail> {
     let alloc = rt.alloc();
-    let run = Line::Run {
-        file: FILE,
-        workers: Workers { count: 2 },
-        plan: Some("plan.csv"),
-        progress: false,
-        pace: Some(4_000),
-    };
+    let run = run_line(SLOW);
     let (took, served) = timed(&rt, alloc, &run, "0,go,3/0,sleep,2/0,stop,0/1,stop,0/")?;
     assert!(rt; took >= Duration::from_millis(20));
     assert_eq!(rt; served.out.as_slice(), "unfinished step=0\n".as_bytes());
     let Some(cells) = CellList::read("0") else {
         panic!(rt; "no list");
     };
-    let watch = Line::Watch {
-        file: FILE,
-        workers: Workers { count: 2 },
-        cells,
-        rounds: 5,
-        plan: Some("plan.csv"),
-        progress: false,
-        pace: Some(4_000),
-    };
+    let watch = watch_line(SLOW, cells, 5);
     let (took, served) = timed(&rt, alloc, &watch, "0,stop,0/1,stop,0/")?;
     assert!(rt; took >= Duration::from_millis(20));
     assert_eq!(rt; served.status, 3);
@@ -194,7 +192,7 @@ fn cells_that_a_job_does_not_have(rt: HostRuntime) -> Result<(), Fail> {
         let Some(cells) = CellList::read("1,2,0,3") else {
             panic!(rt; "no list");
         };
-        let served = served(&rt, alloc, &watch_line(2, cells, 3), text, plan)?;
+        let served = serve_rows(&rt, alloc, &watch_line(TWO, cells, 3), text, plan)?;
         assert!(rt; served.out.is_empty());
         assert_eq!(rt; served.err.as_slice(), err.as_slice(), "{plan}");
         assert_eq!(rt; served.status, 2);
@@ -212,7 +210,7 @@ fn more_reads_than_memory_holds(rt: HostRuntime) -> Result<(), Fail> {
     let Some(cells) = CellList::read(text.as_str()) else {
         panic!(rt; "no list");
     };
-    let served = served(&rt, alloc, &watch_line(2, cells, u32::MAX), SET, "")?;
+    let served = serve_rows(&rt, alloc, &watch_line(TWO, cells, u32::MAX), SET, "")?;
     assert!(rt; served.out.is_empty());
     assert_eq!(rt; served.err.as_slice(), "memory\n".as_bytes());
     assert_eq!(rt; served.status, 5);

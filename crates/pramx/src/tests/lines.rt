@@ -1,7 +1,7 @@
 //! Which words make a line.
 use crate::line::read_line;
 use clap::error::ErrorKind;
-use pram_commands::{CellList, Line, Workers};
+use pram_commands::{Block, CellList, Line, Manner, Workers};
 use std::alloc::{AllocError, Global};
 use std::test::Fail;
 
@@ -30,7 +30,7 @@ const PACED: &[&str] = &["pramx", "run", "f", "--workers", "1", "--pace", "10000
 
 const REPLAY: &[&str] = &["pramx", "replay", "job.txt", "--workers", "1"];
 
-const ALL: &[&str] = &["pramx", "run", "--workers=64", "job.txt"];
+const ALL: &[&str] = &["pramx", "run", "--workers=64", "--block=1", "job.txt"];
 
 const WATCH: &[&str] = &[
     "pramx",
@@ -43,6 +43,8 @@ const WATCH: &[&str] = &[
     "--rounds",
     "1000000",
     "--pace=0",
+    "--block",
+    "64",
 ];
 
 #[test]
@@ -52,12 +54,15 @@ fn words_make_a_watch(rt: HostRuntime) -> Result<(), Fail> {
     };
     let line = Line::Watch {
         file: "job.txt",
-        workers: Workers { count: 3 },
+        plan: None,
+        manner: Manner {
+            workers: Workers { count: 3 },
+            progress: false,
+            pace: Some(0),
+            block: Some(Block { exponent: 6 }),
+        },
         cells,
         rounds: 1_000_000,
-        plan: None,
-        progress: false,
-        pace: Some(0),
     };
     assert!(rt; read_line(rt.alloc(), WATCH)? == line);
     Ok(())
@@ -84,20 +89,26 @@ fn words_make_a_line(rt: HostRuntime) -> Result<(), Fail> {
             RUN,
             Line::Run {
                 file: "job.txt",
-                workers: Workers { count: 2 },
                 plan: Some("p.csv"),
-                progress: true,
-                pace: None,
+                manner: Manner {
+                    workers: Workers { count: 2 },
+                    progress: true,
+                    pace: None,
+                    block: None,
+                },
             },
         ),
         (
             PACED,
             Line::Run {
                 file: "f",
-                workers: Workers { count: 1 },
                 plan: None,
-                progress: false,
-                pace: Some(1_000_000),
+                manner: Manner {
+                    workers: Workers { count: 1 },
+                    progress: false,
+                    pace: Some(1_000_000),
+                    block: None,
+                },
             },
         ),
         (
@@ -112,10 +123,13 @@ fn words_make_a_line(rt: HostRuntime) -> Result<(), Fail> {
             ALL,
             Line::Run {
                 file: "job.txt",
-                workers: Workers { count: 64 },
                 plan: None,
-                progress: false,
-                pace: None,
+                manner: Manner {
+                    workers: Workers { count: 64 },
+                    progress: false,
+                    pace: None,
+                    block: Some(Block { exponent: 0 }),
+                },
             },
         ),
     ] {
@@ -194,6 +208,14 @@ const MANY_ROUNDS: &[&str] = &[
 
 const LONG_PACE: &[&str] = &["pramx", "run", "f", "--workers", "1", "--pace", "1000001"];
 
+const NO_BLOCK: &[&str] = &["pramx", "run", "f", "--workers", "1", "--block", "0"];
+
+const ODD_BLOCK: &[&str] = &["pramx", "run", "f", "--workers", "1", "--block", "48"];
+
+const LARGE_BLOCK: &[&str] = &["pramx", "run", "f", "--workers", "1", "--block", "128"];
+
+const REPLAY_IN_BLOCKS: &[&str] = &["pramx", "replay", "f", "--workers", "1", "--block", "1"];
+
 const PACED_REPLAY: &[&str] = &["pramx", "replay", "f", "--workers", "1", "--pace", "1"];
 
 const VERSION: &[&str] = &["pramx", "--version"];
@@ -222,6 +244,10 @@ fn other_words_are_refused(rt: HostRuntime) {
         (MANY_ROUNDS, ErrorKind::ValueValidation),
         (LONG_PACE, ErrorKind::ValueValidation),
         (PACED_REPLAY, ErrorKind::UnknownArgument),
+        (NO_BLOCK, ErrorKind::ValueValidation),
+        (ODD_BLOCK, ErrorKind::ValueValidation),
+        (LARGE_BLOCK, ErrorKind::ValueValidation),
+        (REPLAY_IN_BLOCKS, ErrorKind::UnknownArgument),
         (VERSION, ErrorKind::DisplayVersion),
         (HELP, ErrorKind::DisplayHelp),
         (HELP_OF_RUN, ErrorKind::DisplayHelp),
@@ -278,6 +304,14 @@ Usage: pramx watch [OPTIONS] --workers <W> --cells <C,C,..> --rounds <R> <FILE>
 For more information, try '--help'.
 ";
 
+const ODD_BLOCK_TEXT: &str = "\
+error: invalid value '48' for '--block <G>': 48 is not a power of two
+
+Usage: pramx run [OPTIONS] --workers <W> <FILE>
+
+For more information, try '--help'.
+";
+
 #[test]
 fn texts_of_errors_and_requests(rt: HostRuntime) -> Result<(), Fail> {
     let alloc = rt.alloc();
@@ -285,6 +319,7 @@ fn texts_of_errors_and_requests(rt: HostRuntime) -> Result<(), Fail> {
         (HELP, HELP_TEXT),
         (VERSION, "pramx 0.2.0\n"),
         (BAD_CELLS, BAD_CELLS_TEXT),
+        (ODD_BLOCK, ODD_BLOCK_TEXT),
     ] {
         let text = text_of(alloc, words)?;
         assert!(rt; text.is_some());

@@ -22,7 +22,7 @@ returns g c =
     (c.in_ok-answer.was {u = tt}) c.run-seat.ensures.answer in
     record {
       made = (desk, seat);
-      opened = opened_as job plan.workers desk c.args.seat seat c.in_ok-seat.ensures c.requires;
+      opened = opened_as job plan desk c.args.seat seat c.in_ok-seat.ensures c.requires;
       ran = ran;
       told = told;
     }

@@ -26,10 +26,10 @@ returns g c =
     (c.in_ok-answer.was {u = tt}) c.watch-seat.ensures.sights in
     record {
       saw = has_sights desk.task job plan cells rounds seat c.in_ok-answer.sights.items later
-          (job_of job plan.workers (desk, c.args.seat) c.requires) ran;
+          (job_of job plan (desk, c.args.seat) c.requires) ran;
       ends = record {
         made = (desk, seat);
-        opened = opened_as job plan.workers desk c.args.seat seat c.in_ok-seat.ensures c.requires;
+        opened = opened_as job plan desk c.args.seat seat c.in_ok-seat.ensures c.requires;
         ran = ran;
         told = told;
       };

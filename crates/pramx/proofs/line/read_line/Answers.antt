@@ -9,7 +9,7 @@ use Rattle.clap.specs.declared.error.Error.{Error}
 use Rattle.clap.specs.declared.error.kind.ErrorKind.{ErrorKind}
 use Rattle.clap.specs.declared.error.kind.ErrorKind.TheVariants.{OutOfMemory}
 use Rattle.std.specs.Borrow.{Bor}
-use Rattle.pramx.specs.CommandLine.{AreRefused, HasBadCells, IsMet, pramx}
+use Rattle.pramx.specs.CommandLine.{AreRefused, HasBadValue, IsMet, pramx}
 use Rattle.pramx.proofs.line.read_line.Goals as goal
 
 err_from : {T E : Type 0} (r : Result T E) (P Q : E → Type 0) → IsErrAnd r P →
@@ -57,10 +57,10 @@ same_subcommand a b words m same simple matches =
     (subst (λ (x : App). HasMatchesOf x words m) same matches (first_true _ _ simple)).1
 
 bad_in_words : (a b : App) (words : List Text) (m : ArgMatches) → a ≡ b →
-    is_simple_and_free b ≡ true → HasMatchesOf a words m → HasBadCells (subcommand_rows_of m) →
-    HasBadCells (subcommand_of b words)
+    is_simple_and_free b ≡ true → HasMatchesOf a words m → HasBadValue (subcommand_rows_of m) →
+    HasBadValue (subcommand_of b words)
 bad_in_words a b words m same simple matches bad =
-    subst (λ met. HasBadCells met) (same_subcommand a b words m same simple matches) bad
+    subst (λ met. HasBadValue met) (same_subcommand a b words m same simple matches) bad
 
 -- the kind of a parse's error is one of the command's
 kinds_at : (a b : App) (words : List Text) (k : ErrorKind) → a ≡ b → is_simple_and_free b ≡ true →
@@ -88,7 +88,8 @@ returns-in_err-matches-clause-kinds c =
 pub returns-in_err-cells_error-clause-refused : goal.returns-in_err-cells_error-clause-refused
 returns-in_err-cells_error-clause-refused c =
     let bad = bad_in_words _ pramx _
-    _ c.in_ok-command.ensures is_simple_pramx c.in_ok-matches.ensures.matches c.in-Some.ensures in
+    _ c.in_ok-command.ensures is_simple_pramx c.in_ok-matches.ensures.matches
+    (inl c.in-Some.ensures) in
     err_any c.from_residual-in_err-cells_error.result (λ (e : Error).
     kind_of e ≢ OutOfMemory → AreRefused (map (λ (word : Bor (List ℕ)). word.now) c.args.words.now))
     (λ e other. inr bad)
@@ -96,14 +97,36 @@ returns-in_err-cells_error-clause-refused c =
 pub returns-in-Some-clause-refused : goal.returns-in-Some-clause-refused
 returns-in-Some-clause-refused c = λ other.
     inr (bad_in_words _ pramx _ _ c.in_ok-command.ensures is_simple_pramx
-    c.in_ok-matches.ensures.matches c.in-Some.ensures)
+    c.in_ok-matches.ensures.matches (inl c.in-Some.ensures))
 
 pub returns-in-Some-clause-kinds : goal.returns-in-Some-clause-kinds
 returns-in-Some-clause-kinds c =
     inr (
       bad_in_words _ pramx _ _ c.in_ok-command.ensures is_simple_pramx
-          c.in_ok-matches.ensures.matches c.in-Some.ensures,
+          c.in_ok-matches.ensures.matches (inl c.in-Some.ensures),
       inr c.in_ok-cells_error.ensures,
+    )
+
+pub returns-in_err-block_error-clause-refused : goal.returns-in_err-block_error-clause-refused
+returns-in_err-block_error-clause-refused c =
+    let bad = bad_in_words _ pramx _
+    _ c.in_ok-command.ensures is_simple_pramx c.in_ok-matches.ensures.matches
+    (inr c.in-Some-bad_block.ensures) in
+    err_any c.from_residual-in_err-block_error.result (λ (e : Error).
+    kind_of e ≢ OutOfMemory → AreRefused (map (λ (word : Bor (List ℕ)). word.now) c.args.words.now))
+    (λ e other. inr bad)
+
+pub returns-in-Some-bad_block-clause-refused : goal.returns-in-Some-bad_block-clause-refused
+returns-in-Some-bad_block-clause-refused c = λ other.
+    inr (bad_in_words _ pramx _ _ c.in_ok-command.ensures is_simple_pramx
+    c.in_ok-matches.ensures.matches (inr c.in-Some-bad_block.ensures))
+
+pub returns-in-Some-bad_block-clause-kinds : goal.returns-in-Some-bad_block-clause-kinds
+returns-in-Some-bad_block-clause-kinds c =
+    inr (
+      bad_in_words _ pramx _ _ c.in_ok-command.ensures is_simple_pramx
+          c.in_ok-matches.ensures.matches (inr c.in-Some-bad_block.ensures),
+      inr c.in_ok-block_error.ensures,
     )
 
 pub returns-in-Some-line_of-clause-met : goal.returns-in-Some-line_of-clause-met
