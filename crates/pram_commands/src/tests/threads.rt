@@ -139,7 +139,7 @@ fn blocks_of_each_size(rt: HostRuntime) -> Result<(), Fail> {
         if block.is_some() {
             blocks += 1;
             let line = run_line(Manner { block, ..TWO });
-            let served = served(&rt, alloc, &line, MANY, "0,go,40/0,back,0/")?;
+            let served = serve_rows(&rt, alloc, &line, MANY, "0,go,40/0,back,0/")?;
             assert_eq!(rt; served.out.as_slice(), answer.as_slice(), "{size}");
             assert_eq!(rt; served.status, 0);
         }
