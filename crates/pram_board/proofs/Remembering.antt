@@ -15,7 +15,7 @@ use Rattle.walkx.specs.Walk.{Walking}
 use Rattle.walkx.proofs.Knowing.{has_left, has_right}
 use Rattle.lawful_walk.specs.Moments.{Sound}
 use Rattle.lawful_walk.specs.Walks.{steps_of}
-use Rattle.lawful_walk.specs.Seen.{Heard, KnowsStep}
+use Rattle.lawful_walk.specs.Seen.{Heard}
 use Rattle.pram_board.specs.declared.look.Progress.{Progress}
 use Rattle.pram_board.specs.declared.task.Task.{Task}
 use Rattle.pram_board.specs.Seats.{Desk, SeatData, hears_all, unites, HasLoaded}
@@ -90,11 +90,6 @@ pub remembers_progress : (t : Task) (p q : SeatData) (progress : Progress) →
 remembers_progress t p q progress h =
     remembers_more p q ((Load (number_of t.layout Conflict), h.named)
     ∷ (Load (number_of t.layout (Node 1)), h.root) ∷ []) h.is
-
-pub progress_known : (t : Task) (p q : SeatData) (progress : Progress) → Progressed t p q progress →
-    progress.step ≡ t.job.steps → KnowsStep t.layout q.record_of t.job.steps
-progress_known t p q progress h last =
-    subst (λ (n : ℕ). KnowsStep t.layout q.record_of n) last (inl h.well.shows)
 
 pub progress_conflict : (t : Task) (p q : SeatData) (progress : Progress) →
     Progressed t p q progress →

@@ -17,7 +17,7 @@ use Rattle.walkx.specs.Codes.{coded_record}
 use Rattle.walkx.specs.Scripts.{ends, rest, heard_in}
 use Rattle.walkx.specs.Walk.{Walking}
 use Rattle.lawful_walk.specs.Moments.{Sound, afters}
-use Rattle.lawful_walk.specs.Seen.{Heard}
+use Rattle.lawful_walk.specs.Seen.{Heard, KnowsStep}
 use Rattle.lawful_walk.specs.Walks.{IsLawfulRead, ProgressWell}
 use Rattle.pram_board.specs.declared.look.Progress.{Progress}
 use Rattle.pram_board.specs.declared.task.Task.{Task}
@@ -89,6 +89,10 @@ pub record IsLater (board : Desk) (before later : SeatData) : Type 0 where
   pub keeps : Remembers before.record_of later.record_of
   pub knows : StillKnows board.task before.record_of later.record_of
   pub sound : Sound board.task.job board.task.layout later.record_of
+
+-- the record has seen that this step is finished
+pub record HasSeen (layout : LayoutData) (known : Record) (step : ℕ) : Type 0 where
+  pub knows : KnowsStep layout known step
 
 -- the record heard word 0 as another value than 0
 pub record KnowsConflict (layout : LayoutData) (known : Record) : Type 0 where

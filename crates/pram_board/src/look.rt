@@ -16,16 +16,14 @@ pub struct Progress {
 
 impl Board {
     ghost use Rattle.std.specs.Prelude.{◌≡◌, ◌<◌, IfSome};
-    ghost use Rattle.lawful_walk.specs.Seen.{KnowsStep};
-    ghost use Rattle.pram_board.specs.Seats.{IsLater, KnowsConflict, Progressed, WasRead};
+    ghost use Rattle.pram_board.specs.Seats.{HasSeen, IsLater, KnowsConflict, Progressed, WasRead};
 
     /// The finished step, by one load of the root and then one of word 0. It is no step below those
     /// that the seat has seen.
     pub fn progress(&self, seat: &mut Seat) -> Progress
         requires { seat.old.desk ≡ self.now }
         ensures progressed { Progressed self.now.task seat.old seat.new result }
-        ensures knows { result.step ≡ self.now.task.job.steps →
-            KnowsStep self.now.task.layout seat.new.record_of self.now.task.job.steps }
+        ensures knows { HasSeen self.now.task.layout seat.new.record_of result.step }
         ensures conflict { IfSome result.conflict
             (λ step. KnowsConflict self.now.task.layout seat.new.record_of) }
         ensures later { IsLater self.now seat.old seat.new }

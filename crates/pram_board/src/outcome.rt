@@ -19,14 +19,13 @@ impl Board {
     ghost use Rattle.pram_words.specs.declared.words.Word.TheVariants.{Conflict, Stored};
     ghost use Rattle.lawful_walk.specs.Moments.{Sound};
     ghost use Rattle.lawful_walk.specs.Seen.{Heard, KnowsStep};
-    ghost use Rattle.pram_board.specs.Seats.{HasLoaded, IsLater, KnowsConflict};
+    ghost use Rattle.pram_board.specs.Seats.{HasLoaded, HasSeen, IsLater, KnowsConflict};
 
     /// What each cell holds after the last step, cell 0 first. The seat is to have seen that step.
     /// It takes two loads a cell; where memory is refused, it takes none.
     pub fn memory(&self, alloc: Global, seat: &mut Seat) -> Result<Vec<u32>, AllocError>
         requires desk { seat.old.desk ≡ self.now }
-        requires knows { KnowsStep self.now.task.layout seat.old.record_of
-            self.now.task.job.steps }
+        requires knows { HasSeen self.now.task.layout seat.old.record_of self.now.task.job.steps }
         ensures cells { IfOk result (λ cells. IsAnswer self.now.task.job (Final cells.items)) }
         ensures loads { IfOk result (λ cells. HasLoaded (2 * self.now.task.job.cells) seat.old
             seat.new) }

@@ -17,7 +17,7 @@ use Rattle.pram_page.specs.declared.text.Refusal.TheVariants.{Memory}
 use Rattle.pram_page.specs.Texts.{OfJob, IsRefused}
 use Rattle.pram_page.specs.Findings.{IsKeptBehind, count_written}
 
--- 0 where a counter is an instruction's place, 1 where the processor has halted, 2 where an address
+-- 0 where a counter is an instruction's index, 1 where the processor has halted, 2 where an address
 -- was out of range
 abbrev pub status_of : JobData → ℕ → ℕ
 status_of job counter =

@@ -64,8 +64,8 @@ fn lines_between(
         ≡ row_lines 0 (take end rows.now)) }
 {
     let mut writer = Writer::from_writer(Vec::new(alloc));
-    for place in start..end {
-        let Ok(()) = write_row(&mut writer, place as u64 + 1, &rows[place]) else {
+    for index in start..end {
+        let Ok(()) = write_row(&mut writer, index as u64 + 1, &rows[index]) else {
             return Err(AllocError);
         };
     }
@@ -146,8 +146,8 @@ fn sights_between(
         ≡ sight_lines (take end sights.now)) }
 {
     let mut writer = Writer::from_writer(Vec::new(alloc));
-    for place in start..end {
-        let Ok(()) = write_sight(&mut writer, &sights[place]) else {
+    for index in start..end {
+        let Ok(()) = write_sight(&mut writer, &sights[index]) else {
             return Err(AllocError);
         };
     }

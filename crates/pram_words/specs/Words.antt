@@ -49,9 +49,9 @@ abbrev pub IsGrain : ℕ → Type 0
 IsGrain size = IsPowerOfTwo size × (size ≤ 64)
 
 -- the size of a block for so many processors and workers: the greatest power of two up to 64 that
--- leaves each worker four leaves, or 1
+-- leaves each worker a leaf, or 1
 abbrev pub grain_for : ℕ → ℕ → ℕ
-grain_for procs workers = 2 ^ depth_of (max 1 (min (procs / 4 / workers) 64))
+grain_for procs workers = 2 ^ depth_of (max 1 (min (procs / workers) 64))
 
 -- the limits of a layout; its leaves are the least power of two with a place for each processor
 pub record IsLayout (layout : LayoutData) : Type 0 where

@@ -94,7 +94,7 @@ impl Layout {
     }
 
     /// The wide layout of the board of a job for so many workers, with blocks that leave each
-    /// worker at least four leaves, where there are as many processors.
+    /// worker a leaf, where there are as many processors.
     pub fn wide(job: &Job, workers: u32) -> Layout
         requires some { 1 ≤ workers }
         requires most { workers ≤ 64 }
@@ -560,13 +560,13 @@ impl Layout {
 }
 
 // The size of a block for so many processors and workers: the greatest power of two up to 64 that
-// leaves each worker four leaves.
+// leaves each worker a leaf.
 fn grain_for(procs: u32, workers: u32) -> u32
     requires { 1 ≤ workers }
     ensures value { result ≡ grain_for procs workers }
     ensures grain { IsGrain result }
 {
-    let most = (procs / 4 / workers).clamp(1, 64);
+    let most = (procs / workers).clamp(1, 64);
     1 << most.ilog2()
 }
 

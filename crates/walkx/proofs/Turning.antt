@@ -1,27 +1,26 @@
 -- What a turn comes to.
-use Rattle.std.proofs.Common.{arith, ◌≤◌, ◌≡◌, ℕ, zero, suc, true, false}
-use Rattle.std.proofs.Common.{Option, Some, None, ap, refl, subst, inl, inr}
+use Rattle.std.proofs.Common.{arith, ◌≤◌, ◌≡◌, ◌⊎◌, ℕ, zero, suc, true, false}
+use Rattle.std.proofs.Common.{Option, Some, None, ap, refl, sym, subst, inl, inr}
 use Rattle.std.proofs.lemmas.Bool.{cases_Bool}
 use Rattle.walkx.specs.Scripts.{Script, ends}
 use Rattle.walkx.specs.Walk.{Then, Fits, IsBoard, works, has_rank, part_script}
 use Rattle.walkx.specs.Inner.Posts.{PostData, post_data, next_rank, then_marks, then_next}
 use Rattle.walkx.specs.Driving.{Standing}
 use Rattle.walkx.specs.Parts.{does}
-use Rattle.walkx.specs.Rests.{IsPlace, leaf_of, part_of, script_at, turn_of}
+use Rattle.walkx.specs.declared.operation.Activity.{Activity}
+use Rattle.walkx.specs.declared.operation.Activity.TheVariants.{Turn, Part}
+use Rattle.walkx.specs.declared.turns.Turned.{Turned}
+use Rattle.walkx.specs.Rests.{IsPlace, IsWithin, entered, part_of, script_at, script_in, turn_of}
 use Rattle.walkx.specs.Records.{script_at_rank}
 use Rattle.walkx.specs.Turns.{working}
 use Rattle.walkx.proofs.Firsts.{rank_parts}
 use Rattle.pram_text.specs.Job.{JobData}
 use Rattle.pram_words.specs.Words.{LayoutData}
 
--- the leaf is one of a processor's
-pub leaf_does : (at : PostData) → at.rank ≡ 0 → has_rank at.layout at.node 0 ≡ true →
-    leaf_of at ≡ part_of at
-leaf_does at first there = rw (there, first) refl
-
-pub leaf_marks : (at : PostData) → has_rank at.layout at.node 0 ≡ false →
-    leaf_of at ≡ then_marks at
-leaf_marks at none = rw none refl
+-- the first task of a leaf
+pub part_first : (at : PostData) → at.rank ≡ 0 →
+    part_script at.job at.layout at.node at.phase 0 ≡ part_of at
+part_first at first = rw first refl
 
 pub part_does : (at : PostData) → part_of at ≡ does at (then_next at)
 unfolding part_script
@@ -82,6 +81,32 @@ script_later at some = by at.rank some
         ≡ part_script at.job at.layout at.node at.phase rank
     by zero e = absurd (omega arith)
     by (suc rank) e = refl
+
+-- an activity with such a script
+turn_in : (at : PostData) (phase : ℕ) → IsWithin at (Turn phase) →
+    script_in at (Turn phase) ≡ script_at at
+turn_in at phase within = sym (script_first at within.0)
+
+part_in : (at : PostData) (phase rank : ℕ) → IsWithin at (Part phase rank) →
+    script_in at (Part phase rank) ≡ script_at at
+part_in at phase rank within = sym (script_later at within.0)
+
+pub played : (at : PostData) (now : Activity) → IsWithin at now →
+    ((phase : ℕ) × (now ≡ Turn phase)) ⊎ ((phase : ℕ) × (rank : ℕ) × (now ≡ Part phase rank)) →
+    script_in at now ≡ script_at at
+played at now within is = elim is [
+  | inl turn ↦ subst (λ (a : Activity). IsWithin at a → script_in at a ≡ script_at at)
+      (sym turn.1) (turn_in at turn.0) within
+  | inr part ↦ subst (λ (a : Activity). IsWithin at a → script_in at a ≡ script_at at)
+      (sym part.2) (part_in at part.0 part.1) within
+]
+
+-- the task of the processor is next
+pub task_next : {D : Type 0} (stands : Standing D) (from : D × Script Then) (d : D)
+    (at : PostData) (turned : Option Turned) → turned ≡ None →
+    stands from d (Some (entered at turned)) → stands from d (Some (part_of at))
+task_next stands from d at turned none here =
+    subst (λ (t : Option Turned). stands from d (Some (entered at t))) none here
 
 -- a worker at the start of such a script can play it
 pub fits_place : (job : JobData) (y : LayoutData) (number n q rank : ℕ) → IsBoard job y →

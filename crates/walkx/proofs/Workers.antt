@@ -103,8 +103,10 @@ within_at job y number n activity.Back held_op heard board p = tt
 within_at job y number n activity.Begin held_op heard board p = tt
 within_at job y number n (activity.Turn q) held_op heard board p = (refl, p.phase)
 within_at job y number n (activity.Part q rank) held_op heard board p =
-    let there = rank_parts y _ rank p.block.2 in
-    record { board = board; first = p.block.0; rank = there.0; last = there.1; phase = p.phase }
+    let there = rank_parts y _ rank p.block.2 in (
+      p.block.1,
+      record { board = board; first = p.block.0; rank = there.0; last = there.1; phase = p.phase },
+    )
 within_at job y number n (activity.Over e) held_op heard board p = tt
 
 -- ---- what comes of an answer

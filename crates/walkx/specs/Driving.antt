@@ -73,11 +73,17 @@ pub record IsHere {D : Type 0} (stands : Standing D) (driver : D)
   pub from : D × Script Then
   pub here : stands from driver (Some script)
 
--- it played the script to its end, which its result names, or it was held in it
-pub record Reaches {D A : Type 0} (stands : Standing D) (old : D) (script : Script Then)
-    (to : A → Then) (new : D) (result : Result A Stopped) : Type 0 where
+-- it played the script up to a result, and what follows that is next; or it was held in it
+pub record Leads {D A : Type 0} (stands : Standing D) (old : D) (script : Script Then)
+    (next : A → Script Then) (new : D) (result : Result A Stopped) : Type 0 where
   pub on : (from : D × Script Then) → stands from old (Some script) →
-      stands from new (goes (λ answer. ends (to answer)) result)
+      stands from new (goes next result)
+
+-- it played the script to its end, which its result names, or it was held in it
+abbrev pub Reaches : {D A : Type 0} → Standing D → D → Script Then → (A → Then) → D →
+    Result A Stopped → Type 0
+Reaches stands old script to new result =
+    Leads stands old script (λ answer. ends (to answer)) new result
 
 -- the end of a task, late or not
 abbrev pub settled : Result (Unit {0}) Left → Result (Unit {0}) Stopped

@@ -1,5 +1,6 @@
 -- What is left of a turn in its midst.
 use Rattle.std.specs.Prelude.{◌≡◌, ◌≤◌, ℕ, ◌*◌, ◌/◌, ◌%◌, ◌+◌, ◌&&◌, ◌==◌, nat_le, if◌then◌else◌}
+use Rattle.std.specs.Prelude.{Option, Some, None}
 use Rattle.pram_words.specs.declared.words.Word.TheVariants.{Conflict, Node}
 use Rattle.pram_words.specs.Words.{number_of}
 use Rattle.walkx.specs.declared.operation.Op.TheVariants.{Load}
@@ -57,6 +58,11 @@ leads at turned.Finished = begins 1
 leads at (turned.To node) = turns node at.phase
 leads at (turned.Within rank) = works at.node at.phase rank
 
+-- what is left of a script after a turn, or before the task of a processor
+abbrev pub entered : PostData → Option Turned → Script Then
+entered at None = part_of at
+entered at (Some turned) = ends (leads at turned)
+
 -- ---- the scripts back and begin
 
 -- what comes of a script
@@ -101,5 +107,5 @@ pub record IsPlace (at : PostData) : Type 0 where
 -- an activity that the worker's post fits
 abbrev pub IsWithin : PostData → Activity → Type 0
 IsWithin at (activity.Turn phase) = (at.rank ≡ 0) × (at.phase ≤ 3 * at.job.steps)
-IsWithin at (activity.Part phase rank) = IsLeaf at
+IsWithin at (activity.Part phase rank) = (1 ≤ at.rank) × IsLeaf at
 IsWithin at _ = Unit {0}

@@ -9,7 +9,7 @@ use crate::next::Next;
 use crate::operation::Activity;
 use crate::post::Post;
 use crate::steps::Steps;
-use crate::turns::{Turned, part, turn};
+use crate::turns::{Turned, script};
 
 /// The script of an activity, at the node and in the phase where the worker stands.
 #[inline(always)]
@@ -26,8 +26,7 @@ pub(crate) fn play<S: Steps>(
     match activity {
         Activity::Back => back(steps, post),
         Activity::Begin => begin(steps, post),
-        Activity::Turn(_) => Ok(after(post, turn(steps, post)?)),
-        Activity::Part(_, _) => Ok(after(post, part(steps, post)?)),
+        Activity::Turn(_) | Activity::Part(_, _) => Ok(after(post, script(steps, post)?)),
         Activity::Over(_) => begin(steps, post),
     }
 }

@@ -1,11 +1,12 @@
 //! Turns.
 ghost use Rattle.std.specs.Prelude.{◌≡◌, ℕ, ◌+◌, ◌*◌, ◌<◌, ◌≤◌, ◌&&◌, ◌==◌, nat_le};
+ghost use Rattle.std.specs.Prelude.{IfOk, Option, None};
 ghost use Rattle.pram_words.specs.Words.{number_of};
 ghost use Rattle.pram_words.specs.declared.words.Word.TheVariants.{Node, Position};
 ghost use Rattle.walkx.specs.Inner.Posts.{IsLeaf, IsPost, next_rank, then_marks};
 ghost use Rattle.walkx.specs.Walk.{has_rank, way_down};
-ghost use Rattle.walkx.specs.Driving.{IsHere, Reaches, settled};
-ghost use Rattle.walkx.specs.Rests.{inner_of, leads, leaf_of, leaves_up, moves, part_of};
+ghost use Rattle.walkx.specs.Driving.{IsHere, Leads, Reaches, settled};
+ghost use Rattle.walkx.specs.Rests.{entered, inner_of, leads, leaves_up, moves, part_of};
 ghost use Rattle.walkx.specs.Rests.{IsPlace, script_at, turn_of};
 
 use crate::left::{Left, Stopped};
@@ -48,9 +49,9 @@ fn stand<S: Steps>(steps: &mut S, post: &Post, to: u32) -> Result<Turned, Stoppe
     Ok(Turned::To(to))
 }
 
-/// The task of a processor of a leaf's block, and the mark after the last one's.
+// The task of a processor of a leaf's block, and the mark after the last one's.
 #[inline(always)]
-pub fn part<S: Steps>(steps: &mut S, post: &Post) -> Result<Turned, Stopped>
+fn part<S: Steps>(steps: &mut S, post: &Post) -> Result<Turned, Stopped>
     requires leaf { IsLeaf post.now }
     requires here { IsHere (S.stands post.now) steps.old (part_of post.now) }
     ensures reaches { Reaches (S.stands post.now) steps.old (part_of post.now) (leads post.now)
@@ -60,23 +61,6 @@ pub fn part<S: Steps>(steps: &mut S, post: &Post) -> Result<Turned, Stopped>
     match next_rank(post) {
         Some(rank) => Ok(Turned::Within(rank)),
         None => mark(steps, post),
-    }
-}
-
-// The turn at an unfinished leaf.
-#[inline(always)]
-fn leaf<S: Steps>(steps: &mut S, post: &Post) -> Result<Turned, Stopped>
-    requires first { post.now.rank ≡ 0 }
-    requires leaf { post.now.layout.leaves ≤ post.now.node }
-    requires phase { post.now.phase ≤ 3 * post.now.job.steps }
-    requires here { IsHere (S.stands post.now) steps.old (leaf_of post.now) }
-    ensures reaches { Reaches (S.stands post.now) steps.old (leaf_of post.now) (leads post.now)
-        steps.new result }
-{
-    if has_rank(post, 0) {
-        part(steps, post)
-    } else {
-        mark(steps, post)
     }
 }
 
@@ -111,26 +95,47 @@ fn leave<S: Steps>(steps: &mut S, post: &Post) -> Result<Turned, Stopped>
     }
 }
 
-/// A turn.
+// A turn up to the task of the leaf's first processor: what came of the turn, or none where that
+// task is next.
 #[inline(always)]
-pub fn turn<S: Steps>(steps: &mut S, post: &Post) -> Result<Turned, Stopped>
+fn enter<S: Steps>(steps: &mut S, post: &Post) -> Result<Option<Turned>, Stopped>
     requires first { post.now.rank ≡ 0 }
     requires phase { post.now.phase ≤ 3 * post.now.job.steps }
     requires here { IsHere (S.stands post.now) steps.old (turn_of post.now) }
-    ensures reaches { Reaches (S.stands post.now) steps.old (turn_of post.now) (leads post.now)
+    ensures leads { Leads (S.stands post.now) steps.old (turn_of post.now) (entered post.now)
         steps.new result }
+    ensures leaf { IfOk result (λ turned. turned ≡ None → IsLeaf post.now) }
 {
     let found = steps.make(looking(post, post.node))?;
     if is_finished(post, found) {
-        leave(steps, post)
-    } else if is_leaf(post) {
-        leaf(steps, post)
+        Ok(Some(leave(steps, post)?))
+    } else if !is_leaf(post) {
+        Ok(Some(inner(steps, post)?))
+    } else if has_rank(post, 0) {
+        Ok(None)
     } else {
-        inner(steps, post)
+        Ok(Some(mark(steps, post)?))
+    }
+}
+
+// A script up to the task of a processor, in the same way.
+#[inline(always)]
+fn reach<S: Steps>(steps: &mut S, post: &Post) -> Result<Option<Turned>, Stopped>
+    requires place { IsPlace post.now }
+    requires here { IsHere (S.stands post.now) steps.old (script_at post.now) }
+    ensures leads { Leads (S.stands post.now) steps.old (script_at post.now) (entered post.now)
+        steps.new result }
+    ensures leaf { IfOk result (λ turned. turned ≡ None → IsLeaf post.now) }
+{
+    if post.rank == 0 {
+        enter(steps, post)
+    } else {
+        Ok(None)
     }
 }
 
 /// A turn; or the task of a processor of a block that is not the first one.
+// (One call of `part`: a compiler keeps no hint to inline what is called twice.)
 #[inline(always)]
 pub fn script<S: Steps>(steps: &mut S, post: &Post) -> Result<Turned, Stopped>
     requires place { IsPlace post.now }
@@ -138,10 +143,9 @@ pub fn script<S: Steps>(steps: &mut S, post: &Post) -> Result<Turned, Stopped>
     ensures reaches { Reaches (S.stands post.now) steps.old (script_at post.now) (leads post.now)
         steps.new result }
 {
-    if post.rank == 0 {
-        turn(steps, post)
-    } else {
-        part(steps, post)
+    match reach(steps, post)? {
+        Some(turned) => Ok(turned),
+        None => part(steps, post),
     }
 }
 

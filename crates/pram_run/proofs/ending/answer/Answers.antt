@@ -46,7 +46,7 @@ pub memory-requires-clause-knows : goal.memory-requires-clause-knows
 memory-requires-clause-knows c =
     let high : c.args.board.now.task.job.steps ≤ c.progress-progress.result.step =
     omega (arith, c.steps.ensures.value, ap (λ (j : JobData). j.steps) c.requires.job) in
-    inl (last_shown _ _ _ _ c.progress-progress.ensures.progressed high)
+    record { knows = inl (last_shown _ _ _ _ c.progress-progress.ensures.progressed high) }
 
 pub returns-in_err-cells-clause-looked : goal.returns-in_err-cells-clause-looked
 returns-in_err-cells-clause-looked c =

@@ -10,17 +10,17 @@ use Rattle.pram_run.proofs.print.lines_between.Goals as goal
 abbrev no_row : TraceRow
 no_row = record { before = 0; after = 0; word = 0; worker = 0; kind = Load }
 
-pub loop-place-preserved : goal.loop-place-preserved
-loop-place-preserved c =
+pub loop-index-preserved : goal.loop-index-preserved
+loop-index-preserved c =
     let rows = c.args.rows.now in
-    let place = c.loop-place.place in
+    let index = c.loop-index.index in
     let front = row_lines 0 (take c.args.start rows) in
-    let line = row_line (place + 1) (get_or rows place no_row) in
-    let old = (writer_under c.loop-place.writer).items ++ writer_pending c.loop-place.writer in
-    let within : place < length rows = omega (arith, c.loop-place-test.true, c.requires.to) in
+    let line = row_line (index + 1) (get_or rows index no_row) in
+    let old = (writer_under c.loop-index.writer).items ++ writer_pending c.loop-index.writer in
+    let within : index < length rows = omega (arith, c.loop-index-test.true, c.requires.to) in
     record {
       between = c.in-Ok.ensures.between;
       text = ap (λ text. front ++ text) c.in-Ok.ensures.text ∙ sym (append_assoc front old line)
-          ∙ ap (λ text. text ++ line) c.loop-place.invariant.text
-          ∙ sym (lines-more rows place no_row within);
+          ∙ ap (λ text. text ++ line) c.loop-index.invariant.text
+          ∙ sym (lines-more rows index no_row within);
     }

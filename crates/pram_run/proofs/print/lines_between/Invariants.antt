@@ -5,10 +5,10 @@ use Rattle.pram_run.specs.Printed.{row_lines}
 use Rattle.pram_run.proofs.print.lines_between.Given as goal
 
 -- the lines so far are written
-abbrev pub invariant-loop-place : goal.invariant-loop-place
-invariant-loop-place l = record {
+abbrev pub invariant-loop-index : goal.invariant-loop-index
+invariant-loop-index l = record {
   between : IsBetweenRecords l.writer;
   text : row_lines 0 (take l.start l.rows)
       ++ ((writer_under l.writer).items ++ writer_pending l.writer)
-      ≡ row_lines 0 (take l.place l.rows);
+      ≡ row_lines 0 (take l.index l.rows);
 }

@@ -9,17 +9,17 @@ use Rattle.pram_run.proofs.print.sights_between.Goals as goal
 abbrev no_sight : Sight
 no_sight = record { cell = 0; step = 0; value = 0 }
 
-pub loop-place-preserved : goal.loop-place-preserved
-loop-place-preserved c =
+pub loop-index-preserved : goal.loop-index-preserved
+loop-index-preserved c =
     let sights = c.args.sights.now in
-    let place = c.loop-place.place in
+    let index = c.loop-index.index in
     let front = sight_lines (take c.args.start sights) in
-    let line = sight_line (get_or sights place no_sight) in
-    let old = (writer_under c.loop-place.writer).items ++ writer_pending c.loop-place.writer in
-    let within : place < length sights = omega (arith, c.loop-place-test.true, c.requires.to) in
+    let line = sight_line (get_or sights index no_sight) in
+    let old = (writer_under c.loop-index.writer).items ++ writer_pending c.loop-index.writer in
+    let within : index < length sights = omega (arith, c.loop-index-test.true, c.requires.to) in
     record {
       between = c.in-Ok.ensures.between;
       text = ap (λ text. front ++ text) c.in-Ok.ensures.text ∙ sym (append_assoc front old line)
-          ∙ ap (λ text. text ++ line) c.loop-place.invariant.text
-          ∙ sym (sights-more sights place no_sight within);
+          ∙ ap (λ text. text ++ line) c.loop-index.invariant.text
+          ∙ sym (sights-more sights index no_sight within);
     }

@@ -10,5 +10,5 @@ loop-init c = record {
       c.args.board.now.task.layout c.requires.worker;
   knows = subst (λ (w : Walking).
       Knows c.args.board.now.task.job c.args.board.now.task.layout c.args.seat.record_of w)
-      (sym c.start-worker.ensures.value) tt;
+      (sym c.start-worker.ensures.value) (record { script = tt; block = tt });
 }

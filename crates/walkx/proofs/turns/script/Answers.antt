@@ -1,52 +1,12 @@
-use Rattle.std.proofs.Common.{◌≡◌, ◌≤◌, sym, ◌∙◌, arith}
-use Rattle.walkx.proofs.Turning.{moved, rank_is, script_first, script_later, some_rank}
+use Rattle.walkx.proofs.Turning.{task_next}
 use Rattle.walkx.proofs.turns.script.Goals as goal
 
-pub turn-requires : goal.turn-requires
-turn-requires g c =
+pub part-requires-clause-here : goal.part-requires-clause-here
+part-requires-clause-here g c =
     let at = c.args.post.now in
-    let first : at.rank ≡ 0 = sym (rank_is c.post.view_is) ∙ c.if-post-eq0.true in
+    let r = c.requires.here in
     record {
-      first = first;
-      phase = c.requires.place.phase;
-      here = record {
-        from = c.requires.here.from;
-        here = moved (g.S.Steps.stands at) c.requires.here.from _ _ _ (script_first at first)
-            c.requires.here.here;
-      };
-    }
-
-pub part-requires : goal.part-requires
-part-requires g c =
-    let at = c.args.post.now in
-    let some : 1 ≤ at.rank = some_rank at (λ e. c.if-post-eq0.false (rank_is c.post.view_is ∙ e)) in
-    record {
-      leaf = c.requires.place.leaf some;
-      here = record {
-        from = c.requires.here.from;
-        here = moved (g.S.Steps.stands at) c.requires.here.from _ _ _ (script_later at some)
-            c.requires.here.here;
-      };
-    }
-
-pub returns-then-post-eq0 : goal.returns-then-post-eq0
-returns-then-post-eq0 g c =
-    let at = c.args.post.now in
-    let first : at.rank ≡ 0 = sym (rank_is c.post.view_is) ∙ c.if-post-eq0.true in
-    record {
-      reaches = record {
-        on = λ from here. c.turn.ensures.reaches.on from
-            (moved (g.S.Steps.stands at) from _ _ _ (script_first at first) here);
-      };
-    }
-
-pub returns-else-post-eq0 : goal.returns-else-post-eq0
-returns-else-post-eq0 g c =
-    let at = c.args.post.now in
-    let some : 1 ≤ at.rank = some_rank at (λ e. c.if-post-eq0.false (rank_is c.post.view_is ∙ e)) in
-    record {
-      reaches = record {
-        on = λ from here. c.part.ensures.reaches.on from
-            (moved (g.S.Steps.stands at) from _ _ _ (script_later at some) here);
-      };
+      from = r.from;
+      here = task_next (g.S.Steps.stands at) r.from _ at _ c.in-None.is
+          (c.in_ok-turned.ensures.leads.on r.from r.here);
     }

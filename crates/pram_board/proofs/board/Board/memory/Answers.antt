@@ -10,7 +10,7 @@ pub last_value-value-requires-clause-knows : goal.last_value-value-requires-clau
 last_value-value-requires-clause-knows c =
     let t = c.args.self.now.task in
     still_known t (2 * c.loop-cell.cell) c.args.seat.now c.loop-cell.seat t.job.steps
-    c.loop-cell.invariant.loads c.requires.knows
+    c.loop-cell.invariant.loads c.requires.knows.knows
 
 pub loop-cell-preserved : goal.loop-cell-preserved
 loop-cell-preserved c =
@@ -41,7 +41,7 @@ returns-clause-cells c =
     let reached : IsReached t.job t.job.steps =
     sound_known t.job t.layout c.loop-cell.seat.record_of t.job.steps i.sound
     (still_known t (2 * c.loop-cell.cell)
-    c.args.seat.now c.loop-cell.seat t.job.steps i.loads c.requires.knows) in (
+    c.args.seat.now c.loop-cell.seat t.job.steps i.loads c.requires.knows.knows) in (
       state_after t.job t.job.steps,
       record { reached = reached; state = refl },
       i.values ∙ ap (λ k. take k (state_after t.job t.job.steps)) all,

@@ -1,11 +1,11 @@
-use Rattle.std.proofs.Common.{◌≡◌, ◌<◌, ap, subst, ◌∙◌}
+use Rattle.std.proofs.Common.{◌≡◌, ◌<◌, ap, subst, ◌∙◌, inl}
 use Rattle.pram_words.specs.Words.{length_of, number_of}
 use Rattle.pram_words.specs.declared.words.Word.TheVariants.{Conflict, Node}
 use Rattle.walkx.specs.declared.operation.Op.TheVariants.{Load}
 use Rattle.lawful_walk.specs.Moments.{Sound}
 use Rattle.pram_board.specs.Seats.{Desk, SeatData, hears}
 use Rattle.pram_board.proofs.Steps.{may_load, root_small, conflict_small}
-use Rattle.pram_board.proofs.Remembering.{progress_conflict, progress_known, remembers_progress, still_knows}
+use Rattle.pram_board.proofs.Remembering.{progress_conflict, remembers_progress, still_knows}
 use Rattle.pram_board.proofs.Told.{progressed}
 use Rattle.pram_board.proofs.board.Board.progress.Goals as goal
 
@@ -55,7 +55,7 @@ returns-clause-progressed c =
     c.seen_step.ensures c.named_step.ensures c.step-named.ensures.sound
 
 pub returns-clause-knows : goal.returns-clause-knows
-returns-clause-knows c = progress_known _ _ _ _ (returns-clause-progressed c)
+returns-clause-knows c = record { knows = inl (returns-clause-progressed c).well.shows }
 
 pub returns-clause-conflict : goal.returns-clause-conflict
 returns-clause-conflict c = progress_conflict _ _ _ _ (returns-clause-progressed c)

@@ -1,0 +1,136 @@
+use Rattle.std.proofs.Common.{sym, ◌∙◌}
+use Rattle.walkx.specs.Scripts.{ends}
+use Rattle.walkx.specs.Walk.{turn_script, turns}
+use Rattle.walkx.specs.Rests.{after_node}
+use Rattle.walkx.proofs.Passing.{passed}
+use Rattle.walkx.proofs.Turning.{moved, node_is, part_first}
+use Rattle.walkx.proofs.turns.enter.Goals as goal
+
+pub make-requires : goal.make-requires
+unfolding turn_script
+make-requires g c =
+    let at = c.args.post.now in
+    let r = c.requires.here in
+    rw (c.looking.ensures, node_is c.post.view_is) (
+      at,
+      record {
+        from = r.from;
+        after = ends (turns 0 at.phase);
+        next = after_node at;
+        here = r.here;
+      },
+    )
+
+pub returns-in_err-found-clause-leads : goal.returns-in_err-found-clause-leads
+unfolding turn_script
+returns-in_err-found-clause-leads g c =
+    let at = c.args.post.now in
+    rw (passed c.from_residual.result _ c.from_residual.ensures.1) (record {
+      on = λ from here.
+          rw (c.looking.ensures, node_is c.post.view_is) at
+          (c.in_err-found.ensures.on at from (after_node at)) here;
+    })
+
+pub leave-requires : goal.leave-requires
+unfolding turn_script
+leave-requires g c =
+    let at = c.args.post.now in
+    let r = c.requires.here in
+    let node = rw (c.looking.ensures, node_is c.post.view_is) at
+    (c.in_ok-found.ensures.on at r.from (after_node at)) r.here in
+    record { here = record { from = r.from; here = rw (sym c.is_finished.ensures ∙ c.if-is_finished.true) at node } }
+
+pub returns-in_err-leave-clause-leads : goal.returns-in_err-leave-clause-leads
+unfolding turn_script
+returns-in_err-leave-clause-leads g c =
+    let at = c.args.post.now in
+    rw (passed c.from_residual-in_err-leave.result _ c.from_residual-in_err-leave.ensures.1) (record {
+      on = λ from here.
+          let node = rw (c.looking.ensures, node_is c.post.view_is) at
+          (c.in_ok-found.ensures.on at from (after_node at)) here in
+          c.in_err-leave.ensures.reaches.on from (rw (sym c.is_finished.ensures ∙ c.if-is_finished.true) at node);
+    })
+
+pub returns-in_ok-leave-clause-leads : goal.returns-in_ok-leave-clause-leads
+unfolding turn_script
+returns-in_ok-leave-clause-leads g c =
+    let at = c.args.post.now in
+    (record {
+      on = λ from here.
+          let node = rw (c.looking.ensures, node_is c.post.view_is) at
+          (c.in_ok-found.ensures.on at from (after_node at)) here in
+          c.in_ok-leave.ensures.reaches.on from (rw (sym c.is_finished.ensures ∙ c.if-is_finished.true) at node);
+    })
+
+pub inner-requires-clause-here : goal.inner-requires-clause-here
+unfolding turn_script
+inner-requires-clause-here g c =
+    let at = c.args.post.now in
+    let r = c.requires.here in
+    let node = rw (c.looking.ensures, node_is c.post.view_is) at
+    (c.in_ok-found.ensures.on at r.from (after_node at)) r.here in
+    record { from = r.from; here = rw (sym c.is_finished.ensures ∙ c.if-is_finished.false, sym c.is_leaf.ensures ∙ c.if-not-is_leaf.true) at node }
+
+pub returns-in_err-inner-clause-leads : goal.returns-in_err-inner-clause-leads
+unfolding turn_script
+returns-in_err-inner-clause-leads g c =
+    let at = c.args.post.now in
+    rw (passed c.from_residual-in_err-inner.result _ c.from_residual-in_err-inner.ensures.1) (record {
+      on = λ from here.
+          let node = rw (c.looking.ensures, node_is c.post.view_is) at
+          (c.in_ok-found.ensures.on at from (after_node at)) here in
+          c.in_err-inner.ensures.reaches.on from (rw (sym c.is_finished.ensures ∙ c.if-is_finished.false, sym c.is_leaf.ensures ∙ c.if-not-is_leaf.true) at node);
+    })
+
+pub returns-in_ok-inner-clause-leads : goal.returns-in_ok-inner-clause-leads
+unfolding turn_script
+returns-in_ok-inner-clause-leads g c =
+    let at = c.args.post.now in
+    (record {
+      on = λ from here.
+          let node = rw (c.looking.ensures, node_is c.post.view_is) at
+          (c.in_ok-found.ensures.on at from (after_node at)) here in
+          c.in_ok-inner.ensures.reaches.on from (rw (sym c.is_finished.ensures ∙ c.if-is_finished.false, sym c.is_leaf.ensures ∙ c.if-not-is_leaf.true) at node);
+    })
+
+pub mark-requires : goal.mark-requires
+unfolding turn_script
+mark-requires g c =
+    let at = c.args.post.now in
+    let r = c.requires.here in
+    let node = rw (c.looking.ensures, node_is c.post.view_is) at
+    (c.in_ok-found.ensures.on at r.from (after_node at)) r.here in
+    record { here = record { from = r.from; here = rw (sym c.is_finished.ensures ∙ c.if-is_finished.false, sym c.is_leaf.ensures ∙ c.if-not-is_leaf.false, sym c.has_rank.ensures.value ∙ c.if-has_rank.false) at node } }
+
+pub returns-in_err-mark-clause-leads : goal.returns-in_err-mark-clause-leads
+unfolding turn_script
+returns-in_err-mark-clause-leads g c =
+    let at = c.args.post.now in
+    rw (passed c.from_residual-in_err-mark.result _ c.from_residual-in_err-mark.ensures.1) (record {
+      on = λ from here.
+          let node = rw (c.looking.ensures, node_is c.post.view_is) at
+          (c.in_ok-found.ensures.on at from (after_node at)) here in
+          c.in_err-mark.ensures.reaches.on from (rw (sym c.is_finished.ensures ∙ c.if-is_finished.false, sym c.is_leaf.ensures ∙ c.if-not-is_leaf.false, sym c.has_rank.ensures.value ∙ c.if-has_rank.false) at node);
+    })
+
+pub returns-in_ok-mark-clause-leads : goal.returns-in_ok-mark-clause-leads
+unfolding turn_script
+returns-in_ok-mark-clause-leads g c =
+    let at = c.args.post.now in
+    (record {
+      on = λ from here.
+          let node = rw (c.looking.ensures, node_is c.post.view_is) at
+          (c.in_ok-found.ensures.on at from (after_node at)) here in
+          c.in_ok-mark.ensures.reaches.on from (rw (sym c.is_finished.ensures ∙ c.if-is_finished.false, sym c.is_leaf.ensures ∙ c.if-not-is_leaf.false, sym c.has_rank.ensures.value ∙ c.if-has_rank.false) at node);
+    })
+
+pub returns-then-has_rank-clause-leads : goal.returns-then-has_rank-clause-leads
+unfolding turn_script
+returns-then-has_rank-clause-leads g c =
+    let at = c.args.post.now in
+    record {
+      on = λ from here.
+          let node = rw (c.looking.ensures, node_is c.post.view_is) at
+          (c.in_ok-found.ensures.on at from (after_node at)) here in
+          moved (g.S.Steps.stands at) from _ _ _ (part_first at c.requires.first) (rw (sym c.is_finished.ensures ∙ c.if-is_finished.false, sym c.is_leaf.ensures ∙ c.if-not-is_leaf.false, sym c.has_rank.ensures.value ∙ c.if-has_rank.true) at node);
+    }
