@@ -57,7 +57,7 @@ impl Board {
 
     /// The same in the wide form, in which workers start far apart and do not share lines of
     /// memory: it is the faster one with two workers and more. A leaf stands for a block of
-    /// processors, of a size that leaves each worker some leaves.
+    /// processors, of a size that leaves each worker a leaf.
     pub fn open_wide(alloc: Global, job: &Job, workers: u32) -> Result<(Board, Seat), AllocError>
         requires some { 1 ≤ workers }
         requires most { workers ≤ 64 }

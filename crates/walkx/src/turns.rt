@@ -135,7 +135,7 @@ fn reach<S: Steps>(steps: &mut S, post: &Post) -> Result<Option<Turned>, Stopped
 }
 
 /// A turn; or the task of a processor of a block that is not the first one.
-// (One call of `part`: a compiler keeps no hint to inline what is called twice.)
+/// It calls `part` once: a compiler may refuse to inline what is called twice.
 #[inline(always)]
 pub fn script<S: Steps>(steps: &mut S, post: &Post) -> Result<Turned, Stopped>
     requires place { IsPlace post.now }
