@@ -1,0 +1,159 @@
+-- What processors read and write, and that one that has stopped does neither.
+use Rattle.std.proofs.Common.{◌≡◌, ℕ, ◌+◌, ◌<◌, ◌≤◌, Bool, true, false, cond, List, length, get_or}
+use Rattle.std.proofs.Common.{Option, Some, None, refl, sym, ap, subst, ◌∙◌, inl, inr, arith}
+use Rattle.std.specs.Prelude.{is_some, nat_lt, slice_get, IfSome}
+use Rattle.std.specs.List.{range_with_len}
+use Rattle.std.specs.Option.{option_map}
+use Rattle.std.proofs.lemmas.Bool.{cases_Bool, ltb-true, ltb-false, lt-ltb}
+use Rattle.std.proofs.lemmas.List.Folds.{list_any_at, list_any_none}
+use Rattle.std.proofs.lemmas.List.FromFn.{length-range_with_len, get_or-range_with_len}
+use Rattle.std.proofs.lemmas.Option.{none-some, slice_get_past, cond_some}
+use Rattle.pram_text.specs.declared.instr.Instr.{Instr}
+use Rattle.pram_text.specs.declared.instr.Instr.TheVariants.{Ld}
+use Rattle.pram_text.specs.Job.{JobData}
+use Rattle.pram_cost.specs.declared.meeting.Sharing.{Sharing}
+use Rattle.pram_cost.specs.declared.meeting.Sharing.TheVariants.{SameRead, SameWrite, OtherValue}
+use Rattle.pram_step.specs.declared.requests.Request.{Request}
+use Rattle.pram_cost.specs.Accesses.{is_running, running_in, cell_by, put_to_cell, write_by}
+use Rattle.pram_cost.specs.Costs.{has_access}
+use Rattle.pram_step.specs.Instructions.{goes_to, operand_held, request_in}
+use Rattle.pram_step.specs.Machine.{State, counter, halted}
+use Rattle.pram_cost.specs.Meetings.{access_by}
+use Rattle.pram_step.proofs.LawStopped.{stopped_request}
+use Rattle.pram_cost.proofs.Runners.{runner_at, range_below, running_below, front, front_next}
+use Rattle.pram_cost.proofs.Runners.{none_before_first, none_between}
+
+-- ---- one that has stopped
+
+pub idle_request : (job : JobData) (s : State) (i : ℕ) → is_running job s i ≡ false →
+    request_in job s i ≡ goes_to (counter job s i)
+idle_request job s i idle =
+    stopped_request job s i (ltb-false (counter job s i) (halted job) idle)
+
+pub idle_access : (sharing : Sharing) (job : JobData) (s : State) (i : ℕ) →
+    is_running job s i ≡ false → access_by sharing job s i ≡ None
+idle_access SameRead job s i idle =
+    ap (λ (o : Option Instr). option_map (λ (cell : ℕ). (cell, 0)) (cell_by job s i o))
+    (slice_get_past job.code (counter job s i) (ltb-false (counter job s i) (halted job) idle))
+idle_access SameWrite job s i idle =
+    ap (λ (r : Request). put_to_cell job r.put) (idle_request job s i idle)
+idle_access OtherValue job s i idle =
+    ap (λ (r : Request). put_to_cell job r.put) (idle_request job s i idle)
+
+-- before the first one that runs, and between one and the next, none goes to a cell
+pub none_goes_before : (sharing : Sharing) (job : JobData) (s : State) (i : ℕ) → 0 ≤ i →
+    i < front job s 0 → access_by sharing job s i ≡ None
+none_goes_before sharing job s i from low =
+    idle_access sharing job s i (none_before_first job s i low)
+
+pub none_goes_between : (sharing : Sharing) (job : JobData) (s : State) (q i : ℕ) →
+    q < length (running_in job s) → get_or (running_in job s) q 0 + 1 ≤ i →
+    i < front job s (q + 1) → access_by sharing job s i ≡ None
+none_goes_between sharing job s q i lt from low =
+    idle_access sharing job s i (none_between job s q i lt (omega arith) low)
+
+-- the same of a list that is that of the processors that run
+module _ (job : JobData) (s : State) (xs : List ℕ) (runs : xs ≡ running_in job s) where
+  pub list_below : (q : ℕ) → q < length xs → get_or xs q 0 < job.procs
+  list_below = subst (λ (ys : List ℕ). (q : ℕ) → q < length ys → get_or ys q 0 < job.procs)
+      (sym runs) (λ q lt. running_below job s q 0 lt)
+
+  pub list_first : (sharing : Sharing) (i : ℕ) → 0 ≤ i → i < get_or xs 0 job.procs →
+      access_by sharing job s i ≡ None
+  list_first sharing = subst (λ (ys : List ℕ). (i : ℕ) → 0 ≤ i → i < get_or ys 0 job.procs →
+      access_by sharing job s i ≡ None) (sym runs) (none_goes_before sharing job s)
+
+  pub list_between : (sharing : Sharing) (q : ℕ) → q < length xs → (i : ℕ) →
+      get_or xs q 0 + 1 ≤ i → i < get_or xs (q + 1) job.procs → access_by sharing job s i ≡ None
+  list_between sharing q = subst (λ (ys : List ℕ). q < length ys → (i : ℕ) →
+      get_or ys q 0 + 1 ≤ i → i < get_or ys (q + 1) job.procs → access_by sharing job s i ≡ None)
+      (sym runs) (λ lt i. none_goes_between sharing job s q i lt)
+
+  pub list_next : (q : ℕ) → q < length xs → get_or xs q 0 + 1 ≤ get_or xs (q + 1) job.procs
+  list_next q = subst (λ (ys : List ℕ). q < length ys →
+      get_or ys q 0 + 1 ≤ get_or ys (q + 1) job.procs) (sym runs) (front_next job s q)
+
+  -- where those of the list have a property that the others have, all have it
+  pub list_all : (P : ℕ → Type 0) → ((i : ℕ) → is_running job s i ≡ false → P i) →
+      ((q : ℕ) → q < length xs → P (get_or xs q 0)) → (i : ℕ) → i < job.procs → P i
+  list_all P idle = subst (λ (ys : List ℕ). ((q : ℕ) → q < length ys → P (get_or ys q 0)) →
+      (i : ℕ) → i < job.procs → P i) (sym runs) (λ listed i below.
+      elim (cases_Bool (is_running job s i)) [
+        | inl runs_too ↦
+            let at = runner_at job s i below runs_too in
+            subst P at.2 (listed at.0 at.1)
+        | inr stopped ↦ idle i stopped
+      ])
+
+-- ---- the cell of an access
+
+put_low : (job : JobData) (o : Option (ℕ × ℕ)) →
+    IfSome (put_to_cell job o) (λ a. a.0 < job.cells)
+put_low job None = tt
+put_low job (Some put) = tested (nat_lt put.0 job.cells) (ltb-true put.0 job.cells)
+  where
+    tested : (b : Bool) → (b ≡ true → put.0 < job.cells) →
+        IfSome (cond b (Some put) None) (λ a. a.0 < job.cells)
+    tested true low = low refl
+    tested false low = tt
+
+abbrev at_zero : ℕ → ℕ × ℕ
+at_zero cell = (cell, 0)
+
+pub access_low : (sharing : Sharing) (job : JobData) (s : State) (i : ℕ) →
+    IfSome (access_by sharing job s i) (λ a. a.0 < job.cells)
+access_low SameRead job s i = read_low (slice_get job.code (counter job s i))
+  where
+    tested : (b : Bool) (cell : ℕ) → (b ≡ true → cell < job.cells) →
+        IfSome {T = ℕ × ℕ} (option_map at_zero (cond b (Some cell) None)) (λ a. a.0 < job.cells)
+    tested true cell low = low refl
+    tested false cell low = tt
+
+    read_low : (o : Option Instr) →
+        IfSome {T = ℕ × ℕ} (option_map at_zero (cell_by job s i o)) (λ a. a.0 < job.cells)
+    read_low None = tt
+    read_low (Some (Ld target register)) =
+        let address = operand_held job s i (Ld target register) 0 in
+        tested (nat_lt address job.cells) address (ltb-true address job.cells)
+    read_low (Some _) = tt
+access_low SameWrite job s i = put_low job (request_in job s i).put
+access_low OtherValue job s i = put_low job (request_in job s i).put
+
+-- ---- whether some processor has an access
+
+pub has_access_at : (sharing : Sharing) (job : JobData) (s : State) (i : ℕ) → i < job.procs →
+    is_some (access_by sharing job s i) ≡ true → has_access sharing job s ≡ true
+has_access_at sharing job s i lt has =
+    let there : get_or (range_with_len 0 job.procs) i 0 ≡ i =
+    omega (arith, get_or-range_with_len 0 job.procs i 0 lt) in
+    list_any_at (λ j. is_some (access_by sharing job s j)) (range_with_len 0 job.procs) i 0
+    (omega (arith, length-range_with_len 0 job.procs))
+    (subst (λ (j : ℕ). is_some (access_by sharing job s j) ≡ true) (sym there) has)
+
+pub has_access_none : (sharing : Sharing) (job : JobData) (s : State) →
+    ((i : ℕ) → i < job.procs → access_by sharing job s i ≡ None) →
+    has_access sharing job s ≡ false
+has_access_none sharing job s none =
+    list_any_none (λ j. is_some (access_by sharing job s j)) (range_with_len 0 job.procs)
+    (λ k d lt. ap (λ (o : Option (ℕ × ℕ)). is_some o)
+    (none (get_or (range_with_len 0 job.procs) k d) (range_below job.procs k d lt)))
+
+-- ---- a write is what is put to a cell
+
+put_of_cell : (job : JobData) (o : Option (ℕ × ℕ)) (cell v : ℕ) →
+    put_to_cell job o ≡ Some (cell, v) → (cell < job.cells) × (o ≡ Some (cell, v))
+put_of_cell job None cell v e = absurd (none-some (cell, v) e)
+put_of_cell job (Some put) cell v e =
+    let is = cond_some (nat_lt put.0 job.cells) put (cell, v) e in
+    let low = ltb-true put.0 job.cells is.0 in
+    let same = ap (λ (p : ℕ × ℕ). p.0) is.1 in
+    (omega (arith, low, same), ap Some is.1)
+
+pub write_is : (job : JobData) (s : State) (i cell v : ℕ) → write_by job s i ≡ Some (cell, v) →
+    (cell < job.cells) × ((request_in job s i).put ≡ Some (cell, v))
+write_is job s i cell v = put_of_cell job (request_in job s i).put cell v
+
+pub write_from : (job : JobData) (s : State) (i cell v : ℕ) → cell < job.cells →
+    (request_in job s i).put ≡ Some (cell, v) → write_by job s i ≡ Some (cell, v)
+write_from job s i cell v low puts =
+    ap (put_to_cell job) puts ∙ rw (lt-ltb cell job.cells low) refl

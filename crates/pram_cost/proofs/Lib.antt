@@ -1,0 +1,10 @@
+pub mod Runners
+pub mod Accessing
+pub mod Staying
+pub mod Meets
+pub mod Repeated
+pub mod LawModels
+pub mod LawCosts
+pub mod LawOne
+pub mod Needed
+pub mod Ending

@@ -1,0 +1,54 @@
+use Rattle.std.proofs.Common.{◌+◌, ◌*◌, ap, ap₂, ◌∙◌, arith, length, ℕ}
+use Rattle.std.specs.Prelude.{max}
+use Rattle.pram_cost.specs.declared.meeting.Sharing.TheVariants.{SameRead, SameWrite}
+use Rattle.pram_cost.proofs.LawCosts.{at_most_all, work_fits, count_fits}
+use Rattle.pram_cost.proofs.Repeated.{work_more}
+use Rattle.pram_cost.proofs.work.Work.after.Goals as goal
+
+pub overflow_cast-running : goal.overflow_cast-running
+overflow_cast-running c =
+    let moment = c.args.moment.now in
+    let few = c.limits_hold.ensures.procs.1 in
+    omega (arith, ap length moment.runs, at_most_all moment.job.now moment.state.now)
+
+pub overflow_mul-result : goal.overflow_mul-result
+overflow_mul-result c =
+    let moment = c.args.moment.now in
+    let fits = work_fits moment.job.now moment.state.now moment.made c.args.times c.from.result
+    c.from-2.result c.args.self.executed c.limits_hold.ensures c.requires.fits c.from.ensures
+    (c.from-2.ensures ∙ ap length moment.runs) c.requires.work.executed_is in
+    omega (arith, fits)
+
+pub overflow_add-result : goal.overflow_add-result
+overflow_add-result c =
+    let moment = c.args.moment.now in
+    let fits = work_fits moment.job.now moment.state.now moment.made c.args.times c.from.result
+    c.from-2.result c.args.self.executed c.limits_hold.ensures c.requires.fits c.from.ensures
+    (c.from-2.ensures ∙ ap length moment.runs) c.requires.work.executed_is in
+    omega (arith, fits)
+
+pub overflow_add-result-2 : goal.overflow_add-result-2
+overflow_add-result-2 c =
+    let moment = c.args.moment.now in
+    let fits = count_fits SameRead moment.job.now moment.made c.args.times c.args.self.reading _ _
+    c.limits_hold.ensures c.requires.fits c.requires.work.reading_is c.steps_with-reading.ensures in
+    omega (arith, fits)
+
+pub overflow_add-result-3 : goal.overflow_add-result-3
+overflow_add-result-3 c =
+    let moment = c.args.moment.now in
+    let fits = count_fits SameWrite moment.job.now moment.made c.args.times c.args.self.writing _ _
+    c.limits_hold.ensures c.requires.fits c.requires.work.writing_is c.steps_with-writing.ensures in
+    omega (arith, fits)
+
+pub returns : goal.returns
+returns c =
+    let moment = c.args.moment.now in
+    let runs = ap length moment.runs in
+    work_more moment.job.now moment.made moment.state.now c.args.times c.args.self _
+    c.requires.work c.requires.some c.requires.repeats
+    (ap (λ (m : ℕ). c.args.self.executed + m)
+    (ap₂ (λ (a b : ℕ). a * b) c.from.ensures (c.from-2.ensures ∙ runs)))
+    (c.max.ensures ∙ ap (λ (m : ℕ). max c.args.self.most m) runs)
+    (ap (λ (m : ℕ). c.args.self.reading + m) c.steps_with-reading.ensures)
+    (ap (λ (m : ℕ). c.args.self.writing + m) c.steps_with-writing.ensures)

@@ -1,0 +1,23 @@
+-- What a search for a meeting knows of the processors that it has looked at.
+use Rattle.std.specs.Prelude.{◌≡◌, ℕ, ◌<◌, ◌≤◌, List, slice_index, Option, Some, IfSome}
+use Rattle.pram_cost.specs.declared.meeting.Meeting.{Meeting}
+use Rattle.pram_cost.specs.declared.meeting.Sharing.{Sharing}
+use Rattle.pram_cost.specs.Meetings.{IsLeastOrNone}
+
+-- the mark of each cell that one of n processors goes to names the least of them
+abbrev pub MarkLeast : (ℕ → Option (ℕ × ℕ)) → ℕ → List ℕ → Type 0
+MarkLeast access n marks =
+    (i cell value : ℕ) → i < n → access i ≡ Some (cell, value) →
+    (slice_index marks cell ≤ i)
+    × ((other : ℕ) × (access (slice_index marks cell) ≡ Some (cell, other)))
+
+-- n processors were looked at in this step
+pub record HasLooked (sharing : Sharing) (access : ℕ → Option (ℕ × ℕ)) (step n : ℕ) (marks :
+    List ℕ) (found : Option Meeting) : Type 0 where
+  pub marked : MarkLeast access n marks
+  pub least : IsLeastOrNone sharing access n found
+  pub step_is : IfSome found (λ meeting. meeting.step ≡ step)
+
+-- processor i comes before j, goes to the cell, and brings this value
+abbrev pub GoesBefore : (ℕ → Option (ℕ × ℕ)) → ℕ → ℕ → ℕ → ℕ → Type 0
+GoesBefore access i j cell value = (i < j) × (access i ≡ Some (cell, value))

@@ -1,0 +1,7 @@
+pub mod Accesses
+pub mod Meetings
+pub mod Models
+pub mod Costs
+pub mod Printed
+pub mod Laws
+pub mod Inner

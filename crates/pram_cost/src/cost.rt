@@ -1,0 +1,178 @@
+//! What a run costs.
+ghost use Rattle.std.specs.Prelude.{◌≡◌, ℕ, ◌+◌, ◌*◌, ◌<◌, ◌≤◌, ◌↔◌, length, IfOk, IsNone, IsTrue};
+ghost use Rattle.pram_cost.specs.Accesses.{running_in};
+ghost use Rattle.pram_cost.specs.Costs.{IsCost, IsCostOf};
+ghost use Rattle.pram_cost.specs.Inner.Repeats.{AllStay, Repeats, Stays};
+ghost use Rattle.pram_step.specs.Machine.{place_count};
+ghost use Rattle.pram_cost.specs.Models.{IsNeeded};
+ghost use Rattle.pram_step.specs.Runs.{IsStateAfter, state_after};
+ghost use Rattle.pram_text.specs.Job.{JobData};
+
+use crate::access::is_running;
+use crate::meeting::Meetings;
+use crate::moment::Moment;
+use crate::pram::Pram;
+use crate::work::Work;
+use pram_step::{Fault, State, counter, laws, make_step, request_after};
+use pram_text::Job;
+use std::alloc::{AllocError, Global};
+
+/// What a run costs: all steps of a job, or those up to its first conflict, that one counted too.
+#[derive(Clone, Copy, Debug, PartialEq, Eq)]
+pub struct Cost {
+    /// How many steps the run has.
+    pub steps: u32,
+    /// How many processors there are.
+    pub procs: u32,
+    /// What the steps do.
+    pub work: Work,
+    /// Where processors first meet at a cell.
+    pub meetings: Meetings,
+    /// The conflict in the last of these steps, if the run ends with one.
+    pub conflict: Option<Fault>,
+}
+
+impl Cost {
+    /// Steps times processors.
+    pub fn product(&self) -> u64
+        ensures { result ≡ self.now.steps * self.now.procs }
+    {
+        u64::from(self.steps) * u64::from(self.procs)
+    }
+
+    /// The weakest model of the PRAM that accepts all steps of the run.
+    pub fn needs(&self) -> Pram
+        ensures { (job : JobData) → IsCost job self.now → IsNeeded job self.now.steps result }
+    {
+        if self.meetings.other_value.is_some() {
+            Pram::PriorityCrcw
+        } else if self.meetings.same_write.is_some() {
+            Pram::CommonCrcw
+        } else if self.meetings.same_read.is_some() {
+            Pram::Crew
+        } else {
+            Pram::Erew
+        }
+    }
+
+    // That of no step.
+    fn of_no_step(job: &Job) -> Cost
+        ensures cost { IsCostOf job.now 0 result }
+        ensures agrees { IsNone result.conflict }
+    {
+        Cost {
+            steps: 0,
+            procs: job.procs(),
+            work: Work::NONE,
+            meetings: Meetings::NONE,
+            conflict: None,
+        }
+    }
+
+    // That after so many more steps, each of which the machine begins in this state.
+    fn after(self, moment: &Moment<'_>, marks: &mut [u32], times: u32) -> Cost
+        requires cost { IsCostOf moment.now.job.now moment.now.made self }
+        requires marks { length marks.old ≡ moment.now.job.now.cells }
+        requires some { 0 < times }
+        requires fits { moment.now.made + times ≤ moment.now.job.now.steps }
+        requires repeats { Repeats moment.now.job.now moment.now.made times moment.now.state.now }
+        ensures cost { IsCostOf moment.now.job.now (moment.now.made + times) result }
+        ensures agrees { IsNone result.conflict }
+    {
+        moment.job.limits_hold();
+        Cost {
+            steps: self.steps + times,
+            procs: self.procs,
+            work: self.work.after(moment, times),
+            meetings: self.meetings.after(moment, marks, times),
+            conflict: None,
+        }
+    }
+}
+
+/// What the run of a job costs.
+///
+/// It takes time in the number of processors that run in each step, beside the steps themselves,
+/// and once a step changes nothing the cost is there at once, whatever number of steps is left.
+/// Memory is taken once.
+pub fn cost_of(alloc: Global, job: &Job) -> Result<Cost, AllocError>
+    ensures { IfOk result (IsCost job.now) }
+{
+    laws::start_is_a_state();
+    laws::states_have_all_places();
+    job.limits_hold();
+    let mut state = State::start(alloc, job)?;
+    let mut running = all_running(alloc, job, &state)?;
+    let mut marks = vec![in alloc; 0; job.cells() as usize]?;
+    let mut cost = Cost::of_no_step(job);
+    for made in 0..job.steps() {
+        let moment = Moment {
+            job,
+            state: &state,
+            running: running.as_slice(),
+            made,
+        };
+        if all_stay(&moment) {
+            return Ok(cost.after(&moment, &mut marks, job.steps() - made));
+        }
+        cost = cost.after(&moment, &mut marks, 1);
+        if let Some(fault) = make_step(alloc, job, &mut state, made)? {
+            return Ok(Cost {
+                conflict: Some(fault),
+                ..cost
+            });
+        }
+        keep_running(job, &state, &mut running);
+    }
+    Ok(cost)
+}
+
+// The processors that run in a state.
+fn all_running(alloc: Global, job: &Job, state: &State) -> Result<Vec<u32>, AllocError>
+    requires { length state.now ≡ place_count job.now }
+    ensures { IfOk result (λ running. running.items ≡ running_in job.now state.now) }
+{
+    let mut running = Vec::with_capacity(alloc, job.procs() as usize)?;
+    for processor in 0..job.procs() {
+        if is_running(job, state, processor) {
+            running.push(processor)?;
+        }
+    }
+    Ok(running)
+}
+
+// The processors that still run after a step, of those that ran before it.
+fn keep_running(job: &Job, state: &State, running: &mut Vec<u32>)
+    requires { (t : ℕ) × IsStateAfter job.now (t + 1) state.now
+        × (running.old.items ≡ running_in job.now (state_after job.now t)) }
+    ensures { running.new.items ≡ running_in job.now state.now }
+{
+    laws::states_have_all_places();
+    job.limits_hold();
+    running.retain(|processor| *processor < job.procs() && is_running(job, state, *processor));
+}
+
+// Whether each processor asks for nothing but its counter, so that the step changes nothing.
+fn all_stay(moment: &Moment<'_>) -> bool
+    ensures { IsTrue result ↔ AllStay moment.now.job.now moment.now.state.now }
+{
+    let running = moment.running;
+    for processor in running {
+        if !stays(moment, *processor) {
+            return false;
+        }
+    }
+    true
+}
+
+// Whether a processor asks for nothing but its counter.
+fn stays(moment: &Moment<'_>, processor: u32) -> bool
+    requires { processor < moment.now.job.now.procs }
+    ensures { IsTrue result ↔ Stays moment.now.job.now moment.now.state.now processor }
+{
+    laws::states_have_all_places();
+    moment.job.limits_hold();
+    let request = request_after(moment.job, moment.state, processor);
+    let counter = counter(moment.job, moment.state, processor);
+    request.put.is_none() && request.next == counter
+}

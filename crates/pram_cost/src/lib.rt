@@ -1,0 +1,20 @@
+//! What a run costs, and which model of the PRAM it needs.
+#![tactic(auto)]
+
+mod access;
+mod cost;
+pub mod laws;
+mod meeting;
+mod moment;
+mod pram;
+mod print;
+#[cfg(test)]
+mod tests;
+mod work;
+
+pub use access::{is_running, read_of, write_of};
+pub use cost::{Cost, cost_of};
+pub use meeting::{Meeting, Meetings, Sharing};
+pub use pram::Pram;
+pub use print::print_cost;
+pub use work::Work;
