@@ -12,7 +12,7 @@ use thiserror::Error;
 pub const MOST: usize = 16_777_216;
 
 /// The most bytes of one pull.
-const PIECE: usize = 65_536;
+const PIECE: usize = 16_384;
 
 /// Why a source was not taken whole.
 #[derive(Debug, PartialEq, Eq, Drop, Error)]
