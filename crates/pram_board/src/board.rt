@@ -56,12 +56,12 @@ impl Board {
     }
 
     /// The same in the wide form, in which workers start far apart and do not share lines of
-    /// memory: it is the faster one with two workers and more. A leaf stands for a block of
-    /// processors, of a size that leaves each worker a leaf.
+    /// memory: it is the faster one with two workers and more. A leaf stands for a block of 64
+    /// processors, or of all where there are fewer.
     pub fn open_wide(alloc: Global, job: &Job, workers: u32) -> Result<(Board, Seat), AllocError>
         requires some { 1 ≤ workers }
         requires most { workers ≤ 64 }
-        ensures { IfOk result (IsOpened job.now (Wide (grain_for job.now.procs workers)) workers) }
+        ensures { IfOk result (IsOpened job.now (Wide (grain_for job.now.procs)) workers) }
     {
         Board::of_layout(alloc, job, Layout::wide(job, workers))
     }

@@ -2,6 +2,7 @@
 ghost use Rattle.std.specs.Prelude.{◌≡◌};
 
 use crate::board::Board;
+use crate::rest::Rest;
 use crate::seat::Seat;
 use crate::task::Task;
 use crate::work::Stay;
@@ -17,6 +18,7 @@ pub(crate) struct Driver<'a, G: Gate> {
     pub gate: &'a G,
     pub worker: u32,
     pub made: u64,
+    pub rest: Rest,
 }
 
 impl<'a, G: Gate> Steps for Driver<'a, G> {
@@ -60,6 +62,7 @@ impl<'a, G: Gate> Driver<'a, G> {
             gate,
             worker,
             made: 0,
+            rest: Rest::new(),
         }
     }
 
@@ -78,7 +81,9 @@ impl<'a, G: Gate> Driver<'a, G> {
         let made = self.made;
         self.gate.pass(self.worker, made);
         self.made = made.wrapping_add(1);
-        self.board.step(self.seat, op)
+        let answer = self.board.step(self.seat, op);
+        self.rest.hear(op, answer);
+        answer
     }
 
     /// The seat has done what the driver did.
@@ -155,6 +160,7 @@ impl<'a, G: Gate> Driver<'a, G> {
     {
         let board = self.board;
         board.facts();
+        self.rest.take();
         self.turns(board.task(), worker.number(), node, phase);
         worker.begin_at(1);
     }
@@ -191,7 +197,11 @@ impl<'a, G: Gate> Driver<'a, G> {
             (driving self.new) (led_to post.now result) }
     {
         match script(self, post) {
-            Ok(turned) => turned,
+            Ok(turned) => {
+                let board = self.board;
+                self.rest.mark(board.task().layout.leaves(), turned);
+                turned
+            }
             Err(_) => unreachable!(),
         }
     }

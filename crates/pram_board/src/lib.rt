@@ -7,6 +7,7 @@ mod driver;
 mod look;
 mod outcome;
 mod plays;
+mod rest;
 mod seat;
 mod task;
 #[cfg(test)]

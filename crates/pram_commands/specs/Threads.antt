@@ -23,9 +23,9 @@ abbrev pub size_of : Block → ℕ
 size_of block = 2 ^ block.exponent
 
 -- how many processors a leaf stands for: as the block says, or else as the board chooses
-abbrev pub grain_by : Option Block → (procs workers : ℕ) → ℕ
-grain_by (Some block) procs workers = size_of block
-grain_by None procs workers = grain_for procs workers
+abbrev pub grain_by : Option Block → (procs : ℕ) → ℕ
+grain_by (Some block) procs = size_of block
+grain_by None procs = grain_for procs
 
 -- a new board for the job and the plan's workers, with blocks of some size, and its first seat
 abbrev pub IsNewBoard : JobData → PlanData → Desk × SeatData → Type 0

@@ -61,7 +61,7 @@ fn paced<R: Clock>(rt: &R, micros: u32) -> Paced<'_, R>
 // A new board with blocks of this size, or of the size that the board chooses.
 fn open(alloc: Global, inputs: &Inputs, block: Option<Block>) -> Result<(Board, Seat), AllocError>
     ensures { IfOk result (IsOpened inputs.now.job
-        (Wide (grain_by block inputs.now.job.procs inputs.now.plan.workers))
+        (Wide (grain_by block inputs.now.job.procs))
         inputs.now.plan.workers) }
 {
     let workers = inputs.plan.workers();

@@ -1,17 +1,16 @@
 -- How many leaves there are where each stands for a block of processors.
-use Rattle.std.proofs.Common.{min, ◌≡◌, ℕ, zero, suc, ◌+◌, ◌*◌, ◌/◌, ◌%◌, ◌^◌}
-use Rattle.std.proofs.Common.{◌<◌, ◌≤◌, inl, inr, refl, sym, ap, ◌∙◌, arith}
+use Rattle.std.proofs.Common.{min, ◌≡◌, ℕ, zero, suc, ◌+◌, ◌*◌, ◌/◌, ◌^◌}
+use Rattle.std.proofs.Common.{◌<◌, ◌≤◌, inl, inr, ap, ◌∙◌, arith}
 use Rattle.std.proofs.lemmas.Bool.{cases_lt}
 use Rattle.std.proofs.lemmas.Grind.{div_ceil_times}
 use Rattle.std.proofs.lemmas.Nat.{pow_pos, pow-add}
 use Rattle.std.proofs.Math.Nat.{pow-le-pow_right, mul-le-mul_left, mul-le-mul_right, mul_comm}
 use Rattle.std.proofs.Math.Nat.{add-mul, mul-add, min-le_left, min-le_right}
 use Rattle.std.proofs.Math.Nat.{lt_of_mul-lt-mul_left, mul-div-le}
-use Rattle.std.specs.Int.{IsPowerOfTwo, div_ceil}
-use Rattle.pram_words.specs.Tree.{depth_of, leaves_of}
+use Rattle.std.specs.Int.{IsPowerOfTwo, IsNextPowerOfTwo, div_ceil}
+use Rattle.pram_words.specs.Tree.{leaves_of}
 use Rattle.pram_words.specs.Words.{LayoutData, IsLayout, IsGrain, grain}
 use Rattle.pram_words.proofs.Halvings.{double, exponents, leaves_least, leaves_most}
-use Rattle.pram_words.proofs.Halvings.{depth_unique}
 
 one_block : (n g : ℕ) → 1 ≤ g → 1 ≤ n → 1 ≤ div_ceil n g
 one_block n g some positive = elim (cases_lt (div_ceil n g) 1) [
@@ -113,12 +112,13 @@ leaves_limits g n is positive most =
     }
 
 -- the size of a block that is chosen
-pub grain_chosen : (m k : ℕ) → 1 ≤ m → m ≤ 64 → 2 ^ k ≤ m → m < 2 * 2 ^ k →
-    (1 * 2 ^ k % 4294967296 ≡ 2 ^ depth_of m) × IsGrain (1 * 2 ^ k % 4294967296)
-grain_chosen m k some most low high =
-    let small : 1 * 2 ^ k % 4294967296 ≡ 2 ^ k = omega arith in
-    let depth : k ≡ depth_of m = depth_unique m k (omega arith) low high in
-    (small ∙ ap (λ d. 2 ^ d) depth, ((k, small), omega arith))
+pub grain_chosen : (n size : ℕ) → n ≤ 64 → IsNextPowerOfTwo n size → IsGrain size
+grain_chosen n size few next =
+    let k : ℕ = next.0.0 in
+    let power : size ≡ 2 ^ k = next.0.1 in
+    let small : k < 7 = exponents k 7 (omega (arith, power, next.2)) in
+    let most : 2 ^ k ≤ 64 = pow-le-pow_right {n = 2} (omega arith) {i = k} {j = 6} (omega arith) in
+    (next.0, omega (arith, power))
 
 -- The leaves are no more than the least power of two that is at least the number of processors, and
 -- neither are the tasks of a pass, with those that are spared at the end.

@@ -1,7 +1,7 @@
 -- The words of a board: which there are, where each lies, and what each may hold.
 use Rattle.std.specs.Prelude.{◌≡◌, ◌≢◌, ◌↔◌, ℕ, Bool, true, false, IsTrue}
 use Rattle.std.specs.Prelude.{◌+◌, ◌-◌, ◌*◌, ◌/◌, ◌%◌, ◌^◌, ◌<◌, ◌≤◌}
-use Rattle.std.specs.Prelude.{◌==◌, ◌&&◌, max, min, nat_lt, if◌then◌else◌}
+use Rattle.std.specs.Prelude.{◌==◌, ◌&&◌, min, nat_lt, if◌then◌else◌}
 use Rattle.std.specs.Prelude.{List, length, slice_index}
 use Rattle.std.specs.Int.{IsPowerOfTwo, div_ceil}
 use Rattle.pram_text.specs.Job.{JobData}
@@ -15,7 +15,7 @@ use Rattle.pram_words.specs.declared.words.Word.{Word}
 use Rattle.pram_words.specs.declared.words.Word.TheVariants.{Conflict, Node, Asked, Position}
 use Rattle.pram_words.specs.declared.words.Word.TheVariants.{Stored, Claim, Spare}
 use Rattle.pram_words.specs.Stamps.{stamp_of, payload_of}
-use Rattle.pram_words.specs.Tree.{depth_of, leaves_of}
+use Rattle.pram_words.specs.Tree.{leaves_of}
 
 -- G: how many processors a leaf stands for, its *block*
 abbrev pub grain_of : Form → ℕ
@@ -48,10 +48,10 @@ grain layout = grain_of layout.form
 abbrev pub IsGrain : ℕ → Type 0
 IsGrain size = IsPowerOfTwo size × (size ≤ 64)
 
--- the size of a block for so many processors and workers: the greatest power of two up to 64 that
--- leaves each worker a leaf, or 1
-abbrev pub grain_for : ℕ → ℕ → ℕ
-grain_for procs workers = 2 ^ depth_of (max 1 (min (procs / workers) 64))
+-- the size of a block for so many processors: the least power of two that is at least as many, up
+-- to 64
+abbrev pub grain_for : ℕ → ℕ
+grain_for procs = leaves_of (min procs 64)
 
 -- the limits of a layout; its leaves are the least power of two with a place for each processor
 pub record IsLayout (layout : LayoutData) : Type 0 where

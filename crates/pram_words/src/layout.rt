@@ -93,16 +93,15 @@ impl Layout {
         Layout::of(Form::Compact, job.rule(), job.cells(), job.procs(), workers)
     }
 
-    /// The wide layout of the board of a job for so many workers, with blocks that leave each
-    /// worker a leaf, where there are as many processors.
+    /// The wide layout of the board of a job for so many workers, with blocks of 64 processors,
+    /// or one block where there are fewer.
     pub fn wide(job: &Job, workers: u32) -> Layout
         requires some { 1 ≤ workers }
         requires most { workers ≤ 64 }
-        ensures value { result
-            ≡ layout_of job.now (Wide (grain_for job.now.procs workers)) workers }
+        ensures value { result ≡ layout_of job.now (Wide (grain_for job.now.procs)) workers }
         ensures limits { IsLayout result }
     {
-        Layout::with_blocks(job, workers, grain_for(job.procs(), workers))
+        Layout::with_blocks(job, workers, grain_for(job.procs()))
     }
 
     /// The wide layout with blocks of so many processors.
@@ -559,15 +558,13 @@ impl Layout {
     }
 }
 
-// The size of a block for so many processors and workers: the greatest power of two up to 64 that
-// leaves each worker a leaf.
-fn grain_for(procs: u32, workers: u32) -> u32
-    requires { 1 ≤ workers }
-    ensures value { result ≡ grain_for procs workers }
+// The size of a block for so many processors: the least power of two that is at least as many, up
+// to 64.
+fn grain_for(procs: u32) -> u32
+    ensures value { result ≡ grain_for procs }
     ensures grain { IsGrain result }
 {
-    let most = (procs / workers).clamp(1, 64);
-    1 << most.ilog2()
+    leaves(procs.min(64))
 }
 
 // Whether the stamp of a value is at most `steps` and its payload at most `most`.

@@ -134,20 +134,19 @@ fn blocks_of_four(rt: HostRuntime) {
 }
 
 #[test]
-fn blocks_leave_each_worker_a_leaf(rt: HostRuntime) -> Result<(), Fail> {
+fn blocks_of_64_or_of_all(rt: HostRuntime) -> Result<(), Fail> {
     let few = read_job(
         rt.alloc(),
         b"pram 1\ncells 1\nprocs 31\nsteps 1\ncode\nhalt\n",
     )?;
-    assert_eq!(rt; Layout::wide(&few, 1).form(), Form::Wide(16));
-    assert_eq!(rt; Layout::wide(&few, 2).form(), Form::Wide(8));
-    assert_eq!(rt; Layout::wide(&few, 4).form(), Form::Wide(4));
+    assert_eq!(rt; Layout::wide(&few, 1).form(), Form::Wide(32));
+    assert_eq!(rt; Layout::wide(&few, 4).leaves(), 1);
     let many = read_job(
         rt.alloc(),
         b"pram 1\ncells 1\nprocs 1024\nsteps 1\ncode\nhalt\n",
     )?;
     assert_eq!(rt; Layout::wide(&many, 1).leaves(), 16);
-    assert_eq!(rt; Layout::wide(&many, 64).leaves(), 64);
+    assert_eq!(rt; Layout::wide(&many, 64).leaves(), 16);
     assert_eq!(rt; Layout::with_blocks(&many, 8, 4).leaves(), 256);
     Ok(())
 }
