@@ -1,40 +1,42 @@
--- One request more is obeyed: what each place holds then.
-use Rattle.std.proofs.Common.{◌≡◌, ◌≢◌, ℕ, zero, suc, ◌+◌, ◌*◌, ◌<◌, ◌≤◌, ◌⊎◌, List, []}
-use Rattle.std.proofs.Common.{◌∷◌, ◌++◌, length, take, get_or, set, Option, Some, None}
-use Rattle.std.proofs.Common.{refl, sym, ap, ap₂, ◌∙◌, inl, inr, subst, arith, add-zero}
-use Rattle.std.proofs.Common.{length-take-le, length-set, get_or-set_same, get_or-set_other}
-use Rattle.std.specs.Prelude.{slice_get, unwrap_or}
-use Rattle.std.specs.Option.{option_or}
-use Rattle.std.proofs.lemmas.Bool.{cases_eq, eq-eqb}
-use Rattle.std.proofs.lemmas.List.{ext_get_or, take_more}
-use Rattle.std.proofs.lemmas.Option.{none-some, same_Some, slice_get-get_or}
-use Rattle.std.proofs.lemmas.Option.{slice_get_within, some_pair_parts}
-use Rattle.pram_text.specs.Job.{JobData}
+-- One turn more is taken: what each place holds then, and at the end of the step.
+use Rattle.std.proofs.Common.{◌≡◌, ◌≢◌, ℕ, ◌+◌, ◌-◌, ◌*◌, ◌/◌, ◌<◌, ◌≤◌, ◌⊎◌}
+use Rattle.std.proofs.Common.{List, length, take, drop, get_or, set, Option, Some, None}
+use Rattle.std.proofs.Common.{refl, sym, ap, ◌∙◌, inl, inr, subst, arith, below_more}
+use Rattle.std.proofs.Common.{◌++◌, length-set, length-take-le, get_or-set_same, get_or-set_other}
+use Rattle.std.specs.Prelude.{unwrap_or}
+use Rattle.std.specs.Bool.{OnFalse}
+use Rattle.std.proofs.lemmas.Bool.{cases_eq, cases_lt, eq-eqb, OnFalse_at, OnFalse_from}
+use Rattle.std.proofs.lemmas.List.{ext_get_or, get_or-take, take-append-drop}
+use Rattle.std.proofs.lemmas.Option.{none-some, some_pair_parts}
+use Rattle.pram_text.specs.Job.{JobData, IsJob}
+use Rattle.pram_step.specs.declared.pass.Moves.{Moves}
 use Rattle.pram_step.specs.declared.requests.Request.{Request}
-use Rattle.pram_step.specs.Machine.{State, place_count, counter_place}
-use Rattle.pram_step.specs.Steps.{written, first_written, after_requests}
-use Rattle.pram_step.specs.Inner.Marks.{Puts, AreMarked, AreOwn}
-use Rattle.pram_step.proofs.RequestList.{request_at, slice_get-take, written_of_put, written_cases}
+use Rattle.pram_step.specs.declared.stores.Store.{Store}
+use Rattle.pram_step.specs.Machine.{State, IsDataPlace, IsStopped, place_count, counter_place}
+use Rattle.pram_step.specs.Machine.{register_place, register, counter, halted}
+use Rattle.pram_step.specs.Instructions.{goes_to, request_in, requests_in}
+use Rattle.pram_step.specs.Steps.{Writes, written, Agrees, IsNext}
+use Rattle.pram_step.specs.Steps.{first_written, next_state}
+use Rattle.pram_step.specs.Inner.Marks.{Puts, AreAsked, AreStored}
+use Rattle.pram_step.specs.Inner.Marks.{AsksNext, store_at}
+use Rattle.pram_step.specs.Inner.Passes.{AllIdle, IsAdvance, SameCells}
+use Rattle.pram_step.specs.Inner.Passes.{AreRunning, HaveMoved, IsIdle, IsMove, IsOwnPlace, IsPassed}
+use Rattle.pram_step.proofs.LawCounters.{next_counter}
 use Rattle.pram_step.proofs.LawFixed.{length-after}
-use Rattle.pram_step.proofs.LawNext.{after_at}
-
--- ---- options
+use Rattle.pram_step.proofs.LawFrames.{reads_one_cell}
+use Rattle.pram_step.proofs.LawNext.{after_at, after_first, after_none, next_is_next}
+use Rattle.pram_step.proofs.LawPlaces.{written_place, writer_is, writes_place}
+use Rattle.pram_step.proofs.LawStopped.{stopped_request, unchanged}
+use Rattle.pram_step.proofs.LawWriters.{writer_cases}
+use Rattle.pram_step.proofs.Marking.{AreAsked_none, AreAsked_quiet}
+use Rattle.pram_step.proofs.Passing.{bound, bound_inside, run_first, run_next}
+use Rattle.pram_step.proofs.RequestList.{written_of_put, written_cases}
+use Rattle.pram_step.proofs.RequestList.{Puts-from_Writes, Puts_at, Puts_inside, Writes-from_Puts}
+use Rattle.pram_step.proofs.Shapes.{asks, asked_at, length-requests_in}
 
 pub none_unless : (o : Option ℕ) → ((v : ℕ) → o ≡ Some v → ⊥) → o ≡ None
 none_unless None h = refl
 none_unless (Some v) h = absurd (h v refl)
-
-option_or-None : (o : Option ℕ) → option_or o None ≡ o
-option_or-None None = refl
-option_or-None (Some v) = refl
-
-option_or_assoc : (a b c : Option ℕ) → option_or (option_or a b) c ≡ option_or a (option_or b c)
-option_or_assoc None b c = refl
-option_or_assoc (Some v) b c = refl
-
-some_of_either : (a b : Option ℕ) → (w : ℕ) × (b ≡ Some w) → (w : ℕ) × (option_or a b ≡ Some w)
-some_of_either None b h = h
-some_of_either (Some v) b h = (v, refl)
 
 -- ---- what one processor writes to a place
 
@@ -49,315 +51,398 @@ module _ (job : JobData) where
       none_unless (written job p i r) (λ v h.
       elim (written_cases job p i v r h) [ inl counter ↦ away counter.0 | inr puts ↦ none v puts ])
 
-  -- ---- what the first of several writes
+  -- a place that is no cell is an own place of one processor
+  place_cases : (q : ℕ) → q < place_count job →
+      (q < job.cells) ⊎ ((i : ℕ) × (i < job.procs) × IsOwnPlace job i q)
+  place_cases q low = elim (cases_lt q job.cells) [
+    | inl cell ↦ inl cell
+    | inr past ↦ elim (cases_lt q (job.cells + 4 * job.procs)) [
+      | inl register ↦ inr (
+        (q - job.cells) / 4,
+        omega arith,
+        inr (omega arith, omega arith),
+      )
+      | inr counter ↦ inr (
+        q - (job.cells + 4 * job.procs),
+        omega arith,
+        inl (omega arith),
+      )
+    ]
+  ]
 
-  first_written-push : (p k : ℕ) (xs : List Request) (x : Request) →
-      first_written job p k (xs ++ x ∷ [])
-      ≡ option_or (first_written job p k xs) (written job p (k + length xs) x)
-  first_written-push p k [] x =
-      option_or-None (written job p k x) ∙ ap (λ n. written job p n x) (sym (add-zero k))
-  first_written-push p k (y ∷ xs) x =
-      let e : k + 1 + length xs ≡ k + length (y ∷ xs) = omega arith in
-      ap (option_or (written job p k y)) (first_written-push p (k + 1) xs x
-      ∙ ap (λ n. option_or (first_written job p (k + 1) xs) (written job p n x)) e)
-      ∙ sym (option_or_assoc (written job p k y) (first_written job p (k + 1) xs)
-      (written job p (k + length (y ∷ xs)) x))
+  -- ---- the three ways to write a request to own places
 
-  pub first_written_none : (p k : ℕ) (xs : List Request) →
-      ((j : ℕ) (r : Request) → slice_get xs j ≡ Some r → written job p (k + j) r ≡ None) →
-      first_written job p k xs ≡ None
-  first_written_none p k [] none = refl
-  first_written_none p k (x ∷ xs) none =
-      let here : written job p k x ≡ None =
-      subst (λ n. written job p n x ≡ None) (add-zero k) (none 0 x refl) in
-      ap (λ o. option_or o (first_written job p (k + 1) xs)) here
-      ∙ first_written_none p (k + 1) xs (λ j r h.
-      let e : k + suc j ≡ k + 1 + j = omega arith in
-      subst (λ n. written job p n r ≡ None) e (none (suc j) r h))
+  module _ (i : ℕ) (r : Request) (old : State) (places : length old ≡ place_count job)
+      (low : i < job.procs) where
+    -- the counter is written, and nothing else
+    pub move_counter : ((place v : ℕ) → job.cells ≤ place → r.put ≡ Some (place, v) → ⊥) →
+        IsMove job i r old (set old (counter_place job i) r.next)
+    move_counter none = record {
+      len = length-set old (counter_place job i) r.next;
+      cells = λ cell below.
+          get_or-set_other old (counter_place job i) cell r.next 0 (λ e. omega arith);
+      others = λ place past inside. elim (cases_eq place (counter_place job i)) [
+        | inl same ↦
+            subst (λ q. get_or (set old (counter_place job i) r.next) q 0 ≡ r.next) (sym same)
+            (get_or-set_same old (counter_place job i) r.next 0 (omega arith))
+            ∙ sym (ap (λ o. unwrap_or o (get_or old place 0)) (written_counter place i r same))
+        | inr apart ↦
+            get_or-set_other old (counter_place job i) place r.next 0 apart
+            ∙ sym (ap (λ o. unwrap_or o (get_or old place 0))
+            (written_elsewhere place i r apart (λ v h. none place v past h)))
+      ];
+    }
 
-  first_written_some : (p k : ℕ) (xs : List Request) (j v : ℕ) (r : Request) →
-      slice_get xs j ≡ Some r → written job p (k + j) r ≡ Some v →
-      (w : ℕ) × (first_written job p k xs ≡ Some w)
-  first_written_some p k [] j v r request_is writes = absurd (none-some r request_is)
-  first_written_some p k (x ∷ xs) zero v r request_is writes =
-      let here : written job p k x ≡ Some v = subst (λ q. written job p k q ≡ Some v)
-      (sym (same_Some x r request_is)) (subst (λ n. written job p n r ≡ Some v) (add-zero k) writes)
-      in
-      (v, ap (λ o. option_or o (first_written job p (k + 1) xs)) here)
-  first_written_some p k (x ∷ xs) (suc j) v r request_is writes =
-      let e : k + suc j ≡ k + 1 + j = omega arith in
-      some_of_either (written job p k x) (first_written job p (k + 1) xs)
-      (first_written_some p (k + 1) xs j v r request_is
-      (subst (λ n. written job p n r ≡ Some v) e writes))
+    -- the counter and a register are written
+    module _ (at v : ℕ) (puts : r.put ≡ Some (at, v)) (past : job.cells ≤ at)
+        (own : IsDataPlace job i at) where
+      at_other : at ≢ counter_place job i
+      at_other e = omega (arith, own)
 
-  -- ---- the state after some requests
+      pub move_register : IsMove job i r old (set (set old (counter_place job i) r.next) at v)
+      move_register =
+          let moved = set old (counter_place job i) r.next in
+          let len : length moved ≡ length old = length-set old (counter_place job i) r.next in
+          let inside : at < length moved = omega (arith, own) in
+          record {
+            len = length-set moved at v ∙ len;
+            cells = λ cell below. get_or-set_other moved at cell v 0 (λ e. omega arith)
+                ∙ get_or-set_other old (counter_place job i) cell r.next 0 (λ e. omega arith);
+            others = λ place past' inside'. elim (cases_eq place at) [
+              | inl same ↦
+                  subst (λ q. get_or (set moved at v) q 0 ≡ v) (sym same)
+                  (get_or-set_same moved at v 0 inside)
+                  ∙ sym (ap (λ o. unwrap_or o (get_or old place 0))
+                  (subst (λ q. written job q i r ≡ Some v) (sym same)
+                  (written_of_put job at i v r at_other puts)))
+              | inr apart ↦
+                  get_or-set_other moved at place v 0 apart
+                  ∙ elim (cases_eq place (counter_place job i)) [
+                    | inl same ↦
+                        subst (λ q. get_or moved q 0 ≡ r.next) (sym same)
+                        (get_or-set_same old (counter_place job i) r.next 0 (omega arith))
+                        ∙ sym (ap (λ o. unwrap_or o (get_or old place 0))
+                        (written_counter place i r same))
+                    | inr away ↦
+                        get_or-set_other old (counter_place job i) place r.next 0 away
+                        ∙ sym (ap (λ o. unwrap_or o (get_or old place 0))
+                        (written_elsewhere place i r away (λ w h.
+                        apart (sym (some_pair_parts at place v w (sym puts ∙ h)).0))))
+                  ]
+            ];
+          }
 
-  pub after_requests-nil : (s : State) → after_requests job [] s ≡ s
-  after_requests-nil s = ext_get_or 0 (after_requests job [] s) s (length-after job [] s)
-      (λ p low. after_at job [] s p (subst (λ n. p < n) (length-after job [] s) low))
+-- ---- the next state, at own places
 
--- ---- processor i's request is obeyed after those before it
+module _ (job : JobData) (is_job : IsJob job) (s : State)
+    (places : length s ≡ place_count job) where
+  own_high : (i q : ℕ) → i < job.procs → IsOwnPlace job i q → job.cells ≤ q
+  own_high i q low own = omega (arith, own)
 
-module _ (job : JobData) (requests : List Request) (i : ℕ) (inside : i < length requests)
-    (all : length requests ≡ job.procs) (own : AreOwn job requests) where
-  front : take (i + 1) requests ≡ take i requests ++ request_at requests i ∷ []
-  front = take_more requests i (record { put = None; next = 0 }) inside
+  own_inside : (i q : ℕ) → i < job.procs → IsOwnPlace job i q → q < length s
+  own_inside i q low own = omega (arith, own)
 
-  front_len : length (take i requests) ≡ i
-  front_len = length-take-le i requests (omega arith)
+  -- another processor writes nothing there
+  not_theirs : (i j q : ℕ) → i < job.procs → j < job.procs → i ≢ j → IsOwnPlace job i q →
+      written job q j (request_in job s j) ≡ None
+  not_theirs i j q low low' apart own = none_unless (written job q j (request_in job s j))
+      (λ v e.
+      let theirs = written_place job s q j v is_job e in
+      let same : i ≡ j = omega (arith, own, theirs) in apart same)
 
-  -- what the processors up to i write first to a place
-  first_written_next : (p : ℕ) → first_written job p 0 (take (i + 1) requests) ≡ option_or
-      (first_written job p 0 (take i requests)) (written job p i (request_at requests i))
-  first_written_next p =
-      let e : 0 + length (take i requests) ≡ i = omega (arith, front_len) in
-      ap (first_written job p 0) front
-      ∙ first_written-push job p 0 (take i requests) (request_at requests i)
-      ∙ ap (λ n. option_or (first_written job p 0 (take i requests))
-      (written job p n (request_at requests i))) e
+  own_writer : (i q : ℕ) → i < job.procs → IsOwnPlace job i q →
+      first_written job q 0 (requests_in job s) ≡ written job q i (request_in job s i)
+  own_writer i q low own = elim (writer_cases job (requests_in job s) q) [
+    | inl n ↦
+        n.found ∙ sym (none_unless (written job q i (request_in job s i)) (λ v e.
+        n.none i v (record {
+          request = request_in job s i;
+          request_is = asks job s i low;
+          writes = e;
+        })))
+    | inr f ↦
+        let theirs = writes_place job s q f.writer f.value is_job f.first.writes in
+        let below = theirs.0 in
+        let same : f.writer ≡ i = omega (arith, own, theirs.1) in
+        f.found ∙ sym (subst (λ k. written job q k (request_in job s k) ≡ Some f.value) same
+        (writer_is job s q f.writer f.value f.first.writes).1)
+  ]
 
-  -- the request of an earlier processor
-  earlier : (j : ℕ) (r : Request) → slice_get (take i requests) j ≡ Some r →
-      (j < i) × (slice_get requests j ≡ Some r)
-  earlier j r request_is = let below : j < i =
-      subst (λ n. j < n) front_len (slice_get_within (take i requests) j r request_is) in
-      (below, sym (slice_get-take i requests j below) ∙ request_is)
+  next_own : (i q : ℕ) → i < job.procs → IsOwnPlace job i q →
+      get_or (next_state job s) q 0
+      ≡ unwrap_or (written job q i (request_in job s i)) (get_or s q 0)
+  next_own i q low own = after_at job (requests_in job s) s q (own_inside i q low own)
+      ∙ ap (λ o. unwrap_or o (get_or s q 0)) (own_writer i q low own)
 
-  data_of : (j p v : ℕ) (r : Request) → slice_get requests j ≡ Some r →
-      r.put ≡ Some (p, v) → Puts requests p j v
-  data_of j p v r request_is puts = record { request = r; request_is = request_is; puts = puts }
+  -- ---- one turn more
 
-  own_below : (j p v : ℕ) → Puts requests p j v → p < job.cells + 4 * job.procs
-  own_below j p v puts =
-      let below = slice_get_within requests j puts.request puts.request_is in
-      elim (own.own j p v puts) [
-        | inl cell ↦ omega arith
-        | inr register ↦ omega (arith, register.1)
-      ]
+  module _ (p : ℕ) (below : p < job.procs) (now : State) (have : HaveMoved job s p now) where
+    register_own : (which : ℕ) → which < 4 → IsOwnPlace job p (register_place job p which)
+    register_own which low = inr (omega arith, omega arith)
 
-  mine : (p v : ℕ) → (request_at requests i).put ≡ Some (p, v) → Puts requests p i v
-  mine p v puts = record {
-    request = request_at requests i;
-    request_is = slice_get-get_or requests i (record { put = None; next = 0 }) inside;
-    puts = puts;
+    -- its request is that of the start
+    pub same_request : request_in job now p ≡ request_in job s p
+    same_request =
+        let reads = reads_one_cell job s p is_job in
+        sym (reads.2 now (record {
+          registers = λ which low. sym (have.left p (register_place job p which)
+              (omega arith) below (register_own which low));
+          counters = sym (have.left p (counter_place job p) (omega arith) below (inl refl));
+        }) (sym (have.cells reads.0 reads.1)))
+
+    pub moved_next : (new : State) → IsMove job p (request_in job s p) now new →
+        HaveMoved job s (p + 1) new
+    moved_next new move = record {
+      len = move.len ∙ have.len;
+      cells = λ cell low. move.cells cell low ∙ have.cells cell low;
+      moved = λ i q low low' own.
+          let high = own_high i q low' own in
+          let inside : q < length now = (let w = own_inside i q low' own in
+          let e = have.len in omega arith) in
+          move.others q high inside ∙ elim (cases_eq i p) [
+            | inl same ↦
+                let mine : IsOwnPlace job p q = subst (λ k. IsOwnPlace job k q) same own in
+                ap (unwrap_or (written job q p (request_in job s p)))
+                (have.left p q (omega arith) below mine) ∙ sym (next_own p q below mine)
+            | inr apart ↦
+                ap (λ o. unwrap_or o (get_or now q 0)) (not_theirs i p q low' below apart own)
+                ∙ have.moved i q (omega arith) low' own
+          ];
+      left = λ i q low low' own.
+          let high = own_high i q low' own in
+          let inside : q < length now = (let w = own_inside i q low' own in
+          let e = have.len in omega arith) in
+          let apart : i ≢ p = λ e. omega arith in
+          move.others q high inside
+          ∙ ap (λ o. unwrap_or o (get_or now q 0)) (not_theirs i p q low' below apart own)
+          ∙ have.left i q (omega arith) low' own;
+    }
+
+    -- a request that changes nothing writes nothing
+    idle_move : IsIdle job s p → IsMove job p (request_in job s p) now now
+    idle_move idle = record {
+      len = refl;
+      cells = λ cell low. refl;
+      others = λ q high inside. sym (
+          ap (λ r. unwrap_or (written job q p r) (get_or now q 0)) idle
+          ∙ elim (cases_eq q (counter_place job p)) [
+            | inl same ↦
+                ap (λ o. unwrap_or o (get_or now q 0))
+                (written_counter job q p (goes_to (counter job s p)) same)
+                ∙ sym (subst (λ k. get_or now k 0 ≡ counter job s p) (sym same)
+                (have.left p (counter_place job p) (omega arith) below (inl refl)))
+            | inr apart ↦
+                ap (λ o. unwrap_or o (get_or now q 0))
+                (written_elsewhere job q p (goes_to (counter job s p)) apart
+                (λ v h. none-some (q, v) h))
+          ]);
+    }
+
+    module _ (asked : List Store) (count : ℕ)
+        (are : AreAsked job.cells (requests_in job s) p asked count) where
+      passed_idle : IsIdle job s p → IsPassed job s (p + 1) now asked count
+      passed_idle idle = record {
+        own = moved_next now (idle_move idle);
+        stores = AreAsked_quiet job.cells (requests_in job s) p asked count are
+            (λ cell v low puts.
+            none-some (cell, v) (sym (ap (λ (r : Request). r.put) (asked_at job s p below ∙ idle))
+            ∙ Puts_at (requests_in job s) cell p v puts));
+      }
+
+      pub passed_turn : (request : Request) → request ≡ request_in job now p →
+          (new : State) → IsMove job p request now new →
+          (asked' : List Store) (count' : ℕ) →
+          AsksNext job p request.put asked count asked' count' →
+          IsPassed job s (p + 1) new asked' count'
+      passed_turn request is new move asked' count' asks_next =
+          let same : request ≡ request_in job s p = is ∙ same_request in record {
+            own = moved_next new (subst (λ r. IsMove job p r now new) same move);
+            stores = asks_next (requests_in job s) request
+                (asks job s p below ∙ ap Some (sym same)) refl are;
+          }
+
+  -- before the first turn
+  passed_none : (asked : List Store) → IsPassed job s 0 s asked 0
+  passed_none asked = record {
+    own = record {
+      len = refl;
+      cells = λ cell low. refl;
+      moved = λ i q low low' own. absurd (omega arith);
+      left = λ i q low low' own. refl;
+    };
+    stores = AreAsked_none job.cells (requests_in job s) asked;
   }
 
-  pub data_inside : (p v : ℕ) → (request_at requests i).put ≡ Some (p, v) →
-      p < job.cells + 4 * job.procs
-  data_inside p v puts = own_below i p v (mine p v puts)
+  passed_stopped : (now : State) (asked : List Store) (count i : ℕ) →
+      i < job.procs → IsStopped job s i → IsPassed job s i now asked count →
+      IsPassed job s (i + 1) now asked count
+  passed_stopped now asked count i low stopped passed =
+      passed_idle i low now passed.own asked count passed.stores (stopped_request job s i stopped)
 
-  -- nobody before i writes to i's counter
-  none_to_counter : first_written job (counter_place job i) 0 (take i requests) ≡ None
-  none_to_counter =
-      first_written_none job (counter_place job i) 0 (take i requests) (λ j r h.
-      let e = earlier j r h in
-      let n : 0 + j ≡ j = omega arith in
-      subst (λ m. written job (counter_place job i) m r ≡ None) (sym n)
-      (written_elsewhere job (counter_place job i) j r (λ same. omega (arith, e.0)) (λ v puts.
-      let low = own_below j (counter_place job i) v
-      (data_of j (counter_place job i) v r e.1 puts) in omega arith)))
+  module _ (running : List ℕ) (are : AreRunning job s running) where
+    pub passed_first : (asked : List Store) → IsPassed job s (bound job running 0) s asked 0
+    passed_first asked = run_first job s running are (λ n. IsPassed job s n s asked 0)
+        (passed_stopped s asked 0) (passed_none asked)
 
-  -- nobody before i writes to a place that no data before i goes to, and that is no counter
-  none_to_place : (p : ℕ) → p < job.cells + 4 * job.procs →
-      ((j v : ℕ) → j < i → Puts requests p j v → ⊥) → first_written job p 0 (take i requests) ≡ None
-  none_to_place p low none =
-      first_written_none job p 0 (take i requests) (λ j r h.
-      let e = earlier j r h in
-      let n : 0 + j ≡ j = omega arith in
-      subst (λ m. written job p m r ≡ None) (sym n) (written_elsewhere job p j r
-      (λ same. omega arith) (λ v puts. none j v e.0 (data_of j p v r e.1 puts))))
+    pub passed_next : (k : ℕ) → k < length running →
+        (now : State) (asked : List Store) (count : ℕ) →
+        IsPassed job s (get_or running k 0 + 1) now asked count →
+        IsPassed job s (bound job running (k + 1)) now asked count
+    passed_next k inside now asked count = run_next job s running are
+        (λ n. IsPassed job s n now asked count) (passed_stopped now asked count) k inside
 
-  some_to_place : (p j v : ℕ) → p < job.cells + 4 * job.procs → j < i → Puts requests p j v →
-      (w : ℕ) × (first_written job p 0 (take i requests) ≡ Some w)
-  some_to_place p j v low below puts =
-      let n : 0 + j ≡ j = omega arith in
-      first_written_some job p 0 (take i requests) j v puts.request
-      (slice_get-take i requests j below ∙ puts.request_is)
-      (subst (λ m. written job p m puts.request ≡ Some v) (sym n)
-      (written_of_put job p j v puts.request (λ same. omega arith) puts.puts))
+    -- the processors below n ask for nothing
+    idle_stopped : (i : ℕ) → i < job.procs → IsStopped job s i →
+        ((j : ℕ) → j < i → IsIdle job s j) → (j : ℕ) → j < i + 1 → IsIdle job s j
+    idle_stopped i low stopped idle =
+        below_more (IsIdle job s) i idle (stopped_request job s i stopped)
 
-  module _ (s : State) (places : length s ≡ place_count job) where
-    -- the state after the requests before i, and after that of i
-    after : State
-    after = after_requests job (take i requests) s
+    pub idle_first : (j : ℕ) → j < bound job running 0 → IsIdle job s j
+    idle_first = run_first job s running are (λ n. (j : ℕ) → j < n → IsIdle job s j) idle_stopped
+        (λ j low. absurd (omega arith))
 
-    -- what i leaves a place with, by what it writes and what was written before
-    leaves : ℕ → Option ℕ → Option ℕ → ℕ
-    leaves p first mine = unwrap_or (option_or first mine) (get_or s p 0)
+    pub idle_next : (k : ℕ) → k < length running →
+        ((j : ℕ) → j < bound job running k → IsIdle job s j) → IsIdle job s (get_or running k 0) →
+        (j : ℕ) → j < bound job running (k + 1) → IsIdle job s j
+    idle_next k inside idle here =
+        let e = bound_inside job s running are k inside in
+        run_next job s running are (λ n. (j : ℕ) → j < n → IsIdle job s j) idle_stopped k inside
+        (below_more (IsIdle job s) (get_or running k 0) (λ j low. idle j (omega arith)) here)
 
-    first_at : ℕ → Option ℕ
-    first_at p = first_written job p 0 (take i requests)
+    pub count_next : (k count : ℕ) → k < length running → count ≤ get_or running k 0 + 1 →
+        count ≤ bound job running (k + 1)
+    count_next k count inside few = run_next job s running are (λ n. count ≤ n)
+        (λ i low stopped few. omega arith) k inside few
 
-    mine_at : ℕ → Option ℕ
-    mine_at p = written job p i (request_at requests i)
+-- ---- at the end
 
-    counter_inside : counter_place job i < length s
-    counter_inside = omega arith
+-- those that have stopped stay so
+pub AreRunning_next : (job : JobData) (s : State) (running : List ℕ) → IsJob job →
+    length s ≡ place_count job → AreRunning job s running → AreRunning job (next_state job s) running
+AreRunning_next job s running is_job places are = record {
+  within = are.within;
+  rises = are.rises;
+  all = λ i low runs. elim (cases_lt (counter job s i) (halted job)) [
+    | inl ran ↦ are.all i low ran
+    | inr past ↦
+        let next = next_counter job s i is_job places low in
+        let stays : (request_in job s i).next ≡ counter job s i =
+        ap (λ (r : Request). r.next) (stopped_request job s i past) in
+        absurd (omega arith)
+  ];
+}
 
-    by_places : (new : State) → length new ≡ length s →
-        get_or new (counter_place job i) 0 ≡ (request_at requests i).next →
-        ((p : ℕ) → p < length s → p ≢ counter_place job i →
-        get_or new p 0 ≡ leaves p (first_at p) (mine_at p)) →
-        new ≡ after_requests job (take (i + 1) requests) s
-    unfolding leaves first_at mine_at
-    by_places new len counter others =
-        ext_get_or 0 new (after_requests job (take (i + 1) requests) s)
-        (len ∙ sym (length-after job (take (i + 1) requests) s)) (λ p low.
-        let inside_s : p < length s = omega arith in
-        at p inside_s ∙ ap (λ o. unwrap_or o (get_or s p 0)) (sym (first_written_next p))
-        ∙ sym (after_at job (take (i + 1) requests) s p inside_s))
-      where
-        at : (p : ℕ) → p < length s → get_or new p 0 ≡ leaves p (first_at p) (mine_at p)
-        at p low = elim (cases_eq p (counter_place job i)) [
-          | inr away ↦ others p low away
-          | inl here ↦
-              let first : first_written job p 0 (take i requests) ≡ None =
-              subst (λ q. first_written job q 0 (take i requests) ≡ None)
-              (sym here) none_to_counter in
-              let mine = written_counter job p i (request_at requests i) here in
-              ap (λ q. get_or new q 0) here ∙ counter
-              ∙ sym (ap₂ (λ a b. unwrap_or (option_or a b) (get_or s p 0)) first mine)
-        ]
+-- all turns were taken
+module _ (job : JobData) (is_job : IsJob job) (s : State) (places : length s ≡ place_count job)
+    (now : State) (have : HaveMoved job s job.procs now) where
+  -- the cells hold what they held
+  pub passed_cells : SameCells job.cells s now
+  passed_cells =
+      let len = have.len in
+      let here : length (take job.cells now) ≡ job.cells =
+      length-take-le job.cells now (omega arith) in
+      let there : length (take job.cells s) ≡ job.cells =
+      length-take-le job.cells s (omega arith) in record {
+        len = len;
+        same = ext_get_or 0 (take job.cells now) (take job.cells s) (here ∙ sym there)
+            (λ q low. let below : q < job.cells = omega arith in
+            get_or-take job.cells now q 0 below ∙ have.cells q below
+            ∙ sym (get_or-take job.cells s q 0 below));
+      }
 
-    -- where the processor writes nothing, or not first, the place keeps what it had
-    kept : (p : ℕ) → p < length s → (mine_at p ≡ None) ⊎ ((w : ℕ) × (first_at p ≡ Some w)) →
-        get_or after p 0 ≡ leaves p (first_at p) (mine_at p)
-    unfolding after leaves first_at mine_at
-    kept p low (inl none) =
-        after_at job (take i requests) s p low ∙ ap (λ o. unwrap_or o (get_or s p 0))
-        (sym (ap (option_or (first_at p)) none ∙ option_or-None (first_at p)))
-    kept p low (inr some) =
-        after_at job (take i requests) s p low ∙ ap (λ o. unwrap_or o (get_or s p 0))
-        (some.1 ∙ sym (ap (λ o. option_or o (mine_at p)) some.1))
+  -- the stores that are asked for were made
+  module _ (asked : List Store)
+      (are : AreAsked job.cells (requests_in job s) job.procs asked (length asked))
+      (new : State) (stored : AreStored asked now new) where
+    inside_s : (q : ℕ) → q < job.cells → q < length s
+    inside_s q low = omega arith
 
-    after_len : length after ≡ length s
-    unfolding after
-    after_len = length-after job (take i requests) s
+    store_writes : (k : ℕ) → k < length asked → (q : ℕ) → (store_at asked k).cell ≡ q →
+        Writes job (requests_in job s) q (store_at asked k).processor (store_at asked k).value
+    store_writes k inside q same =
+        subst (λ c. Writes job (requests_in job s) c (store_at asked k).processor
+        (store_at asked k).value) same
+        (Writes-from_Puts job (requests_in job s) (store_at asked k).cell
+        (store_at asked k).processor (store_at asked k).value (are.is_cell k inside)
+        (are.puts k inside))
 
-    -- ---- the three ways to obey
+    -- the first writer's store
+    at_first : (q i v : ℕ) → q < job.cells → Puts (requests_in job s) q i v →
+        ((j w : ℕ) → Writes job (requests_in job s) q j w → i ≤ j) → get_or new q 0 ≡ v
+    at_first q i v low puts least =
+        let within : i < job.procs = omega (
+          arith,
+          Puts_inside (requests_in job s) q i v puts,
+          length-requests_in job s,
+        ) in
+        let there = are.all q i v low within puts in
+        let k = there.0 in
+        let inside = there.1 in
+        let here : Puts (requests_in job s) (store_at asked k).cell i (store_at asked k).value =
+        subst (λ j. Puts (requests_in job s) (store_at asked k).cell j (store_at asked k).value)
+        there.2 (are.puts k inside) in
+        let same = some_pair_parts (store_at asked k).cell q (store_at asked k).value v
+        (sym (Puts_at (requests_in job s) (store_at asked k).cell i (store_at asked k).value here)
+        ∙ Puts_at (requests_in job s) q i v puts) in
+        subst (λ c. get_or new c 0 ≡ (store_at asked k).value) same.0
+        (stored.stored k (omega arith) inside (λ j low' below e.
+        let before : j < length asked = omega arith in
+        let less = are.rises j k below inside in
+        let at_least = least (store_at asked j).processor (store_at asked j).value
+        (store_writes j before q (e ∙ same.0)) in
+        let is = there.2 in omega arith))
+        ∙ same.1
 
-    pub obeyed_no_data : (request_at requests i).put ≡ None →
-        set (after_requests job (take i requests) s) (counter_place job i)
-        (request_at requests i).next ≡ after_requests job (take (i + 1) requests) s
-    unfolding after mine_at
-    obeyed_no_data puts = by_places _
-        (length-set after (counter_place job i) (request_at requests i).next ∙ after_len)
-        (get_or-set_same after (counter_place job i) (request_at requests i).next 0
-        (subst (λ n. counter_place job i < n) (sym after_len) counter_inside))
-        (λ p low away.
-        get_or-set_other after (counter_place job i) p (request_at requests i).next 0 away
-        ∙ kept p low (inl (written_elsewhere job p i (request_at requests i) away
-        (λ v h. none-some (p, v) (sym puts ∙ h)))))
+    at_cell : (q : ℕ) → q < job.cells → get_or new q 0 ≡ get_or (next_state job s) q 0
+    at_cell q low = elim (writer_cases job (requests_in job s) q) [
+      | inl n ↦
+          stored.kept q (λ k low' below same.
+          n.none (store_at asked k).processor (store_at asked k).value
+          (store_writes k below q same))
+          ∙ have.cells q low
+          ∙ sym (after_none job (requests_in job s) s q (inside_s q low) n.found)
+      | inr f ↦
+          at_first q f.writer f.value low
+          (Puts-from_Writes job (requests_in job s) q f.writer f.value low f.first.writes)
+          f.first.least
+          ∙ sym (after_first job (requests_in job s) s q f.value (inside_s q low) f.found)
+    ]
 
-    module _ (p v : ℕ) (puts : (request_at requests i).put ≡ Some (p, v))
-        (low : p < job.cells + 4 * job.procs) where
-      other_place : (q : ℕ) → q ≢ p → q ≢ counter_place job i →
-          written job q i (request_at requests i) ≡ None
-      other_place q apart away = written_elsewhere job q i (request_at requests i) away
-          (λ u h. apart (sym (some_pair_parts p q v u (sym puts ∙ h)).0))
+    all_passed : new ≡ next_state job s
+    all_passed =
+        let len = stored.len in
+        let len' = have.len in
+        ext_get_or 0 new (next_state job s)
+        (len ∙ len' ∙ sym (length-after job (requests_in job s) s))
+        (λ q low. elim (place_cases job q (omega arith)) [
+          | inl cell ↦ at_cell q cell
+          | inr own ↦
+              stored.kept q (λ k low' below same.
+              let is = are.is_cell k below in
+              let high = own_high job is_job s places own.0 q own.1 own.2 in omega arith)
+              ∙ have.moved own.0 q own.1 own.1 own.2
+        ])
 
-      pub obeyed_lost : (w : ℕ) → first_written job p 0 (take i requests) ≡ Some w →
-          set (after_requests job (take i requests) s) (counter_place job i)
-          (request_at requests i).next ≡ after_requests job (take (i + 1) requests) s
-      unfolding after mine_at first_at
-      obeyed_lost w earlier_write = by_places _
-          (length-set after (counter_place job i) (request_at requests i).next ∙ after_len)
-          (get_or-set_same after (counter_place job i) (request_at requests i).next 0
-          (subst (λ n. counter_place job i < n) (sym after_len) counter_inside))
-          (λ q inside_s away.
-          get_or-set_other after (counter_place job i) q (request_at requests i).next 0 away
-          ∙ elim (cases_eq q p) [
-            | inl here ↦ kept q inside_s (inr (
-              w,
-              subst (λ k. first_written job k 0 (take i requests) ≡ Some w)
-                  (sym here) earlier_write,
-            ))
-            | inr apart ↦ kept q inside_s (inl (other_place q apart away))
-          ])
+    -- the step is made
+    pub advanced : Agrees job (requests_in job s) → (running : List ℕ) → AreRunning job s running →
+        (moves : Moves) → OnFalse moves.changed (AllIdle job s) → IsAdvance job running s new moves
+    advanced agrees running runs moves idle =
+        let next = all_passed in
+        record {
+          made = record {
+            agrees = agrees;
+            next = next;
+            written = subst (IsNext job (requests_in job s) s) (sym next)
+                (next_is_next job s is_job agrees);
+          };
+          runs = subst (λ r. AreRunning job r running) (sym next)
+              (AreRunning_next job s running is_job places runs);
+          idle = OnFalse_from moves.changed (new ≡ s)
+              (λ e. next ∙ unchanged job s (OnFalse_at e idle));
+        }
 
-      pub obeyed_first : first_written job p 0 (take i requests) ≡ None →
-          set (set (after_requests job (take i requests) s) (counter_place job i)
-          (request_at requests i).next) p v ≡ after_requests job (take (i + 1) requests) s
-      unfolding after mine_at first_at leaves
-      obeyed_first none =
-          let moved = set after (counter_place job i) (request_at requests i).next in
-          let len : length moved ≡ length s =
-          length-set after (counter_place job i) (request_at requests i).next ∙ after_len in
-          let counter_apart : counter_place job i ≢ p = λ same. omega arith in
-          let place_apart : p ≢ counter_place job i = λ same. omega arith in
-          by_places _ (length-set moved p v ∙ len)
-          (get_or-set_other moved p (counter_place job i) v 0 counter_apart
-          ∙ get_or-set_same after (counter_place job i) (request_at requests i).next 0
-          (subst (λ n. counter_place job i < n) (sym after_len) counter_inside))
-          (λ q inside_s away. elim (cases_eq q p) [
-            | inl here ↦
-                let first : first_written job q 0 (take i requests) ≡ None =
-                subst (λ k. first_written job k 0 (take i requests) ≡ None) (sym here) none in
-                let mine : written job q i (request_at requests i) ≡ Some v =
-                subst (λ k. written job k i (request_at requests i) ≡ Some v)
-                (sym here) (written_of_put job p i v (request_at requests i) place_apart puts) in
-                ap (λ k. get_or (set moved p v) k 0) here
-                ∙ get_or-set_same moved p v 0 (omega arith)
-                ∙ sym (ap₂ (λ a b. unwrap_or (option_or a b) (get_or s q 0)) first mine)
-            | inr apart ↦
-                get_or-set_other moved p q v 0 apart
-                ∙ get_or-set_other after (counter_place job i) q (request_at requests i).next 0 away
-                ∙ kept q inside_s (inl (other_place q apart away))
-          ])
-
--- ---- as the code obeys it, by the marks
-
-module _ (job : JobData) (requests : List Request) (i : ℕ)
-    (inside : i < length requests) (all : length requests ≡ job.procs) (own : AreOwn job requests)
-    (marks : List ℕ) (marked : AreMarked job.cells requests marks) (counter : ℕ)
-    (is_counter : counter ≡ counter_place job i)
-    (start old moved : State) (places : length start ≡ place_count job)
-    (before : old ≡ after_requests job (take i requests) start)
-    (moves : moved ≡ set old counter (request_at requests i).next) where
-  moves_after : moved ≡ set (after_requests job (take i requests) start)
-      (counter_place job i) (request_at requests i).next
-  moves_after = moves ∙ ap₂ (λ xs k. set xs k (request_at requests i).next) before is_counter
-
-  pub obeys_no_data : (request_at requests i).put ≡ None →
-      moved ≡ after_requests job (take (i + 1) requests) start
-  obeys_no_data puts = moves_after ∙ obeyed_no_data job requests i inside all own start places puts
-
-  module _ (p v : ℕ) (puts : (request_at requests i).put ≡ Some (p, v)) where
-    request_is : Puts requests p i v
-    request_is = mine job requests i inside all own p v puts
-
-    low : p < job.cells + 4 * job.procs
-    low = data_inside job requests i inside all own p v puts
-
-    pub obeys_lost : p < job.cells → get_or marks p 0 ≢ i →
-        moved ≡ after_requests job (take (i + 1) requests) start
-    obeys_lost cell other =
-        let by = marked.writes p i v cell request_is in
-        let least = marked.least p i v cell request_is in
-        let first = some_to_place job requests i inside all own p
-        (get_or marks p 0) by.0 low (omega arith) by.1 in
-        moves_after
-        ∙ obeyed_lost job requests i inside all own start places p v puts low first.0 first.1
-
-    obeys_first : first_written job p 0 (take i requests) ≡ None → (new : State) →
-        new ≡ set moved p v → new ≡ after_requests job (take (i + 1) requests) start
-    obeys_first none new writes = writes ∙ ap (λ xs. set xs p v) moves_after
-        ∙ obeyed_first job requests i inside all own start places p v puts low none
-
-    pub obeys_cell : p < job.cells → get_or marks p 0 ≡ i → (new : State) → new ≡ set moved p v →
-        new ≡ after_requests job (take (i + 1) requests) start
-    obeys_cell cell mark =
-        obeys_first (none_to_place job requests i inside all own p low (λ j u below data'.
-        let least = marked.least p j u cell data' in omega arith))
-
-    pub obeys_register : job.cells ≤ p → (new : State) → new ≡ set moved p v →
-        new ≡ after_requests job (take (i + 1) requests) start
-    obeys_register high =
-        obeys_first (none_to_place job requests i inside all own p low (λ j u below data'.
-        elim (own.own j p u data') [
-          | inl cell ↦ omega arith
-          | inr theirs ↦ elim (own.own i p v request_is) [
-            | inl cell ↦ omega arith
-            | inr ours ↦ omega (arith, theirs.0, theirs.1, ours.0, ours.1)
-          ]
-        ]))
+-- with the cells, what lies behind them was kept
+pub cells_back : (job : JobData) (s now : State) → SameCells job.cells s now →
+    take job.cells now ++ drop job.cells s ≡ s
+cells_back job s now same = ap (λ xs. xs ++ drop job.cells s) same.same
+    ∙ take-append-drop job.cells s

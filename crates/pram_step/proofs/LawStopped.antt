@@ -12,6 +12,7 @@ use Rattle.pram_step.specs.Instructions.{goes_to, request_in, requests_in}
 use Rattle.pram_step.specs.Steps.{Writes, written, Agrees, next_state}
 use Rattle.pram_step.specs.Runs.{IsStateAfter}
 use Rattle.pram_step.specs.Laws.{AllStopped}
+use Rattle.pram_step.specs.Inner.Passes.{AllIdle}
 use Rattle.pram_step.proofs.LawWriters.{HasFirst, HasNone, writer_cases}
 use Rattle.pram_step.proofs.LawPlaces.{writer_is}
 use Rattle.pram_step.proofs.LawNext.{after_first, after_none}
@@ -29,48 +30,50 @@ gone_to job p i next v true is e =
     (eqb-true p (counter_place job i) (sym is), same_Some _ _ (sym e))
 gone_to job p i next v false is e = absurd (none-some v e)
 
--- a stopped processor writes what its counter holds to its counter
-pub stopped_writes : (job : JobData) (s : State) (p i v : ℕ) →
-    AllStopped job s → Writes job (requests_in job s) p i v →
+-- a processor whose request changes nothing writes what its counter holds to its counter
+idle_writes : (job : JobData) (s : State) (p i v : ℕ) → AllIdle job s →
+    Writes job (requests_in job s) p i v →
     (p ≡ counter_place job i) × (v ≡ slice_index s (counter_place job i))
-stopped_writes job s p i v stopped w =
+idle_writes job s p i v idle w =
     let is : (i < job.procs) × (written job p i (request_in job s i) ≡ Some v) =
     writer_is job s p i v w in
     let goes : written job p i (goes_to (counter job s i)) ≡ Some v =
-    subst (λ (r : Request). written job p i r ≡ Some v)
-    (stopped_request job s i (stopped i is.0)) is.1 in
+    subst (λ (r : Request). written job p i r ≡ Some v) (idle i is.0) is.1 in
     gone_to job p i (counter job s i) v (p == counter_place job i) refl goes
 
-unchanged_at : (job : JobData) (s : State) (p : ℕ) → AllStopped job s → p < length s →
+unchanged_at : (job : JobData) (s : State) (p : ℕ) → AllIdle job s → p < length s →
     slice_index (next_state job s) p ≡ slice_index s p
-unchanged_at job s p stopped lt = ⊎_elim
+unchanged_at job s p idle lt = ⊎_elim
     (λ (n : HasNone job (requests_in job s) p). after_none job (requests_in job s) s p lt n.found)
     (λ (f : HasFirst job (requests_in job s) p).
     let is : (p ≡ counter_place job f.writer)
     × (f.value ≡ slice_index s (counter_place job f.writer)) =
-    stopped_writes job s p f.writer f.value stopped f.first.writes in
+    idle_writes job s p f.writer f.value idle f.first.writes in
     after_first job (requests_in job s) s p f.value lt f.found ∙ is.1
     ∙ ap (slice_index s) (sym is.0))
     (writer_cases job (requests_in job s) p)
 
-unchanged : (job : JobData) (s : State) → AllStopped job s → next_state job s ≡ s
-unchanged job s stopped =
+-- where all requests change nothing, the step changes nothing
+pub unchanged : (job : JobData) (s : State) → AllIdle job s → next_state job s ≡ s
+unchanged job s idle =
     ext_get_or 0 (next_state job s) s (length-after job (requests_in job s) s)
-    (λ p lt. unchanged_at job s p stopped (omega (arith, length-after job (requests_in job s) s)))
+    (λ p lt. unchanged_at job s p idle (omega (arith, length-after job (requests_in job s) s)))
 
-stopped_agrees : (job : JobData) (s : State) → AllStopped job s → Agrees job (requests_in job s)
-stopped_agrees job s stopped cell i j clash =
+idle_agrees : (job : JobData) (s : State) → AllIdle job s → Agrees job (requests_in job s)
+idle_agrees job s idle cell i j clash =
     let is_cell : cell < job.cells = clash.is_cell in
     let is : (cell ≡ counter_place job i) × (clash.value ≡ slice_index s (counter_place job i)) =
-    stopped_writes job s cell i clash.value stopped clash.writes in
+    idle_writes job s cell i clash.value idle clash.writes in
     let there : cell ≡ counter_place job i = is.0 in
     absurd (omega arith)
 
 pub stopped_stays : (job : JobData) (s : State) → AllStopped job s →
     Agrees job (requests_in job s) × (next_state job s ≡ s)
-stopped_stays job s stopped = (stopped_agrees job s stopped, unchanged job s stopped)
+stopped_stays job s stopped =
+    let idle : AllIdle job s = λ i low. stopped_request job s i (stopped i low) in
+    (idle_agrees job s idle, unchanged job s idle)
 
 pub stopped_later : (job : JobData) (t k : ℕ) (s : State) → IsStateAfter job t s →
     AllStopped job s → IsStateAfter job (t + k) s
 stopped_later job t k s is stopped =
-    unchanged_later job t k s is (stopped_agrees job s stopped) (unchanged job s stopped)
+    let stays = stopped_stays job s stopped in unchanged_later job t k s is stays.0 stays.1

@@ -1,10 +1,11 @@
 -- Lists of requests, and their writers.
 use Rattle.std.proofs.Common.{◌≡◌, ◌≢◌, ℕ, zero, suc, ◌+◌, ◌<◌, ◌⊎◌, eqb, cond, List}
 use Rattle.std.proofs.Common.{[], ◌∷◌, length, take, get_or, Option, Some, None, refl}
-use Rattle.std.proofs.Common.{sym, ap₂, ◌∙◌, subst, inl, inr, arith, length-take-le}
+use Rattle.std.proofs.Common.{sym, ap, ap₂, ◌∙◌, subst, inl, inr, arith, length-take-le}
 use Rattle.std.specs.Prelude.{slice_get}
 use Rattle.std.proofs.lemmas.Bool.{cases_eq, eq-eqb, ne_eqb, eqb-true, cases_Bool}
 use Rattle.std.proofs.lemmas.Option.{none-some, same_Some, slice_get-get_or, slice_get_within}
+use Rattle.std.proofs.lemmas.Option.{get_or_from_slice_get}
 use Rattle.pram_text.specs.Job.{JobData}
 use Rattle.pram_step.specs.declared.requests.Request.{Request}
 use Rattle.pram_step.specs.Machine.{counter_place}
@@ -107,3 +108,23 @@ Writes-from_Puts job requests cell i v low p = record {
   request_is = p.request_is;
   writes = written_of_put job cell i v p.request (λ same. omega arith) p.puts;
 }
+
+-- ---- what one processor puts
+
+pub Puts_inside : (requests : List Request) (place i v : ℕ) → Puts requests place i v →
+    i < length requests
+Puts_inside requests place i v p = slice_get_within requests i p.request p.request_is
+
+pub Puts_at : (requests : List Request) (place i v : ℕ) → Puts requests place i v →
+    (request_at requests i).put ≡ Some (place, v)
+Puts_at requests place i v p =
+    subst (λ (q : Request). q.put ≡ Some (place, v)) (sym (get_or_from_slice_get requests i
+    p.request (record { put = None; next = 0 }) p.request_is)) p.puts
+
+-- what processor i asks for is what it puts
+pub Puts_put : (requests : List Request) (place i v : ℕ) (request : Request)
+    (put : Option (ℕ × ℕ)) → slice_get requests i ≡ Some request → request.put ≡ put →
+    Puts requests place i v → put ≡ Some (place, v)
+Puts_put requests place i v request put is e p =
+    sym e ∙ ap (λ (r : Request). r.put) (same_Some request p.request (sym is ∙ p.request_is))
+    ∙ p.puts

@@ -2,7 +2,7 @@
 use Rattle.std.proofs.Common.{◌≡◌, ℕ, zero, suc, ◌+◌, ◌^◌, ◌<◌, ◌≤◌, Bool, true}
 use Rattle.std.proofs.Common.{false, cond, List, [], ◌∷◌, length, map, Option, Some}
 use Rattle.std.proofs.Common.{None, refl, sym, ap, subst, ◌∙◌, inl, inr, arith}
-use Rattle.std.specs.Prelude.{slice_get, slice_index, nat_lt, ◌==◌, All}
+use Rattle.std.specs.Prelude.{slice_get, slice_index, nat_lt, ◌==◌, All, IfSome}
 use Rattle.std.proofs.lemmas.Bool.{ltb-true}
 use Rattle.std.proofs.lemmas.List.{get_or_past}
 use Rattle.std.proofs.lemmas.List.FromFn.{length-map-range_with_len, get_or-map-range_with_len}
@@ -19,7 +19,8 @@ use Rattle.pram_step.specs.Machine.{State, IsDataPlace, register_place}
 use Rattle.pram_step.specs.Machine.{counter_place, register, counter, out_of_range}
 use Rattle.pram_step.specs.Instructions.{sources_of, cell_read, gives, goes_to, decided, HasShape}
 use Rattle.pram_step.specs.Instructions.{operand_held, decided_in, request_in, requests_in}
-use Rattle.pram_step.specs.Inner.Marks.{AreOwn}
+use Rattle.pram_step.specs.Inner.Passes.{IsIdle}
+use Rattle.pram_step.proofs.RequestList.{request_at}
 
 -- ---- the request of each processor
 
@@ -53,6 +54,12 @@ instr_is job k instr is_job e =
     subst (λ (x : Instr). IsInstr (length job.code) x)
     (get_or_from_slice_get job.code k instr instr e)
     (is_job.code_fits k instr (slice_get_within job.code k instr e))
+
+-- as code reads it
+pub asked_at : (job : JobData) (s : State) (i : ℕ) → i < job.procs →
+    request_at (requests_in job s) i ≡ request_in job s i
+asked_at job s i low = get_or_from_slice_get (requests_in job s) i (request_in job s i)
+    (record { put = None; next = 0 }) (asks job s i low)
 
 pub request_by :
     (P : Request → Type 0) (job : JobData) (s : State) (i : ℕ) → P (goes_to (counter job s i)) →
@@ -152,6 +159,22 @@ module _ (job : JobData) (i counter a b v : ℕ) where
   decided_next (Jmp place) is low = omega (arith, is)
   decided_next _ is low = omega arith
 
+  -- where it leaves the counter as it is, it asks for no data
+  abbrev Stays : Request → Type 0
+  Stays r = r.next ≡ counter → r ≡ goes_to counter
+
+  pub decided_idle : (instr : Instr) → (decided job i counter instr a b v).next ≡ counter →
+      decided job i counter instr a b v ≡ goes_to counter
+  unfolding decided
+  decided_idle (Ld r _) = by_test Stays (nat_lt a job.cells) _ _
+      (λ is (e : counter + 1 ≡ counter). absurd (omega arith)) (λ is e. ap goes_to e)
+  decided_idle (St _ _) = by_test Stays (nat_lt a job.cells) _ _
+      (λ is (e : counter + 1 ≡ counter). absurd (omega arith)) (λ is e. ap goes_to e)
+  decided_idle (Jz r place) = λ e. ap goes_to e
+  decided_idle (Jmp place) = λ e. ap goes_to e
+  decided_idle Halt = λ e. ap goes_to e
+  decided_idle _ = λ (e : counter + 1 ≡ counter). absurd (omega arith)
+
   pub decided_shape : (instr : Instr) → IsInstr (length job.code) instr →
       i < 2 ^ 32 → a < 2 ^ 32 → b < 2 ^ 32 → v < 2 ^ 32 → counter < length job.code →
       HasShape job i (decided job i counter instr a b v)
@@ -169,12 +192,27 @@ place_fits s p fits = elim (cases_lt p (length s)) [
   | inr past ↦ (let zero_there : slice_index s p ≡ 0 = get_or_past s p 0 past in omega arith)
 ]
 
+pub request_idle : (job : JobData) (s : State) (i : ℕ) →
+    (request_in job s i).next ≡ counter job s i → IsIdle job s i
+request_idle job s i =
+    request_by (λ r. r.next ≡ counter job s i → r ≡ goes_to (counter job s i)) job s i
+    (λ e. refl) (λ instr e. decided_idle job i _ _ _ _ instr)
+
 pub request_place : (job : JobData) (s : State) (i place value : ℕ) → IsJob job →
     (request_in job s i).put ≡ Some (place, value) → IsDataPlace job i place
 request_place job s i place value is_job =
     request_by (λ r. r.put ≡ Some (place, value) → IsDataPlace job i place) job s i
     (λ h. absurd (none-some (place, value) h))
     (λ instr e. decided_place job i _ _ _ _ instr (instr_is job _ instr is_job e) place value)
+
+for_some : {X : Type 0} (o : Option X) (P : X → Type 0) → ((x : X) → o ≡ Some x → P x) → IfSome o P
+for_some None P h = tt
+for_some (Some x) P h = h x refl
+
+pub request_own : (job : JobData) (s : State) (i : ℕ) → IsJob job →
+    IfSome (request_in job s i).put (λ w. IsDataPlace job i w.0)
+request_own job s i is_job = for_some (request_in job s i).put (λ w. IsDataPlace job i w.0)
+    (λ w e. request_place job s i w.0 w.1 is_job e)
 
 pub request_value : (job : JobData) (s : State) (i place value : ℕ) →
     IsJob job → All (λ v. v < 2 ^ 32) s → i < job.procs →
@@ -218,10 +256,4 @@ request_shape job s i is_job fits low inside = record {
   data_place = λ place value. request_place job s i place value is_job;
   data_value = λ place value. request_value job s i place value is_job fits low;
   next = request_within job s i is_job inside;
-}
-
-pub AreOwn-requests_in : (job : JobData) (s : State) → IsJob job → AreOwn job (requests_in job s)
-AreOwn-requests_in job s is_job = record {
-  own = λ i place v p. request_place job s i place v is_job (subst
-      (λ (r : Request). r.put ≡ Some (place, v)) (asked_is job s i p.request p.request_is) p.puts);
 }

@@ -1,13 +1,11 @@
 //! What is there after so many steps.
-ghost use Rattle.std.specs.Prelude.{◌≡◌, ◌+◌, ◌<◌, ◌^◌, ◌↔◌, length, IfOk, IsTrue};
+ghost use Rattle.std.specs.Prelude.{◌+◌, ◌<◌, ◌^◌, IfOk};
 ghost use Rattle.pram_step.specs.Arrivals.{IsArrival, IsStepMade};
-ghost use Rattle.pram_step.specs.Laws.{AllStopped};
-ghost use Rattle.pram_step.specs.Machine.{place_count};
 ghost use Rattle.pram_step.specs.Runs.{IsStateAfter};
 
 use crate::answer::Fault;
-use crate::asking::counter;
 use crate::laws;
+use crate::pass::Course;
 use crate::state::{State, StepFault, step};
 use pram_text::Job;
 use std::alloc::{AllocError, Global};
@@ -23,28 +21,23 @@ pub enum Arrival {
     TooFar,
 }
 
-/// Goes so many steps from the start. At most `most` steps are made; a machine whose processors
-/// have all stopped makes none.
+/// Goes so many steps from the start. At most `most` steps are made, and none after one that
+/// changes nothing: a machine whose processors have all stopped makes none.
 pub fn go_to(alloc: Global, job: &Job, steps: u32, most: u32) -> Result<Arrival, AllocError>
     ensures { IfOk result (IsArrival job.now steps most) }
 {
-    laws::start_is_a_state();
-    laws::states_have_all_places();
-    laws::stopped_machine_goes_on();
-    job.limits_hold();
     let mut state = State::start(alloc, job)?;
-    for made in 0..steps {
-        if have_stopped(job, &state) {
-            return Ok(Arrival::Reached(state));
-        }
-        if made == most {
-            return Ok(Arrival::TooFar);
-        }
-        if let Some(fault) = make_step(alloc, job, &mut state, made)? {
-            return Ok(Arrival::Disputed(fault));
+    match state.go(alloc, job, steps.min(most))? {
+        Course::Disputed(fault) => Ok(Arrival::Disputed(fault)),
+        Course::Settled => Ok(Arrival::Reached(state)),
+        Course::Made => {
+            if most < steps {
+                Ok(Arrival::TooFar)
+            } else {
+                Ok(Arrival::Reached(state))
+            }
         }
     }
-    Ok(Arrival::Reached(state))
 }
 
 /// Makes the step after so many. Where it is against the rule, the state stays, and the fault is
@@ -78,17 +71,4 @@ pub fn make_step(
             second,
         })),
     }
-}
-
-// Whether all processors have stopped.
-fn have_stopped(job: &Job, state: &State) -> bool
-    requires { length state.now ≡ place_count job.now }
-    ensures { IsTrue result ↔ AllStopped job.now state.now }
-{
-    for processor in 0..job.procs() {
-        if (counter(job, state, processor) as usize) < job.code().len() {
-            return false;
-        }
-    }
-    true
 }

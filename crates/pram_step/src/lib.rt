@@ -10,7 +10,9 @@ pub mod laws;
 mod pass;
 mod requests;
 mod run;
+mod running;
 mod state;
+mod stores;
 #[cfg(test)]
 mod tests;
 

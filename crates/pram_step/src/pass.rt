@@ -1,135 +1,187 @@
-//! The two passes of a step over the processors: what they ask for, and what of it is done.
-ghost use Rattle.std.specs.Prelude.{◌≡◌, ℕ, ◌+◌, ◌<◌, List, length, take, slice_set};
-ghost use Rattle.std.specs.Prelude.{IfOk, IfErr, OnOk, OnErr};
+//! A step in one pass over the processors that run. Registers and counters are each one
+//! processor's own, so they are written at once; stores to cells wait for the end.
+ghost use Rattle.std.specs.Prelude.{◌≡◌, ◌*◌, ◌<◌, ◌≤◌, length, IfOk, IfErr, IfSome, OnOk, OnErr};
+ghost use Rattle.std.specs.Prelude.{vec_len};
 ghost use Rattle.std.specs.Bool.{OnFalse};
-ghost use Rattle.pram_step.specs.Machine.{place_count, start};
+ghost use Rattle.pram_step.specs.Machine.{IsDataPlace, counter, counter_place, place_count, start};
 ghost use Rattle.pram_step.specs.Instructions.{requests_in};
-ghost use Rattle.pram_step.specs.Steps.{Agrees, IsDispute, IsNext, next_state};
-ghost use Rattle.pram_step.specs.Inner.Marks.{AreMarked, AreOwn, IsMade, IsRun, ObeysNext};
-ghost use Rattle.pram_step.specs.Inner.Marks.{BringsNext};
-ghost use Rattle.pram_step.specs.Steps.{IsVerdict};
+ghost use Rattle.pram_step.specs.Steps.{IsDispute};
+ghost use Rattle.pram_step.specs.Inner.Marks.{HasRoom};
+ghost use Rattle.pram_step.specs.Inner.Passes.{AllIdle, AreRunning, GoesTo, IsAdvance, IsMade};
+ghost use Rattle.pram_step.specs.Inner.Passes.{IsMove, IsPassed, SameCells};
 
 use crate::answer::{Dispute, Fault};
-use crate::conflict::judge;
 use crate::requests::{Request, request_in};
+use crate::running::Running;
+use crate::stores::{Store, Stores, judge_all, take_up, write_stores};
 use pram_text::Job;
+use pram_text::places::counters_at;
 
-/// Makes all steps of the job from its start, or those up to the first that is against the rule,
-/// which it answers. After a step that changes nothing the later ones change nothing either, so
-/// they are left out.
+/// What comes of some steps from the start.
+#[derive(Clone, Copy, Debug, PartialEq, Eq)]
+pub(crate) enum Course {
+    /// They were made.
+    Made,
+    /// They were made, and later ones change nothing.
+    Settled,
+    /// One of them is against the rule.
+    Disputed(Fault),
+}
+
+/// What the processors did in a step: whether one of them changed anything, and whether one
+/// stopped.
+#[derive(Clone, Copy, Debug, PartialEq, Eq)]
+pub(crate) struct Moves {
+    pub changed: bool,
+    pub stopped: bool,
+}
+
+/// What a pass came to: how many stores are asked for, and what the processors did.
+#[derive(Clone, Copy, Debug, PartialEq, Eq)]
+struct Passed {
+    count: u32,
+    moves: Moves,
+}
+
+/// Makes so many steps from the start, or those up to the first that is against the rule. After a
+/// step that changes nothing the later ones change nothing either, so they are left out.
 pub(crate) fn make_steps(
     job: &Job,
     places: &mut [u32],
-    requests: &mut [Request],
-    marks: &mut [u32],
-) -> Option<Fault>
+    running: &mut Running,
+    stores: &mut Stores,
+    steps: u32,
+) -> Course
     requires places { places.old ≡ start job.now }
-    requires requests { length requests.old ≡ job.now.procs }
-    requires marks { length marks.old ≡ job.now.cells }
-    ensures { IsRun job.now places.new result }
+    requires running { vec_len running.old.processors ≡ job.now.procs }
+    requires stores { HasRoom job.now stores.old }
+    ensures { GoesTo job.now steps places.new result }
 {
-    for done in 0..job.steps() {
-        match advance(job, places, requests, marks) {
-            Ok(true) => {}
-            Ok(false) => return None,
-            Err(dispute) => return Some(dispute.in_step(done + 1)),
+    job.limits_hold();
+    running.find(job, places);
+    for done in 0..steps {
+        match advance(job, places, running.as_slice(), stores) {
+            Err(dispute) => return Course::Disputed(dispute.in_step(done + 1)),
+            Ok(moves) => {
+                if !moves.changed {
+                    return Course::Settled;
+                }
+                running.update(job, places, moves.stopped);
+            }
         }
     }
-    None
+    if running.as_slice().is_empty() {
+        Course::Settled
+    } else {
+        Course::Made
+    }
 }
 
-/// Makes a step where it agrees, and otherwise answers the dispute. `Ok(false)` comes only where
-/// nothing changed. The old requests and marks may be anything.
-pub(crate) fn advance(
+/// Makes a step where it agrees. Otherwise the places are as before, and the dispute is answered:
+/// what the pass may change is kept here.
+pub(crate) fn attempt(
     job: &Job,
     places: &mut [u32],
-    requests: &mut [Request],
-    marks: &mut [u32],
-) -> Result<bool, Dispute>
+    running: &mut Running,
+    stores: &mut Stores,
+    kept: &mut [u32],
+) -> Result<(), Dispute>
     requires places { length places.old ≡ place_count job.now }
-    requires requests { length requests.old ≡ job.now.procs }
-    requires marks { length marks.old ≡ job.now.cells }
+    requires running { vec_len running.old.processors ≡ job.now.procs }
+    requires stores { HasRoom job.now stores.old }
+    requires kept { length kept.old ≡ 5 * job.now.procs }
     ensures made { OnOk result (IsMade job.now places.old places.new) }
-    ensures idle { IfOk result (λ changed. OnFalse changed (places.new ≡ places.old)) }
     ensures dispute { IfErr result (IsDispute job.now (requests_in job.now places.old)) }
     ensures unchanged { OnErr result (places.new ≡ places.old) }
 {
-    match ask(job, places, requests, marks) {
-        Some(dispute) => Err(dispute),
-        None => Ok(apply(job, places, requests, marks)),
+    let cells = job.cells() as usize;
+    kept.copy_from_slice(&places[cells..]);
+    running.find(job, places);
+    match advance(job, places, running.as_slice(), stores) {
+        Ok(_) => Ok(()),
+        Err(dispute) => {
+            places[cells..].copy_from_slice(kept);
+            Err(dispute)
+        }
     }
 }
 
-/// Takes the requests of all processors, and answers the dispute among them.
-pub(crate) fn ask(
+/// Makes a step where it agrees. Otherwise it answers the dispute, and only the cells are as
+/// before.
+#[inline(always)]
+fn advance(
     job: &Job,
-    places: &[u32],
-    requests: &mut [Request],
-    marks: &mut [u32],
-) -> Option<Dispute>
-    requires places { length places.now ≡ place_count job.now }
-    requires requests { length requests.old ≡ job.now.procs }
-    requires marks { length marks.old ≡ job.now.cells }
-    ensures requests { requests.new ≡ requests_in job.now places.now }
-    ensures marked { AreMarked job.now.cells requests.new marks.new }
-    ensures found { IsVerdict job.now (requests_in job.now places.now) result }
-{
-    let mut found = None;
-    for processor in 0..job.procs() {
-        requests[processor as usize] = request_in(job, places, processor);
-        found = judge(job, requests, marks, processor, found);
-    }
-    found
-}
-
-/// Does what the processors ask for. The answer is false only if nothing changed.
-pub(crate) fn apply(job: &Job, places: &mut [u32], requests: &[Request], marks: &[u32]) -> bool
+    places: &mut [u32],
+    running: &[u32],
+    stores: &mut Stores,
+) -> Result<Moves, Dispute>
     requires places { length places.old ≡ place_count job.now }
-    requires requests { requests.now ≡ requests_in job.now places.old }
-    requires marks { length marks.now ≡ job.now.cells }
-    requires marked { AreMarked job.now.cells requests.now marks.now }
-    ensures next { places.new ≡ next_state job.now places.old }
-    ensures written { BringsNext job.now places.old places.new }
-    ensures idle { OnFalse result (places.new ≡ places.old) }
+    requires running { AreRunning job.now places.old running.now }
+    requires stores { HasRoom job.now stores.old }
+    ensures made { IfOk result (IsAdvance job.now running.now places.old places.new) }
+    ensures dispute { IfErr result (IsDispute job.now (requests_in job.now places.old)) }
+    ensures cells { OnErr result (SameCells job.now.cells places.old places.new) }
+    ensures stores { HasRoom job.now stores.new }
 {
-    let mut changed = false;
-    for processor in 0..job.procs() {
-        changed |= obey(job, places, requests, marks, processor);
+    job.limits_hold();
+    let passed = pass(job, places, running, &mut stores.asked);
+    let asked = &stores.asked[..passed.count as usize];
+    match judge_all(job, asked, &mut stores.marks) {
+        Some(dispute) => Err(dispute),
+        None => {
+            write_stores(places, asked);
+            Ok(passed.moves)
+        }
     }
-    changed
 }
 
-/// Does what one processor asks for: of several that write to a cell, only the least one's data
-/// goes there.
-fn obey(job: &Job, places: &mut [u32], requests: &[Request], marks: &[u32], processor: u32) -> bool
+/// Takes the turn of each processor that runs, and what it asks to store.
+#[inline(always)]
+fn pass(job: &Job, places: &mut [u32], running: &[u32], asked: &mut [Store]) -> Passed
+    requires places { length places.old ≡ place_count job.now }
+    requires running { AreRunning job.now places.old running.now }
+    requires asked { length asked.old ≡ job.now.procs }
+    ensures passed { IsPassed job.now places.old job.now.procs places.new asked.new result.count }
+    ensures few { result.count ≤ job.now.procs }
+    ensures idle { OnFalse result.moves.changed (AllIdle job.now places.old) }
+{
+    job.limits_hold();
+    let counters = counters_at(job.cells(), job.procs());
+    let mut count = 0;
+    let mut changed = false;
+    let mut stopped = false;
+    for processor in running {
+        let counter = counters + *processor;
+        let request = request_in(job, places, *processor, counter);
+        stopped |= request.next as usize >= job.code().len();
+        count = take_up(job, asked, count, *processor, request.put);
+        changed |= move_on(job, places, *processor, counter, request);
+    }
+    Passed {
+        count,
+        moves: Moves { changed, stopped },
+    }
+}
+
+/// Writes what a processor asks for to its own register and counter, and answers whether its
+/// counter changed.
+#[inline(always)]
+fn move_on(job: &Job, places: &mut [u32], processor: u32, at: u32, request: Request) -> bool
     requires processor { processor < job.now.procs }
     requires places { length places.old ≡ place_count job.now }
-    requires requests { length requests.now ≡ job.now.procs }
-    requires own { AreOwn job.now requests.now }
-    requires marks { length marks.now ≡ job.now.cells }
-    requires marked { AreMarked job.now.cells requests.now marks.now }
-    ensures next { ObeysNext job.now requests.now processor places.old places.new }
-    ensures idle { OnFalse result (places.new ≡ places.old) }
+    requires counter { at ≡ counter_place job.now processor }
+    requires own { IfSome request.put (λ w. IsDataPlace job.now processor w.0) }
+    ensures moved { IsMove job.now processor request places.old places.new }
+    ensures idle { OnFalse result (request.next ≡ counter job.now places.old processor) }
 {
-    let request = &requests[processor as usize];
-    let counter = job.counter_place(processor);
-    let moved = write(places, counter, request.next);
+    let changed = places[at as usize] != request.next;
+    places[at as usize] = request.next;
     let Some((place, value)) = request.put else {
-        return moved;
+        return changed;
     };
-    if place < job.cells() && marks[place as usize] != processor {
-        return moved;
+    if place < job.cells() {
+        return changed;
     }
-    write(places, place, value) | moved
-}
-
-/// Writes to a place, and answers whether its value changed.
-fn write(places: &mut [u32], place: u32, value: u32) -> bool
-    requires { place < length places.old }
-    ensures written { places.new ≡ slice_set places.old place value }
-    ensures idle { OnFalse result (places.new ≡ places.old) }
-{
-    let held = places[place as usize];
     places[place as usize] = value;
-    held != value
+    changed
 }

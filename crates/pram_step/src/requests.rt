@@ -1,6 +1,6 @@
 //! What a processor asks for in a step.
 ghost use Rattle.std.specs.Prelude.{◌≡◌, ◌+◌, ◌^◌, ◌<◌, ◌≤◌, length, map, slice_index, None, Some};
-ghost use Rattle.pram_step.specs.Machine.{place_count, register_place, register};
+ghost use Rattle.pram_step.specs.Machine.{counter_place, place_count, register_place, register};
 ghost use Rattle.pram_step.specs.Instructions.{place_part, value_part, request_in};
 
 use crate::instructions::{Held, decide, goes_to};
@@ -37,14 +37,16 @@ pub fn value_part(request: Request) -> u32
     }
 }
 
-/// What a processor asks for where the machine's places hold this.
+/// What a processor asks for where the machine's places hold this, its counter being there.
+#[inline(always)]
 #[tactic(auto, unfolding(crate::specs::Instructions::request_in))]
-pub(crate) fn request_in(job: &Job, places: &[u32], processor: u32) -> Request
+pub(crate) fn request_in(job: &Job, places: &[u32], processor: u32, at: u32) -> Request
     requires processor { processor < job.now.procs }
     requires places { length places.now ≡ place_count job.now }
+    requires counter { at ≡ counter_place job.now processor }
     ensures { result ≡ request_in job.now places.now processor }
 {
-    let counter = places[job.counter_place(processor) as usize];
+    let counter = places[at as usize];
     let Some(instr) = job.code().get(counter as usize) else {
         return goes_to(counter);
     };

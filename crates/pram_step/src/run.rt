@@ -38,8 +38,8 @@ impl From<Fault> for Outcome {
 
 /// Runs the job on the plain machine, processor after processor and step after step.
 ///
-/// It takes memory once. A step costs time in the number of processors, and once one changes
-/// nothing the outcome is there at once, whatever number of steps is left.
+/// It takes memory once. A step costs time in the number of processors that have not stopped, and
+/// once one changes nothing the outcome is there at once, whatever number of steps is left.
 pub fn run_plain(alloc: Global, job: &Job) -> Result<Outcome, AllocError>
     ensures { IfOk result (IsOutcome job.now) }
 {

@@ -1,15 +1,17 @@
 //! The places of the machine, and a step.
-ghost use Rattle.std.specs.Prelude.{◌≡◌, ◌<◌, length, take, slice_index, vec_len};
+ghost use Rattle.std.specs.Prelude.{◌≡◌, ◌*◌, ◌<◌, length, take, slice_index, vec_len};
 ghost use Rattle.std.specs.Prelude.{IfOk, OnOk, OnErr, IfErr};
 ghost use Rattle.pram_step.specs.Machine.{place_count, start};
 ghost use Rattle.pram_step.specs.Instructions.{request_in, requests_in};
 ghost use Rattle.pram_step.specs.declared.state.StepFault.TheVariants.{Conflict, Memory};
 ghost use Rattle.pram_step.specs.Steps.{Agrees, IsStepFault, next_state, IsNext};
-ghost use Rattle.pram_step.specs.Inner.Marks.{IsRun};
+ghost use Rattle.pram_step.specs.Inner.Passes.{GoesTo, IsRun};
 
 use crate::answer::{Cells, Dispute, Fault};
-use crate::pass::{advance, make_steps};
+use crate::pass::{Course, attempt, make_steps};
 use crate::requests::{Request, request_in};
+use crate::running::Running;
+use crate::stores::Stores;
 use pram_text::Job;
 use std::alloc::{AllocError, Global};
 use std::marker::Model;
@@ -17,13 +19,14 @@ use std::marker::Model;
 /// What each place of the machine holds: the cells, then four registers of each processor, then the
 /// counter of each.
 ///
-/// Contracts see it as this list. It keeps room for the requests of a step and for a mark of each
-/// cell, which its first step takes.
+/// Contracts see it as this list. It keeps room for the stores of a step, which its first step
+/// takes.
 #[derive(Debug, Drop)]
 pub struct State {
     places: Vec<u32>,
-    requests: Vec<Request>,
-    marks: Vec<u32>,
+    running: Running,
+    stores: Stores,
+    kept: Vec<u32>,
 }
 
 impl Model for State {
@@ -44,8 +47,9 @@ impl State {
         places.resize((job.cells() + 5 * job.procs()) as usize, 0)?;
         Ok(State {
             places,
-            requests: Vec::new(alloc),
-            marks: Vec::new(alloc),
+            running: Running::new(alloc),
+            stores: Stores::new(alloc),
+            kept: Vec::new(alloc),
         })
     }
 
@@ -79,8 +83,26 @@ impl State {
         requires { self.old ≡ start job.now }
         ensures { IfOk result (IsRun job.now self.new) }
     {
-        make_room(alloc, job, &mut self.requests, &mut self.marks)?;
-        Ok(make_steps(job, &mut self.places, &mut self.requests, &mut self.marks))
+        match self.go(alloc, job, job.steps())? {
+            Course::Made | Course::Settled => Ok(None),
+            Course::Disputed(fault) => Ok(Some(fault)),
+        }
+    }
+
+    /// Makes so many steps from the start, or those up to the first that is against the rule.
+    pub(crate) fn go(&mut self, alloc: Global, job: &Job, steps: u32) -> Result<Course, AllocError>
+        requires { self.old ≡ start job.now }
+        ensures { IfOk result (GoesTo job.now steps self.new) }
+    {
+        self.running.make_room(alloc, job)?;
+        self.stores.make_room(alloc, job)?;
+        Ok(make_steps(
+            job,
+            &mut self.places,
+            &mut self.running,
+            &mut self.stores,
+            steps,
+        ))
     }
 }
 
@@ -90,7 +112,7 @@ pub fn request(job: &Job, state: &State, processor: u32) -> Request
     requires places { length state.now ≡ place_count job.now }
     ensures { result ≡ request_in job.now state.now processor }
 {
-    request_in(job, &state.places, processor)
+    request_in(job, &state.places, processor, job.counter_place(processor))
 }
 
 /// Why a step was not made.
@@ -98,14 +120,14 @@ pub fn request(job: &Job, state: &State, processor: u32) -> Request
 pub enum StepFault {
     /// The step is against the rule.
     Conflict { cell: u32, first: u32, second: u32 },
-    /// There was no memory for the requests of the step.
+    /// There was no memory for the stores of the step.
     Memory,
 }
 
 /// Makes a step of the machine. After a fault the state is as before.
 ///
 /// It costs time in the number of processors, whatever the number of cells is. The first step of a
-/// state takes memory for the requests and for a mark of each cell, later ones of the same job take
+/// state takes memory for the stores and for a mark of each cell, later ones of the same job take
 /// none.
 pub fn step(alloc: Global, job: &Job, state: &mut State) -> Result<(), StepFault>
     requires { length state.old ≡ place_count job.now }
@@ -117,33 +139,26 @@ pub fn step(alloc: Global, job: &Job, state: &mut State) -> Result<(), StepFault
     ensures conflict { IfErr result (IsStepFault job.now (requests_in job.now state.old)) }
     ensures unchanged { OnErr result (state.new ≡ state.old) }
 {
-    make_room(alloc, job, &mut state.requests, &mut state.marks)?;
-    advance(
+    state.running.make_room(alloc, job)?;
+    state.stores.make_room(alloc, job)?;
+    make_room(alloc, job, &mut state.kept)?;
+    attempt(
         job,
         &mut state.places,
-        &mut state.requests,
-        &mut state.marks,
+        &mut state.running,
+        &mut state.stores,
+        &mut state.kept,
     )?;
     Ok(())
 }
 
-/// Makes room for the requests of a step and for a mark of each cell, where there is none.
-fn make_room(
-    alloc: Global,
-    job: &Job,
-    requests: &mut Vec<Request>,
-    marks: &mut Vec<u32>,
-) -> Result<(), AllocError>
-    ensures requests { OnOk result (vec_len requests.new ≡ job.now.procs) }
-    ensures marks { OnOk result (vec_len marks.new ≡ job.now.cells) }
+/// Makes room for the registers and counters of all processors, where there is none.
+fn make_room(alloc: Global, job: &Job, kept: &mut Vec<u32>) -> Result<(), AllocError>
+    ensures { OnOk result (vec_len kept.new ≡ 5 * job.now.procs) }
 {
-    let procs = job.procs() as usize;
-    if requests.len() != procs {
-        *requests = vec![in alloc; Request { put: None, next: 0 }; procs]?;
-    }
-    let cells = job.cells() as usize;
-    if marks.len() != cells {
-        *marks = vec![in alloc; 0; cells]?;
+    let own = 5 * job.procs() as usize;
+    if kept.len() != own {
+        *kept = vec![in alloc; 0; own]?;
     }
     Ok(())
 }

@@ -1,13 +1,13 @@
--- What a pass over the requests knows of those that it has looked at.
-use Rattle.std.specs.Prelude.{◌≡◌, ℕ, ◌+◌, ◌<◌, ◌≤◌, List, length}
-use Rattle.std.specs.Prelude.{take, slice_get, slice_index, Option, Some, MatchOption}
+-- What the requests so far put, and what is kept of their stores.
+use Rattle.std.specs.Prelude.{◌≡◌, ℕ, ◌+◌, ◌<◌, ◌≤◌, List, length, vec_len, take}
+use Rattle.std.specs.Prelude.{slice_get, slice_index, slice_index_or, Option, Some, MatchOption}
 use Rattle.pram_text.specs.Job.{JobData}
-use Rattle.pram_step.specs.declared.answer.Fault.{Fault}
+use Rattle.pram_step.specs.declared.answer.Dispute.{Dispute}
 use Rattle.pram_step.specs.declared.requests.Request.{Request}
-use Rattle.pram_step.specs.Machine.{State, place_count, IsDataPlace}
-use Rattle.pram_step.specs.Steps.{Agrees, IsNext, after_requests, next_state}
-use Rattle.pram_step.specs.Instructions.{requests_in}
-use Rattle.pram_step.specs.Runs.{IsStateAfter, IsFault}
+use Rattle.pram_step.specs.declared.stores.Store.{Store}
+use Rattle.pram_step.specs.declared.stores.Stores.{Stores}
+use Rattle.pram_step.specs.Machine.{State}
+use Rattle.pram_step.specs.Steps.{IsVerdict}
 
 -- processor i's data goes to the place, and is the value
 pub record Puts (requests : List Request) (place i value : ℕ) : Type 0 where
@@ -24,34 +24,108 @@ pub record PutsFirst (requests : List Request) (place i value : ℕ) : Type 0 wh
 abbrev pub PutsNone : List Request → ℕ → Type 0
 PutsNone requests place = (i value : ℕ) → Puts requests place i value → ⊥
 
--- Of each cell that these requests write to, the mark names the least processor that does.
-pub record AreMarked (cells : ℕ) (requests : List Request) (marks : List ℕ) : Type 0 where
-  pub writes : (cell i value : ℕ) → cell < cells → Puts requests cell i value →
-      (other : ℕ) × Puts requests cell (slice_index marks cell) other
-  pub least : (cell i value : ℕ) → cell < cells → Puts requests cell i value →
-      slice_index marks cell ≤ i
+-- ---- what is kept of the stores
 
--- all data goes to cells and registers of the processor's own
-pub record AreOwn (job : JobData) (requests : List Request) : Type 0 where
-  pub own : (i place value : ℕ) → Puts requests place i value → IsDataPlace job i place
+-- there is room for the stores of all processors, and a mark of each cell
+pub record HasRoom (job : JobData) (stores : Stores) : Type 0 where
+  pub asked : vec_len stores.asked ≡ job.procs
+  pub marks : vec_len stores.marks ≡ job.cells
 
--- the step agrees, and its next state is made
-pub record IsMade (job : JobData) (old new : State) : Type 0 where
-  pub agrees : Agrees job (requests_in job old)
-  pub next : new ≡ next_state job old
-  pub written : IsNext job (requests_in job old) old new
+-- store k, as code reads it
+abbrev pub store_at : List Store → ℕ → Store
+store_at asked k = slice_index_or asked k (record { processor = 0; cell = 0; value = 0 })
 
--- Where the requests before processor i's were obeyed, from some start, it is obeyed then too.
-abbrev pub ObeysNext : JobData → List Request → ℕ → State → State → Type 0
-ObeysNext job requests i old new =
-    (start : State) → length start ≡ place_count job →
-    old ≡ after_requests job (take i requests) start
-    → new ≡ after_requests job (take (i + 1) requests) start
+-- store k is what these requests put
+abbrev pub PutsStore : List Request → List Store → ℕ → Type 0
+PutsStore requests asked k =
+    Puts requests (store_at asked k).cell (store_at asked k).processor (store_at asked k).value
 
--- The run of the job ended in this state, or by this fault.
-abbrev pub IsRun : JobData → State → Option Fault → Type 0
-IsRun job state fault = MatchOption fault (IsStateAfter job job.steps state) (IsFault job)
+-- ---- the stores that are asked for
 
--- where the step agrees, the new state is a next one
-abbrev pub BringsNext : JobData → State → State → Type 0
-BringsNext job old new = Agrees job (requests_in job old) → IsNext job (requests_in job old) old new
+-- So many stores are asked for by the processors below n, in their order: all data of these requests
+-- that goes to cells.
+pub record AreAsked (cells : ℕ) (requests : List Request) (n : ℕ) (asked : List Store)
+    (count : ℕ) : Type 0 where
+  pub within : (k : ℕ) → k < count → (store_at asked k).processor < n
+  pub is_cell : (k : ℕ) → k < count → (store_at asked k).cell < cells
+  pub puts : (k : ℕ) → k < count → PutsStore requests asked k
+  pub rises : (j k : ℕ) → j < k → k < count →
+      (store_at asked j).processor < (store_at asked k).processor
+  pub all : (cell i value : ℕ) → cell < cells → i < n → Puts requests cell i value →
+      (k : ℕ) × (k < count) × ((store_at asked k).processor ≡ i)
+
+-- Where those of the processors before this one are taken up, its store is taken up too.
+abbrev pub AsksNext : JobData → ℕ → Option (ℕ × ℕ) → List Store → ℕ → List Store → ℕ → Type 0
+AsksNext job i put asked count asked' count' =
+    (requests : List Request) (request : Request)
+    → slice_get requests i ≡ Some request → request.put ≡ put
+    → AreAsked job.cells requests i asked count → AreAsked job.cells requests (i + 1) asked' count'
+
+-- ---- they are judged
+
+-- The mark names the first store to the cell, which is one of the first k.
+pub record IsMark (requests : List Request) (asked : List Store) (k cell mark : ℕ) : Type 0 where
+  pub below : mark < k
+  pub is_cell : (store_at asked mark).cell ≡ cell
+  pub first : PutsFirst requests cell (store_at asked mark).processor (store_at asked mark).value
+
+-- The first k stores are those of these requests: each cell that one goes to has the first one's
+-- mark.
+pub record AreMarked (cells : ℕ) (requests : List Request) (asked : List Store) (marks : List ℕ)
+    (k : ℕ) : Type 0 where
+  pub puts : (j : ℕ) → j < k → PutsStore requests asked j
+  pub marked : (cell i value : ℕ) → cell < cells → Puts requests cell i value →
+      IsMark requests asked k cell (slice_index marks cell)
+
+-- they are marked so, and this is what they dispute
+pub record AreJudged (job : JobData) (requests : List Request) (asked : List Store)
+    (marks : List ℕ) (k : ℕ) (found : Option Dispute) : Type 0 where
+  pub marked : AreMarked job.cells requests asked marks k
+  pub verdict : IsVerdict job requests found
+
+-- Where the first k stores are marked, the first one to the cell is found.
+abbrev pub TellsFirst : List Store → List ℕ → ℕ → ℕ → Option Store → Type 0
+TellsFirst asked marks k cell found =
+    (cells : ℕ) (requests : List Request)
+    → cell < cells → AreMarked cells requests asked marks k
+    → MatchOption found (PutsNone requests cell)
+    (λ first. PutsFirst requests cell first.processor first.value)
+
+-- Where this was the dispute before a store, it is that one with the store, this being the first to
+-- its cell.
+abbrev pub JudgesStore : JobData → Option Dispute → Store → Store → Option Dispute → Type 0
+JudgesStore job before first store found =
+    (requests : List Request) → Puts requests store.cell store.processor store.value
+    → PutsFirst (take store.processor requests) store.cell first.processor first.value
+    → IsVerdict job (take store.processor requests) before
+    → IsVerdict job (take (store.processor + 1) requests) found
+
+-- Where the requests before that of store k were judged, that one is judged too.
+abbrev pub JudgesNext : JobData → List Store → ℕ → List ℕ → Option Dispute →
+    List ℕ → Option Dispute → Type 0
+JudgesNext job asked k marks found marks' found' =
+    (requests : List Request) → PutsStore requests asked k
+    → AreJudged job (take (store_at asked k).processor requests) asked marks k found
+    → AreJudged job (take ((store_at asked k).processor + 1) requests) asked marks' (k + 1) found'
+
+-- This is what the requests dispute whose stores these are.
+abbrev pub JudgesAll : JobData → List Store → Option Dispute → Type 0
+JudgesAll job asked found =
+    (requests : List Request) → AreAsked job.cells requests (length requests) asked (length asked)
+    → IsVerdict job requests found
+
+-- ---- the end of the step
+
+-- The stores from n on were made, the last one first, and nothing else.
+pub record AreStoredFrom (asked : List Store) (n : ℕ) (old new : State) : Type 0 where
+  pub len : length new ≡ length old
+  pub stored : (k : ℕ) → n ≤ k → k < length asked →
+      ((j : ℕ) → n ≤ j → j < k → (store_at asked j).cell ≡ (store_at asked k).cell → ⊥) →
+      slice_index new (store_at asked k).cell ≡ (store_at asked k).value
+  pub kept : (place : ℕ) →
+      ((k : ℕ) → n ≤ k → k < length asked → (store_at asked k).cell ≡ place → ⊥) →
+      slice_index new place ≡ slice_index old place
+
+-- Each cell holds what the first store to it stores, and nothing else changed.
+abbrev pub AreStored : List Store → State → State → Type 0
+AreStored asked old new = AreStoredFrom asked 0 old new

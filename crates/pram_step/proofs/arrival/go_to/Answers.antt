@@ -1,16 +1,22 @@
-use Rattle.std.proofs.Common.{rules, arith, ◌≡◌, ◌+◌, ◌-◌, subst}
-use Rattle.pram_step.specs.Laws.{AllStopped}
-use Rattle.pram_step.specs.Runs.{IsStateAfter}
+use Rattle.std.proofs.Common.{◌≡◌, ◌+◌, ◌-◌, subst, arith}
+use Rattle.pram_step.specs.Runs.{IsReached, IsStateAfter}
+use Rattle.pram_step.specs.Inner.Passes.{GoesTo}
 use Rattle.pram_step.proofs.arrival.go_to.Goals as goal
 
-pub returns-then-have_stopped : goal.returns-then-have_stopped
-returns-then-have_stopped c =
-    let made = c.loop-made.made in
+pub returns-in-Settled : goal.returns-in-Settled
+returns-in-Settled c =
+    let job = c.args.job.now in
+    let made = c.min.result in
     let left : made + (c.args.steps - made) ≡ c.args.steps = omega arith in
-    let stopped : AllStopped c.args.job.now c.loop-made.state = search rules in
-    subst (λ n. IsStateAfter c.args.job.now n c.loop-made.state) left
-    (c.stopped_machine_goes_on.ensures c.args.job.now made
-    (c.args.steps - made) c.loop-made.state c.loop-made.invariant stopped)
+    subst (λ n. IsStateAfter job n c.go.new.self) left
+    (subst (GoesTo job made c.go.new.self) c.in-Settled.is c.in_ok-fault.ensures
+    (c.args.steps - made))
 
-pub returns-then-made-most : goal.returns-then-made-most
-returns-then-made-most c = (omega arith, λ s below. c.loop-made.invariant.reached s (omega arith))
+pub returns-then-most-steps : goal.returns-then-most-steps
+returns-then-most-steps c =
+    let job = c.args.job.now in
+    let less = c.if-most-steps.true in
+    let all : c.min.result ≡ c.args.most = omega arith in
+    let after : IsStateAfter job c.min.result c.go.new.self =
+    subst (GoesTo job c.min.result c.go.new.self) c.in-Made.is c.in_ok-fault.ensures in
+    (less, subst (IsReached job) all after.reached)

@@ -1,6 +1,0 @@
-use Rattle.std.proofs.Common.{ℕ, ◌<◌}
-use Rattle.pram_step.specs.Machine.{IsStopped}
-use Rattle.pram_step.proofs.arrival.have_stopped.Given as goal
-
-abbrev pub invariant-loop-processor : goal.invariant-loop-processor
-invariant-loop-processor l = (i : ℕ) → i < l.processor → IsStopped l.job l.state i

@@ -1,0 +1,98 @@
+-- A pass over the processors that run.
+use Rattle.std.specs.Prelude.{◌≡◌, ℕ, ◌+◌, ◌<◌, ◌≤◌, ◌⊎◌, List, length, take, All}
+use Rattle.std.specs.Prelude.{slice_index, unwrap_or, Option, MatchOption}
+use Rattle.std.specs.Bool.{OnFalse}
+use Rattle.std.specs.List.{Contains}
+use Rattle.std.specs.List.Sorted.{IsStrictlyIncreasing}
+use Rattle.pram_text.specs.Job.{JobData}
+use Rattle.pram_step.specs.declared.answer.Fault.{Fault}
+use Rattle.pram_step.specs.declared.pass.Course.{Course}
+use Rattle.pram_step.specs.declared.pass.Course.TheVariants.{Made, Settled, Disputed}
+use Rattle.pram_step.specs.declared.pass.Moves.{Moves}
+use Rattle.pram_step.specs.declared.requests.Request.{Request}
+use Rattle.pram_step.specs.declared.stores.Store.{Store}
+use Rattle.pram_step.specs.Machine.{State, counter, counter_place, halted, register_place}
+use Rattle.pram_step.specs.Instructions.{goes_to, request_in, requests_in}
+use Rattle.pram_step.specs.Steps.{Agrees, IsNext, next_state, written}
+use Rattle.pram_step.specs.Runs.{IsFault, IsFirstConflict, IsStateAfter}
+use Rattle.pram_step.specs.Inner.Marks.{AreAsked}
+
+-- ---- which processors run
+
+-- these processors, in order, are below n, and all others below n have stopped
+pub record AreRunningBelow (job : JobData) (state : State) (n : ℕ) (running : List ℕ) : Type 0 where
+  pub within : All (λ i. i < n) running
+  pub rises : IsStrictlyIncreasing running
+  pub all : (i : ℕ) → i < n → counter job state i < halted job → Contains running i
+
+abbrev pub AreRunning : JobData → State → List ℕ → Type 0
+AreRunning job state running = AreRunningBelow job state job.procs running
+
+-- processor i's request changes nothing
+abbrev pub IsIdle : JobData → State → ℕ → Type 0
+IsIdle job state i = request_in job state i ≡ goes_to (counter job state i)
+
+abbrev pub AllIdle : JobData → State → Type 0
+AllIdle job state = (i : ℕ) → i < job.procs → IsIdle job state i
+
+-- ---- a turn, and all turns
+
+-- the place is processor i's counter, or a register of it
+abbrev pub IsOwnPlace : JobData → ℕ → ℕ → Type 0
+IsOwnPlace job i place = (place ≡ counter_place job i)
+    ⊎ ((register_place job i 0 ≤ place) × (place < register_place job i 4))
+
+-- what the request of processor i writes to places that are no cells is written
+pub record IsMove (job : JobData) (i : ℕ) (request : Request) (old new : State) : Type 0 where
+  pub len : length new ≡ length old
+  pub cells : (cell : ℕ) → cell < job.cells → slice_index new cell ≡ slice_index old cell
+  pub others : (place : ℕ) → job.cells ≤ place → place < length old →
+      slice_index new place ≡ unwrap_or (written job place i request) (slice_index old place)
+
+-- The processors below p have written to their own places, and nothing else was written.
+pub record HaveMoved (job : JobData) (start : State) (p : ℕ) (now : State) : Type 0 where
+  pub len : length now ≡ length start
+  pub cells : (cell : ℕ) → cell < job.cells → slice_index now cell ≡ slice_index start cell
+  pub moved : (i place : ℕ) → i < p → i < job.procs → IsOwnPlace job i place →
+      slice_index now place ≡ slice_index (next_state job start) place
+  pub left : (i place : ℕ) → p ≤ i → i < job.procs → IsOwnPlace job i place →
+      slice_index now place ≡ slice_index start place
+
+-- The processors below p have had their turns, and this many stores are asked for.
+pub record IsPassed (job : JobData) (start : State) (p : ℕ) (now : State)
+    (asked : List Store) (count : ℕ) : Type 0 where
+  pub own : HaveMoved job start p now
+  pub stores : AreAsked job.cells (requests_in job start) p asked count
+
+-- ---- a step
+
+-- the step agrees, and its next state is made
+pub record IsMade (job : JobData) (old new : State) : Type 0 where
+  pub agrees : Agrees job (requests_in job old)
+  pub next : new ≡ next_state job old
+  pub written : IsNext job (requests_in job old) old new
+
+-- so it is, and those that ran are all that may run still
+pub record IsAdvance (job : JobData) (running : List ℕ) (old new : State) (moves : Moves) : Type 0
+  where
+    pub made : IsMade job old new
+    pub runs : AreRunning job new running
+    pub idle : OnFalse moves.changed (new ≡ old)
+
+-- the cells hold what they held
+pub record SameCells (cells : ℕ) (old new : State) : Type 0 where
+  pub len : length new ≡ length old
+  pub same : take cells new ≡ take cells old
+
+-- ---- several steps
+
+-- this state is that after t steps, and after all later ones where it has settled, or the first
+-- conflict is among the t steps
+abbrev pub GoesTo : JobData → ℕ → State → Course → Type 0
+GoesTo job t state Made = IsStateAfter job t state
+GoesTo job t state Settled = (more : ℕ) → IsStateAfter job (t + more) state
+GoesTo job t state (Disputed fault) = IsFirstConflict job fault × (fault.step ≤ t)
+
+-- The run of the job ended in this state, or by this fault.
+abbrev pub IsRun : JobData → State → Option Fault → Type 0
+IsRun job state fault = MatchOption fault (IsStateAfter job job.steps state) (IsFault job)
