@@ -20,7 +20,8 @@ use Rattle.pram_step.specs.Steps.{first_written, next_state}
 use Rattle.pram_step.specs.Inner.Marks.{Puts, AreAsked, AreStored}
 use Rattle.pram_step.specs.Inner.Marks.{AsksNext, store_at}
 use Rattle.pram_step.specs.Inner.Passes.{AllIdle, IsAdvance, SameCells}
-use Rattle.pram_step.specs.Inner.Passes.{AreRunning, HaveMoved, IsIdle, IsMove, IsOwnPlace, IsPassed}
+use Rattle.pram_step.specs.Inner.Passes.{AreRunning, HaveMoved, IsIdle, IsMove, IsOwnPlace}
+use Rattle.pram_step.specs.Inner.Passes.{IsPassed}
 use Rattle.pram_step.proofs.LawCounters.{next_counter}
 use Rattle.pram_step.proofs.LawFixed.{length-after}
 use Rattle.pram_step.proofs.LawFrames.{reads_one_cell}
@@ -318,7 +319,8 @@ module _ (job : JobData) (is_job : IsJob job) (s : State)
 
 -- those that have stopped stay so
 pub AreRunning_next : (job : JobData) (s : State) (running : List ℕ) → IsJob job →
-    length s ≡ place_count job → AreRunning job s running → AreRunning job (next_state job s) running
+    length s ≡ place_count job → AreRunning job s running →
+    AreRunning job (next_state job s) running
 AreRunning_next job s running is_job places are = record {
   within = are.within;
   rises = are.rises;

@@ -1,4 +1,5 @@
--- Turn after turn: what is kept by those of stopped processors is kept over all that are not listed.
+-- Turn after turn: what is kept by the turns of stopped processors is kept over all that are not
+-- listed.
 use Rattle.std.proofs.Common.{◌≡◌, ℕ, zero, suc, ◌+◌, ◌-◌, ◌<◌, ◌≤◌, ◌⊎◌, List, [], ◌∷◌}
 use Rattle.std.proofs.Common.{◌++◌, length, take, get_or, set, sym, subst, ◌∙◌, inl, inr}
 use Rattle.std.proofs.Common.{arith, add-zero}

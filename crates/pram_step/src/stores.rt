@@ -16,9 +16,9 @@ pub(crate) struct Store {
     pub value: u32,
 }
 
-/// Room for the stores of a step, in the order of the processors, and a mark of each cell: where the
-/// first store to it stands. Marks are never cleared. Whether a mark is of this step is told by the
-/// store that it names.
+/// Room for the stores of a step, in the order of the processors, and a mark of each cell: where
+/// the first store to it stands. Marks are never cleared. Whether a mark is of this step is told by
+/// the store that it names.
 #[derive(Debug, Drop)]
 pub(crate) struct Stores {
     pub asked: Vec<Store>,

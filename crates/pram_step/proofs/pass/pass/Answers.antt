@@ -61,7 +61,8 @@ loop-processor-preserved c =
           c.move_on-changed.new.places c.take_up-count.new.asked c.take_up-count.result
           (passed_turn job is_job start c.requires.places p low c.loop-processor.places before.own
           c.loop-processor.asked c.loop-processor.count before.stores
-          c.request_in-request.result c.request_in-request.ensures c.move_on-changed.new.places c.move_on-changed.ensures.moved
+          c.request_in-request.result c.request_in-request.ensures c.move_on-changed.new.places
+          c.move_on-changed.ensures.moved
           c.take_up-count.new.asked c.take_up-count.result c.take_up-count.ensures.asked);
       idle = OnFalse_from _ _ (λ unchanged.
           let parts = or_parts c.loop-processor.changed c.move_on-changed.result unchanged in
@@ -69,7 +70,8 @@ loop-processor-preserved c =
           before.own in
           idle_next job is_job start c.requires.places running are k inside
           (OnFalse_at parts.0 c.loop-processor.invariant.idle)
-          (request_idle job start p (ap (λ (r : Request). r.next) (sym (c.request_in-request.ensures ∙ same))
+          (request_idle job start p (ap (λ (r : Request). r.next)
+          (sym (c.request_in-request.ensures ∙ same))
           ∙ OnFalse_at parts.1 c.move_on-changed.ensures.idle
           ∙ before.own.left p _ (omega arith) low (inl refl))));
     }
