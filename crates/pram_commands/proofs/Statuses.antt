@@ -2,10 +2,14 @@
 use Rattle.std.proofs.Common.{Result, Ok, Err, IfOk, IfErr, IsTrue, ap, ◌≡◌, ◌≢◌, ◌⊎◌, ◌∙◌, ◌<◌}
 use Rattle.std.proofs.Common.{◌≤◌, ℕ, Option, Some, None, refl, sym, subst, inl, inr, arith}
 use Rattle.std.specs.Prelude.{is_some}
+use Rattle.std.specs.Option.{option_map}
 use Rattle.pram_text.specs.Job.{JobData}
 use Rattle.pram_step.specs.Runs.{IsAnswer}
+use Rattle.pram_step.specs.declared.answer.Fault.{Fault}
 use Rattle.pram_step.specs.declared.answer.RunAnswer.{RunAnswer}
 use Rattle.pram_step.specs.declared.answer.RunAnswer.TheVariants as answer
+use Rattle.pram_cost.specs.declared.cost.Cost.{Cost}
+use Rattle.pram_commands.specs.Costs.{conflict_of}
 use Rattle.pram_commands.specs.Did.{Begins, Command, Did, Prints, Wrote}
 use Rattle.pram_commands.specs.Did.{Writing, ends_with, tells_status}
 use Rattle.pram_commands.specs.Faults.{fault_status}
@@ -88,6 +92,16 @@ ended-plain job (answer.Conflict fault) given is same three =
     let status = ap ends_with same in omega (arith, three, status)
 ended-plain job (answer.Unfinished step) given is same three = is
 
+-- what a run costs is no answer, and its conflict is none that is unfinished
+ended-cost : (cost : Cost) (given : Option RunAnswer) → given ≡ conflict_of cost →
+    ends_with given ≡ 3 → ⊥
+ended-cost cost given is = ended cost.conflict is
+  where
+    ended : (fault : Option Fault) → given ≡ option_map answer.Conflict fault →
+        ends_with given ≡ 3 → ⊥
+    ended None same three = let status = ap ends_with same in omega (arith, three, status)
+    ended (Some fault) same three = let status = ap ends_with same in omega (arith, three, status)
+
 -- what a fault wrote with the status of a refused text, and with another
 wrote-none : (command : Command) (r : Reading) (w : Writing) (fault : CommandFault) →
     fault_status fault ≡ 2 → Wrote command r w fault → w.Unwritten
@@ -124,6 +138,9 @@ module _ (taken : Taking) (w : Writing) where
       let comes = prints.work.comes in
       absurd (ended-plain prints.work.job comes.ended prints.answer comes.ends.0
       comes.gives (sym prints.is ∙ three))
+  stops (line.Cost file) status prints three =
+      let comes = prints.work.comes in
+      absurd (ended-cost comes.cost prints.answer comes.gives (sym prints.is ∙ three))
   stops (line.Steps file from to) status prints three =
       let comes = prints.work.comes in
       absurd (ended-plain prints.work.job comes.ended prints.answer comes.ends.0

@@ -1,4 +1,5 @@
 pub mod CellLists
+pub mod Costs
 pub mod Did
 pub mod Faults
 pub mod Files

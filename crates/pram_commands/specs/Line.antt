@@ -2,13 +2,14 @@
 use Rattle.std.specs.Prelude.{ℕ, List, Option, None, ⊤, option_map}
 use Rattle.std.specs.Borrow.{Bor}
 use Rattle.pram_commands.specs.CellLists.{cells_of}
+use Rattle.pram_commands.specs.Costs.{costing}
 use Rattle.pram_commands.specs.Did.{Command}
 use Rattle.pram_commands.specs.Plain.{checking, plainly}
 use Rattle.pram_commands.specs.Replayed.{replaying}
 use Rattle.pram_commands.specs.Steps.{stepping}
 use Rattle.pram_commands.specs.Threads.{running, watching}
 use Rattle.pram_commands.specs.declared.line.Line.{Line}
-use Rattle.pram_commands.specs.declared.line.Line.TheVariants.{Check, Plain, Steps}
+use Rattle.pram_commands.specs.declared.line.Line.TheVariants.{Check, Plain, Cost, Steps}
 use Rattle.pram_commands.specs.declared.line.Line.TheVariants.{Run, Watch, Replay}
 
 abbrev pub text_of : Option (Bor (List ℕ)) → Option (List ℕ)
@@ -17,6 +18,7 @@ text_of = option_map (λ text. text.now)
 abbrev pub file_of : Line → List ℕ
 file_of (Check file) = file.now
 file_of (Plain file) = file.now
+file_of (Cost file) = file.now
 file_of (Steps file from to) = file.now
 file_of (Run file plan manner) = file.now
 file_of (Watch file plan manner cells rounds) = file.now
@@ -25,6 +27,7 @@ file_of (Replay file workers plan) = file.now
 abbrev pub plan_of : Line → Option (List ℕ)
 plan_of (Check file) = None
 plan_of (Plain file) = None
+plan_of (Cost file) = None
 plan_of (Steps file from to) = None
 plan_of (Run file plan manner) = text_of plan
 plan_of (Watch file plan manner cells rounds) = text_of plan
@@ -35,6 +38,7 @@ plan_of (Replay file workers plan) = text_of plan
 abbrev pub command_of : Line → Command
 command_of (Check file) = checking
 command_of (Plain file) = plainly
+command_of (Cost file) = costing
 command_of (Steps file from to) = stepping (record { from = from; to = to })
 command_of (Run file plan manner) = running manner.workers.count
 command_of (Watch file plan manner cells rounds) =

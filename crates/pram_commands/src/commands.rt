@@ -1,11 +1,13 @@
 //! The commands, and which of them a line asks for.
 ghost use Rattle.std.specs.Prelude.{◌≡◌, false};
-ghost use Rattle.pram_commands.specs.Did.{Did, status_of, tells_status, writing};
+ghost use Rattle.pram_commands.specs.Costs.{conflict_of};
+ghost use Rattle.pram_commands.specs.Did.{Did, ends_with, status_of, tells_status, writing};
 ghost use Rattle.pram_commands.specs.Inner.Puts.{printed_as, status_result};
 ghost use Rattle.pram_commands.specs.Inputs.{AreReady, taking};
 ghost use Rattle.pram_commands.specs.Line.{StartsNoThread, command_of};
 
 mod checks;
+mod costs;
 mod plain_runs;
 mod replays;
 mod runs;
@@ -17,7 +19,9 @@ use crate::line::Line;
 use crate::refusal::{CONFLICT, DONE, UNFINISHED};
 use crate::sources::Sources;
 pub use checks::check;
+pub use costs::cost;
 pub use plain_runs::plain;
+use pram_cost::Cost;
 use pram_rows::Window;
 use pram_step::RunAnswer;
 use pram_streams::{PrintFault, Sink, Source};
@@ -48,6 +52,10 @@ pub(crate) fn do_alone<J: Source, P: Source, O: Sink>(
             Ok(DONE)
         }
         Line::Plain { .. } => ended(plain(alloc, sources, out)),
+        Line::Cost { .. } => {
+            let cost = cost(alloc, sources, out)?;
+            Ok(cost_status(&cost))
+        }
         Line::Steps { from, to, .. } => ended(steps(alloc, Window { from, to }, sources, out)),
         Line::Replay { workers, .. } => ended(replay(alloc, workers, sources, out)),
         Line::Run { .. } | Line::Watch { .. } => unreachable!(),
@@ -108,6 +116,15 @@ fn answer_status(answer: &RunAnswer) -> u8
         RunAnswer::Final(_) => DONE,
         RunAnswer::Conflict(_) => CONFLICT,
         RunAnswer::Unfinished { .. } => UNFINISHED,
+    }
+}
+
+fn cost_status(cost: &Cost) -> u8
+    ensures { result ≡ ends_with (conflict_of cost.now) }
+{
+    match cost.conflict {
+        None => DONE,
+        Some(_) => CONFLICT,
     }
 }
 

@@ -17,6 +17,10 @@ pub enum Line<'a> {
     Plain {
         file: &'a str,
     },
+    /// Say what the run of the job costs, and which model of the PRAM it needs.
+    Cost {
+        file: &'a str,
+    },
     /// Run the job on the plain machine, and print what each processor asks for in each step from
     /// one to another, counted from 1.
     Steps {
@@ -55,9 +59,8 @@ impl<'a> Line<'a> {
         ensures { IsTrue result ↔ StartsNoThread self.now }
     {
         match self {
-            Line::Check { .. } | Line::Plain { .. } | Line::Steps { .. } | Line::Replay { .. } => {
-                true
-            }
+            Line::Check { .. } | Line::Plain { .. } | Line::Cost { .. } => true,
+            Line::Steps { .. } | Line::Replay { .. } => true,
             Line::Run { .. } | Line::Watch { .. } => false,
         }
     }
@@ -69,6 +72,7 @@ impl<'a> Line<'a> {
         match *self {
             Line::Check { file }
             | Line::Plain { file }
+            | Line::Cost { file }
             | Line::Steps { file, .. }
             | Line::Run { file, .. }
             | Line::Watch { file, .. }
@@ -81,7 +85,8 @@ impl<'a> Line<'a> {
         ensures { text_of result ≡ plan_of self.now }
     {
         match *self {
-            Line::Check { .. } | Line::Plain { .. } | Line::Steps { .. } => None,
+            Line::Check { .. } | Line::Plain { .. } | Line::Cost { .. } => None,
+            Line::Steps { .. } => None,
             Line::Run { plan, .. } | Line::Watch { plan, .. } | Line::Replay { plan, .. } => plan,
         }
     }

@@ -1,5 +1,6 @@
 //! Tests of what no clause says.
 mod answers;
+mod costs;
 mod failing;
 mod gallery;
 mod inputs;

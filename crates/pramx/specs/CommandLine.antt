@@ -18,7 +18,7 @@ use Rattle.pram_commands.specs.declared.threads.Manner.{Manner}
 use Rattle.pram_commands.specs.Threads.{IsGrain, size_of}
 use Rattle.pram_commands.specs.declared.refusal.TheConstants.{DONE, FAILED, MEMORY}
 use Rattle.pram_commands.specs.declared.line.Line.{Line}
-use Rattle.pram_commands.specs.declared.line.Line.TheVariants.{Check, Plain, Steps}
+use Rattle.pram_commands.specs.declared.line.Line.TheVariants.{Check, Plain, Cost, Steps}
 use Rattle.pram_commands.specs.declared.line.Line.TheVariants.{Run, Watch, Replay}
 
 -- an option with a value
@@ -82,9 +82,10 @@ bare =
 -- with those of the plain machine alone
 abbrev pub on_machine : App
 on_machine =
-    with_subcommand (with_subcommand (with_subcommand bare
+    with_subcommand (with_subcommand (with_subcommand (with_subcommand bare
     (on_file (codes "check")).top)
     (on_file (codes "plain")).top)
+    (on_file (codes "cost")).top)
     on_steps.top
 
 -- the program's command
@@ -169,6 +170,7 @@ pub record HasWatch (matches : Option (Text × List Row)) (name file : Text) (pl
 abbrev pub IsMet : Option (Text × List Row) → Line → Type 0
 IsMet matches (Check file) = HasFile matches (codes "check") file.now
 IsMet matches (Plain file) = HasFile matches (codes "plain") file.now
+IsMet matches (Cost file) = HasFile matches (codes "cost") file.now
 IsMet matches (Steps file from to) = HasSteps matches (codes "steps") file.now from to
 IsMet matches (Run file plan manner) =
     HasRun matches (codes "run") file.now (text_of plan) manner

@@ -19,6 +19,7 @@ const EXAMPLES: &str = "\
 Examples:
   pramx check examples/prefix.pram
   pramx plain examples/prefix.pram
+  pramx cost examples/prefix.pram
   pramx steps examples/prefix.pram --from 1 --to 5
   pramx run examples/prefix.pram --workers 4
   pramx run examples/prefix.pram --workers 4 --progress --pace 1000
@@ -142,6 +143,11 @@ fn machine_command<'a>(alloc: Global) -> Result<Command<'a>, AllocError>
         "Say whether a text spells a job, and how large it is",
     )?;
     let plain = file_command(alloc, "plain", "Run a job on the plain machine")?;
+    let cost = file_command(
+        alloc,
+        "cost",
+        "Say what the run of a job costs, and which model of the PRAM it needs",
+    )?;
     let steps = steps_command(alloc)?;
     Command::new(alloc, "pramx")
         .version("0.2.0")
@@ -150,6 +156,7 @@ fn machine_command<'a>(alloc: Global) -> Result<Command<'a>, AllocError>
         .subcommand_required(true)
         .subcommand(check)?
         .subcommand(plain)?
+        .subcommand(cost)?
         .subcommand(steps)
 }
 
@@ -311,6 +318,7 @@ fn line_of<'a>(matches: &ArgMatches<'a>) -> Option<Line<'a>>
     match name {
         "check" => Some(Line::Check { file }),
         "plain" => Some(Line::Plain { file }),
+        "cost" => Some(Line::Cost { file }),
         "steps" => {
             let (from, to) = window_of(inner)?;
             Some(Line::Steps { file, from, to })

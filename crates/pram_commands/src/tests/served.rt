@@ -15,6 +15,8 @@ pub const CHECK: Line<'static> = Line::Check { file: FILE };
 
 pub const PLAIN: Line<'static> = Line::Plain { file: FILE };
 
+pub const COST: Line<'static> = Line::Cost { file: FILE };
+
 /// What a line that was served wrote and answered.
 #[derive(Drop)]
 pub struct Served {

@@ -1,6 +1,6 @@
 //! What a line that was served writes and answers. In texts and outputs `/` stands for a line feed.
 use crate::Line;
-use crate::tests::served::{CHECK, FILE, PLAIN, lines_of, serve_text};
+use crate::tests::served::{CHECK, COST, FILE, PLAIN, lines_of, serve_text};
 use std::alloc::Global;
 use std::process::Abort;
 use std::rt::Clock;
@@ -52,6 +52,34 @@ fn plain_answers_with_a_status(rt: HostRuntime) -> Result<(), Fail> {
         ),
     ];
     expect(&rt, rt.alloc(), &PLAIN, &rows)
+}
+
+#[test]
+fn cost_answers_with_a_status(rt: HostRuntime) -> Result<(), Fail> {
+    let rows = [
+        (
+            "pram 1/cells 1/procs 1/steps 0/init 0 5/code/halt/",
+            "cost of this input/steps 0/processors 1/product 0/work 0/most 0/reading 0/writing 0/\
+             needs EREW/same read none/same write none/other value none/done steps=0/",
+            "",
+            0,
+        ),
+        (
+            "pram 1/cells 1/procs 3/steps 2/code/pid r0/st r1 r0/",
+            "cost of this input/steps 2/processors 3/product 6/work 6/most 3/reading 0/writing 1/\
+             needs CRCW priority/same read none/same write step=2 cell=0 processors=0,1/\
+             other value step=2 cell=0 processors=0,1/conflict step=2 cell=0 processors=0,1/",
+            "",
+            1,
+        ),
+        (
+            "pram 1/cells 1/procs 1/steps 1/code/",
+            "",
+            "text line=6 kind=NoCode/",
+            2,
+        ),
+    ];
+    expect(&rt, rt.alloc(), &COST, &rows)
 }
 
 #[test]

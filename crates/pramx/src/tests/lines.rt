@@ -9,6 +9,8 @@ const CHECK: &[&str] = &["pramx", "check", "f"];
 
 const PLAIN: &[&str] = &["pramx", "plain", "f"];
 
+const COST: &[&str] = &["pramx", "cost", "f"];
+
 const STEPS: &[&str] = &["pramx", "steps", "f"];
 
 const FROM: &[&str] = &["pramx", "steps", "f", "--from", "101"];
@@ -82,6 +84,7 @@ fn words_make_a_line(rt: HostRuntime) -> Result<(), Fail> {
     for (words, line) in [
         (CHECK, Line::Check { file: "f" }),
         (PLAIN, Line::Plain { file: "f" }),
+        (COST, Line::Cost { file: "f" }),
         (STEPS, steps(1, u32::MAX)),
         (FROM, steps(101, u32::MAX)),
         (FROM_TO, steps(9, u32::MAX)),
@@ -268,6 +271,7 @@ Usage: pramx <COMMAND>
 Commands:
   check   Say whether a text spells a job, and how large it is
   plain   Run a job on the plain machine
+  cost    Say what the run of a job costs, and which model of the PRAM it needs
   steps   Run a job on the plain machine, and print what each processor asks for in each step
   run     Run a job on threads
   watch   Run a job on threads, and read cells while they run
@@ -281,6 +285,7 @@ Options:
 Examples:
   pramx check examples/prefix.pram
   pramx plain examples/prefix.pram
+  pramx cost examples/prefix.pram
   pramx steps examples/prefix.pram --from 1 --to 5
   pramx run examples/prefix.pram --workers 4
   pramx run examples/prefix.pram --workers 4 --progress --pace 1000

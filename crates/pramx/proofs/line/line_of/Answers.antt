@@ -30,6 +30,10 @@ pub returns-in-plain : goal.returns-in-plain
 returns-in-plain c = rw (← c.in-plain.is)
     (met_file _ _ _ _ c.in_ok-name.ensures.name c.in_ok-name.ensures.rows c.in_ok-file.ensures)
 
+pub returns-in-cost : goal.returns-in-cost
+returns-in-cost c = rw (← c.in-cost.is)
+    (met_file _ _ _ _ c.in_ok-name.ensures.name c.in_ok-name.ensures.rows c.in_ok-file.ensures)
+
 pub returns-in_ok-from-in-steps : goal.returns-in_ok-from-in-steps
 returns-in_ok-from-in-steps c = rw (← c.in-steps.is) (record {
   of_file =

@@ -14,5 +14,6 @@ returns c =
     }) c.new.ensures.app) in
     let one = added _ _ _ _ _ c.in_ok-subcommand.ensures.shape bare_is c.in_ok-check.ensures refl in
     let two = added _ _ _ _ _ c.in_ok-subcommand-2.ensures.shape one c.in_ok-plain.ensures refl in
-    IfOk-weaker c.subcommand-3.result _ _
-    (λ r last. added _ _ _ _ _ last.shape two c.in_ok-steps.ensures refl) c.subcommand-3.ensures
+    let three = added _ _ _ _ _ c.in_ok-subcommand-3.ensures.shape two c.in_ok-cost.ensures refl in
+    IfOk-weaker c.subcommand-4.result _ _
+    (λ r last. added _ _ _ _ _ last.shape three c.in_ok-steps.ensures refl) c.subcommand-4.ensures

@@ -1,0 +1,33 @@
+-- What the command comes to that says what a run costs.
+use Rattle.std.specs.Prelude.{◌≡◌, ℕ, List, Option}
+use Rattle.std.specs.Option.{option_map}
+use Rattle.pram_text.specs.Job.{JobData}
+use Rattle.pram_step.specs.declared.answer.RunAnswer.{RunAnswer}
+use Rattle.pram_step.specs.declared.answer.RunAnswer.TheVariants.{Conflict}
+use Rattle.pram_cost.specs.Costs.{IsCost}
+use Rattle.pram_cost.specs.Models.{IsNeeded}
+use Rattle.pram_cost.specs.Printed.{cost_text}
+use Rattle.pram_cost.specs.declared.cost.Cost.{Cost}
+use Rattle.pram_cost.specs.declared.pram.Pram.{Pram}
+use Rattle.pram_commands.specs.Did.{Command}
+use Rattle.pram_commands.specs.Plain.{on_job}
+
+-- the conflict of a run, as its answer; else it gives none
+abbrev pub conflict_of : Cost → Option RunAnswer
+conflict_of cost = option_map Conflict cost.conflict
+
+abbrev pub tells_conflict : Cost → Option RunAnswer → Type 0
+tells_conflict cost given = given ≡ conflict_of cost
+
+-- The text says what the run of the job costs, and which model it needs.
+pub record TellsCost (job : JobData) (text : List ℕ) (answer : Option RunAnswer) : Type 0 where
+  pub cost : Cost
+  pub pram : Pram
+  pub costs : IsCost job cost
+  pub needs : IsNeeded job cost.steps pram
+  pub prints : text ≡ cost_text cost pram
+  pub gives : answer ≡ conflict_of cost
+
+-- it prints that text
+abbrev pub costing : Command
+costing = on_job TellsCost
