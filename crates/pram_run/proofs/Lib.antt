@@ -7,3 +7,4 @@ pub mod Endings
 pub mod Joining
 pub mod Obeying
 pub mod Watches
+pub mod Hearing

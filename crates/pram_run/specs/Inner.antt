@@ -2,3 +2,4 @@
 pub mod Progress
 pub mod Obeying
 pub mod Printing
+pub mod Hearing

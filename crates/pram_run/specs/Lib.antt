@@ -1,3 +1,4 @@
+pub mod Heard
 pub mod Inner
 pub mod Obeyed
 pub mod Printed

@@ -9,6 +9,7 @@ ghost use Rattle.pram_run.specs.Inner.Obeying.{IsToObey};
 ghost use Rattle.pram_run.specs.Obeyed.{AllObeyed, DoesRow, HasRun, Obeys};
 ghost use Rattle.pram_run.specs.Running.{IsBoardFor, IsRun};
 
+use crate::bell::Bell;
 use crate::crew::Crew;
 use crate::ending::answer;
 use pram_board::{Board, Seat};
@@ -42,6 +43,8 @@ pub fn run<R: Threads + Wait, G: Gate + Sync>(
     ensures begins { BeginsWith seat.record_of result.0.record_of }
     ensures desk { result.0.desk ≡ board.now }
 {
+    let bell = Bell::new();
+    let bell = &bell;
     let (mut seat, worked) = thread::scope(
         thread::scope_env(),
         rt,
@@ -52,7 +55,12 @@ pub fn run<R: Threads + Wait, G: Gate + Sync>(
                 (AllWorked board.entry.now.task plan.entry.now seat result.0) }
             ensures goes_on { GoesOn seat result.0 }
         {
-            let crew = Crew { board, plan, gate };
+            let crew = Crew {
+                board,
+                plan,
+                gate,
+                bell,
+            };
             work_in(scope, rt, alloc, &crew, seat)
         },
     );
@@ -86,7 +94,7 @@ pub(crate) fn work_in<'s, E, R: Threads, G: Gate + Sync>(
 /// What a worker's thread gives back: the seat that comes of obeying its rows from the one that the
 /// thread was given.
 #[derive(Drop)]
-struct Obeyed<'a> {
+pub(crate) struct Obeyed<'a> {
     before: Snapshot<Seat>,
     worker: u32,
     rows: &'a [Row],
@@ -96,8 +104,8 @@ impl<'a> Promise<Seat> for Obeyed<'a> {
     ghost kept_by = { λ p seat. HasObeyed p.rows.now p.worker p.before.value seat };
 }
 
-// Starts a thread for each worker, until one is refused.
-fn start_all<'s, E, G: Gate + Sync>(
+/// Starts a thread for each worker, until one is refused. Each rings the bell as it leaves.
+pub(crate) fn start_all<'s, E, G: Gate + Sync>(
     scope: &Scope<'s, E>,
     crew: &Crew<'s, G>,
     mut seat: Seat,
@@ -109,9 +117,11 @@ fn start_all<'s, E, G: Gate + Sync>(
     ensures seat { result.0 ≡ seat }
     ensures promised { (k : ℕ) (d : _) → k < vec_len threads.new →
         IsToObey crew.now.plan.now.rows k seat (slice_index_or threads.new.items k d).promise }
+    ensures most { vec_len threads.new ≤ crew.now.plan.now.workers }
     ensures all { OnOk result.1 (vec_len threads.new ≡ crew.now.plan.now.workers) }
 {
-    let (board, plan, gate) = (crew.board, crew.plan, crew.gate);
+    let (board, plan) = (crew.board, crew.plan);
+    let (gate, bell) = (crew.gate, crew.bell);
     for worker in 0..plan.workers() {
         let (mine, theirs) = board.split(seat);
         seat = mine;
@@ -128,7 +138,11 @@ fn start_all<'s, E, G: Gate + Sync>(
             ensures ends { EndsOrStops rows.entry.now worker result }
             ensures obeys { Obeys theirs.desk.task worker rows.entry.now theirs (started worker)
                 result }
-        { obey_rows(board, theirs, worker, rows, gate) };
+        {
+            let seat = obey_rows(board, theirs, worker, rows, gate);
+            bell.ring();
+            seat
+        };
         match scope.spawn_with(promise, work) {
             Ok(thread) => threads.push_reserved(thread),
             Err(_) => return (seat, Err(AllocError)),
@@ -137,8 +151,8 @@ fn start_all<'s, E, G: Gate + Sync>(
     (seat, Ok(()))
 }
 
-// Joins the threads, and their seats to this one.
-fn join_all<'s, R: Threads>(
+/// Joins the threads, and their seats to this one.
+pub(crate) fn join_all<'s, R: Threads>(
     rt: &R,
     board: &Board,
     mut seat: Seat,

@@ -8,6 +8,7 @@ ghost use Rattle.pram_run.specs.Inner.Obeying.{AllEndOrStop, GoesOn, IsToWatch};
 ghost use Rattle.pram_run.specs.Running.{IsBoardFor, IsRun};
 ghost use Rattle.pram_run.specs.Watching.{HasRead, HasWatched, IsWatch, cells_of};
 
+use crate::bell::Bell;
 use crate::crew::Crew;
 use crate::ending::answer;
 use crate::runner::work_in;
@@ -46,7 +47,13 @@ pub fn watch<R: Threads + Wait, G: Gate + Sync>(
     ensures begins { BeginsWith seat.record_of result.0.record_of }
     ensures desk { result.0.desk ≡ board.now }
 {
-    let crew = Crew { board, plan, gate };
+    let bell = Bell::new();
+    let crew = Crew {
+        board,
+        plan,
+        gate,
+        bell: &bell,
+    };
     let lookout = Lookout {
         crew,
         cells,
@@ -87,7 +94,8 @@ fn watch_workers<R: Threads + Wait, G: Gate + Sync>(
     ensures goes_on { GoesOn seat result.0 }
 {
     let crew = &lookout.crew;
-    let (board, plan, gate) = (crew.board, crew.plan, crew.gate);
+    let (board, plan) = (crew.board, crew.plan);
+    let (gate, bell) = (crew.gate, crew.bell);
     let (cells, rounds) = (lookout.cells, lookout.rounds);
     thread::scope(
         thread::scope_env(),
@@ -101,7 +109,12 @@ fn watch_workers<R: Threads + Wait, G: Gate + Sync>(
                 plan.entry.now cells.entry.now rounds seat sights.items result.0) }
             ensures goes_on { GoesOn seat result.0 }
         {
-            let crew = Crew { board, plan, gate };
+            let crew = Crew {
+                board,
+                plan,
+                gate,
+                bell,
+            };
             let lookout = Lookout {
                 crew,
                 cells,

@@ -26,8 +26,8 @@ returns-in-Ok-answer-clause-begins g c =
     (goes_trans c.args.seat c.watch_workers-seat.result.0 c.answer.new.seat
     c.watch_workers-seat.ensures.goes_on (looked_goes _ _ c.answer.ensures.looked)).begins
 
-pub returns-in-Err-answer-clause-begins : goal.returns-in-Err-answer-clause-begins
-returns-in-Err-answer-clause-begins g c =
+pub returns-clause-begins : goal.returns-clause-begins
+returns-clause-begins g c =
     (goes_trans c.args.seat c.watch_workers-seat.result.0 c.answer.new.seat
     c.watch_workers-seat.ensures.goes_on (looked_goes _ _ c.answer.ensures.looked)).begins
 
@@ -35,6 +35,6 @@ pub returns-in-Ok-answer-clause-desk : goal.returns-in-Ok-answer-clause-desk
 returns-in-Ok-answer-clause-desk g c = (looked_goes _ _ c.answer.ensures.looked).desk
     ∙ c.watch_workers-seat.ensures.goes_on.desk ∙ c.requires.given.2
 
-pub returns-in-Err-answer-clause-desk : goal.returns-in-Err-answer-clause-desk
-returns-in-Err-answer-clause-desk g c = (looked_goes _ _ c.answer.ensures.looked).desk
+pub returns-clause-desk : goal.returns-clause-desk
+returns-clause-desk g c = (looked_goes _ _ c.answer.ensures.looked).desk
     ∙ c.watch_workers-seat.ensures.goes_on.desk ∙ c.requires.given.2

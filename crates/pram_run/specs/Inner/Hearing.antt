@@ -1,0 +1,26 @@
+-- How the answer of a run comes to be heard.
+use Rattle.std.specs.Prelude.{◌≡◌, ◌<◌, ℕ, Ok, Err}
+use Rattle.pram_step.specs.declared.answer.RunAnswer.TheVariants.{Final, Conflict, Unfinished}
+use Rattle.stop_plan.specs.Plan.{PlanData}
+use Rattle.pram_board.specs.declared.task.Task.{Task}
+use Rattle.pram_board.specs.Seats.{SeatData, unites}
+use Rattle.pram_run.specs.Heard.{Ended}
+use Rattle.pram_run.specs.Inner.Obeying.{EndsOrStops, GoesOn}
+use Rattle.pram_run.specs.Obeyed.{AllObeyed}
+
+-- the end of the job is told
+abbrev pub TellsEnd : Ended → Type 0
+TellsEnd (Ok (Final cells)) = Unit {0}
+TellsEnd (Ok (Conflict fault)) = Unit {0}
+TellsEnd (Ok (Unfinished step)) = ⊥
+TellsEnd (Err refused) = ⊥
+
+-- So many workers obeyed the plan from the given seat, and each ended or is stopped; their seats
+-- and then the looker's were joined to it.
+pub record IsJoined (task : Task) (plan : PlanData) (given looker : SeatData) (count : ℕ)
+    (later : SeatData) : Type 0 where
+  pub seat : SeatData
+  pub obeyed : AllObeyed task plan.rows given count seat
+  pub ends : (worker : ℕ) → worker < count → EndsOrStops plan.rows worker later
+  pub is : later ≡ unites seat looker
+  pub goes_on : GoesOn given later

@@ -1,0 +1,145 @@
+//! Answers that are heard while a worker is held, and after all have left.
+ghost use Rattle.std.specs.Prelude.{◌≡◌, ◌≤◌, ⊤};
+
+use super::*;
+use pram_board::Board;
+use pram_step::RunAnswer;
+use pram_text::read_job;
+use std::alloc::AllocError;
+use std::process::Abort;
+use std::rt::Clock;
+use std::sync::Wait;
+use std::sync::atomic::{AtomicBool, Ordering};
+use std::test::Fail;
+use std::thread;
+use std::thread::Threads;
+use std::time::Duration;
+use stop_plan::{Gate, read_plan};
+
+const SWAP: &str = "pram 1\ncells 2\nprocs 2\nsteps 5\ninit 0 7\ninit 1 9\ncode\n\
+    pid r0\nset r1 1\nsub r1 r1 r0\nld r2 r1\nst r0 r2\n";
+
+const DISPUTED: &str = "pram 1\ncells 2\nprocs 4\nsteps 4\ncode\n\
+    pid r0\nset r1 1\nand r2 r0 r1\nst r2 r0\n";
+
+// The polls of a hold, a millisecond each.
+const LIMIT: u32 = 10_000;
+
+// Whether it was heard how a run ended, and whether a worker was let go before that.
+#[derive(Drop)]
+struct Ear {
+    heard: AtomicBool,
+    let_go: AtomicBool,
+}
+
+impl Ear {
+    fn new() -> Ear {
+        Ear {
+            heard: AtomicBool::new(false),
+            let_go: AtomicBool::new(false),
+        }
+    }
+}
+
+// A gate that holds worker 0 until it was heard how the run ended.
+#[derive(Drop)]
+struct Held<'a, C: Clock> {
+    clock: C,
+    ear: &'a Ear,
+}
+
+impl<C: Clock> Gate for Held<'_, C> {
+    fn pass(&self, worker: u32, _tick: u64) {
+        if worker != 0 {
+            return;
+        }
+        for _ in 0..LIMIT {
+            if self.ear.heard.load(Ordering::SeqCst) {
+                return;
+            }
+            thread::sleep(&self.clock, Duration::from_millis(1));
+        }
+        self.ear.let_go.store(true, Ordering::SeqCst);
+    }
+}
+
+// How a run ended, as it was heard.
+#[derive(Clone, Copy, Debug, PartialEq, Eq)]
+enum Sound {
+    Done,
+    Conflict(u32),
+    Unfinished(u32),
+    Memory,
+}
+
+#[derive(Drop)]
+struct Hears<'a> {
+    ear: &'a Ear,
+}
+
+impl Listener for Hears<'_> {
+    type Heard = Sound;
+
+    ghost can_hear = { λ _. ⊤ };
+
+    ghost hears = { λ _ _ _. ⊤ };
+
+    fn hear(self, ended: &Result<RunAnswer, AllocError>) -> Sound {
+        self.ear.heard.store(true, Ordering::SeqCst);
+        match ended {
+            Ok(RunAnswer::Final(_)) => Sound::Done,
+            Ok(RunAnswer::Conflict(fault)) => Sound::Conflict(fault.step),
+            Ok(RunAnswer::Unfinished { step }) => Sound::Unfinished(*step),
+            Err(_) => Sound::Memory,
+        }
+    }
+}
+
+// What is heard of a run of three workers under rows of a plan, the first one held. No hold meets
+// its limit.
+fn heard<C: Clock + Sync + Drop>(
+    rt: &(impl AllocGlobal + Abort + Threads + Wait),
+    clock: C,
+    text: &str,
+    rows: &str,
+) -> Result<Sound, Fail> {
+    let alloc = rt.alloc();
+    let job = read_job(alloc, text.as_bytes())?;
+    let plan = format!(in alloc; "worker,act,ticks\n{rows}")?;
+    let plan = read_plan(alloc, plan.as_bytes(), 3)?;
+    assert!(rt; plan.workers() == 3);
+    let (board, seat) = Board::open_wide(alloc, &job, 3)?;
+    let ear = Ear::new();
+    let gate = Held { clock, ear: &ear };
+    let assignment = Assignment {
+        job: &job,
+        board: &board,
+        plan: &plan,
+        gate: &gate,
+    };
+    let (_seat, ended, sound) = run_heard(rt, alloc, &assignment, seat, Hears { ear: &ear });
+    assert!(rt; ended.is_ok());
+    assert!(rt; !ear.let_go.load(Ordering::SeqCst), "{text}");
+    Ok(sound)
+}
+
+// The answer is heard while worker 0 stands before its first step; where every worker is stopped,
+// that is heard once they have left.
+#[test]
+fn an_answer_is_heard_while_a_worker_is_held(rt: HostRuntime) -> Result<(), Fail> {
+    let rows = [
+        (SWAP, "", Sound::Done),
+        (SWAP, "1,go,30\n1,stop,0\n", Sound::Done),
+        (DISPUTED, "2,stop,0\n", Sound::Conflict(4)),
+        (
+            SWAP,
+            "0,stop,0\n1,stop,0\n2,go,9\n2,stop,0\n",
+            Sound::Unfinished(0),
+        ),
+    ];
+    for (text, plan, wanted) in rows {
+        let sound = heard(&rt, rt.clone()?, text, plan)?;
+        assert_eq!(rt; sound, wanted, "{plan}");
+    }
+    Ok(())
+}
