@@ -3,3 +3,4 @@ pub mod Cells
 pub mod Doing
 pub mod Ends
 pub mod Statuses
+pub mod Hearing

@@ -2,3 +2,4 @@
 pub mod Puts
 pub mod Refusals
 pub mod Cells
+pub mod Hearing

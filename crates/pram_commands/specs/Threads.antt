@@ -9,7 +9,7 @@ use Rattle.pram_words.specs.declared.layout.Form.TheVariants.{Wide}
 pub use Rattle.pram_words.specs.Words.{IsGrain, grain_for}
 use Rattle.stop_plan.specs.Plan.{PlanData}
 use Rattle.pram_board.specs.Seats.{Desk, SeatData, IsOpened}
-use Rattle.pram_run.specs.Obeyed.{HasRun}
+use Rattle.pram_run.specs.Heard.{HasRunBeside}
 use Rattle.pram_run.specs.Printed.{sights_text}
 use Rattle.pram_run.specs.Running.{IsRun}
 use Rattle.pram_run.specs.Watching.{HasWatched}
@@ -31,13 +31,13 @@ grain_by None procs = grain_for procs
 abbrev pub IsNewBoard : JobData → PlanData → Desk × SeatData → Type 0
 IsNewBoard job plan made = (grain : ℕ) × IsOpened job (Wide grain) plan.workers made
 
--- The seat is the one that a run of the plan's workers came to, from the first seat of a new board
+-- The seat is the one that a run of workers of the plan came to, from the first seat of a new board
 -- of the job; and its record tells the answer.
 pub record EndsAt (job : JobData) (plan : PlanData) (later : SeatData) (answer : RunAnswer)
     : Type 0 where
   pub made : Desk × SeatData
   pub opened : IsNewBoard job plan made
-  pub ran : HasRun made.0.task plan made.1 later
+  pub ran : HasRunBeside made.0.task plan made.1 later
   pub told : IsRun made.0.task plan later.record_of answer
 
 -- some run came to the answer

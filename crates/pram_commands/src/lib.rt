@@ -9,6 +9,7 @@ mod fault;
 mod files;
 mod inputs;
 mod line;
+mod printing;
 mod progress;
 mod refusal;
 mod server;

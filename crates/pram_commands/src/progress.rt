@@ -1,9 +1,8 @@
 //! How far a board is, told beside its workers.
-ghost use Rattle.std.specs.Prelude.{◌≡◌, IfOk, Some};
+ghost use Rattle.std.specs.Prelude.{◌≡◌, Some};
 ghost use Rattle.pram_commands.specs.Progress.{TellsProgress, progress_text};
 
 use pram_board::{Board, Seat};
-use std::alloc::AllocError;
 use std::rt::Clock;
 use std::sync::atomic::{AtomicBool, Ordering};
 use std::thread::Scope;
@@ -58,31 +57,29 @@ impl Teller {
 }
 
 /// Starts a thread of the scope that tells on standard error how far the board is, until the work
-/// is done; a teller that is not wanted starts none. It asks about four times a second, and tells
-/// each step once.
+/// is done; a teller that is not wanted starts none, and one whose thread is refused tells nothing.
+/// It asks about four times a second, and tells each step once.
 pub(crate) fn start_teller<'s, E, R: Clock + Eprint + Sync>(
     scope: &Scope<'s, E>,
     rt: &'s R,
     board: &'s Board,
     seat: Seat,
     teller: &'s Teller,
-) -> Result<Seat, AllocError>
+) -> Seat
     requires seat { seat.desk ≡ board.now }
     requires steps { teller.now.steps ≡ board.now.task.job.steps }
-    ensures { IfOk result (λ mine. mine ≡ seat) }
+    ensures { result ≡ seat }
 {
     if !teller.wanted {
-        return Ok(seat);
+        return seat;
     }
     let (seat, theirs) = board.split(seat);
     let tell = move || -> ()
         requires seat { theirs.desk ≡ board.now }
         requires steps { teller.now.steps ≡ board.now.task.job.steps }
     { tell_steps(rt, board, theirs, teller) };
-    match scope.spawn(tell) {
-        Ok(_) => Ok(seat),
-        Err(_) => Err(AllocError),
-    }
+    let _ = scope.spawn(tell);
+    seat
 }
 
 // Tells the line whenever it has changed. Where standard error fails, that is all.

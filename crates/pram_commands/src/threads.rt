@@ -3,6 +3,7 @@ ghost use Rattle.std.specs.Prelude.{◌≡◌, ◌<◌, ◌*◌, All, IfOk};
 ghost use Rattle.std.specs.Duration.{as_nanos};
 ghost use Rattle.pram_words.specs.declared.layout.Form.TheVariants.{Wide};
 ghost use Rattle.pram_board.specs.Seats.{IsOpened};
+ghost use Rattle.pram_commands.specs.Inner.Hearing.{without_seat};
 ghost use Rattle.pram_commands.specs.Threads.{EndsAt, IsNewBoard, IsWatched, grain_by};
 
 use crate::block::Block;
@@ -10,7 +11,7 @@ use crate::progress::{Teller, start_teller};
 use crate::sources::Inputs;
 use crate::workers::Workers;
 use pram_board::{Board, Seat};
-use pram_run::Sight;
+use pram_run::{Assignment, Listener, Sight, run_heard};
 use pram_step::RunAnswer;
 use std::alloc::{AllocError, Global};
 use std::rt::Clock;
@@ -71,71 +72,164 @@ fn open(alloc: Global, inputs: &Inputs, block: Option<Block>) -> Result<(Board, 
     }
 }
 
-/// Runs the plan's workers, and answers how the job ended, with the seat that saw it.
-pub(crate) fn run_job<R: Threads + Wait + Clock + Eprint + Sync>(
+/// Runs the plan's workers, and answers how the job ended, with the seat that saw it. The listener
+/// hears it as soon as a worker knows it.
+pub(crate) fn run_job<R: Threads + Wait + Clock + Eprint + Sync, H, L: Listener<Heard = H>>(
     rt: &R,
     alloc: Global,
     inputs: &Inputs,
     manner: Manner,
-) -> Result<(RunAnswer, Seat), AllocError>
-    ensures { IfOk result (λ ended. EndsAt inputs.now.job inputs.now.plan ended.1 ended.0) }
+    listener: L,
+) -> (Result<(RunAnswer, Seat), AllocError>, H)
+    requires { L.can_hear listener }
+    ensures ended { IfOk result.0
+        (λ ended. EndsAt inputs.now.job inputs.now.plan ended.1 ended.0) }
+    ensures heard { L.hears listener (without_seat result.0) result.1 }
 {
     match manner.pace {
-        None => run_past(rt, alloc, inputs, manner, &Open),
-        Some(micros) => run_past(rt, alloc, inputs, manner, &paced(rt, micros)),
+        None => run_past(
+            rt,
+            alloc,
+            inputs,
+            &Way {
+                manner,
+                gate: &Open,
+            },
+            listener,
+        ),
+        Some(micros) => {
+            let gate = &paced(rt, micros);
+            run_past(rt, alloc, inputs, &Way { manner, gate }, listener)
+        }
     }
 }
 
+// A manner, and the gate that keeps its pace.
+#[derive(Drop)]
+struct Way<'a, G> {
+    manner: Manner,
+    gate: &'a G,
+}
+
 // The same past a gate.
-fn run_past<R: Threads + Wait + Clock + Eprint + Sync, G: Gate + Sync>(
+fn run_past<R: Threads + Wait + Clock + Eprint + Sync, G: Gate + Sync, H, L: Listener<Heard = H>>(
     rt: &R,
     alloc: Global,
     inputs: &Inputs,
-    manner: Manner,
-    gate: &G,
-) -> Result<(RunAnswer, Seat), AllocError>
-    ensures { IfOk result (λ ended. EndsAt inputs.now.job inputs.now.plan ended.1 ended.0) }
+    way: &Way<'_, G>,
+    listener: L,
+) -> (Result<(RunAnswer, Seat), AllocError>, H)
+    requires { L.can_hear listener }
+    ensures ended { IfOk result.0
+        (λ ended. EndsAt inputs.now.job inputs.now.plan ended.1 ended.0) }
+    ensures heard { L.hears listener (without_seat result.0) result.1 }
 {
-    let (board, seat) = open(alloc, inputs, manner.block)?;
-    let teller = Teller::new(manner.progress, inputs.job.steps());
+    let (manner, gate) = (way.manner, way.gate);
+    let Ok((board, seat)) = open(alloc, inputs, manner.block) else {
+        let heard = listener.hear(&Err(AllocError));
+        return (Err(AllocError), heard);
+    };
+    let (job, plan) = (&inputs.job, &inputs.plan);
+    let teller = Teller::new(manner.progress, job.steps());
     let (board, teller) = (&board, &teller);
     thread::scope(
         thread::scope_env(),
         rt,
-        |scope| -> Result<(RunAnswer, Seat), AllocError>
-            requires opened { IsNewBoard inputs.now.job inputs.now.plan (board.now, seat) }
+        |scope| -> (Result<(RunAnswer, Seat), AllocError>, H)
+            requires opened { IsNewBoard job.now plan.now (board.now, seat) }
             requires steps { teller.now.steps ≡ board.now.task.job.steps }
-            ensures { IfOk result
-                (λ ended. EndsAt inputs.entry.now.job inputs.entry.now.plan ended.1 ended.0) }
+            requires listener { L.can_hear listener }
+            ensures ended { IfOk result.0
+                (λ ended. EndsAt job.entry.now plan.entry.now ended.1 ended.0) }
+            ensures heard { L.hears listener (without_seat result.0) result.1 }
         {
-            let floor = Floor {
-                alloc,
+            let assignment = Assignment {
+                job,
                 board,
+                plan,
                 gate,
+            };
+            let errand = Errand {
+                alloc,
+                assignment,
                 teller,
             };
-            run_on(scope, rt, &floor, inputs, seat)
+            run_on(scope, rt, &errand, seat, listener)
         },
     )
 }
 
+// What the workers of a run go over, while a teller tells how far they are.
+#[derive(Drop)]
+struct Errand<'c, 'a, G> {
+    alloc: Global,
+    assignment: Assignment<'c, G>,
+    teller: &'a Teller,
+    ghost steps: { teller.now.steps ≡ assignment.board.now.task.job.steps },
+}
+
 // Starts the teller in the scope, and runs beside it.
-fn run_on<'s, E, R: Threads + Wait + Clock + Eprint + Sync, G: Gate + Sync>(
+fn run_on<
+    's,
+    E,
+    R: Threads + Wait + Clock + Eprint + Sync,
+    G: Gate + Sync,
+    H,
+    L: Listener<Heard = H>,
+>(
     scope: &Scope<'s, E>,
     rt: &'s R,
-    floor: &Floor<'s, G>,
-    inputs: &Inputs,
+    errand: &Errand<'s, 's, G>,
+    seat: Seat,
+    listener: L,
+) -> (Result<(RunAnswer, Seat), AllocError>, H)
+    requires opened { IsNewBoard errand.now.assignment.job.now errand.now.assignment.plan.now
+        (errand.now.assignment.board.now, seat) }
+    requires listener { L.can_hear listener }
+    ensures ended { IfOk result.0 (λ ended. EndsAt errand.now.assignment.job.now
+        errand.now.assignment.plan.now ended.1 ended.0) }
+    ensures heard { L.hears listener (without_seat result.0) result.1 }
+{
+    let (assignment, teller) = (&errand.assignment, errand.teller);
+    let seat = start_teller(scope, rt, assignment.board, seat, teller);
+    let listener = Hushing { teller, listener };
+    let (seat, ended, heard) = run_heard(rt, errand.alloc, assignment, seat, listener);
+    (with_seat(ended, seat), heard)
+}
+
+// A listener, before whose turn the teller has no more to tell.
+#[derive(Drop)]
+struct Hushing<'a, L> {
+    teller: &'a Teller,
+    listener: L,
+}
+
+impl<L: Listener> Listener for Hushing<'_, L> {
+    type Heard = L::Heard;
+
+    ghost can_hear = { λ hushing. L.can_hear hushing.listener };
+
+    ghost hears = { λ hushing ended heard. L.hears hushing.listener ended heard };
+
+    fn hear(self, ended: &Result<RunAnswer, AllocError>) -> L::Heard {
+        let Hushing { teller, listener } = self;
+        teller.end();
+        listener.hear(ended)
+    }
+}
+
+// The answer with the seat that saw it.
+fn with_seat(
+    ended: Result<RunAnswer, AllocError>,
     seat: Seat,
 ) -> Result<(RunAnswer, Seat), AllocError>
-    requires { IsNewBoard inputs.now.job inputs.now.plan (floor.now.board.now, seat) }
-    ensures { IfOk result (λ ended. EndsAt inputs.now.job inputs.now.plan ended.1 ended.0) }
+    ensures ended { without_seat result ≡ ended }
+    ensures seat { IfOk result (λ ended. ended.1 ≡ seat) }
 {
-    let (board, gate, teller) = (floor.board, floor.gate, floor.teller);
-    let (job, plan) = (&inputs.job, &inputs.plan);
-    let seat = start_teller(scope, rt, board, seat, teller)?;
-    let (seat, answer) = pram_run::run(rt, floor.alloc, job, board, seat, plan, gate);
-    teller.end();
-    Ok((answer?, seat))
+    match ended {
+        Ok(answer) => Ok((answer, seat)),
+        Err(refused) => Err(refused),
+    }
 }
 
 /// The same as `run_job`, with a reader beside the workers, and what it read. The reader takes a
@@ -212,7 +306,7 @@ fn watch_on<'s, E, R: Threads + Wait + Clock + Eprint + Sync, G: Gate + Sync>(
     let (board, gate, teller) = (floor.board, floor.gate, floor.teller);
     let (job, plan) = (&watched.inputs.job, &watched.inputs.plan);
     let (cells, rounds) = (watched.cells, watched.rounds);
-    let seat = start_teller(scope, rt, board, seat, teller)?;
+    let seat = start_teller(scope, rt, board, seat, teller);
     let (seat, done) = pram_run::watch(
         rt,
         floor.alloc,

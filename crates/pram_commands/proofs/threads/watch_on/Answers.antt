@@ -14,7 +14,7 @@ returns g c =
     let cells = c.args.watched.now.cells.now in
     let rounds = c.args.watched.now.rounds in
     let desk = c.args.floor.now.board.now in
-    let seat = c.in_ok-seat.seat in
+    let seat = c.start_teller-seat.result in
     let later = c.watch-seat.result.0 in
     let told : IsRun desk.task plan later.record_of c.in_ok-answer.answer =
     subst (λ (x : Result (RunAnswer × Vec Sight Global) AllocError).
@@ -29,7 +29,7 @@ returns g c =
           (job_of job plan (desk, c.args.seat) c.requires) ran;
       ends = record {
         made = (desk, seat);
-        opened = opened_as job plan desk c.args.seat seat c.in_ok-seat.ensures c.requires;
+        opened = opened_as job plan desk c.args.seat seat c.start_teller-seat.ensures c.requires;
         ran = ran;
         told = told;
       };

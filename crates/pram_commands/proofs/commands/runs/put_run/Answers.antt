@@ -1,13 +1,16 @@
-use Rattle.std.proofs.Common.{Err, inl, refl, ap}
-use Rattle.pram_commands.proofs.Doing.{begins_answer, err_is, put_failed}
+use Rattle.std.proofs.Common.{◌∙◌, ap, sym}
+use Rattle.pram_commands.proofs.Doing.{well}
+use Rattle.pram_commands.proofs.Hearing.{puts_heard}
+use Rattle.pram_commands.specs.Did.{writing}
 use Rattle.pram_commands.proofs.commands.runs.put_run.Goals as goal
 
-pub returns-in_err-print_answer : goal.returns-in_err-print_answer
-returns-in_err-print_answer g c =
-    put_failed _ _ _ _ _ c.in_err-print_answer.field-0.0
-    (err_is _ _ c.from_residual-in_err-print_answer.ensures)
-    (begins_answer _ c.args.inputs.now.job _ c.in_ok-answer.answer _
-    ((_, c.in_ok-answer.ensures), refl)
-    c.steps.ensures.value c.in_err-print_answer.ensures.beginning)
-    (λ e. inl (c.in_err-print_answer.ensures.memory (ap (λ x. Err x) e)))
-    c.in_err-print_answer.ensures.failed
+-- the output's last value is what was handed back
+pub returns : goal.returns
+returns g c =
+    let puts =
+    puts_heard c.args.inputs.now.job c.args.inputs.now.plan
+    (writing g.O.Sink c.args.out.now c.run_job-ended.result.1.0.now) c.steps.result
+    c.run_job-ended.result.0 c.run_job-ended.result.1.1 c.outcome.result
+    c.run_job-ended.ensures.ended c.run_job-ended.ensures.heard.1 c.steps.ensures.value
+    (λ un f. well _ (ap g.O.Sink.has_failed un ∙ c.requires) f) c.outcome.ensures in
+    rw (c.out-1.given.1 (sym c.run_job-ended.ensures.heard.0) ∙ c.take_back.ensures) puts

@@ -1,0 +1,37 @@
+-- What comes of an answer that is printed as it is heard.
+use Rattle.std.specs.Prelude.{◌≡◌, ◌↔◌, ℕ, List, Result, Ok, Err, OnOk, IsErrOf, IsTrue}
+use Rattle.std.specs.Io.KnownBytes.{Appends}
+use Rattle.std.specs.declared.alloc.AllocError.{AllocError}
+use Rattle.pram_step.specs.declared.answer.RunAnswer.{RunAnswer}
+use Rattle.pram_streams.specs.Printed.{printed}
+use Rattle.pram_streams.specs.Transfer.{AppendsBeginning}
+use Rattle.pram_streams.specs.declared.print.PrintFault.{PrintFault}
+use Rattle.pram_streams.specs.declared.print.PrintFault.TheVariants.{Device, Memory}
+use Rattle.pram_board.specs.Seats.{SeatData}
+use Rattle.pram_run.specs.Heard.{Ended}
+use Rattle.pram_commands.specs.Did.{Writing}
+
+-- The output took the text, or a beginning of it; nothing where memory ran out.
+pub record PutText (writes : Writing) (text : List ℕ) (put : Result (Unit {0}) PrintFault)
+    : Type 0 where
+  pub ok : OnOk put (Appends writes.out writes.out' text)
+  pub beginning : AppendsBeginning writes.out writes.out' text
+  pub memory : IsErrOf put Memory → writes.Unwritten
+  pub failed : IsTrue writes.failed ↔ IsErrOf put Device
+
+-- The answer of a job of so many steps was printed, or nothing where the run was out of memory.
+abbrev pub HasPrinted : Writing → ℕ → Ended → Result (Unit {0}) PrintFault → Type 0
+HasPrinted writes steps (Ok answer) put = PutText writes (printed answer steps) put
+HasPrinted writes steps (Err refused) put = (put ≡ Err Memory) × writes.Unwritten
+
+-- how the run ended, without the seat that saw it
+abbrev pub without_seat : Result (RunAnswer × SeatData) AllocError → Ended
+without_seat (Ok ended) = Ok ended.0
+without_seat (Err refused) = Err refused
+
+-- what a run that was printed answers
+abbrev pub outcome : Result (RunAnswer × SeatData) AllocError → Result (Unit {0}) PrintFault →
+    Result RunAnswer PrintFault
+outcome (Ok ended) (Ok done) = Ok ended.0
+outcome (Ok ended) (Err fault) = Err fault
+outcome (Err refused) put = Err Memory
