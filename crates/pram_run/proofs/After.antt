@@ -1,13 +1,11 @@
 -- What one event more, or several, make of a world and its trace.
 use Rattle.std.proofs.Common.{◌≡◌, ℕ, zero, suc, ◌+◌, ◌-◌, ◌<◌, ◌≤◌, Bool, true}
 use Rattle.std.proofs.Common.{false, if◌then◌else◌, List, [], ◌∷◌, ◌++◌, replicate}
-use Rattle.std.proofs.Common.{take, length, get_or, Result, Ok, Err, OnOk, refl}
+use Rattle.std.proofs.Common.{Result, Ok, Err, OnOk, refl}
 use Rattle.std.proofs.Common.{sym, ap, ap₂, subst, ◌∙◌, append_assoc, arith}
-use Rattle.std.proofs.lemmas.Grind.{flat_map-append}
-use Rattle.std.proofs.lemmas.List.{append-nil, take_more}
+use Rattle.std.proofs.lemmas.List.{append-nil}
 use Rattle.pram_text.specs.Job.{JobData}
-use Rattle.stop_plan.specs.declared.plan.Row.{Row}
-use Rattle.stop_plan.specs.Schedule.{after_turns, after_rounds, events_of_act, events_of_rows}
+use Rattle.stop_plan.specs.Schedule.{after_turns, after_rounds}
 use Rattle.pram_world.specs.declared.event.Effect.{Effect}
 use Rattle.pram_world.specs.declared.event.Event.{Event}
 use Rattle.pram_world.specs.declared.event.Event.TheVariants.{Go}
@@ -102,19 +100,6 @@ module _ (job : JobData) (workers : ℕ) where
       IsAfter job workers es s rows → IsAfter job workers (es ++ []) s rows
   after_none es s rows is =
       subst (λ (xs : List Event). IsAfter job workers xs s rows) (sym (append-nil es)) is
-
-  -- ---- rows of a plan
-
-  pub rows_more : (rows : List Row) (i : ℕ) (d : Row) → i < length rows →
-      events_of_rows world_events (take (i + 1) rows)
-      ≡ events_of_rows world_events (take i rows) ++ events_of_act world_events
-      (get_or rows i d).worker (get_or rows i d).ticks (get_or rows i d).act
-  rows_more rows i d below =
-      ap (events_of_rows world_events) (take_more rows i d below)
-      ∙ flat_map-append (λ (row : Row). events_of_act world_events row.worker row.ticks row.act)
-      (take i rows) (get_or rows i d ∷ [])
-      ∙ ap (λ xs. events_of_rows world_events (take i rows) ++ xs) (append-nil (events_of_act
-      world_events (get_or rows i d).worker (get_or rows i d).ticks (get_or rows i d).act))
 
   -- ---- turns and rounds
 

@@ -2,6 +2,9 @@ pub mod After
 pub mod Lines
 pub mod Rounds
 pub mod Stops
+pub mod Whole
+pub mod Advancing
+pub mod Streaming
 pub mod Records
 pub mod Endings
 pub mod Joining

@@ -2,7 +2,7 @@
 use Rattle.std.proofs.Common.{◌≡◌, ◌∙◌, ◌++◌, ◌+◌, ◌<◌, ◌^◌, ◌∷◌, []}
 use Rattle.std.proofs.Common.{ℕ, List, Option, false, refl, sym, ap, append_assoc}
 use Rattle.std.proofs.Common.{append-nil, length, take, get_or, drop, arith}
-use Rattle.std.proofs.lemmas.List.{length-take-le, take-append-drop, take_more}
+use Rattle.std.proofs.lemmas.List.{length-take-le, take-append-drop, take_all, take_more}
 use Rattle.std.proofs.lemmas.Bool.{ne_eqb}
 use Rattle.std.proofs.lemmas.Fmt.{decimal_is_IsNumeral}
 use Rattle.std.proofs.lemmas.Str.Parse.{digit_at}
@@ -34,16 +34,24 @@ lines-append tick (row ∷ rows) more =
     (row_lines (tick + length (row ∷ rows)) more))
 
 -- the lines of one row more
-pub lines-more : (rows : List TraceRow) (n : ℕ) (d : TraceRow) → n < length rows →
-    row_lines 0 (take (n + 1) rows)
-    ≡ row_lines 0 (take n rows) ++ row_line (n + 1) (get_or rows n d)
-lines-more rows n d within =
-    let count : 0 + length (take n rows) ≡ n =
+pub lines-more : (tick : ℕ) (rows : List TraceRow) (n : ℕ) (d : TraceRow) → n < length rows →
+    row_lines tick (take (n + 1) rows)
+    ≡ row_lines tick (take n rows) ++ row_line (tick + n + 1) (get_or rows n d)
+lines-more tick rows n d within =
+    let count : tick + length (take n rows) ≡ tick + n =
     omega (arith, length-take-le n rows (omega (arith, within))) in
-    ap (λ l. row_lines 0 l) (take_more rows n d within)
-    ∙ lines-append 0 (take n rows) (get_or rows n d ∷ [])
-    ∙ ap (λ k. row_lines 0 (take n rows) ++ row_lines k (get_or rows n d ∷ [])) count
-    ∙ ap (λ l. row_lines 0 (take n rows) ++ l) (append-nil (row_line (n + 1) (get_or rows n d)))
+    ap (λ l. row_lines tick l) (take_more rows n d within)
+    ∙ lines-append tick (take n rows) (get_or rows n d ∷ [])
+    ∙ ap (λ k. row_lines tick (take n rows) ++ row_lines k (get_or rows n d ∷ [])) count
+    ∙ ap (λ l. row_lines tick (take n rows) ++ l)
+    (append-nil (row_line (tick + n + 1) (get_or rows n d)))
+
+-- the lines of all the rows, where they were made from the first row on
+pub lines-all : (tick : ℕ) (rows : List TraceRow) (lines : List ℕ) →
+    row_lines tick (take 0 rows) ++ lines ≡ row_lines tick (take (length rows) rows) →
+    lines ≡ row_lines tick rows
+lines-all tick rows lines is =
+    is ∙ ap (λ l. row_lines tick l) (take_all (length rows) rows (omega arith))
 
 -- a beginning of the trace of the first rows is one of the whole trace
 pub trace-begins : (a b : Option (List ℕ)) (rows : List TraceRow) (n : ℕ) →

@@ -3,3 +3,4 @@ pub mod Progress
 pub mod Obeying
 pub mod Printing
 pub mod Hearing
+pub mod Underway

@@ -1,7 +1,9 @@
 -- What a replay answers.
-use Rattle.std.specs.Prelude.{◌≡◌, ℕ, List}
+use Rattle.std.specs.Prelude.{◌≡◌, ℕ, List, Option}
+use Rattle.std.specs.Io.KnownBytes.{Appends}
 use Rattle.pram_text.specs.Job.{JobData}
 use Rattle.pram_step.specs.declared.answer.RunAnswer.{RunAnswer}
+use Rattle.pram_streams.specs.Transfer.{AppendsBeginning}
 use Rattle.stop_plan.specs.Plan.{PlanData, StopsAll}
 use Rattle.stop_plan.specs.Schedule.{Events, IsSchedule, Running}
 use Rattle.pram_world.specs.declared.event.Event.{Event}
@@ -9,6 +11,7 @@ use Rattle.pram_world.specs.declared.event.Event.TheVariants.{Go, Stop, Back}
 use Rattle.pram_world.specs.Outcomes.{IsOutcome}
 use Rattle.pram_world.specs.Worlds.{start, run, going}
 use Rattle.pram_run.specs.declared.trace.TraceRow.{TraceRow}
+use Rattle.pram_run.specs.Printed.{trace_text}
 use Rattle.pram_run.specs.Running.{IsUnfinished}
 use Rattle.pram_run.specs.Traces.{trace_of}
 
@@ -30,3 +33,18 @@ pub record IsReplay (job : JobData) (plan : PlanData) (answer : RunAnswer) (trac
   pub outcome : IsOutcome (run (start job plan.workers) schedule) answer
   pub steps : trace ≡ trace_of (start job plan.workers) schedule
   pub stops : IsUnfinished answer → StopsAll plan
+
+-- This is the answer of a replay, and the sink took its trace.
+pub record TakesReplay (job : JobData) (plan : PlanData) (sink sink' : Option (List ℕ)) (answer :
+    RunAnswer) : Type 0 where
+  pub trace : List TraceRow
+  pub is : IsReplay job plan answer trace
+  pub prints : Appends sink sink' (trace_text trace)
+
+-- The sink took a beginning of the trace of a replay.
+pub record BeginsReplay (job : JobData) (plan : PlanData) (sink sink' : Option (List ℕ)) :
+    Type 0 where
+  pub answer : RunAnswer
+  pub trace : List TraceRow
+  pub is : IsReplay job plan answer trace
+  pub prints : AppendsBeginning sink sink' (trace_text trace)

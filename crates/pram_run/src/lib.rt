@@ -23,7 +23,7 @@ pub use heard::{Assignment, run_heard};
 pub use listener::Listener;
 pub use print::{OutFault, print_sights, print_trace, write_trace};
 pub use runner::run;
-pub use schedule::replay;
+pub use schedule::{replay, replay_to};
 pub use sight::Sight;
 pub use trace::{StepKind, Trace, TraceRow};
 pub use watcher::watch;

@@ -1,15 +1,15 @@
 //! Traces and sights as text, written with `csv`.
-ghost use Rattle.std.specs.Prelude.{◌≡◌, ◌≤◌, ◌++◌, ◌↔◌, false, decimal, length};
+ghost use Rattle.std.specs.Prelude.{◌≡◌, ◌+◌, ◌<◌, ◌≤◌, ◌^◌, ◌++◌, ◌↔◌, false, decimal, length};
 ghost use Rattle.std.specs.Prelude.{map, take, IfOk, OnOk, IsErrOf, IsTrue};
 ghost use Rattle.std.specs.Io.KnownBytes.{Appends};
 ghost use Rattle.csv.specs.Writing.{default_writer, field_text, row_text, text_written};
 ghost use Rattle.pram_streams.specs.Transfer.{AppendsBeginning};
-ghost use Rattle.pram_run.specs.Inner.Printing.{IsBetweenRecords};
+ghost use Rattle.pram_run.specs.Inner.Printing.{IsBetweenRecords, PassedOn};
 ghost use Rattle.pram_run.specs.Printed.{kind_word, row_line, row_lines, sight_line};
 ghost use Rattle.pram_run.specs.Printed.{sight_lines, sights_text, trace_text};
 
 use crate::sight::Sight;
-use crate::trace::{Trace, TraceRow};
+use crate::trace::{PART, Trace, TraceRow};
 use csv::{Error, Writer};
 use itoa::Buffer;
 use pram_streams::{IntoWrite, PrintFault, Sink, put};
@@ -17,7 +17,7 @@ use std::alloc::{AllocError, Global};
 use std::io::Write;
 
 /// The fields of a row.
-const HEADER: &str = "tick,worker,op,word,before,after\n";
+pub(crate) const HEADER: &str = "tick,worker,op,word,before,after\n";
 
 /// The fields of a sight.
 const SIGHTS_HEADER: &str = "step,cell,value\n";
@@ -44,28 +44,77 @@ pub fn print_trace<W: Sink>(
     let mut done = 0;
     while done < rows.len() {
         let end = rows.len().min(done.saturating_add(PIECE));
-        let lines = lines_between(alloc, rows, done, end)?;
+        let lines = lines_between(alloc, 0, rows, done, end)?;
         put(sink, lines.as_slice())?;
         done = end;
     }
     Ok(())
 }
 
-// The lines of the rows from one place up to another.
+/// Prints the rows that are kept, and lets them go, once one part more could make them more than a
+/// piece. Answers how many were printed, those before them too.
+pub(crate) fn pass_on<W: Sink>(
+    alloc: Global,
+    sink: &mut W,
+    before: u64,
+    rows: &mut Trace,
+) -> Result<u64, PrintFault>
+    requires { W.has_failed sink.old ≡ false }
+    ensures ok { IfOk result (PassedOn (W.taken sink.old) (W.taken sink.new)
+        before rows.old rows.new) }
+    ensures beginning { AppendsBeginning (W.taken sink.old) (W.taken sink.new)
+        (row_lines before rows.old) }
+    ensures failed { IsTrue (W.has_failed sink.new) ↔ IsErrOf result PrintFault.Device }
+{
+    if rows.rows().len() <= PIECE - PART as usize {
+        return Ok(before);
+    }
+    let printed = put_rows(alloc, sink, before, rows.rows())?;
+    rows.clear();
+    Ok(printed)
+}
+
+/// Prints the lines of rows, so many having gone before them, and answers how many have now. No
+/// memory holds a trace in which that is 2^64: it is refused as such.
+pub(crate) fn put_rows<W: Sink>(
+    alloc: Global,
+    sink: &mut W,
+    before: u64,
+    rows: &[TraceRow],
+) -> Result<u64, PrintFault>
+    requires { W.has_failed sink.old ≡ false }
+    ensures ok { OnOk result (Appends (W.taken sink.old) (W.taken sink.new)
+        (row_lines before rows.now)) }
+    ensures count { IfOk result (λ printed. printed ≡ before + length rows.now) }
+    ensures beginning { AppendsBeginning (W.taken sink.old) (W.taken sink.new)
+        (row_lines before rows.now) }
+    ensures failed { IsTrue (W.has_failed sink.new) ↔ IsErrOf result PrintFault.Device }
+{
+    let Some(printed) = before.checked_add(rows.len() as u64) else {
+        return Err(PrintFault::Memory);
+    };
+    let lines = lines_between(alloc, before, rows, 0, rows.len())?;
+    put(sink, lines.as_slice())?;
+    Ok(printed)
+}
+
+// The lines of the rows from one place up to another, so many rows having gone before them all.
 fn lines_between(
     alloc: Global,
+    before: u64,
     rows: &[TraceRow],
     start: usize,
     end: usize,
 ) -> Result<Vec<u8>, AllocError>
     requires from { start ≤ end }
     requires to { end ≤ length rows.now }
-    ensures { IfOk result (λ lines. row_lines 0 (take start rows.now) ++ lines.items
-        ≡ row_lines 0 (take end rows.now)) }
+    requires fits { before + end < 2 ^ 64 }
+    ensures { IfOk result (λ lines. row_lines before (take start rows.now) ++ lines.items
+        ≡ row_lines before (take end rows.now)) }
 {
     let mut writer = Writer::from_writer(Vec::new(alloc));
     for index in start..end {
-        let Ok(()) = write_row(&mut writer, index as u64 + 1, &rows[index]) else {
+        let Ok(()) = write_row(&mut writer, before + index as u64 + 1, &rows[index]) else {
             return Err(AllocError);
         };
     }

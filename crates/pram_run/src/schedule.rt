@@ -1,12 +1,16 @@
 //! A plan obeyed on one thread, over a world.
-ghost use Rattle.std.specs.Prelude.{◌≡◌, ℕ, ◌<◌, ◌≤◌, true, false, IfOk, OnOk, IsTrue};
+ghost use Rattle.std.specs.Prelude.{◌≡◌, ℕ, ◌<◌, ◌≤◌, ◌↔◌, List, [], ◌∷◌, true, false};
+ghost use Rattle.std.specs.Prelude.{IfOk, OnErr, OnOk, IsErrOf, IsTrue};
 ghost use Rattle.pram_world.specs.Worlds.{going};
 ghost use Rattle.pram_run.specs.Inner.Progress.{Makes, go_on, one_round, one_step, one_turn};
-ghost use Rattle.pram_run.specs.Inner.Progress.{row_events};
-ghost use Rattle.pram_run.specs.Replays.{IsReplay};
+ghost use Rattle.pram_run.specs.Inner.Underway.{Advances, HasCome, IsUnderWay};
+ghost use Rattle.pram_run.specs.Replays.{BeginsReplay, IsReplay, TakesReplay};
+ghost use Rattle.pram_run.specs.declared.trace.TraceRow.{TraceRow};
 
-use crate::trace::Trace;
+use crate::print::{HEADER, pass_on, put_rows};
+use crate::trace::{PART, Trace};
 use pram_step::RunAnswer;
+use pram_streams::{PrintFault, Sink, put};
 use pram_text::Job;
 use pram_world::{Event, World};
 use std::alloc::{AllocError, Global};
@@ -25,37 +29,152 @@ pub fn replay(
     requires plan { plan.now.workers ≡ workers }
     ensures { IfOk result (λ r. IsReplay job.now plan.now r.0 r.1) }
 {
-    job.limits_hold();
-    let mut world = World::new(alloc, job, workers)?;
+    let mut replaying = Replaying::new(alloc, job, workers, plan)?;
     let mut trace = Trace::new(alloc);
-    for row in plan.rows() {
-        obey(&mut world, &mut trace, row)?;
-    }
-    let mut rounds: u64 = 0;
-    while some_goes(&world, workers) {
-        make_round(&mut world, &mut trace, workers)?;
-        rounds += 1;
-    }
-    let answer = world.outcome()?;
+    while replaying.advance(&mut trace)? {}
+    let answer = replaying.world.outcome()?;
     Ok((answer, trace))
 }
 
-// Makes the events of a row.
-fn obey(world: &mut World, trace: &mut Trace, row: &Row) -> Result<(), AllocError>
-    ensures { OnOk result (Makes world.old trace.old world.new trace.new (row_events row.now)) }
+/// The same outcome. The trace is printed while its steps are made, as `print_trace` prints it:
+/// rows go out piece by piece, so that it takes memory for the world and for one piece. Out of
+/// memory, a beginning of the trace was printed, as where the sink fails.
+pub fn replay_to<W: Sink>(
+    alloc: Global,
+    sink: &mut W,
+    job: &Job,
+    workers: u32,
+    plan: &Plan,
+) -> Result<RunAnswer, PrintFault>
+    requires sink { W.has_failed sink.old ≡ false }
+    requires some { 1 ≤ workers }
+    requires most { workers ≤ 64 }
+    requires plan { plan.now.workers ≡ workers }
+    ensures ok { IfOk result
+        (TakesReplay job.now plan.now (W.taken sink.old) (W.taken sink.new)) }
+    ensures beginning { OnErr result
+        (BeginsReplay job.now plan.now (W.taken sink.old) (W.taken sink.new)) }
+    ensures failed { IsTrue (W.has_failed sink.new) ↔ IsErrOf result PrintFault.Device }
 {
-    let body = row.worker as usize;
-    match row.act {
-        Act::Go => go(world, trace, row.worker, row.ticks)?,
-        Act::Sleep => {}
-        Act::Back => {
-            world.event(Event::Back(body));
+    job.limits_hold();
+    let mut replaying = Replaying::new(alloc, job, workers, plan)?;
+    put(sink, HEADER.as_bytes())?;
+    let mut kept = Trace::new(alloc);
+    let mut printed = 0;
+    while replaying.advance(&mut kept)? {
+        printed = pass_on(alloc, sink, printed, &mut kept)?;
+    }
+    put_rows(alloc, sink, printed, kept.rows())?;
+    let answer = replaying.world.outcome()?;
+    Ok(answer)
+}
+
+/// A replay under way: its world, the steps that are left of the row that was begun, with their
+/// worker, the rows after it, and how many rounds were made.
+#[derive(Drop)]
+pub(crate) struct Replaying<'a> {
+    world: World,
+    workers: u32,
+    worker: u32,
+    ticks: u32,
+    rows: &'a [Row],
+    rounds: u64,
+}
+
+impl<'a> Replaying<'a> {
+    fn new(
+        alloc: Global,
+        job: &Job,
+        workers: u32,
+        plan: &'a Plan,
+    ) -> Result<Replaying<'a>, AllocError>
+        requires some { 1 ≤ workers }
+        requires most { workers ≤ 64 }
+        requires plan { plan.now.workers ≡ workers }
+        ensures { IfOk result (λ replaying. HasCome job.now plan.now replaying []) }
+    {
+        job.limits_hold();
+        let world = World::new(alloc, job, workers)?;
+        Ok(Replaying {
+            world,
+            workers,
+            worker: 0,
+            ticks: 0,
+            rows: plan.rows(),
+            rounds: 0,
+        })
+    }
+
+    // Goes on in the plan's schedule, by `PART` steps at most: of the row that was begun, or else
+    // it begins the next one, or else it makes a round. Says whether anything was left.
+    fn advance(&mut self, trace: &mut Trace) -> Result<bool, AllocError>
+        requires { IsUnderWay self.old }
+        ensures { IfOk result (Advances self.old trace.old self.new trace.new) }
+    {
+        if self.ticks > 0 {
+            self.obey_part(trace)?;
+            return Ok(true);
         }
-        Act::Stop => {
-            world.event(Event::Stop(body));
+        match self.rows.split_first() {
+            None => self.go_round(trace),
+            Some((row, rows)) => {
+                self.begin_row(row, rows);
+                Ok(true)
+            }
         }
     }
-    Ok(())
+
+    // Makes steps of the row that was begun. Nothing is left of it where its worker is not going.
+    fn obey_part(&mut self, trace: &mut Trace) -> Result<(), AllocError>
+        requires { 0 < self.old.ticks }
+        ensures { OnOk result (Advances self.old trace.old self.new trace.new true) }
+    {
+        let part = self.ticks.min(PART);
+        go(&mut self.world, trace, self.worker, part)?;
+        if self.world.is_going(self.worker as usize) {
+            self.ticks -= part;
+        } else {
+            self.ticks = 0;
+        }
+        Ok(())
+    }
+
+    // Begins the next row: its steps are still to be made, and whatever else it asks is done.
+    fn begin_row(&mut self, row: &Row, rows: &'a [Row])
+        requires none { self.old.ticks ≡ 0 }
+        requires next { self.old.rows.now ≡ row.now ∷ rows.now }
+        ensures { (trace : List TraceRow) → Advances self.old trace self.new trace true }
+    {
+        self.rows = rows;
+        match row.act {
+            Act::Go => {
+                self.worker = row.worker;
+                self.ticks = row.ticks;
+            }
+            Act::Sleep => {}
+            Act::Back => {
+                self.world.event(Event::Back(row.worker as usize));
+            }
+            Act::Stop => {
+                self.world.event(Event::Stop(row.worker as usize));
+            }
+        }
+    }
+
+    // Makes a round, if some worker is neither stopped nor over.
+    fn go_round(&mut self, trace: &mut Trace) -> Result<bool, AllocError>
+        requires come { IsUnderWay self.old }
+        requires row { self.old.ticks ≡ 0 }
+        requires rows { self.old.rows.now ≡ [] }
+        ensures { IfOk result (Advances self.old trace.old self.new trace.new) }
+    {
+        if !some_goes(&self.world, self.workers) {
+            return Ok(false);
+        }
+        make_round(&mut self.world, trace, self.workers)?;
+        self.rounds += 1;
+        Ok(true)
+    }
 }
 
 // Makes up to so many steps of a worker.

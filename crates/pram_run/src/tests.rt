@@ -2,6 +2,7 @@
 mod growths;
 mod rows;
 mod rules;
+mod streams;
 
 ghost use Rattle.std.specs.Prelude.{◌≤◌};
 

@@ -43,6 +43,10 @@ pub struct TraceRow {
     pub kind: StepKind,
 }
 
+/// The most steps of a row of a plan that are made at once. A round has no more, since there are at
+/// most so many workers.
+pub(crate) const PART: u32 = 64;
+
 /// The atomic steps of a run, the first one first.
 #[derive(Debug, Drop)]
 pub struct Trace {
@@ -72,6 +76,13 @@ impl Trace {
         ensures { result.now ≡ self.now }
     {
         self.rows.as_slice()
+    }
+
+    // Lets the rows go, and keeps their memory.
+    pub(crate) fn clear(&mut self)
+        ensures { self.new ≡ [] }
+    {
+        self.rows.clear();
     }
 
     // Notes the atomic step that this worker made, if it made one.

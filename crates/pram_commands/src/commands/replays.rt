@@ -10,13 +10,13 @@ use crate::fault::CommandFault;
 use crate::inputs::take_inputs;
 use crate::sources::{Inputs, Sources};
 use crate::workers::Workers;
-use pram_run::print_trace;
+use pram_run::replay_to;
 use pram_step::RunAnswer;
 use pram_streams::{PrintFault, Sink, Source, print_answer};
 use std::alloc::Global;
 
-/// Reads a job, then its plan, and prints the trace of their replay and its answer. Where memory
-/// runs out, a beginning of it may stand printed.
+/// Reads a job, then its plan, and prints the trace of their replay, as its steps are made, and its
+/// answer. Where memory runs out, a beginning of it may stand printed.
 pub fn replay<J: Source, P: Source, O: Sink>(
     alloc: Global,
     workers: Workers,
@@ -38,8 +38,7 @@ fn put_replay<O: Sink>(alloc: Global, inputs: &Inputs, out: &mut O) -> Result<Ru
         (writing O.Sink out.old out.new) tells result }
 {
     let (job, plan) = (&inputs.job, &inputs.plan);
-    let (answer, trace) = pram_run::replay(alloc, job, plan.workers(), plan)?;
-    print_trace(alloc, out, trace.rows())?;
+    let answer = replay_to(alloc, out, job, plan.workers(), plan)?;
     print_answer(alloc, out, &answer, job.steps())?;
     Ok(answer)
 }

@@ -1,11 +1,14 @@
--- Records written by csv, one after the other.
-use Rattle.std.specs.Prelude.{◌≡◌, false}
+-- Records written by csv, one after the other, and rows that are put into a sink.
+use Rattle.std.specs.Prelude.{◌≡◌, ◌+◌, ◌++◌, ℕ, List, Option, length, false}
+use Rattle.std.specs.Io.KnownBytes.{Appends}
 use Rattle.csv.specs.Writing.{default_writer, fields_written, has_written, writer_setup}
 use Rattle.csv.specs.declared.writer.Writer.{Writer}
 use Rattle.pram_streams.specs.declared.print.PrintFault.{PrintFault}
 use Rattle.pram_streams.specs.declared.print.PrintFault.TheVariants as print
 use Rattle.pram_run.specs.declared.print.OutFault.{OutFault}
 use Rattle.pram_run.specs.declared.print.OutFault.TheVariants.{Device, Memory}
+use Rattle.pram_run.specs.declared.trace.TraceRow.{TraceRow}
+use Rattle.pram_run.specs.Printed.{row_lines}
 
 -- The writer has its defaults, and stands at the start of a record.
 pub record IsBetweenRecords {W : Type 0} (writer : Writer W) : Type 0 where
@@ -16,3 +19,12 @@ pub record IsBetweenRecords {W : Type 0} (writer : Writer W) : Type 0 where
 abbrev pub fault_of_print : PrintFault → OutFault
 fault_of_print print.Device = Device
 fault_of_print print.Memory = Memory
+
+-- The sink took the lines of the first of these rows, so many having gone before; the others are
+-- kept, and the count goes on.
+pub record PassedOn (sink sink' : Option (List ℕ)) (before : ℕ) (rows kept : List TraceRow) (after :
+    ℕ) : Type 0 where
+  pub gone : List TraceRow
+  pub parts : rows ≡ gone ++ kept
+  pub count : after ≡ before + length gone
+  pub prints : Appends sink sink' (row_lines before gone)

@@ -1,8 +1,7 @@
 -- How far a replay has come.
 use Rattle.std.specs.Prelude.{◌≡◌, ℕ, List, [], ◌∷◌, ◌++◌, if◌then◌else◌, replicate}
 use Rattle.pram_text.specs.Job.{JobData}
-use Rattle.stop_plan.specs.declared.plan.Row.{Row}
-use Rattle.stop_plan.specs.Schedule.{after_turns, events_of_act}
+use Rattle.stop_plan.specs.Schedule.{after_turns}
 use Rattle.pram_world.specs.declared.event.Event.{Event}
 use Rattle.pram_world.specs.declared.event.Event.TheVariants.{Go}
 use Rattle.pram_world.specs.Worlds.{WorldData, start, run}
@@ -16,22 +15,20 @@ pub record IsAfter (job : JobData) (workers : ℕ) (events : List Event) (now : 
   pub world : now ≡ run (start job workers) events
   pub trace : rows ≡ trace_of (start job workers) events
 
--- whatever was made before, this has come of it
+-- whatever was made before, this has come of it; rows that are no longer kept stand in front
 abbrev pub Makes : WorldData → List TraceRow → WorldData → List TraceRow →
     (JobData → ℕ → List Event → List Event) → Type 0
-Makes before rows now later next = (job : JobData) (workers : ℕ) (events : List Event) →
-    IsAfter job workers events before rows → IsAfter job workers (next job workers events) now later
+Makes before rows now later next =
+    (front : List TraceRow) (job : JobData) (workers : ℕ) (events : List Event) →
+    IsAfter job workers events before (front ++ rows) →
+    IsAfter job workers (next job workers events) now (front ++ later)
 
--- a worker's events, those of a row, and a round
+-- a worker's events, and a round
 abbrev pub one_step : ℕ → JobData → ℕ → List Event → List Event
 one_step worker job workers events = events ++ Go worker ∷ []
 
 abbrev pub go_on : ℕ → ℕ → JobData → ℕ → List Event → List Event
 go_on worker ticks job workers events = events ++ replicate ticks (Go worker)
-
-abbrev pub row_events : Row → JobData → ℕ → List Event → List Event
-row_events row job workers events =
-    events ++ events_of_act world_events row.worker row.ticks row.act
 
 abbrev pub one_round : ℕ → JobData → ℕ → List Event → List Event
 one_round turns job workers events = after_turns world_events (running job workers) 0 turns events

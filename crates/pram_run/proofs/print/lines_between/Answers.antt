@@ -14,13 +14,13 @@ pub loop-index-preserved : goal.loop-index-preserved
 loop-index-preserved c =
     let rows = c.args.rows.now in
     let index = c.loop-index.index in
-    let front = row_lines 0 (take c.args.start rows) in
-    let line = row_line (index + 1) (get_or rows index no_row) in
+    let front = row_lines c.args.before (take c.args.start rows) in
+    let line = row_line (c.args.before + index + 1) (get_or rows index no_row) in
     let old = (writer_under c.loop-index.writer).items ++ writer_pending c.loop-index.writer in
     let within : index < length rows = omega (arith, c.loop-index-test.true, c.requires.to) in
     record {
       between = c.in-Ok.ensures.between;
       text = ap (λ text. front ++ text) c.in-Ok.ensures.text ∙ sym (append_assoc front old line)
           ∙ ap (λ text. text ++ line) c.loop-index.invariant.text
-          ∙ sym (lines-more rows index no_row within);
+          ∙ sym (lines-more c.args.before rows index no_row within);
     }

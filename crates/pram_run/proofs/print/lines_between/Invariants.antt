@@ -8,7 +8,7 @@ use Rattle.pram_run.proofs.print.lines_between.Given as goal
 abbrev pub invariant-loop-index : goal.invariant-loop-index
 invariant-loop-index l = record {
   between : IsBetweenRecords l.writer;
-  text : row_lines 0 (take l.start l.rows)
+  text : row_lines l.before (take l.start l.rows)
       ++ ((writer_under l.writer).items ++ writer_pending l.writer)
-      ≡ row_lines 0 (take l.index l.rows);
+      ≡ row_lines l.before (take l.index l.rows);
 }
