@@ -9,7 +9,7 @@ returns-in_err-answer g c =
     let begins = c.in_err-answer.ensures.beginning in
     let failed = c.in_err-answer.ensures.failed in
     put_failed _ _ _ _ _ c.in_err-answer.field-0.0
-    (err_is _ _ c.from_residual-in_err-answer.ensures)
+    (err_is _ _ c.from_residual.ensures)
     (begins_front _ c.args.inputs.now.job _ begins.answer _ (begins.trace, begins.is, refl)
     begins.prints)
     (λ e. inr tt) ((λ f. err_as _ Device (failed.0 f)), (λ e. failed.1 (err_as _ Device e)))
