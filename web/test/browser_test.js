@@ -148,7 +148,8 @@ async function testHostile() {
     is(`hostile ${JSON.stringify(content.slice(0, 20))}`, (await text('#fault')).length > 0, true);
   }
   is('no markup came in', await count('#program img, #program b, #program script'), 0);
-  await write('pram 1\ncells 65536\nprocs 1024\nsteps 4294967295\ncode\nagain: jmp again\n');
+  await write('pram 1\ncells 65536\nprocs 1024\nsteps 4294967295\ncode\n'
+    + 'set r1 1\nagain: add r0 r0 r1\njmp again\n');
   await has('an endless job', '#answer', 'too far for this page');
   await page.click('#step-on');
   is('it is stepped', await valueOf('#step'), '1');

@@ -226,7 +226,8 @@ function testRefusals(core) {
 }
 
 function testSizes(core) {
-  const text = 'pram 1\ncells 1\nprocs 1\nsteps 4294967295\ncode\nagain: jmp again\n';
+  const text = 'pram 1\ncells 1\nprocs 1\nsteps 4294967295\ncode\n'
+    + 'set r1 1\nagain: add r0 r0 r1\njmp again\n';
   is('an endless job', core.answer(text, core.judge(text), 1000).code, CODE.TOO_FAR);
   const bad = core.scene(text, 65, new Uint32Array(0), 0);
   is('too many workers', bad.code, CODE.BAD_WORKERS);
