@@ -1,5 +1,5 @@
-// assemble.js CORE.wasm EXAMPLES TABLE OUT.html: puts the page into one file. The modules of src/ are
-// written one after the other, each as a function of its own after those that it imports.
+// assemble.js CORE.wasm EXAMPLES TABLE SENTENCES OUT.html: puts the page into one file. The modules of
+// src/ are written one after the other, each as a function of its own after those that it imports.
 import { createHash } from 'node:crypto';
 import { readFileSync, readdirSync, writeFileSync } from 'node:fs';
 import { dirname, join } from 'node:path';
@@ -34,8 +34,15 @@ function instructionsOf(file) {
   return [...rows].map(([, name, operands]) => [name, operands]);
 }
 
-const bundle = (table) => `\n${[...modulesOf('main')].map(enclosed).join('\n')}`
-  .replace('/*INSTRUCTIONS*/[]', JSON.stringify(instructionsOf(table)));
+// The sentences on a text, in the order of its faults.
+function sentencesOf(file) {
+  const rows = readFileSync(file, 'utf8').matchAll(/TextKind::\w+ => "([^"]*)"/g);
+  return [...rows].map(([, sentence]) => sentence);
+}
+
+const bundle = (table, sentences) => `\n${[...modulesOf('main')].map(enclosed).join('\n')}`
+  .replace('/*INSTRUCTIONS*/[]', JSON.stringify(instructionsOf(table)))
+  .replace('/*SENTENCES*/[]', JSON.stringify(sentencesOf(sentences)));
 
 function examplesOf(folder) {
   const names = readdirSync(folder).filter((name) => name.endsWith('.pram')).sort();
@@ -52,9 +59,9 @@ const policyOf = (style, script) =>
   `default-src 'none'; img-src data:; style-src ${hash(style)}; ` +
   `script-src ${hash(script)} 'wasm-unsafe-eval'; base-uri 'none'; form-action 'none'`;
 
-const [core, examples, table, out] = process.argv.slice(2);
+const [core, examples, table, sentences, out] = process.argv.slice(2);
 const style = `\n${read('style.css')}`;
-const script = bundle(table);
+const script = bundle(table, sentences);
 const parts = {
   POLICY: policyOf(style, script),
   STYLE: style,

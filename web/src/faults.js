@@ -1,4 +1,4 @@
-// What is wrong with a line, in words that help.
+// What is wrong with a line: the program's sentence, and words that help.
 import { shortened } from './numbers.js';
 
 export const FAULT = {
@@ -18,6 +18,9 @@ export const FAULT = {
 // The table of instructions, name and operands, which the page's maker reads from the core's
 // source.
 export const INSTRUCTIONS = /*INSTRUCTIONS*/[];
+
+// The program's sentences, of the faults from 1 on, which the page's maker reads from its source.
+export const SENTENCES = /*SENTENCES*/[];
 
 // The operands in words, and an example.
 const OPERANDS = {
@@ -63,12 +66,11 @@ function instructionOf(line) {
 
 function foreignCharacter(line) {
   const at = [...line].findIndex((character) => !/[\t\r\x20-\x7e]/.test(character));
-  if (at < 0) return 'This line has a character that is not allowed.';
+  if (at < 0) return '';
   const character = [...line][at];
   const shown = /\p{C}|\s/u.test(character)
     ? `of number ${character.codePointAt(0)}` : `“${character}”`;
-  return `The character ${shown} in column ${at + 1} is not allowed: a text is plain ASCII, ` +
-    'in comments too.';
+  return `The character ${shown} in column ${at + 1} is not allowed, in comments either.`;
 }
 
 function badHeader(line) {
@@ -86,8 +88,8 @@ function badHeader(line) {
 
 function badNumber(line) {
   const wrong = instructionOf(line).slice(1).find((word) => !/^(\d+|r[0-3])$/.test(word));
-  return `${wrong ? `“${wrong}” must be a number` : 'A number is missing'}: digits only, as in ` +
-    '“cells 8” or “set r1 5”.';
+  return `${wrong ? `“${wrong}” must be a number` : 'A number is missing'}, as in “cells 8” or ` +
+    '“set r1 5”.';
 }
 
 function unknownInstruction(line) {
@@ -102,7 +104,7 @@ function unknownInstruction(line) {
 function wrongOperands(line) {
   const [name] = instructionOf(line);
   const usage = usageOf(name);
-  if (!usage) return 'The number of operands is wrong.';
+  if (!usage) return '';
   return `“${name}” needs ${usage.words}, as in “${usage.example}”.`;
 }
 
@@ -110,20 +112,20 @@ function badRegister(line) {
   const operands = instructionOf(line).slice(1);
   const wrong = operands.find((word) => !/^r[0-3]$/.test(word));
   const found = wrong === undefined ? 'An operand' : `“${wrong}”`;
-  return `${found} is no register. There are r0, r1, r2 and r3.`;
+  return `${found} is no register.`;
 }
 
 function duplicateLabel(line) {
   const [label] = wordsOf(line);
-  return `The label “${label.slice(0, -1)}” is defined on an earlier line.`;
+  return `It is “${label.slice(0, -1)}”.`;
 }
 
 function unknownLabel(line) {
   const label = instructionOf(line).at(-1);
-  return `No line defines the label “${label}”. A line does so by beginning with “${label}:”.`;
+  return `A line defines “${label}” by beginning with “${label}:”.`;
 }
 
-const WORDINGS = {
+const HELP = {
   [FAULT.NOT_ASCII]: foreignCharacter,
   [FAULT.BAD_HEADER]: badHeader,
   [FAULT.BAD_NUMBER]: badNumber,
@@ -134,10 +136,9 @@ const WORDINGS = {
   [FAULT.BAD_REGISTER]: badRegister,
   [FAULT.DUPLICATE_LABEL]: duplicateLabel,
   [FAULT.UNKNOWN_LABEL]: unknownLabel,
-  [FAULT.NO_CODE]: () => 'The program is missing: no instruction follows the line “code”.',
-  [FAULT.TOO_LONG]: () => 'A program has at most 4,096 instructions.',
 };
 
 export function wordsOfFault(fault, line) {
-  return (WORDINGS[fault] ?? (() => 'This line is refused.'))(line);
+  const help = HELP[fault]?.(line) ?? '';
+  return `${SENTENCES[fault - 1] ?? 'this line is refused'}.${help && ` ${help}`}`;
 }

@@ -119,7 +119,8 @@ async function testFaults() {
   const head = 'pram 1\ncells 2\nprocs 2\nsteps 2\ncode\n';
   await write(`${head}pid r0\nld r1\n`);
   is('a fault is said', await text('#fault'),
-    'Line 7: “ld” needs two registers, as in “ld r1 r0”.');
+    'Line 7: the instruction has too few operands, or too many. “ld” needs two registers, as in ' +
+    '“ld r1 r0”.');
   is('its line is marked', await text('.line-number.fault'), '7');
   is('no machine', await isShown('#machine'), false);
   is('the menu', await valueOf('#example'), 'own');

@@ -6,7 +6,7 @@ import { readFileSync, readdirSync, writeFileSync } from 'node:fs';
 import { tmpdir } from 'node:os';
 import { join } from 'node:path';
 import { CODE, openCore } from '../src/core.js';
-import { FAULT, INSTRUCTIONS, wordsOfFault } from '../src/faults.js';
+import { FAULT, INSTRUCTIONS, SENTENCES, wordsOfFault } from '../src/faults.js';
 import { planOf } from '../src/plan.js';
 import { ACT, actOf, readActs, Schedule, writeActs } from '../src/schedule.js';
 import { readAddress, writeAddress } from '../src/address.js';
@@ -27,6 +27,11 @@ function coreOfPage() {
 function tableOfPage() {
   const found = /const INSTRUCTIONS = (\[\[.*?\]\]);/.exec(page);
   return JSON.parse(found[1]);
+}
+
+// The sentences that it put there.
+function sentencesOfPage() {
+  return JSON.parse(/const SENTENCES = (\[".*?"\]);/.exec(page)[1]);
 }
 
 function printed(answer) {
@@ -192,12 +197,12 @@ const REFUSED = [
   ['code x', FAULT.BAD_HEADER, 1, 'does not stand here'],
 ];
 const CODE_REFUSED = [
-  ['ld r1', FAULT.WRONG_OPERANDS, '“ld” needs two registers, as in “ld r1 r0”'],
+  ['ld r1', FAULT.WRONG_OPERANDS, 'or too many. “ld” needs two registers, as in “ld r1 r0”'],
   ['again: ld r1', FAULT.WRONG_OPERANDS, '“ld” needs two registers, as in “ld r1 r0”'],
   ['mov r1 r2', FAULT.UNKNOWN_INSTRUCTION, 'no instruction “mov”. There are set, pid, add'],
   ['add r1 r2 r4', FAULT.BAD_REGISTER, '“r4” is no register'],
-  ['a: halt\na: halt', FAULT.DUPLICATE_LABEL, '“a” is defined on an earlier line'],
-  ['jmp nowhere', FAULT.UNKNOWN_LABEL, 'defines the label “nowhere”'],
+  ['a: halt\na: halt', FAULT.DUPLICATE_LABEL, 'an earlier line defines this label. It is “a”.'],
+  ['jmp nowhere', FAULT.UNKNOWN_LABEL, 'A line defines “nowhere” by beginning with “nowhere:”.'],
   ['', FAULT.NO_CODE, 'no instruction follows'],
   ['halt\n'.repeat(4097), FAULT.TOO_LONG, 'at most 4,096'],
   ['3: halt', FAULT.UNKNOWN_INSTRUCTION, 'A label is a letter'],
@@ -250,6 +255,7 @@ function testSpeed(core) {
 }
 
 INSTRUCTIONS.push(...tableOfPage());
+SENTENCES.push(...sentencesOfPage());
 const core = await coreOfPage();
 const names = readdirSync(folder).filter((name) => name.endsWith('.pram')).sort();
 for (const name of names) testProgram(core, name.replace(/\.pram$/, ''));

@@ -17,7 +17,7 @@ use Rattle.pram_commands.specs.Inputs.{Reading, Taking}
 use Rattle.pram_commands.specs.Line.{command_of}
 use Rattle.pram_commands.specs.Served.{Served}
 use Rattle.pram_commands.specs.declared.fault.CommandFault.{CommandFault}
-use Rattle.pram_commands.specs.declared.fault.CommandFault.TheVariants.{Text, Plan, OutsideCell}
+use Rattle.pram_commands.specs.declared.fault.CommandFault.TheVariants.{Text, Plan, OutsideCell, OutsideStep}
 use Rattle.pram_commands.specs.declared.fault.CommandFault.TheVariants.{JobDevice, PlanDevice}
 use Rattle.pram_commands.specs.declared.fault.CommandFault.TheVariants.{OutDevice, JobTooLarge}
 use Rattle.pram_commands.specs.declared.fault.CommandFault.TheVariants.{PlanTooLarge, Memory}
@@ -42,6 +42,8 @@ fault-status (Text line kind) =
 fault-status (Plan row kind) =
     record { least = omega arith; most = omega arith; other = λ e. omega (arith, e) }
 fault-status (OutsideCell cell) =
+    record { least = omega arith; most = omega arith; other = λ e. omega (arith, e) }
+fault-status (OutsideStep step) =
     record { least = omega arith; most = omega arith; other = λ e. omega (arith, e) }
 fault-status JobDevice =
     record { least = omega arith; most = omega arith; other = λ e. omega (arith, e) }
@@ -110,6 +112,7 @@ wrote-none command r w Memory two wrote = absurd (omega (arith, two))
 wrote-none command r w (Text number kind) two wrote = wrote
 wrote-none command r w (Plan row kind) two wrote = wrote
 wrote-none command r w (OutsideCell cell) two wrote = wrote
+wrote-none command r w (OutsideStep step) two wrote = wrote
 wrote-none command r w JobDevice two wrote = wrote
 wrote-none command r w PlanDevice two wrote = wrote
 wrote-none command r w JobTooLarge two wrote = wrote
@@ -122,6 +125,7 @@ wrote-some command r w Memory wrote = elim wrote [ inl none ↦ inl none | inr s
 wrote-some command r w (Text number kind) wrote = inl wrote
 wrote-some command r w (Plan row kind) wrote = inl wrote
 wrote-some command r w (OutsideCell cell) wrote = inl wrote
+wrote-some command r w (OutsideStep step) wrote = inl wrote
 wrote-some command r w JobDevice wrote = inl wrote
 wrote-some command r w PlanDevice wrote = inl wrote
 wrote-some command r w JobTooLarge wrote = inl wrote

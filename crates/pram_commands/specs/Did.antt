@@ -12,9 +12,11 @@ use Rattle.pram_streams.specs.declared.transfer.TheConstants.{MOST}
 use Rattle.stop_plan.specs.Plan.{PlanData}
 use Rattle.pram_commands.specs.Inputs.{GivesFault, GivesJob, GivesPlan, GivesPlanFault}
 use Rattle.pram_commands.specs.Inputs.{GivesSomeJob, IsOfJob, Reading, Taking, first_outside}
+use Rattle.pram_commands.specs.Inputs.{missing_step}
 use Rattle.pram_commands.specs.declared.fault.CommandFault.{CommandFault}
 use Rattle.pram_commands.specs.declared.fault.CommandFault.TheVariants.{Text, Plan}
 use Rattle.pram_commands.specs.declared.fault.CommandFault.TheVariants.{OutsideCell, JobDevice}
+use Rattle.pram_commands.specs.declared.fault.CommandFault.TheVariants.{OutsideStep}
 use Rattle.pram_commands.specs.declared.fault.CommandFault.TheVariants.{PlanDevice, OutDevice}
 use Rattle.pram_commands.specs.declared.fault.CommandFault.TheVariants.{JobTooLarge, PlanTooLarge}
 use Rattle.pram_commands.specs.declared.fault.CommandFault.TheVariants.{Memory}
@@ -36,12 +38,13 @@ writing of_out before after = record {
 }
 
 -- What a command is: the workers of the plan that it follows, if it follows one; the cells that the
--- job has to have; whether it prints in pieces, so that a beginning may stand printed where memory
--- runs out; and what it comes to: on this job and this plan it prints these bytes, and this is the
--- answer, if it gives one.
+-- job has to have; the first step that it shows, which the job has to have, or 1; whether it prints
+-- in pieces, so that a beginning may stand printed where memory runs out; and what it comes to: on
+-- this job and this plan it prints these bytes, and this is the answer, if it gives one.
 pub record Command : Type 1 where
   pub workers : Option ℕ
   pub cells : List ℕ
+  pub first : ℕ
   pub InPieces : Type 0
   pub Comes : JobData → PlanData → List ℕ → Option RunAnswer → Type 0
 
@@ -115,6 +118,13 @@ pub record GivesOutside (command : Command) (reads : Reading) (cell : ℕ) : Typ
   pub given : Given command reads job plan
   pub outside : first_outside job command.cells ≡ Some cell
 
+-- The sources gave a job, and it does not have the first step that the command shows.
+pub record GivesNoStep (command : Command) (reads : Reading) (step : ℕ) : Type 0 where
+  pub job : JobData
+  pub plan : PlanData
+  pub given : Given command reads job plan
+  pub missing : missing_step job command.first ≡ Some step
+
 -- What a fault says.
 abbrev pub Explains : Command → Reading → Writing → CommandFault → Type 0
 Explains command reads writes (Text line kind) = GivesFault reads.job reads.job' line kind
@@ -122,6 +132,7 @@ Explains command reads writes (Plan row kind) =
     AfterJob command.workers reads
     (λ workers. GivesPlanFault reads.plan reads.plan' workers row kind)
 Explains command reads writes (OutsideCell cell) = GivesOutside command reads cell
+Explains command reads writes (OutsideStep step) = GivesNoStep command reads step
 Explains command reads writes JobDevice = IsTrue reads.job_failed
 Explains command reads writes PlanDevice =
     AfterJob command.workers reads (λ _. IsTrue reads.plan_failed)

@@ -7,6 +7,7 @@ use Rattle.pram_streams.specs.declared.transfer.TakeFault.TheVariants as take
 use Rattle.pram_commands.specs.declared.fault.CommandFault.{CommandFault}
 use Rattle.pram_commands.specs.declared.fault.CommandFault.TheVariants.{Text, Plan}
 use Rattle.pram_commands.specs.declared.fault.CommandFault.TheVariants.{OutsideCell, JobDevice}
+use Rattle.pram_commands.specs.declared.fault.CommandFault.TheVariants.{OutsideStep}
 use Rattle.pram_commands.specs.declared.fault.CommandFault.TheVariants.{PlanDevice, OutDevice}
 use Rattle.pram_commands.specs.declared.fault.CommandFault.TheVariants.{JobTooLarge, PlanTooLarge}
 use Rattle.pram_commands.specs.declared.fault.CommandFault.TheVariants.{Memory}
@@ -34,6 +35,7 @@ abbrev pub fault_status : CommandFault → ℕ
 fault_status (Text line kind) = REFUSED
 fault_status (Plan row kind) = REFUSED
 fault_status (OutsideCell cell) = REFUSED
+fault_status (OutsideStep step) = REFUSED
 fault_status JobDevice = FAILED
 fault_status PlanDevice = FAILED
 fault_status OutDevice = FAILED

@@ -1,6 +1,7 @@
 -- What reading a job and a plan says of their sources, by their bytes before and after.
 use Rattle.std.specs.Prelude.{◌≡◌, ◌≢◌, ◌↔◌, ℕ, Bool, false, List, Option, Result, ⊤}
-use Rattle.std.specs.Prelude.{IfOk, IfErr, IsErrOf, IsTrue, find, nat_le}
+use Rattle.std.specs.Prelude.{IfOk, IfErr, IsErrOf, IsTrue, find, nat_le, nat_lt, ◌&&◌}
+use Rattle.std.specs.Prelude.{if◌then◌else◌, None, Some}
 use Rattle.pram_text.specs.Job.{JobData}
 use Rattle.pram_text.specs.Text.{Bears, Spells}
 use Rattle.pram_text.specs.declared.fault.TextKind.{TextKind}
@@ -148,3 +149,7 @@ pub record Took (workers : ℕ) (taken : Taking) (result : Result Inputs Command
 -- The first of the cells that the job does not have.
 abbrev pub first_outside : JobData → List ℕ → Option ℕ
 first_outside job cells = find (λ cell. nat_le job.cells cell) cells
+
+-- The step, if the job does not have it. Step 1 is never missed, also where the job has no step.
+abbrev pub missing_step : JobData → ℕ → Option ℕ
+missing_step job step = if nat_lt 1 step && nat_lt job.steps step then Some step else None

@@ -16,6 +16,7 @@ abbrev pub on_job : (JobData → List ℕ → Option RunAnswer → Type 0) → C
 on_job Comes = record {
   workers = None;
   cells = [];
+  first = 1;
   InPieces = ⊥;
   Comes = λ job plan. Comes job;
 }

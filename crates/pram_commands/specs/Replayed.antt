@@ -10,6 +10,7 @@ abbrev pub replaying : ℕ → Command
 replaying workers = record {
   workers = Some workers;
   cells = [];
+  first = 1;
   InPieces = ⊤;
   Comes = λ job plan. Answering (λ answer front. (trace : List TraceRow)
       × IsReplay job plan answer trace × (front ≡ trace_text trace)) job;

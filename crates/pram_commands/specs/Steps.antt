@@ -6,11 +6,12 @@ use Rattle.pram_rows.specs.Shown.{last_step}
 use Rattle.pram_rows.specs.declared.window.Window.{Window}
 use Rattle.pram_commands.specs.Did.{Answering, Command}
 
--- it prints the rows of the window, and then the answer of the job
+-- it prints the rows of the window, which begins with a step of the job, and then the answer
 abbrev pub stepping : Window → Command
 stepping window = record {
   workers = None;
   cells = [];
+  first = window.from;
   InPieces = ⊤;
   Comes = λ job plan. Answering (λ answer front. IsAnswer job answer
       × (front ≡ rows_text job window.from window.to (last_step job answer))) job;

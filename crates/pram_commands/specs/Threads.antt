@@ -49,6 +49,7 @@ abbrev pub running : ℕ → Command
 running workers = record {
   workers = Some workers;
   cells = [];
+  first = 1;
   InPieces = ⊥;
   Comes = λ job plan. Answering (λ answer front. IsEnd job plan answer × (front ≡ [])) job;
 }
@@ -99,6 +100,7 @@ abbrev pub watching : ℕ → List ℕ → ℕ → Command
 watching workers cells rounds = record {
   workers = Some workers;
   cells = cells;
+  first = 1;
   InPieces = ⊤;
   Comes = λ job plan. Answering (TellsSights job plan cells rounds) job;
 }

@@ -15,6 +15,8 @@ pub enum CommandFault {
     Plan { row: u64, kind: PlanKind },
     /// The job has no such cell, which is the first of its kind that a watch names.
     OutsideCell { cell: u32 },
+    /// The job has no such step, with which the window of a `steps` begins.
+    OutsideStep { step: u32 },
     /// The job's source failed.
     JobDevice,
     /// The plan's source failed.

@@ -5,6 +5,7 @@
 mod block;
 mod cell_list;
 mod commands;
+mod explanation;
 mod fault;
 mod files;
 mod inputs;
@@ -12,6 +13,7 @@ mod line;
 mod printing;
 mod progress;
 mod refusal;
+mod sentences;
 mod server;
 mod sources;
 #[cfg(test)]
@@ -26,6 +28,7 @@ pub use fault::CommandFault;
 pub use files::{Folder, serve_files};
 pub use inputs::{take_inputs, take_job, take_plan};
 pub use line::Line;
+pub use progress::Telling;
 pub use refusal::{CONFLICT, DONE, FAILED, MEMORY, REFUSED, Refusal, UNFINISHED, tell};
 pub use server::{serve, serve_alone};
 pub use sources::{Console, Inputs, Sources};

@@ -1,5 +1,5 @@
 //! How far a board is, told beside its workers.
-ghost use Rattle.std.specs.Prelude.{◌≡◌, Some};
+ghost use Rattle.std.specs.Prelude.{◌≡◌, ◌++◌, Some, codes};
 ghost use Rattle.pram_commands.specs.Progress.{TellsProgress, progress_text};
 
 use pram_board::{Board, Seat};
@@ -14,6 +14,20 @@ const NAP: u64 = 10;
 
 /// How many sleeps lie between two looks at the board.
 const NAPS: u64 = 25;
+
+/// How many sleeps the end of a run waits for a line to be wiped.
+const WAITS: u64 = 20;
+
+/// How standard error is told how far the workers are.
+#[derive(Clone, Copy, Debug, PartialEq, Eq)]
+pub enum Telling {
+    /// Not at all.
+    Silent,
+    /// By one line after the other.
+    Lines,
+    /// By one line, which is written anew each time, and wiped at the end.
+    OneLine,
+}
 
 /// How far a board is, as standard error tells it.
 #[derive(Clone, Copy, Debug, PartialEq, Eq)]
@@ -30,35 +44,67 @@ impl fmt::Display for ProgressLine {
     }
 }
 
-/// Who tells how far a board of a job of so many steps is. One that is not wanted is silent.
+/// The same line over the one before it.
+#[derive(Clone, Copy, Debug, PartialEq, Eq)]
+struct Rewritten(ProgressLine);
+
+impl fmt::Display for Rewritten {
+    ghost output = { λ line. Some (codes "\r" ++ progress_text line.0) };
+
+    fn fmt<W: fmt::Write>(&self, f: &mut fmt::Formatter<W>) -> fmt::Result {
+        write!(f, "\r{}", self.0)
+    }
+}
+
+/// Wipes the line that the cursor is in.
+const WIPE: &str = "\r\x1b[K";
+
+/// Who tells how far a board of a job of so many steps is.
 #[derive(Drop)]
 pub(crate) struct Teller {
-    pub wanted: bool,
+    pub telling: Telling,
     pub steps: u32,
     done: AtomicBool,
+    wiped: AtomicBool,
 }
 
 impl Teller {
-    pub fn new(wanted: bool, steps: u32) -> Teller
-        ensures wanted { result.wanted ≡ wanted }
+    pub fn new(telling: Telling, steps: u32) -> Teller
+        ensures telling { result.telling ≡ telling }
         ensures steps { result.steps ≡ steps }
     {
         Teller {
-            wanted,
+            telling,
             steps,
             done: AtomicBool::new(false),
+            wiped: AtomicBool::new(false),
         }
     }
 
     /// The work is done, and there is no more to tell.
-    pub fn end(&self) {
+    pub fn stop(&self) {
         self.done.store(true, Ordering::SeqCst);
+    }
+
+    /// The same, before an answer is printed: a line that is rewritten has to be wiped first. It
+    /// waits for that a fifth of a second at most, since standard error may be held up.
+    pub fn end<R: Clock>(&self, rt: &R) {
+        self.stop();
+        if self.telling != Telling::OneLine {
+            return;
+        }
+        for _ in 0..WAITS {
+            if self.wiped.load(Ordering::SeqCst) {
+                return;
+            }
+            thread::sleep(rt, Duration::from_millis(NAP));
+        }
     }
 }
 
 /// Starts a thread of the scope that tells on standard error how far the board is, until the work
-/// is done; a teller that is not wanted starts none, and one whose thread is refused tells nothing.
-/// It asks about four times a second, and tells each step once.
+/// is done; a silent teller starts none, and one whose thread is refused tells nothing. It asks
+/// about four times a second, and tells each step once.
 pub(crate) fn start_teller<'s, E, R: Clock + Eprint + Sync>(
     scope: &Scope<'s, E>,
     rt: &'s R,
@@ -70,7 +116,7 @@ pub(crate) fn start_teller<'s, E, R: Clock + Eprint + Sync>(
     requires steps { teller.now.steps ≡ board.now.task.job.steps }
     ensures { result ≡ seat }
 {
-    if !teller.wanted {
+    if teller.telling == Telling::Silent {
         return seat;
     }
     let (seat, theirs) = board.split(seat);
@@ -78,7 +124,9 @@ pub(crate) fn start_teller<'s, E, R: Clock + Eprint + Sync>(
         requires seat { theirs.desk ≡ board.now }
         requires steps { teller.now.steps ≡ board.now.task.job.steps }
     { tell_steps(rt, board, theirs, teller) };
-    let _ = scope.spawn(tell);
+    if scope.spawn(tell).is_err() {
+        teller.wiped.store(true, Ordering::SeqCst);
+    }
     seat
 }
 
@@ -90,16 +138,31 @@ pub(crate) fn tell_steps<R: Clock + Eprint>(rt: &R, board: &Board, mut seat: Sea
     let mut told = None;
     for nap in 0..u64::MAX {
         if teller.done.load(Ordering::SeqCst) {
+            wipe(rt, teller);
             return;
         }
         if nap % NAPS == 0 {
             let line = progress_line(board, &mut seat, teller.steps);
             if told != Some(line) {
-                let _ = rt.eprintln(line);
+                tell_line(rt, teller.telling, line);
                 told = Some(line);
             }
         }
         thread::sleep(rt, Duration::from_millis(NAP));
+    }
+}
+
+fn tell_line<R: Eprint>(rt: &R, telling: Telling, line: ProgressLine) {
+    let _ = match telling {
+        Telling::OneLine => rt.eprint(Rewritten(line)),
+        Telling::Silent | Telling::Lines => rt.eprintln(line),
+    };
+}
+
+fn wipe<R: Eprint>(rt: &R, teller: &Teller) {
+    if teller.telling == Telling::OneLine {
+        let _ = rt.eprint(WIPE);
+        teller.wiped.store(true, Ordering::SeqCst);
     }
 }
 

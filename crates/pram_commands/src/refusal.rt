@@ -1,5 +1,5 @@
 //! The exit statuses, and what standard error tells of a line that was not done.
-ghost use Rattle.std.specs.Prelude.{◌≡◌, ◌≢◌, ◌⊎◌, codes, false};
+ghost use Rattle.std.specs.Prelude.{◌≡◌, ◌≢◌, ◌⊎◌, codes, false, true};
 ghost use Rattle.std.specs.Io.KnownBytes.{Appends};
 ghost use Rattle.pram_commands.specs.Inner.Refusals.{TakesTold, refusal_status, refusal_text};
 
@@ -15,7 +15,7 @@ pub const DONE: u8 = 0;
 /// The job ended in a conflict.
 pub const CONFLICT: u8 = 1;
 
-/// The job, its plan, or a cell to be watched is refused.
+/// The job, its plan, a cell to be watched, or a step to be shown is refused.
 pub const REFUSED: u8 = 2;
 
 /// The workers stopped before the job's end.
@@ -39,6 +39,8 @@ pub enum Refusal<'a> {
     Plan { row: u64, kind: PlanKind },
     /// The job has no such cell.
     Cell(u32),
+    /// The job has no such step.
+    Step(u32),
     /// The file failed.
     File(&'a str),
     /// The output failed.
@@ -56,7 +58,8 @@ impl Refusal<'_> {
         ensures { result ≡ refusal_status self.entry }
     {
         match self {
-            Refusal::Text { .. } | Refusal::Plan { .. } | Refusal::Cell(_) => REFUSED,
+            Refusal::Text { .. } | Refusal::Plan { .. } => REFUSED,
+            Refusal::Cell(_) | Refusal::Step(_) => REFUSED,
             Refusal::Memory => MEMORY,
             Refusal::File(_) | Refusal::Output | Refusal::Size(_) | Refusal::Word => FAILED,
         }
@@ -71,6 +74,7 @@ impl fmt::Display for Refusal<'_> {
             Refusal::Text { line, kind } => writeln!(f, "text line={line} kind={kind:?}"),
             Refusal::Plan { row, kind } => writeln!(f, "plan row={row} kind={kind:?}"),
             Refusal::Cell(cell) => writeln!(f, "watch cell={cell}"),
+            Refusal::Step(step) => writeln!(f, "steps step={step}"),
             Refusal::File(name) => writeln!(f, "file {name}"),
             Refusal::Output => writeln!(f, "file -"),
             Refusal::Size(name) => writeln!(f, "size {name}"),
@@ -91,14 +95,27 @@ pub fn tell<E: Sink>(alloc: Global, refusal: Refusal<'_>, err: &mut E) -> u8
     ensures memory { E.has_failed err.new ≡ false → result ≡ MEMORY
         → Appends (E.taken err.old) (E.taken err.new) (codes "memory\n") }
 {
+    tell_first(alloc, refusal, err).0
+}
+
+/// The same, and whether standard error takes more.
+pub(crate) fn tell_first<E: Sink>(alloc: Global, refusal: Refusal<'_>, err: &mut E) -> (u8, bool)
+    requires { E.has_failed err.old ≡ false }
+    ensures status { (result.0 ≡ MEMORY) ⊎ (result.0 ≡ refusal_status refusal.entry) }
+    ensures told { E.has_failed err.new ≡ false → result.0 ≢ MEMORY
+        → TakesTold refusal.entry (E.taken err.old) (E.taken err.new) }
+    ensures memory { E.has_failed err.new ≡ false → result.0 ≡ MEMORY
+        → Appends (E.taken err.old) (E.taken err.new) (codes "memory\n") }
+    ensures takes { result.1 ≡ true → E.has_failed err.new ≡ false }
+{
     match format!(in alloc; "{refusal}") {
         Ok(text) => {
-            let _ = put(err, text.as_bytes());
-            refusal.status()
+            let put = put(err, text.as_bytes());
+            (refusal.status(), put.is_ok())
         }
         Err(AllocError) => {
-            let _ = put(err, MEMORY_LINE.as_bytes());
-            MEMORY
+            let put = put(err, MEMORY_LINE.as_bytes());
+            (MEMORY, put.is_ok())
         }
     }
 }

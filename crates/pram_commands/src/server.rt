@@ -3,15 +3,17 @@ ghost use Rattle.std.specs.Prelude.{◌≡◌, ◌⊎◌, false, IfOk, IfErr};
 ghost use Rattle.pram_commands.specs.Did.{writing};
 ghost use Rattle.pram_commands.specs.Faults.{fault_status};
 ghost use Rattle.pram_commands.specs.Inner.Refusals.{cell_at_fault, file_at_fault, refusal_status};
-ghost use Rattle.pram_commands.specs.Inner.Refusals.{told_cell, told_file};
+ghost use Rattle.pram_commands.specs.Inner.Refusals.{step_at_fault, told_cell, told_file};
+ghost use Rattle.pram_commands.specs.Inner.Refusals.{told_step};
 ghost use Rattle.pram_commands.specs.Inputs.{AreReady, reading};
 ghost use Rattle.pram_commands.specs.Line.{StartsNoThread};
 ghost use Rattle.pram_commands.specs.Served.{Served};
 
 use crate::commands::{do_alone, do_on_threads};
+use crate::explanation::{Explanation, Reasons, explain};
 use crate::fault::CommandFault;
 use crate::line::Line;
-use crate::refusal::{MEMORY, Refusal, tell};
+use crate::refusal::{MEMORY, Refusal, tell_first};
 use crate::sources::{Console, Sources};
 use pram_streams::{Sink, Source};
 use std::alloc::Global;
@@ -40,7 +42,7 @@ pub fn serve<R: Threads + Wait + Clock + Eprint + Sync, J: Source, P: Source, O:
         return serve_alone(alloc, line, sources, console);
     }
     let done = do_on_threads(rt, alloc, line, sources, &mut console.out);
-    status_after(alloc, line, done, &mut console.err)
+    status_after(alloc, line, done, reasons_of(sources), console)
 }
 
 /// Does what `serve` does for a line that starts no thread, and always returns.
@@ -57,24 +59,43 @@ pub fn serve_alone<J: Source, P: Source, O: Sink, E: Sink>(
         (writing O.Sink console.old.out console.new.out) result }
 {
     let done = do_alone(alloc, line, sources, &mut console.out);
-    status_after(alloc, line, done, &mut console.err)
+    status_after(alloc, line, done, reasons_of(sources), console)
+}
+
+fn reasons_of<J: Source, P: Source>(sources: &Sources<J, P>) -> Reasons {
+    Reasons {
+        job: sources.job.reason(),
+        plan: sources.plan.reason(),
+    }
 }
 
 // The status of what was done, or of its refusal, which is told.
-fn status_after<E: Sink>(
+fn status_after<O: Sink, E: Sink>(
     alloc: Global,
     line: &Line<'_>,
     done: Result<u8, CommandFault>,
-    err: &mut E,
+    reasons: Reasons,
+    console: &mut Console<O, E>,
 ) -> u8
-    requires { E.has_failed err.old ≡ false }
+    requires { E.has_failed console.old.err ≡ false }
     ensures done { IfOk done (λ status. result ≡ status) }
     ensures told { IfErr done (λ fault. (result ≡ MEMORY) ⊎ (result ≡ fault_status fault)) }
+    ensures out { console.new.out ≡ console.old.out }
 {
-    match done {
-        Ok(status) => status,
-        Err(fault) => tell(alloc, refusal_of(line, fault), err),
+    let fault = match done {
+        Ok(status) => return status,
+        Err(fault) => fault,
+    };
+    let (status, takes) = tell_first(alloc, refusal_of(line, fault), &mut console.err);
+    if takes && console.explains {
+        let explanation = Explanation {
+            line: *line,
+            fault,
+            reasons,
+        };
+        explain(alloc, &explanation, &mut console.err);
     }
+    status
 }
 
 // What is told of a fault of a line.
@@ -82,11 +103,13 @@ fn refusal_of<'a>(line: &Line<'a>, fault: CommandFault) -> Refusal<'a>
     ensures status { refusal_status result ≡ fault_status fault }
     ensures file { told_file result ≡ file_at_fault line.now fault }
     ensures cell { told_cell result ≡ cell_at_fault fault }
+    ensures step { told_step result ≡ step_at_fault fault }
 {
     match fault {
         CommandFault::Text { line, kind } => Refusal::Text { line, kind },
         CommandFault::Plan { row, kind } => Refusal::Plan { row, kind },
         CommandFault::OutsideCell { cell } => Refusal::Cell(cell),
+        CommandFault::OutsideStep { step } => Refusal::Step(step),
         CommandFault::JobDevice => Refusal::File(line.file()),
         CommandFault::PlanDevice => Refusal::File(line.plan().unwrap_or("")),
         CommandFault::OutDevice => Refusal::Output,

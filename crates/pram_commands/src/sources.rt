@@ -20,9 +20,12 @@ pub struct Inputs {
     pub ghost most: { plan.workers ≤ 64 },
 }
 
-/// The output, and standard error.
+/// The output, and standard error: whether that is a terminal, and whether it is told a sentence
+/// after each refusal.
 #[derive(Drop)]
 pub struct Console<O, E> {
     pub out: O,
     pub err: E,
+    pub is_terminal: bool,
+    pub explains: bool,
 }

@@ -1,6 +1,7 @@
 //! Tests of what no clause says.
 mod answers;
 mod costs;
+mod explanations;
 mod failing;
 mod gallery;
 mod inputs;

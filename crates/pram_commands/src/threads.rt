@@ -7,7 +7,7 @@ ghost use Rattle.pram_commands.specs.Inner.Hearing.{without_seat};
 ghost use Rattle.pram_commands.specs.Threads.{EndsAt, IsNewBoard, IsWatched, grain_by};
 
 use crate::block::Block;
-use crate::progress::{Teller, start_teller};
+use crate::progress::{Teller, Telling, start_teller};
 use crate::sources::Inputs;
 use crate::workers::Workers;
 use pram_board::{Board, Seat};
@@ -21,13 +21,13 @@ use std::thread::{Scope, Threads};
 use std::time::Duration;
 use stop_plan::{Gate, Open, Paced};
 
-/// How a job goes on threads: with so many workers; whether standard error is told how far they
+/// How a job goes on threads: with so many workers; how standard error is told how far they
 /// are; the pause before each tick of a worker, in microseconds, where there is one, since else
 /// they do not wait; and the board's block, where the board is not to choose it.
 #[derive(Clone, Copy, Debug, PartialEq, Eq)]
 pub struct Manner {
     pub workers: Workers,
-    pub progress: bool,
+    pub progress: Telling,
     pub pace: Option<u32>,
     pub block: Option<Block>,
 }
@@ -192,19 +192,24 @@ fn run_on<
 {
     let (assignment, teller) = (&errand.assignment, errand.teller);
     let seat = start_teller(scope, rt, assignment.board, seat, teller);
-    let listener = Hushing { teller, listener };
+    let listener = Hushing {
+        rt,
+        teller,
+        listener,
+    };
     let (seat, ended, heard) = run_heard(rt, errand.alloc, assignment, seat, listener);
     (with_seat(ended, seat), heard)
 }
 
 // A listener, before whose turn the teller has no more to tell.
 #[derive(Drop)]
-struct Hushing<'a, L> {
+struct Hushing<'a, R, L> {
+    rt: &'a R,
     teller: &'a Teller,
     listener: L,
 }
 
-impl<L: Listener> Listener for Hushing<'_, L> {
+impl<R: Clock, L: Listener> Listener for Hushing<'_, R, L> {
     type Heard = L::Heard;
 
     ghost can_hear = { λ hushing. L.can_hear hushing.listener };
@@ -212,8 +217,12 @@ impl<L: Listener> Listener for Hushing<'_, L> {
     ghost hears = { λ hushing ended heard. L.hears hushing.listener ended heard };
 
     fn hear(self, ended: &Result<RunAnswer, AllocError>) -> L::Heard {
-        let Hushing { teller, listener } = self;
-        teller.end();
+        let Hushing {
+            rt,
+            teller,
+            listener,
+        } = self;
+        teller.end(rt);
         listener.hear(ended)
     }
 }
@@ -318,7 +327,7 @@ fn watch_on<'s, E, R: Threads + Wait + Clock + Eprint + Sync, G: Gate + Sync>(
         rounds,
         gate,
     );
-    teller.end();
+    teller.end(rt);
     let (answer, sights) = done?;
     Ok((answer, sights, seat))
 }

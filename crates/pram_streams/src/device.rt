@@ -7,6 +7,19 @@ ghost use Rattle.std.specs.Io.KnownBytes.{ReadConsumes, WriteAppends};
 #[derive(Clone, Copy, Debug, PartialEq, Eq)]
 pub struct Failed;
 
+/// Why a source fails, as far as it knows.
+#[derive(Clone, Copy, Debug, PartialEq, Eq)]
+pub enum Reason {
+    /// There is no file of its name.
+    Missing,
+    /// It is a folder.
+    Folder,
+    /// This program has no permission to read it.
+    Denied,
+    /// Another reason, or none that is known.
+    Unknown,
+}
+
 /// Bytes that come in pieces.
 pub trait Source {
     // Whether a pull has failed so far.
@@ -21,6 +34,11 @@ pub trait Source {
         ensures bound { IfOk result (λ count. count ≤ length into.new) }
         ensures bytes { ReadConsumes (remaining self.old) (remaining self.new) result into.new }
         ensures failed { has_failed self.new ≡ (is_err result || has_failed self.old) };
+
+    /// Why a pull failed, if one has.
+    fn reason(&self) -> Reason {
+        Reason::Unknown
+    }
 }
 
 /// Takes bytes in pieces.

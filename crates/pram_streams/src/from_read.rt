@@ -2,7 +2,7 @@
 ghost use Rattle.std.specs.Prelude.{◌≡◌, ◌≤◌, false, length, IfOk};
 ghost use Rattle.std.specs.Io.KnownBytes.{ReadConsumes};
 
-use crate::device::{Failed, Source};
+use crate::device::{Failed, Reason, Source};
 use std::io::{ErrorKind, Read};
 
 /// A source over a reader. A read that a signal interrupted is made again.
@@ -10,6 +10,7 @@ use std::io::{ErrorKind, Read};
 pub struct FromRead<R: Read> {
     reader: R,
     has_failed: bool,
+    reason: Reason,
 }
 
 impl<R: Read> FromRead<R> {
@@ -20,6 +21,7 @@ impl<R: Read> FromRead<R> {
         FromRead {
             reader,
             has_failed: false,
+            reason: Reason::Unknown,
         }
     }
 }
@@ -30,14 +32,23 @@ impl<R: Read> Source for FromRead<R> {
     ghost remaining = { λ s. R.remaining s.reader };
 
     fn pull(&mut self, into: &mut [u8]) -> Result<usize, Failed> {
-        let answer = read_once(&mut self.reader, into);
-        self.has_failed |= answer.is_err();
-        answer
+        match read_once(&mut self.reader, into) {
+            Ok(count) => Ok(count),
+            Err(reason) => {
+                self.has_failed = true;
+                self.reason = reason;
+                Err(Failed)
+            }
+        }
+    }
+
+    fn reason(&self) -> Reason {
+        self.reason
     }
 }
 
 /// One read, made again where a signal interrupts it.
-fn read_once<R: Read>(reader: &mut R, into: &mut [u8]) -> Result<usize, Failed>
+fn read_once<R: Read>(reader: &mut R, into: &mut [u8]) -> Result<usize, Reason>
     ensures bound { IfOk result (λ count. count ≤ length into.new) }
     ensures bytes { ReadConsumes (R.remaining reader.old) (R.remaining reader.new) result into.new }
 {
@@ -46,10 +57,19 @@ fn read_once<R: Read>(reader: &mut R, into: &mut [u8]) -> Result<usize, Failed>
             Ok(count) => return Ok(count),
             Err(error) => {
                 if error.kind() != ErrorKind::Interrupted {
-                    return Err(Failed);
+                    return Err(reason_of(error.kind()));
                 }
             }
         }
     }
-    Err(Failed)
+    Err(Reason::Unknown)
+}
+
+fn reason_of(kind: ErrorKind) -> Reason {
+    match kind {
+        ErrorKind::NotFound => Reason::Missing,
+        ErrorKind::IsADirectory => Reason::Folder,
+        ErrorKind::PermissionDenied => Reason::Denied,
+        _ => Reason::Unknown,
+    }
 }

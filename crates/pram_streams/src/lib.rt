@@ -9,7 +9,7 @@ mod print;
 mod tests;
 mod transfer;
 
-pub use device::{Empty, Failed, Sink, Source};
+pub use device::{Empty, Failed, Reason, Sink, Source};
 pub use from_read::FromRead;
 pub use into_write::IntoWrite;
 pub use print::{PrintFault, print_answer, print_summary};

@@ -1,8 +1,12 @@
--- What matches say of a subcommand and of a number.
-use Rattle.std.proofs.Common.{◌≡◌, ℕ, Option, None, Some, option_map, refl}
+-- What matches say of a subcommand, of a number and of a flag.
+use Rattle.std.proofs.Common.{◌≡◌, ℕ, Bool, true, false, List, Option, None, Some, option_map, codes}
+use Rattle.std.proofs.Common.{refl, subst, sym}
 use Rattle.std.specs.Prelude.{IsSomeAnd}
 use Rattle.std.specs.Str.Parse.{digits_value, without_leading_plus}
-use Rattle.clap.specs.Words.{Text}
+use Rattle.clap.specs.Words.{Row, Text, found_of, one_of, one_text, rows_of}
+use Rattle.clap.specs.declared.parser.matches.Found.{Found}
+use Rattle.clap.proofs.WalkLemmas.{one_text-rows}
+use Rattle.pramx.specs.CommandLine.{IsFlag}
 
 abbrev pub both : {B X Y : Type 0} → (B → X) → (B → Y) → B → X × Y
 both f g b = (f b, g b)
@@ -23,3 +27,19 @@ pub number_of : (o : Option Text) (n : ℕ) → (o ≡ None → Some n ≡ None)
     → IsSomeAnd o (λ text. n ≡ digits_value 10 (without_leading_plus text))
 number_of None n none value = let bad : Some n ≡ None = none refl in cc
 number_of (Some text) n none value = value text refl
+
+-- a flag that was read
+pub flag_of : (f : Found) (name : Text) (flag : Bool) →
+    (one_text f name ≡ None → flag ≡ false) →
+    (one_text f name ≡ Some (codes "true") → flag ≡ true) →
+    (one_text f name ≡ Some (codes "false") → flag ≡ false) →
+    IsFlag (one_of name (rows_of f)) flag
+flag_of f name flag none value other =
+    rw (← one_text-rows f name) (record { set = value; unset = other; none = none })
+
+-- what a subcommand that was met has
+pub met_with : (P : Text → List Row → Type 0) (matches : Option (Text × List Row)) (name : Text)
+    (rows : List Row) → matches ≡ Some (name, rows) → P name rows →
+    IsSomeAnd matches (λ met. P met.0 met.1)
+met_with P matches name rows is holds =
+    subst (λ (o : Option (Text × List Row)). IsSomeAnd o (λ met. P met.0 met.1)) (sym is) holds

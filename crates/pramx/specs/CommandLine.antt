@@ -1,7 +1,7 @@
 -- The program's command, and what a line holds of the matches of its words.
-use Rattle.std.specs.Prelude.{◌≡◌, ◌≢◌, ◌≤◌, ◌⊎◌, ◌-◌, ◌^◌, MatchOption, ℕ, Bool, true, false, []}
+use Rattle.std.specs.Prelude.{◌≡◌, ◌≢◌, ◌<◌, ◌≤◌, ◌⊎◌, ◌-◌, ◌^◌, MatchOption, ℕ, Bool, true, false, []}
 use Rattle.std.specs.Prelude.{List, Option, Some, None, Result, IsErrAnd, IsSomeAnd, codes, pos}
-use Rattle.std.specs.Prelude.{option_map}
+use Rattle.std.specs.Prelude.{IfSome, option_map}
 use Rattle.std.specs.Str.Parse.{digits_value, without_leading_plus}
 use Rattle.clap.specs.Words.{App, FailsBy, IsAmong, Row, Rule, Text}
 use Rattle.clap.specs.Words.{fault_of, first_of, kind_of, new_app, new_rule}
@@ -13,11 +13,13 @@ use Rattle.clap.specs.declared.error.kind.ErrorKind.TheVariants.{OutOfMemory, Va
 use Rattle.clap.specs.declared.builder.value_parser.ValueParser.TheVariants.{Signed}
 use Rattle.pram_commands.specs.CellLists.{SpellsCells}
 use Rattle.pram_commands.specs.Line.{text_of}
+use Rattle.pram_commands.specs.Progress.{is_told}
 use Rattle.pram_commands.specs.declared.block.Block.{Block}
 use Rattle.pram_commands.specs.declared.threads.Manner.{Manner}
 use Rattle.pram_commands.specs.Threads.{IsGrain, size_of}
 use Rattle.pram_commands.specs.declared.refusal.TheConstants.{DONE, FAILED, MEMORY}
 use Rattle.pram_commands.specs.declared.line.Line.{Line}
+use Rattle.pramx.specs.declared.line.Asked.{Asked}
 use Rattle.pram_commands.specs.declared.line.Line.TheVariants.{Check, Plain, Cost, Steps}
 use Rattle.pram_commands.specs.declared.line.Line.TheVariants.{Run, Watch, Replay}
 
@@ -39,10 +41,11 @@ needed rule = record rule { required = true }
 abbrev pub flag_rule : Text → Rule
 flag_rule name = record (new_rule name) { long = Some name; action = Some SetTrue }
 
--- NAME FILE
+-- NAME FILE [--explain]
 abbrev pub on_file : Text → App
-on_file name = with_rule (new_app name)
-    (needed (record (new_rule (codes "file")) { value_names = 1; action = Some Set }))
+on_file name = with_rule (with_rule (new_app name)
+    (needed (record (new_rule (codes "file")) { value_names = 1; action = Some Set })))
+    (flag_rule (codes "explain"))
 
 -- steps FILE [--from A] [--to B]
 abbrev pub on_steps : App
@@ -148,7 +151,7 @@ IsBlockIfSet rows block =
 -- if it has one.
 pub record HasManner (rows : List Row) (manner : Manner) : Type 0 where
   pub has_workers : IsNumberOf (codes "workers") rows manner.workers.count
-  pub has_progress : IsFlag (one_of (codes "progress") rows) manner.progress
+  pub has_progress : IsFlag (one_of (codes "progress") rows) (is_told manner.progress)
   pub has_pace : IsNumberIfSet (codes "pace") rows manner.pace
   pub has_block : IsBlockIfSet rows manner.block
 
@@ -179,26 +182,39 @@ IsMet matches (Watch file plan manner cells rounds) =
 IsMet matches (Replay file workers plan) =
     HasWorkers matches (codes "replay") file.now workers.count (text_of plan)
 
--- A watch was met, and what stands for its cells names none.
-pub record HasBadCells (matches : Option (Text × List Row)) : Type 0 where
-  pub rows : List Row
+-- The line is what was met, and so is whether a refusal is to be explained.
+pub record IsAsked (matches : Option (Text × List Row)) (asked : Asked) : Type 0 where
+  pub line : IsMet matches asked.line
+  pub explain : IfSome matches (λ met. IsFlag (one_of (codes "explain") met.1) asked.explain)
+
+-- What stands for cells names none.
+pub record HasBadCells (rows : List Row) : Type 0 where
   pub cells : Text
-  pub met : matches ≡ Some (codes "watch", rows)
   pub has_cells : first_of (codes "cells") rows ≡ Some cells
   pub bad : ¬ SpellsCells cells
 
--- A subcommand was met, and the number of its block is no size of a block.
-pub record HasBadBlock (matches : Option (Text × List Row)) : Type 0 where
-  pub name : Text
-  pub rows : List Row
+-- The number of a block is no size of one.
+pub record HasBadBlock (rows : List Row) : Type 0 where
   pub size : ℕ
-  pub met : matches ≡ Some (name, rows)
   pub has_block : IsNumberOf (codes "block") rows size
   pub bad : ¬ IsGrain size
 
--- A watch was met without cells, or a block of no such size.
+-- The window of steps ends before it begins.
+pub record HasBadWindow (rows : List Row) : Type 0 where
+  pub from : ℕ
+  pub to : ℕ
+  pub has_from : IsNumberOr (codes "from") rows 1 from
+  pub has_to : IsNumberOr (codes "to") rows (2 ^ 32 - 1) to
+  pub empty : to < from
+
+-- A value of the subcommand of this name is bad.
+abbrev pub IsBadIn : Text → List Row → Type 0
+IsBadIn name rows = ((name ≡ codes "watch") × HasBadCells rows)
+    ⊎ (HasBadBlock rows ⊎ ((name ≡ codes "steps") × HasBadWindow rows))
+
+-- A subcommand was met with a bad value.
 abbrev pub HasBadValue : Option (Text × List Row) → Type 0
-HasBadValue matches = HasBadCells matches ⊎ HasBadBlock matches
+HasBadValue matches = IsSomeAnd matches (λ met. IsBadIn met.0 met.1)
 
 -- The command does not take the words, or one of their values is bad.
 abbrev pub AreRefused : List Text → Type 0

@@ -3,16 +3,18 @@ ghost use Rattle.std.specs.Prelude.{◌≡◌, ◌≢◌, ◌-◌, ◌^◌, Some
 ghost use Rattle.std.specs.Prelude.{false, map, IfOk, IfErr, IfSome};
 ghost use Rattle.clap.specs.Words.{app_of, first_of, found_of, kind_of};
 ghost use Rattle.clap.specs.Words.{rows_of, rule_of, subcommand_of, subcommand_rows_of};
+ghost use Rattle.pram_commands.specs.Progress.{is_told};
 ghost use Rattle.pramx.specs.CommandLine.{AreRefused, FailsByWords, HasBadBlock, HasBadCells};
-ghost use Rattle.pramx.specs.CommandLine.{HasManner, IsBlockIfSet, IsMet, IsNumberIfSet, IsNumberOf};
-ghost use Rattle.pramx.specs.CommandLine.{IsNumberOr, pramx};
+ghost use Rattle.pramx.specs.CommandLine.{HasBadValue, HasBadWindow, IsAsked};
+ghost use Rattle.pramx.specs.CommandLine.{HasManner, IsBlockIfSet, IsMet, IsNumberIfSet};
+ghost use Rattle.pramx.specs.CommandLine.{IsNumberOf, IsNumberOr, flag_rule, pramx};
 ghost use Rattle.pramx.specs.CommandLine.{needed, on_file, on_machine, on_run, on_steps, on_watch};
 ghost use Rattle.pramx.specs.CommandLine.{option_rule, with_manner, with_progress, with_workers};
 
 use clap::builder::ValueParser;
 use clap::error::ErrorKind;
 use clap::{Arg, ArgAction, ArgMatches, Command, Error, value_parser};
-use pram_commands::{Block, CellList, Line, Manner, Workers};
+use pram_commands::{Block, CellList, Line, Manner, Telling, Workers};
 use std::alloc::{AllocError, Global};
 
 const EXAMPLES: &str = "\
@@ -35,41 +37,103 @@ const MOST_ROUNDS: i64 = 1_000_000;
 /// The longest pause of a pace, in microseconds.
 const MOST_PACE: i64 = 1_000_000;
 
-/// The line that the words make, of which the first is the program's name. A call for help or for
-/// the version is an error too, as `clap` has it.
-pub fn read_line<'a>(alloc: Global, words: &'a [&'a str]) -> Result<Line<'a>, Error>
+/// What the words ask: a line, and whether a refusal is to be explained.
+#[derive(Clone, Copy, Debug, PartialEq, Eq)]
+pub struct Asked<'a> {
+    pub line: Line<'a>,
+    pub explain: bool,
+}
+
+/// What the words ask, of which the first is the program's name, where standard error is a terminal
+/// or not. A call for help or for the version is an error too, as `clap` has it.
+pub fn read_line<'a>(
+    alloc: Global,
+    words: &'a [&'a str],
+    on_terminal: bool,
+) -> Result<Asked<'a>, Error>
     ensures met { IfOk result
-        (IsMet (subcommand_of pramx (map (λ word. word.now) words.entry.now))) }
+        (IsAsked (subcommand_of pramx (map (λ word. word.now) words.entry.now))) }
     ensures refused { IfErr result (λ error. kind_of error ≢ ErrorKind.OutOfMemory
         → AreRefused (map (λ word. word.now) words.entry.now)) }
     ensures kinds { FailsByWords (map (λ word. word.now) words.entry.now) result }
 {
     let matches = command(alloc)?.try_get_matches_from(words)?;
-    if let Some(text) = bad_cells(&matches) {
-        return Err(cells_error(alloc, text)?);
+    if let Some(bad) = bad_value(&matches) {
+        return Err(value_error(alloc, bad)?);
     }
-    if let Some((name, text)) = bad_block(&matches) {
-        return Err(block_error(alloc, name, text)?);
-    }
-    match line_of(&matches) {
-        Some(line) => Ok(line),
+    match asked_of(&matches, on_terminal) {
+        Some(asked) => Ok(asked),
         None => Err(Error::from(AllocError)),
     }
 }
 
-// What stands for cells and names none, if the words are those of a watch.
-fn bad_cells<'a>(matches: &ArgMatches<'a>) -> Option<&'a str>
-    ensures { IfSome result (λ text. HasBadCells (subcommand_rows_of matches.now)) }
+/// A value that the command takes, and that makes no line.
+#[derive(Clone, Copy, Debug, PartialEq, Eq)]
+enum BadValue<'a> {
+    /// This stands for the cells of a watch, and names none.
+    Cells(&'a str),
+    /// This stands for the block of a run or of a watch, and is no size of one.
+    Block { watches: bool, text: &'a str },
+    /// The window of steps ends before it begins.
+    Window { from: u32, to: u32 },
+}
+
+// The first value that makes no line, if there is one.
+fn bad_value<'a>(matches: &ArgMatches<'a>) -> Option<BadValue<'a>>
+    ensures { IfSome result (λ bad. HasBadValue (subcommand_rows_of matches.now)) }
 {
     let (name, inner) = matches.subcommand()?;
-    let text = inner.get_str("cells")?;
     match name {
-        "watch" => {}
-        _ => return None,
+        "steps" => bad_window(inner),
+        "run" => bad_block(inner, false),
+        "watch" => match bad_cells(inner) {
+            Some(text) => Some(BadValue::Cells(text)),
+            None => bad_block(inner, true),
+        },
+        _ => None,
     }
+}
+
+fn bad_cells<'a>(inner: &ArgMatches<'a>) -> Option<&'a str>
+    ensures { IfSome result (λ text. HasBadCells (rows_of (found_of inner.now))) }
+{
+    let text = inner.get_str("cells")?;
     match CellList::read(text) {
         Some(_) => None,
         None => Some(text),
+    }
+}
+
+fn bad_block<'a>(inner: &ArgMatches<'a>, watches: bool) -> Option<BadValue<'a>>
+    ensures { IfSome result (λ bad. HasBadBlock (rows_of (found_of inner.now))) }
+{
+    let text = inner.get_str("block")?;
+    let size = inner.get_one::<u32>("block")?;
+    match Block::of(size) {
+        Some(_) => None,
+        None => Some(BadValue::Block { watches, text }),
+    }
+}
+
+fn bad_window(inner: &ArgMatches<'_>) -> Option<BadValue<'static>>
+    ensures { IfSome result (λ bad. HasBadWindow (rows_of (found_of inner.now))) }
+{
+    let (from, to) = window_of(inner)?;
+    if to < from {
+        Some(BadValue::Window { from, to })
+    } else {
+        None
+    }
+}
+
+// What is told of such a value.
+fn value_error(alloc: Global, bad: BadValue<'_>) -> Result<Error, AllocError>
+    ensures { IfOk result (λ error. kind_of error ≡ ErrorKind.ValueValidation) }
+{
+    match bad {
+        BadValue::Cells(text) => cells_error(alloc, text),
+        BadValue::Block { watches, text } => block_error(alloc, watches, text),
+        BadValue::Window { from, to } => window_error(alloc, from, to),
     }
 }
 
@@ -80,37 +144,35 @@ fn cells_error(alloc: Global, text: &str) -> Result<Error, AllocError>
         "invalid value '{text}' for '--cells <C,C,..>': cells are numbers with commas between"
     )?;
     let command = watch_command(alloc)?.bin_name("pramx watch")?;
-    value_error(command, message.as_str())
+    refused(command, message.as_str())
 }
 
-// The name of what has a block, and what stands for it, if that is no size of a block.
-fn bad_block<'a>(matches: &ArgMatches<'a>) -> Option<(&'a str, &'a str)>
-    ensures { IfSome result (λ bad. HasBadBlock (subcommand_rows_of matches.now)) }
-{
-    let (name, inner) = matches.subcommand()?;
-    let text = inner.get_str("block")?;
-    let size = inner.get_one::<u32>("block")?;
-    match Block::of(size) {
-        Some(_) => None,
-        None => Some((name, text)),
-    }
-}
-
-fn block_error(alloc: Global, name: &str, text: &str) -> Result<Error, AllocError>
+fn block_error(alloc: Global, watches: bool, text: &str) -> Result<Error, AllocError>
     ensures { IfOk result (λ error. kind_of error ≡ ErrorKind.ValueValidation) }
 {
     let message = format!(in alloc;
         "invalid value '{text}' for '--block <G>': {text} is not a power of two"
     )?;
-    let command = match name {
-        "watch" => watch_command(alloc)?.bin_name("pramx watch")?,
-        _ => run_command(alloc)?.bin_name("pramx run")?,
+    let command = if watches {
+        watch_command(alloc)?.bin_name("pramx watch")?
+    } else {
+        run_command(alloc)?.bin_name("pramx run")?
     };
-    value_error(command, message.as_str())
+    refused(command, message.as_str())
 }
 
-// What is told of a value that the command takes and the line does not.
-fn value_error(mut command: Command<'_>, message: &str) -> Result<Error, AllocError>
+fn window_error(alloc: Global, from: u32, to: u32) -> Result<Error, AllocError>
+    ensures { IfOk result (λ error. kind_of error ≡ ErrorKind.ValueValidation) }
+{
+    let message = format!(in alloc;
+        "invalid value '{to}' for '--to <B>': there is no step from {from} to {to}"
+    )?;
+    let command = steps_command(alloc)?.bin_name("pramx steps")?;
+    refused(command, message.as_str())
+}
+
+// The error of a command with this message.
+fn refused(mut command: Command<'_>, message: &str) -> Result<Error, AllocError>
     ensures { IfOk result (λ error. kind_of error ≡ ErrorKind.ValueValidation) }
 {
     command.error(ErrorKind::ValueValidation, message)
@@ -167,7 +229,7 @@ fn steps_command<'a>(alloc: Global) -> Result<Command<'a>, AllocError>
         alloc,
         "from",
         "A",
-        "The first step to print, from 1; 1 if it is left out",
+        "The first step to print, which the job must have; 1 if it is left out",
     );
     let to = option(
         alloc,
@@ -232,10 +294,11 @@ fn with_manner<'a>(alloc: Global, command: Command<'a>) -> Result<Command<'a>, A
 fn with_progress<'a>(alloc: Global, command: Command<'a>) -> Result<Command<'a>, AllocError>
     ensures { IfOk result (λ made. app_of made ≡ with_progress (app_of command.entry)) }
 {
-    let progress = Arg::new(alloc, "progress")
-        .long("progress")
-        .help("Tell on standard error how far the workers are")
-        .action(ArgAction::SetTrue);
+    let progress = flag(
+        alloc,
+        "progress",
+        "Tell on standard error how far the workers are",
+    );
     let pace = option(
         alloc,
         "pace",
@@ -264,7 +327,7 @@ fn workers_command<'a>(
         alloc,
         "plan",
         "P",
-        "The plan that the workers follow, as CSV",
+        "The plan that the workers follow, as CSV; - is standard input",
     );
     file_command(alloc, name, about)?
         .arg(needed(numbered(workers, value_parser!(u32).range(1..=64))))?
@@ -276,9 +339,17 @@ fn file_command<'a>(alloc: Global, name: &'a str, about: &'a str) -> Result<Comm
 {
     let file = Arg::new(alloc, "file")
         .value_name("FILE")
-        .help("The text of the job")
+        .help("The text of the job; - is standard input")
         .action(ArgAction::Set);
-    Command::new(alloc, name).about(about).arg(needed(file))
+    let explain = flag(
+        alloc,
+        "explain",
+        "Explain a refusal in a sentence, as on a terminal",
+    );
+    Command::new(alloc, name)
+        .about(about)
+        .arg(needed(file))?
+        .arg(explain)
 }
 
 // An option with a value.
@@ -291,6 +362,17 @@ fn option<'a>(alloc: Global, name: &'a str, value: &'a str, help: &'a str) -> Ar
         .value_name(value)
         .help(help)
         .action(ArgAction::Set)
+}
+
+// An option without a value, that stands or does not.
+fn flag<'a>(alloc: Global, name: &'a str, help: &'a str) -> Arg<'a>
+    ensures rule { rule_of result ≡ flag_rule name.entry.now }
+    ensures local { result.global ≡ false }
+{
+    Arg::new(alloc, name)
+        .long(name)
+        .help(help)
+        .action(ArgAction::SetTrue)
 }
 
 // The same argument, whose value is a number within the bounds.
@@ -309,7 +391,18 @@ fn needed<'a>(arg: Arg<'a>) -> Arg<'a>
     arg.required(true)
 }
 
-fn line_of<'a>(matches: &ArgMatches<'a>) -> Option<Line<'a>>
+fn asked_of<'a>(matches: &ArgMatches<'a>, on_terminal: bool) -> Option<Asked<'a>>
+    ensures { IfSome result (IsAsked (subcommand_rows_of matches.now)) }
+{
+    let line = line_of(matches, on_terminal)?;
+    let (_, inner) = matches.subcommand()?;
+    Some(Asked {
+        line,
+        explain: inner.get_flag("explain"),
+    })
+}
+
+fn line_of<'a>(matches: &ArgMatches<'a>, on_terminal: bool) -> Option<Line<'a>>
     ensures { IfSome result (IsMet (subcommand_rows_of matches.now)) }
 {
     let (name, inner) = matches.subcommand()?;
@@ -324,11 +417,11 @@ fn line_of<'a>(matches: &ArgMatches<'a>) -> Option<Line<'a>>
             Some(Line::Steps { file, from, to })
         }
         "run" => {
-            let manner = manner_of(inner)?;
+            let manner = manner_of(inner, on_terminal)?;
             Some(Line::Run { file, plan, manner })
         }
         "watch" => {
-            let manner = manner_of(inner)?;
+            let manner = manner_of(inner, on_terminal)?;
             let (cells, rounds) = reads_of(inner)?;
             Some(Line::Watch {
                 file,
@@ -363,11 +456,12 @@ fn workers_of(inner: &ArgMatches<'_>) -> Option<Workers>
 }
 
 // How a run or a watch goes on threads.
-fn manner_of(inner: &ArgMatches<'_>) -> Option<Manner>
+fn manner_of(inner: &ArgMatches<'_>, on_terminal: bool) -> Option<Manner>
     ensures { IfSome result (HasManner (rows_of (found_of inner.now))) }
 {
     let workers = workers_of(inner)?;
-    let progress = inner.get_flag("progress");
+    let wanted = inner.get_flag("progress");
+    let progress = telling(wanted, on_terminal);
     let pace = number_if_set(inner, "pace")?;
     let block = block_if_set(inner)?;
     Some(Manner {
@@ -376,6 +470,17 @@ fn manner_of(inner: &ArgMatches<'_>) -> Option<Manner>
         pace,
         block,
     })
+}
+
+// How standard error is told how far a run or a watch is, where that is wanted.
+fn telling(wanted: bool, on_terminal: bool) -> Telling
+    ensures { is_told result ≡ wanted }
+{
+    match (wanted, on_terminal) {
+        (false, _) => Telling::Silent,
+        (true, false) => Telling::Lines,
+        (true, true) => Telling::OneLine,
+    }
 }
 
 // The steps of a window.

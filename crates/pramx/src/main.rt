@@ -21,18 +21,21 @@ use pram_commands::{Console, DONE, FAILED, Folder, MEMORY, Refusal, serve_files,
 use pram_streams::{IntoWrite, Sink, put};
 use std::alloc::{AllocError, Global};
 use std::env::{self, Env};
-use std::io;
+use std::io::{self, IsTerminal};
 use std::process::ExitCode;
 use std::rt::Clock;
 use std::sync::Wait;
 use std::thread::Threads;
 
 fn main(rt: HostRuntime) -> ExitCode {
+    let is_terminal = rt.stderr().is_terminal();
     let mut console = Console {
         out: IntoWrite::new(io::writer(&rt)),
         err: IntoWrite::new(rt.stderr()),
+        is_terminal,
+        explains: is_terminal,
     };
-    ExitCode::from(status(&rt, &RealFiles::new(&rt), &mut console))
+    ExitCode::from(status(&rt, &RealFiles::new(&rt, rt.stdin()), &mut console))
 }
 
 /// Does what the program's words ask, and answers the exit status.
@@ -84,8 +87,11 @@ fn answer_words<'a, R: Eprint + Threads + Wait + Clock + Sync, F: Folder, O: Sin
     ensures answers { AnswersWords (F.holds folder.now) (map (λ word. word.now) words.entry.now)
         (writing O.Sink console.old.out console.new.out) result }
 {
-    match read_line(alloc, words) {
-        Ok(line) => serve_files(rt, alloc, folder, &line, console),
+    match read_line(alloc, words, console.is_terminal) {
+        Ok(asked) => {
+            console.explains |= asked.explain;
+            serve_files(rt, alloc, folder, &asked.line, console)
+        }
         Err(error) => refusal_status(alloc, &error, console),
     }
 }

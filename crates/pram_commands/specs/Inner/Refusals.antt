@@ -13,6 +13,7 @@ abbrev pub refusal_status : Refusal → ℕ
 refusal_status (refusal.Text line kind) = REFUSED
 refusal_status (refusal.Plan row kind) = REFUSED
 refusal_status (refusal.Cell cell) = REFUSED
+refusal_status (refusal.Step step) = REFUSED
 refusal_status refusal.Memory = MEMORY
 refusal_status _ = FAILED
 
@@ -39,12 +40,22 @@ abbrev pub cell_at_fault : CommandFault → Option ℕ
 cell_at_fault (fault.OutsideCell cell) = Some cell
 cell_at_fault _ = None
 
+-- the same of a step
+abbrev pub told_step : Refusal → Option ℕ
+told_step (refusal.Step step) = Some step
+told_step _ = None
+
+abbrev pub step_at_fault : CommandFault → Option ℕ
+step_at_fault (fault.OutsideStep step) = Some step
+step_at_fault _ = None
+
 -- what standard error tells of a refusal; the kinds of a bad text print as they are derived, of
 -- which no clause speaks
 abbrev pub refusal_text : Refusal → Option (List ℕ)
 refusal_text (refusal.Text line kind) = None
 refusal_text (refusal.Plan row kind) = None
 refusal_text (refusal.Cell cell) = Some (codes "watch cell=" ++ decimal cell ++ codes "\n")
+refusal_text (refusal.Step step) = Some (codes "steps step=" ++ decimal step ++ codes "\n")
 refusal_text (refusal.File name) = Some (codes "file " ++ name.now ++ codes "\n")
 refusal_text refusal.Output = Some (codes "file -\n")
 refusal_text (refusal.Size name) = Some (codes "size " ++ name.now ++ codes "\n")

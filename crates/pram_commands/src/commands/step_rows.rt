@@ -2,7 +2,7 @@
 ghost use Rattle.std.specs.Prelude.{◌≡◌, false};
 ghost use Rattle.pram_commands.specs.Did.{Did, tells, writing};
 ghost use Rattle.pram_commands.specs.Inner.Puts.{Puts};
-ghost use Rattle.pram_commands.specs.Inputs.{AreReady, taking};
+ghost use Rattle.pram_commands.specs.Inputs.{AreReady, missing_step, taking};
 ghost use Rattle.pram_commands.specs.Plain.{no_plan};
 ghost use Rattle.pram_commands.specs.Steps.{stepping};
 
@@ -16,7 +16,8 @@ use pram_streams::{PrintFault, Sink, Source};
 use pram_text::Job;
 use std::alloc::Global;
 
-/// Reads a job, and prints the steps of the window and the answer. Where memory runs out, a
+/// Reads a job, and prints the steps of the window and the answer. A window that begins after the
+/// job's last step is refused, but for one that begins with step 1. Where memory runs out, a
 /// beginning of it may stand printed. It costs what `print_steps` does.
 pub fn steps<J: Source, P: Source, O: Sink>(
     alloc: Global,
@@ -29,6 +30,9 @@ pub fn steps<J: Source, P: Source, O: Sink>(
         (writing O.Sink out.old out.new) tells result }
 {
     let job = take_job(alloc, &mut sources.job)?;
+    if let Some(step) = missing_step(&job, window.from) {
+        return Err(CommandFault::OutsideStep { step });
+    }
     printed(put_steps(alloc, &job, window, out))
 }
 
@@ -43,4 +47,11 @@ fn put_steps<O: Sink>(
         (writing O.Sink out.old out.new) tells result }
 {
     print_steps(alloc, out, job, window)
+}
+
+// The step, if the job does not have it.
+fn missing_step(job: &Job, step: u32) -> Option<u32>
+    ensures { result ≡ missing_step job.now step }
+{
+    (step > 1 && step > job.steps()).then_some(step)
 }

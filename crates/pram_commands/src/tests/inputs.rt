@@ -2,8 +2,8 @@
 ghost use Rattle.std.specs.Prelude.{◌≡◌, false};
 
 use crate::{
-    CellList, CommandFault, Manner, Reads, Sources, Workers, replay, run, take_inputs, take_plan,
-    watch,
+    CellList, CommandFault, Manner, Reads, Sources, Telling, Workers, replay, run, take_inputs,
+    take_plan, watch,
 };
 use pram_step::RunAnswer;
 use pram_streams::{Empty, FromRead, IntoWrite, Source};
@@ -17,7 +17,7 @@ const TWO: Workers = Workers { count: 2 };
 
 const SILENT: Manner = Manner {
     workers: TWO,
-    progress: false,
+    progress: Telling::Silent,
     pace: None,
     block: None,
 };

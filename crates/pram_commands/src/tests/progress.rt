@@ -1,7 +1,7 @@
 //! Lines of progress.
 ghost use Rattle.std.specs.Prelude.{◌≡◌};
 
-use crate::progress::{Teller, tell_steps};
+use crate::progress::{Teller, Telling, tell_steps};
 use pram_board::{Board, Seat};
 use pram_run::run;
 use pram_text::read_job;
@@ -33,7 +33,7 @@ impl Clock for Ends {
     }
 
     fn sleep(&self, _duration: Duration) {
-        self.teller.end();
+        self.teller.stop();
     }
 }
 
@@ -51,12 +51,12 @@ impl Eprint for Ends {
 }
 
 // What is told of a board at one look.
-fn told(alloc: Global, board: &Board, seat: Seat, steps: u32) -> String
+fn told(alloc: Global, telling: Telling, board: &Board, seat: Seat, steps: u32) -> String
     requires seat { seat.desk ≡ board.now }
     requires steps { steps ≡ board.now.task.job.steps }
 {
     let rt = Ends {
-        teller: Teller::new(true, steps),
+        teller: Teller::new(telling, steps),
         told: RefCell::new(String::new(alloc)),
     };
     tell_steps(&rt, board, seat, &rt.teller);
@@ -70,12 +70,12 @@ fn the_finished_step_is_told(rt: HostRuntime) -> Result<(), Fail> {
     let (board, seat) = Board::open_wide(alloc, &job, 1)?;
     let (seat, early) = board.split(seat);
     let (seat, late) = board.split(seat);
-    let before = told(alloc, &board, early, job.steps());
+    let before = told(alloc, Telling::Lines, &board, early, job.steps());
     assert_eq!(rt; before.as_str(), "step 0 of 2\n");
     let plan = Plan::empty(alloc, 1);
     let (_seat, answer) = run(&rt, alloc, &job, &board, seat, &plan, &Open);
     assert!(rt; answer.is_ok());
-    let after = told(alloc, &board, late, job.steps());
-    assert_eq!(rt; after.as_str(), "step 2 of 2\n");
+    let after = told(alloc, Telling::OneLine, &board, late, job.steps());
+    assert_eq!(rt; after.as_str(), "\rstep 2 of 2\r\x1b[K");
     Ok(())
 }

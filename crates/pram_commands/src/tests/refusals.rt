@@ -2,7 +2,7 @@
 use crate::tests::served::{
     CHECK, Drip, FILE, PLAIN, Served, serve_source, serve_sources, serve_text,
 };
-use crate::{Console, Line, Manner, Sources, Workers, serve};
+use crate::{Console, Line, Manner, Sources, Telling, Workers, serve};
 use pram_streams::{Empty, FromRead, IntoWrite, MOST};
 use std::test::Fail;
 
@@ -17,7 +17,7 @@ const RUN: Line<'static> = Line::Run {
     plan: Some("plan.csv"),
     manner: Manner {
         workers: Workers { count: 2 },
-        progress: false,
+        progress: Telling::Silent,
         pace: None,
         block: None,
     },
@@ -67,13 +67,15 @@ fn a_failing_output_took_a_beginning(rt: HostRuntime) {
             let mut console = Console {
                 out: IntoWrite::new(&mut room[..count.min(256)]),
                 err: IntoWrite::new(Vec::new(alloc)),
+                is_terminal: false,
+                explains: false,
             };
             let mut sources = Sources {
                 job: FromRead::new(JOB),
                 plan: Empty,
             };
             let status = serve(&rt, alloc, &line, &mut sources, &mut console);
-            let Console { out, err } = console;
+            let Console { out, err, .. } = console;
             assert_eq!(rt; status, 4);
             assert_eq!(rt; err.into_inner().as_slice(), "file -\n".as_bytes());
             assert!(rt; out.into_inner().is_empty());
@@ -89,6 +91,8 @@ fn the_status_stays_where_standard_error_fails(rt: HostRuntime) {
     let mut console = Console {
         out: IntoWrite::new(Vec::new(alloc)),
         err: IntoWrite::new(&mut room[..]),
+        is_terminal: false,
+        explains: true,
     };
     let mut sources = Sources {
         job: FromRead::new(&JOB[..6]),

@@ -51,9 +51,11 @@ pub fn serve_sources<R: Threads + Wait + Clock + Eprint + Sync, J: Source + Drop
     let mut console = Console {
         out: IntoWrite::new(Vec::new(alloc)),
         err: IntoWrite::new(Vec::new(alloc)),
+        is_terminal: false,
+        explains: false,
     };
     let status = serve(rt, alloc, line, &mut Sources { job, plan }, &mut console);
-    let Console { out, err } = console;
+    let Console { out, err, .. } = console;
     Served {
         out: out.into_inner(),
         err: err.into_inner(),

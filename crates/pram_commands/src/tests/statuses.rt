@@ -163,6 +163,12 @@ fn steps_answers_with_a_status(rt: HostRuntime) -> Result<(), Fail> {
             0,
         ),
         (
+            "pram 1/cells 1/procs 1/steps 1/code/halt/",
+            "",
+            "steps step=2/",
+            2,
+        ),
+        (
             "pram 1/cells 1/procs 1/steps 1/code/",
             "",
             "text line=6 kind=NoCode/",

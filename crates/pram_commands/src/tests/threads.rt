@@ -4,7 +4,7 @@ ghost use Rattle.std.specs.Prelude.{◌≤◌};
 
 use crate::tests::replays::lines_above;
 use crate::tests::served::{FILE, Served, lines_of, serve_rows};
-use crate::{Block, CellList, Line, Manner, Workers};
+use crate::{Block, CellList, Line, Manner, Telling, Workers};
 use std::alloc::Global;
 use std::rt::Clock;
 use std::sync::Wait;
@@ -23,7 +23,7 @@ const DISPUTED: &str = "pram 1/cells 2/procs 4/steps 4/code/\
 // Two workers that do not wait, and of which nothing is told.
 const TWO: Manner = Manner {
     workers: Workers { count: 2 },
-    progress: false,
+    progress: Telling::Silent,
     pace: None,
     block: None,
 };
@@ -31,7 +31,7 @@ const TWO: Manner = Manner {
 // Two workers that pause for four milliseconds.
 const SLOW: Manner = Manner {
     workers: Workers { count: 2 },
-    progress: false,
+    progress: Telling::Silent,
     pace: Some(4_000),
     block: None,
 };
@@ -86,7 +86,7 @@ fn runs_answer_with_a_status(rt: HostRuntime) -> Result<(), Fail> {
     for (text, plan, out, err, status) in rows {
         let out = lines_of(alloc, out)?;
         let err = lines_of(alloc, err)?;
-        for progress in [false, true] {
+        for progress in [Telling::Silent, Telling::Lines, Telling::OneLine] {
             let line = run_line(Manner { progress, ..TWO });
             let served = serve_rows(&rt, alloc, &line, text, plan)?;
             assert_eq!(rt; served.out.as_slice(), out.as_slice(), "{text}");

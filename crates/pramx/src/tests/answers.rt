@@ -45,9 +45,11 @@ fn answer<R: Threads + Wait + Clock + Eprint + Sync>(
     let mut console = Console {
         out: IntoWrite::new(Vec::new(alloc)),
         err: IntoWrite::new(Vec::new(alloc)),
+        is_terminal: false,
+        explains: false,
     };
     let status = answer_words(rt, alloc, &Shelf, words, &mut console);
-    let Console { out, err } = console;
+    let Console { out, err, .. } = console;
     Answered {
         status,
         out: out.into_inner(),
@@ -73,6 +75,14 @@ fn words_are_answered_over_the_files_that_they_name(rt: HostRuntime) -> Result<(
     assert_eq!(rt;
         swapped.err.as_slice(),
         "text line=1 kind=BadHeader\n".as_bytes()
+    );
+    let explained = answer(&rt, alloc, &["pramx", "check", "plan", "--explain"]);
+    assert_eq!(rt; explained.status, 2);
+    assert_eq!(rt;
+        explained.err.as_slice(),
+        "text line=1 kind=BadHeader\n\
+         plan, line 1: a line of the header is wrong, missing or repeated\n"
+            .as_bytes()
     );
     Ok(())
 }

@@ -1,7 +1,7 @@
 //! Which words make a line.
 use crate::line::read_line;
 use clap::error::ErrorKind;
-use pram_commands::{Block, CellList, Line, Manner, Workers};
+use pram_commands::{Block, CellList, Line, Manner, Telling, Workers};
 use std::alloc::{AllocError, Global};
 use std::test::Fail;
 
@@ -59,14 +59,14 @@ fn words_make_a_watch(rt: HostRuntime) -> Result<(), Fail> {
         plan: None,
         manner: Manner {
             workers: Workers { count: 3 },
-            progress: false,
+            progress: Telling::Silent,
             pace: Some(0),
             block: Some(Block { exponent: 6 }),
         },
         cells,
         rounds: 1_000_000,
     };
-    assert!(rt; read_line(rt.alloc(), WATCH)? == line);
+    assert!(rt; read_line(rt.alloc(), WATCH, false)?.line == line);
     Ok(())
 }
 
@@ -95,7 +95,7 @@ fn words_make_a_line(rt: HostRuntime) -> Result<(), Fail> {
                 plan: Some("p.csv"),
                 manner: Manner {
                     workers: Workers { count: 2 },
-                    progress: true,
+                    progress: Telling::Lines,
                     pace: None,
                     block: None,
                 },
@@ -108,7 +108,7 @@ fn words_make_a_line(rt: HostRuntime) -> Result<(), Fail> {
                 plan: None,
                 manner: Manner {
                     workers: Workers { count: 1 },
-                    progress: false,
+                    progress: Telling::Silent,
                     pace: Some(1_000_000),
                     block: None,
                 },
@@ -129,15 +129,41 @@ fn words_make_a_line(rt: HostRuntime) -> Result<(), Fail> {
                 plan: None,
                 manner: Manner {
                     workers: Workers { count: 64 },
-                    progress: false,
+                    progress: Telling::Silent,
                     pace: None,
                     block: Some(Block { exponent: 0 }),
                 },
             },
         ),
     ] {
-        assert!(rt; read_line(alloc, words)? == line, "of {words:?}");
+        assert!(rt;
+            read_line(alloc, words, false)?.line == line,
+            "of {words:?}"
+        );
     }
+    Ok(())
+}
+
+const EXPLAINED: &[&str] = &["pramx", "check", "--explain", "f"];
+
+#[test]
+fn a_flag_asks_for_explanations(rt: HostRuntime) -> Result<(), Fail> {
+    let alloc = rt.alloc();
+    assert!(rt; !read_line(alloc, CHECK, false)?.explain);
+    let asked = read_line(alloc, EXPLAINED, false)?;
+    assert!(rt; asked.explain);
+    assert!(rt; asked.line == Line::Check { file: "f" });
+    Ok(())
+}
+
+#[test]
+fn progress_is_one_line_on_a_terminal(rt: HostRuntime) -> Result<(), Fail> {
+    let asked = read_line(rt.alloc(), RUN, true)?;
+    let told = match asked.line {
+        Line::Run { manner, .. } => Some(manner.progress),
+        _ => None,
+    };
+    assert_eq!(rt; told, Some(Telling::OneLine));
     Ok(())
 }
 
@@ -158,6 +184,8 @@ const TOO_MANY: &[&str] = &["pramx", "replay", "job.txt", "--workers", "65"];
 const FROM_ZERO: &[&str] = &["pramx", "steps", "f", "--from", "0"];
 
 const TO_NO_NUMBER: &[&str] = &["pramx", "steps", "f", "--to", "last"];
+
+const EMPTY_WINDOW: &[&str] = &["pramx", "steps", "f", "--from", "3", "--to", "2"];
 
 const NO_CELLS: &[&str] = &["pramx", "watch", "f", "--workers", "1", "--rounds", "1"];
 
@@ -240,6 +268,7 @@ fn other_words_are_refused(rt: HostRuntime) {
         (TOO_MANY, ErrorKind::ValueValidation),
         (FROM_ZERO, ErrorKind::ValueValidation),
         (TO_NO_NUMBER, ErrorKind::ValueValidation),
+        (EMPTY_WINDOW, ErrorKind::ValueValidation),
         (NO_CELLS, ErrorKind::MissingRequiredArgument),
         (BAD_CELLS, ErrorKind::ValueValidation),
         (EMPTY_CELL, ErrorKind::ValueValidation),
@@ -255,7 +284,7 @@ fn other_words_are_refused(rt: HostRuntime) {
         (HELP, ErrorKind::DisplayHelp),
         (HELP_OF_RUN, ErrorKind::DisplayHelp),
     ] {
-        let error = read_line(alloc, words);
+        let error = read_line(alloc, words, false);
         assert!(rt;
             error.is_err_and(|error| error.kind() == kind),
             "of {words:?}"
@@ -295,7 +324,7 @@ Examples:
 
 // The text of an error, or of what was asked for.
 fn text_of(alloc: Global, words: &'static [&'static str]) -> Result<Option<String>, AllocError> {
-    match read_line(alloc, words) {
+    match read_line(alloc, words, false) {
         Ok(_) => Ok(None),
         Err(error) => Ok(Some(format!(in alloc; "{error}")?)),
     }
@@ -317,6 +346,14 @@ Usage: pramx run [OPTIONS] --workers <W> <FILE>
 For more information, try '--help'.
 ";
 
+const EMPTY_WINDOW_TEXT: &str = "\
+error: invalid value '2' for '--to <B>': there is no step from 3 to 2
+
+Usage: pramx steps [OPTIONS] <FILE>
+
+For more information, try '--help'.
+";
+
 #[test]
 fn texts_of_errors_and_requests(rt: HostRuntime) -> Result<(), Fail> {
     let alloc = rt.alloc();
@@ -325,6 +362,7 @@ fn texts_of_errors_and_requests(rt: HostRuntime) -> Result<(), Fail> {
         (VERSION, "pramx 0.2.0\n"),
         (BAD_CELLS, BAD_CELLS_TEXT),
         (ODD_BLOCK, ODD_BLOCK_TEXT),
+        (EMPTY_WINDOW, EMPTY_WINDOW_TEXT),
     ] {
         let text = text_of(alloc, words)?;
         assert!(rt; text.is_some());

@@ -2,5 +2,5 @@ use Rattle.pram_commands.proofs.Statuses.{served}
 use Rattle.pram_commands.proofs.server.serve_alone.Goals as goal
 
 pub returns : goal.returns
-returns g c = served _ _ _ _ _ c.do_alone-done.ensures
-    c.status_after.ensures.done c.status_after.ensures.told
+returns g c = rw c.status_after.ensures.out (served _ _ _ _ _ c.do_alone-done.ensures
+    c.status_after.ensures.done c.status_after.ensures.told)

@@ -9,7 +9,7 @@ use Rattle.clap.specs.declared.error.Error.{Error}
 use Rattle.clap.specs.declared.error.kind.ErrorKind.{ErrorKind}
 use Rattle.clap.specs.declared.error.kind.ErrorKind.TheVariants.{OutOfMemory}
 use Rattle.std.specs.Borrow.{Bor}
-use Rattle.pramx.specs.CommandLine.{AreRefused, HasBadValue, IsMet, pramx}
+use Rattle.pramx.specs.CommandLine.{AreRefused, HasBadValue, IsAsked, pramx}
 use Rattle.pramx.proofs.line.read_line.Goals as goal
 
 err_from : {T E : Type 0} (r : Result T E) (P Q : E → Type 0) → IsErrAnd r P →
@@ -85,56 +85,34 @@ returns-in_err-matches-clause-kinds c =
     (λ e same. rw same
     (kinds_at _ pramx _ _ c.in_ok-command.ensures is_simple_pramx c.in_err-matches.ensures.kinds)))
 
-pub returns-in_err-cells_error-clause-refused : goal.returns-in_err-cells_error-clause-refused
-returns-in_err-cells_error-clause-refused c =
+pub returns-in_err-value_error-clause-refused : goal.returns-in_err-value_error-clause-refused
+returns-in_err-value_error-clause-refused c =
     let bad = bad_in_words _ pramx _
     _ c.in_ok-command.ensures is_simple_pramx c.in_ok-matches.ensures.matches
-    (inl c.in-Some.ensures) in
-    err_any c.from_residual-in_err-cells_error.result (λ (e : Error).
+    c.in-Some.ensures in
+    err_any c.from_residual-in_err-value_error.result (λ (e : Error).
     kind_of e ≢ OutOfMemory → AreRefused (map (λ (word : Bor (List ℕ)). word.now) c.args.words.now))
     (λ e other. inr bad)
 
 pub returns-in-Some-clause-refused : goal.returns-in-Some-clause-refused
 returns-in-Some-clause-refused c = λ other.
     inr (bad_in_words _ pramx _ _ c.in_ok-command.ensures is_simple_pramx
-    c.in_ok-matches.ensures.matches (inl c.in-Some.ensures))
+    c.in_ok-matches.ensures.matches c.in-Some.ensures)
 
 pub returns-in-Some-clause-kinds : goal.returns-in-Some-clause-kinds
 returns-in-Some-clause-kinds c =
     inr (
       bad_in_words _ pramx _ _ c.in_ok-command.ensures is_simple_pramx
-          c.in_ok-matches.ensures.matches (inl c.in-Some.ensures),
-      inr c.in_ok-cells_error.ensures,
+          c.in_ok-matches.ensures.matches c.in-Some.ensures,
+      inr c.in_ok-value_error.ensures,
     )
 
-pub returns-in_err-block_error-clause-refused : goal.returns-in_err-block_error-clause-refused
-returns-in_err-block_error-clause-refused c =
-    let bad = bad_in_words _ pramx _
-    _ c.in_ok-command.ensures is_simple_pramx c.in_ok-matches.ensures.matches
-    (inr c.in-Some-bad_block.ensures) in
-    err_any c.from_residual-in_err-block_error.result (λ (e : Error).
-    kind_of e ≢ OutOfMemory → AreRefused (map (λ (word : Bor (List ℕ)). word.now) c.args.words.now))
-    (λ e other. inr bad)
-
-pub returns-in-Some-bad_block-clause-refused : goal.returns-in-Some-bad_block-clause-refused
-returns-in-Some-bad_block-clause-refused c = λ other.
-    inr (bad_in_words _ pramx _ _ c.in_ok-command.ensures is_simple_pramx
-    c.in_ok-matches.ensures.matches (inr c.in-Some-bad_block.ensures))
-
-pub returns-in-Some-bad_block-clause-kinds : goal.returns-in-Some-bad_block-clause-kinds
-returns-in-Some-bad_block-clause-kinds c =
-    inr (
-      bad_in_words _ pramx _ _ c.in_ok-command.ensures is_simple_pramx
-          c.in_ok-matches.ensures.matches (inr c.in-Some-bad_block.ensures),
-      inr c.in_ok-block_error.ensures,
-    )
-
-pub returns-in-Some-line_of-clause-met : goal.returns-in-Some-line_of-clause-met
-returns-in-Some-line_of-clause-met c =
-    subst (λ met. IsMet met c.in-Some-line_of.line)
+pub returns-in-Some-asked_of-clause-met : goal.returns-in-Some-asked_of-clause-met
+returns-in-Some-asked_of-clause-met c =
+    subst (λ met. IsAsked met c.in-Some-asked_of.asked)
     (same_subcommand _ pramx _ _ c.in_ok-command.ensures is_simple_pramx
-    c.in_ok-matches.ensures.matches) c.in-Some-line_of.ensures
+    c.in_ok-matches.ensures.matches) c.in-Some-asked_of.ensures
 
-pub returns-in-Some-line_of-clause-kinds : goal.returns-in-Some-line_of-clause-kinds
-returns-in-Some-line_of-clause-kinds c =
+pub returns-in-Some-asked_of-clause-kinds : goal.returns-in-Some-asked_of-clause-kinds
+returns-in-Some-asked_of-clause-kinds c =
     inl (no_fault _ pramx _ c.in_ok-command.ensures is_simple_pramx c.in_ok-matches.ensures.kinds)
