@@ -13,8 +13,8 @@ use Rattle.pram_streams.specs.Transfer.{AppendsBeginning, GivesSome}
 use Rattle.pram_streams.specs.declared.print.PrintFault.{PrintFault}
 use Rattle.pram_streams.specs.declared.print.PrintFault.TheVariants as print
 use Rattle.stop_plan.specs.Plan.{PlanData}
-use Rattle.pram_commands.specs.Did.{Answering, Command, Did, Given, Writing}
-use Rattle.pram_commands.specs.Did.{ends_with, tells, tells_status}
+use Rattle.pram_commands.specs.Did.{Answering, Command, Did, Given, Showing, Writing}
+use Rattle.pram_commands.specs.Did.{ending, ends_with, tells, tells_status}
 use Rattle.pram_commands.specs.Inner.Puts.{PutBeginning, Puts, printed_as, status_result}
 use Rattle.pram_commands.specs.Inputs.{Taking}
 use Rattle.pram_commands.specs.declared.fault.CommandFault.{CommandFault}
@@ -229,7 +229,7 @@ module _ (command : Command) (taken : Taking) (w : Writing) where
         plan_reads = did.plan_reads;
       })
 
--- the answer after nothing, or after what was printed before it
+-- the answer after nothing, or the ending after what was printed before it
 pub begins_answer : (Ends : RunAnswer → List ℕ → Type 0) (job : JobData)
     (w : Writing) (ended : RunAnswer) (steps : ℕ) → Ends ended [] → steps ≡ job.steps →
     AppendsBeginning w.out w.out' (printed ended steps) → PutBeginning (Answering Ends job) w
@@ -240,42 +240,43 @@ begins_answer Ends job w ended steps ends same takes = record {
   takes = subst (λ (n : ℕ). AppendsBeginning w.out w.out' (printed ended n)) same takes;
 }
 
-pub begins_front : (Ends : RunAnswer → List ℕ → Type 0) (job : JobData) (w : Writing)
-    (ended : RunAnswer) (front : List ℕ) → Ends ended front → AppendsBeginning w.out w.out' front →
-    PutBeginning (Answering Ends job) w
-begins_front Ends job w ended front ends takes = record {
-  text = front ++ printed ended job.steps;
+pub begins_front : (alone : Bool) (Ends : RunAnswer → List ℕ → Type 0) (job : JobData)
+    (w : Writing) (ended : RunAnswer) (front : List ℕ) → Ends ended front →
+    AppendsBeginning w.out w.out' front → PutBeginning (Showing alone Ends job) w
+begins_front alone Ends job w ended front ends takes = record {
+  text = front ++ ending alone ended job.steps;
   answer = Some ended;
   comes = record { ended = ended; front = front; ends = ends; prints = refl; gives = refl };
-  takes = beginning-longer _ _ front (printed ended job.steps) takes;
+  takes = beginning-longer _ _ front (ending alone ended job.steps) takes;
 }
 
-pub begins_after : (Ends : RunAnswer → List ℕ → Type 0) (job : JobData)
+pub begins_after : (alone : Bool) (Ends : RunAnswer → List ℕ → Type 0) (job : JobData)
     (w : Writing) (ended : RunAnswer) (steps : ℕ) (front : List ℕ) (between : Option (List ℕ)) →
     Ends ended front → steps ≡ job.steps → Appends w.out between front →
-    AppendsBeginning between w.out' (printed ended steps) → PutBeginning (Answering Ends job) w
-begins_after Ends job w ended steps front between ends same put takes = record {
-  text = front ++ printed ended job.steps;
+    AppendsBeginning between w.out' (ending alone ended steps) →
+    PutBeginning (Showing alone Ends job) w
+begins_after alone Ends job w ended steps front between ends same put takes = record {
+  text = front ++ ending alone ended job.steps;
   answer = Some ended;
   comes = record { ended = ended; front = front; ends = ends; prints = refl; gives = refl };
-  takes = beginning-after _ _ _ front (printed ended job.steps) put
-      (subst (λ (n : ℕ). AppendsBeginning between w.out' (printed ended n)) same takes);
+  takes = beginning-after _ _ _ front (ending alone ended job.steps) put
+      (subst (λ (n : ℕ). AppendsBeginning between w.out' (ending alone ended n)) same takes);
 }
 
 -- all of it
-pub put_both : (Ends : RunAnswer → List ℕ → Type 0) (InPieces : Type 0) (job : JobData)
-    (w : Writing) (ended : RunAnswer) (steps : ℕ) (front : List ℕ) (between : Option (List ℕ)) →
-    Ends ended front → steps ≡ job.steps → Appends w.out between front →
-    Appends between w.out' (printed ended steps) →
+pub put_both : (alone : Bool) (Ends : RunAnswer → List ℕ → Type 0) (InPieces : Type 0)
+    (job : JobData) (w : Writing) (ended : RunAnswer) (steps : ℕ) (front : List ℕ)
+    (between : Option (List ℕ)) → Ends ended front → steps ≡ job.steps →
+    Appends w.out between front → Appends between w.out' (ending alone ended steps) →
     (IsTrue w.failed ↔ IsErrOf {T = Unit {0}} (Ok tt) print.Device) →
-    Puts (Answering Ends job) InPieces w tells (Ok ended)
-put_both Ends InPieces job w ended steps front between ends same put takes failed = record {
+    Puts (Showing alone Ends job) InPieces w tells (Ok ended)
+put_both alone Ends InPieces job w ended steps front between ends same put takes failed = record {
   done = record {
-    text = front ++ printed ended job.steps;
+    text = front ++ ending alone ended job.steps;
     answer = Some ended;
     comes = record { ended = ended; front = front; ends = ends; prints = refl; gives = refl };
-    takes = Appends-trans _ _ _ front (printed ended job.steps) put
-        (subst (λ (n : ℕ). Appends between w.out' (printed ended n)) same takes);
+    takes = Appends-trans _ _ _ front (ending alone ended job.steps) put
+        (subst (λ (n : ℕ). Appends between w.out' (ending alone ended n)) same takes);
     is = refl;
   };
   wrote = tt;

@@ -17,7 +17,8 @@ use Rattle.pram_commands.specs.Inputs.{Reading, Taking}
 use Rattle.pram_commands.specs.Line.{command_of}
 use Rattle.pram_commands.specs.Served.{Served}
 use Rattle.pram_commands.specs.declared.fault.CommandFault.{CommandFault}
-use Rattle.pram_commands.specs.declared.fault.CommandFault.TheVariants.{Text, Plan, OutsideCell, OutsideStep}
+use Rattle.pram_commands.specs.declared.fault.CommandFault.TheVariants.{Text, Plan, OutsideCell}
+use Rattle.pram_commands.specs.declared.fault.CommandFault.TheVariants.{OutsideStep}
 use Rattle.pram_commands.specs.declared.fault.CommandFault.TheVariants.{JobDevice, PlanDevice}
 use Rattle.pram_commands.specs.declared.fault.CommandFault.TheVariants.{OutDevice, JobTooLarge}
 use Rattle.pram_commands.specs.declared.fault.CommandFault.TheVariants.{PlanTooLarge, Memory}
@@ -145,13 +146,13 @@ module _ (taken : Taking) (w : Writing) where
   stops (line.Cost file) status prints three =
       let comes = prints.work.comes in
       absurd (ended-cost comes.cost prints.answer comes.gives (sym prints.is ∙ three))
-  stops (line.Steps file from to) status prints three =
+  stops (line.Steps file from to alone) status prints three =
       let comes = prints.work.comes in
       absurd (ended-plain prints.work.job comes.ended prints.answer comes.ends.0
       comes.gives (sym prints.is ∙ three))
   stops (line.Run file name manner) status prints three = refl
   stops (line.Watch file name manner cells rounds) status prints three = refl
-  stops (line.Replay file workers name) status prints three = refl
+  stops (line.Replay file workers name alone) status prints three = refl
 
   module _ (line : Line) where
     -- a line that was done

@@ -1,5 +1,6 @@
 -- What a command is, and what a call of it does with what it reads and writes.
-use Rattle.std.specs.Prelude.{◌≡◌, ◌⊎◌, ◌++◌, ◌↔◌, ℕ, Bool, List, Option, None, Some, Result, ⊤}
+use Rattle.std.specs.Prelude.{◌≡◌, ◌⊎◌, ◌++◌, ◌↔◌, ℕ, Bool, true, false, List, [], Option, None}
+use Rattle.std.specs.Prelude.{Some, Result, ⊤}
 use Rattle.std.specs.Prelude.{IfOk, IfErr, IfSome, MatchOption, IsErrOf, IsTrue}
 use Rattle.std.specs.Io.KnownBytes.{Appends}
 use Rattle.pram_text.specs.Job.{JobData}
@@ -48,14 +49,22 @@ pub record Command : Type 1 where
   pub InPieces : Type 0
   pub Comes : JobData → PlanData → List ℕ → Option RunAnswer → Type 0
 
--- What a command comes to that gives an answer: these bytes, and then the printed answer.
-pub record Answering (Ends : RunAnswer → List ℕ → Type 0) (job : JobData) (text : List ℕ)
-    (answer : Option RunAnswer) : Type 0 where
+-- what follows the rows of a command: the printed answer, unless they are to stand alone
+abbrev pub ending : Bool → RunAnswer → ℕ → List ℕ
+ending true answer steps = []
+ending false answer steps = printed answer steps
+
+-- What a command comes to that gives an answer: these bytes, and then the ending.
+pub record Showing (alone : Bool) (Ends : RunAnswer → List ℕ → Type 0) (job : JobData)
+    (text : List ℕ) (answer : Option RunAnswer) : Type 0 where
   pub ended : RunAnswer
   pub front : List ℕ
   pub ends : Ends ended front
-  pub prints : text ≡ front ++ printed ended job.steps
+  pub prints : text ≡ front ++ ending alone ended job.steps
   pub gives : answer ≡ Some ended
+
+abbrev pub Answering : (RunAnswer → List ℕ → Type 0) → JobData → List ℕ → Option RunAnswer → Type 0
+Answering = Showing false
 
 -- The sources gave the job and, where the command follows one, its plan.
 pub record Given (command : Command) (reads : Reading) (job : JobData) (plan : PlanData)

@@ -1,7 +1,9 @@
 //! The commands, and which of them a line asks for.
-ghost use Rattle.std.specs.Prelude.{◌≡◌, false};
+ghost use Rattle.std.specs.Prelude.{◌≡◌, ◌↔◌, false, OnOk, IsErrOf, IsTrue};
+ghost use Rattle.std.specs.Io.KnownBytes.{Appends};
+ghost use Rattle.pram_streams.specs.Transfer.{AppendsBeginning};
 ghost use Rattle.pram_commands.specs.Costs.{conflict_of};
-ghost use Rattle.pram_commands.specs.Did.{Did, ends_with, status_of, tells_status, writing};
+ghost use Rattle.pram_commands.specs.Did.{Did, ending, ends_with, status_of, tells_status, writing};
 ghost use Rattle.pram_commands.specs.Inner.Puts.{printed_as, status_result};
 ghost use Rattle.pram_commands.specs.Inputs.{AreReady, taking};
 ghost use Rattle.pram_commands.specs.Line.{StartsNoThread, command_of};
@@ -24,7 +26,7 @@ pub use plain_runs::plain;
 use pram_cost::Cost;
 use pram_rows::Window;
 use pram_step::RunAnswer;
-use pram_streams::{PrintFault, Sink, Source};
+use pram_streams::{PrintFault, Sink, Source, print_answer};
 pub use replays::replay;
 pub use runs::run;
 use std::alloc::Global;
@@ -56,8 +58,13 @@ pub(crate) fn do_alone<J: Source, P: Source, O: Sink>(
             let cost = cost(alloc, sources, out)?;
             Ok(cost_status(&cost))
         }
-        Line::Steps { from, to, .. } => ended(steps(alloc, Window { from, to }, sources, out)),
-        Line::Replay { workers, .. } => ended(replay(alloc, workers, sources, out)),
+        Line::Steps {
+            from,
+            to,
+            alone,
+            ..
+        } => ended(steps(alloc, Window { from, to }, alone, sources, out)),
+        Line::Replay { workers, alone, .. } => ended(replay(alloc, workers, alone, sources, out)),
         Line::Run { .. } | Line::Watch { .. } => unreachable!(),
     }
 }
@@ -126,6 +133,27 @@ fn cost_status(cost: &Cost) -> u8
         None => DONE,
         Some(_) => CONFLICT,
     }
+}
+
+// Prints the answer after rows, unless they are to stand alone.
+fn print_ending<O: Sink>(
+    alloc: Global,
+    out: &mut O,
+    answer: &RunAnswer,
+    steps: u32,
+    alone: bool,
+) -> Result<(), PrintFault>
+    requires { O.has_failed out.old ≡ false }
+    ensures ok { OnOk result (Appends (O.taken out.old) (O.taken out.new)
+        (ending alone answer.now steps)) }
+    ensures beginning { AppendsBeginning (O.taken out.old) (O.taken out.new)
+        (ending alone answer.now steps) }
+    ensures failed { IsTrue (O.has_failed out.new) ↔ IsErrOf result PrintFault.Device }
+{
+    if alone {
+        return Ok(());
+    }
+    print_answer(alloc, out, answer, steps)
 }
 
 // What a command answers that prints as its last act.

@@ -22,11 +22,12 @@ pub enum Line<'a> {
         file: &'a str,
     },
     /// Run the job on the plain machine, and print what each processor asks for in each step from
-    /// one to another, counted from 1.
+    /// one to another, counted from 1; after these rows the answer, unless they are to stand alone.
     Steps {
         file: &'a str,
         from: u32,
         to: u32,
+        alone: bool,
     },
     /// Run the job on threads, in this manner.
     Run {
@@ -42,11 +43,13 @@ pub enum Line<'a> {
         cells: CellList<'a>,
         rounds: u32,
     },
-    /// Run the job on one thread, by the plan, and print each step.
+    /// Run the job on one thread, by the plan, and print each step; after these rows the answer,
+    /// unless they are to stand alone.
     Replay {
         file: &'a str,
         workers: Workers,
         plan: Option<&'a str>,
+        alone: bool,
     },
 }
 

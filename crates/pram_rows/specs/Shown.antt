@@ -1,11 +1,10 @@
 -- What printing the steps of a job says of the sink, by its bytes before and after.
-use Rattle.std.specs.Prelude.{ℕ, ◌++◌, List, Option}
+use Rattle.std.specs.Prelude.{ℕ, List, Option}
 use Rattle.std.specs.Io.KnownBytes.{Appends}
 use Rattle.pram_text.specs.Job.{JobData}
 use Rattle.pram_step.specs.Runs.{IsAnswer}
 use Rattle.pram_step.specs.declared.answer.RunAnswer.{RunAnswer}
 use Rattle.pram_step.specs.declared.answer.RunAnswer.TheVariants.{Final, Conflict, Unfinished}
-use Rattle.pram_streams.specs.Printed.{printed}
 use Rattle.pram_streams.specs.Transfer.{AppendsBeginning}
 use Rattle.pram_rows.specs.Rows.{rows_text}
 use Rattle.pram_rows.specs.declared.window.Window.{Window}
@@ -16,12 +15,11 @@ last_step job (Final cells) = job.steps
 last_step job (Conflict fault) = fault.step
 last_step job (Unfinished step) = step
 
--- the rows of a window, and then the answer
+-- the rows of a window of a job with this answer
 abbrev pub steps_text : JobData → Window → RunAnswer → List ℕ
-steps_text job window answer =
-    rows_text job window.from window.to (last_step job answer) ++ printed answer job.steps
+steps_text job window answer = rows_text job window.from window.to (last_step job answer)
 
--- This is the job's answer, and the sink took its steps and the answer.
+-- This is the job's answer, and the sink took the rows of its steps.
 pub record TakesSteps (job : JobData) (window : Window) (sink sink' : Option (List ℕ)) (answer :
     RunAnswer) : Type 0 where
   pub answers : IsAnswer job answer

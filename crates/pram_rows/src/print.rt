@@ -1,4 +1,4 @@
-//! The steps of a job and its answer, printed.
+//! The steps of a job, printed.
 ghost use Rattle.std.specs.Prelude.{◌≡◌, ◌+◌, ◌-◌, ◌<◌, ◌^◌, ◌⊎◌, ◌++◌, ◌↔◌, false};
 ghost use Rattle.std.specs.Prelude.{IfOk, OnErr, OnOk, IsErrOf, IsTrue};
 ghost use Rattle.std.specs.Io.KnownBytes.{Appends};
@@ -12,7 +12,7 @@ use crate::moment::Moment;
 use crate::row::push_rows;
 use crate::window::Window;
 use pram_step::{Arrival, RunAnswer, State, go_to, make_step, plain_answer};
-use pram_streams::{PrintFault, Sink, print_answer, put};
+use pram_streams::{PrintFault, Sink, put};
 use pram_text::Job;
 use std::alloc::{AllocError, Global};
 
@@ -22,8 +22,8 @@ const HEADER: &str = "step,processor,place,instruction,writes,value,next\n";
 /// Once so many bytes of rows stand in memory, they are put into the sink.
 const PIECE: usize = 32_768;
 
-/// Prints what each processor asks for in each step of the window, in order, and then the answer of
-/// the job. The step of a conflict is the last one that is printed. Where memory runs out, a
+/// Prints what each processor asks for in each step of the window, in order, and gives the job's
+/// answer. The step of a conflict is the last one that is printed. Where memory runs out, a
 /// beginning of it may stand printed, as where the sink fails.
 ///
 /// It takes memory for two states and for the rows of one step and `PIECE` bytes more, wherever the
@@ -46,7 +46,6 @@ pub fn print_steps<W: Sink>(
     let answer = plain_answer(alloc, job)?;
     let last = last_of(job, &answer);
     print_rows(alloc, sink, job, window, last)?;
-    print_answer(alloc, sink, &answer, job.steps())?;
     Ok(answer)
 }
 

@@ -1,6 +1,6 @@
 -- The program's command, and what a line holds of the matches of its words.
-use Rattle.std.specs.Prelude.{◌≡◌, ◌≢◌, ◌<◌, ◌≤◌, ◌⊎◌, ◌-◌, ◌^◌, MatchOption, ℕ, Bool, true, false, []}
-use Rattle.std.specs.Prelude.{List, Option, Some, None, Result, IsErrAnd, IsSomeAnd, codes, pos}
+use Rattle.std.specs.Prelude.{◌≡◌, ◌≢◌, ◌<◌, ◌≤◌, ◌⊎◌, ◌-◌, ◌^◌, MatchOption, ℕ, Bool, true, false}
+use Rattle.std.specs.Prelude.{[], List, Option, Some, None, Result, IsErrAnd, IsSomeAnd, codes, pos}
 use Rattle.std.specs.Prelude.{IfSome, option_map}
 use Rattle.std.specs.Str.Parse.{digits_value, without_leading_plus}
 use Rattle.clap.specs.Words.{App, FailsBy, IsAmong, Row, Rule, Text}
@@ -47,10 +47,11 @@ on_file name = with_rule (with_rule (new_app name)
     (needed (record (new_rule (codes "file")) { value_names = 1; action = Some Set })))
     (flag_rule (codes "explain"))
 
--- steps FILE [--from A] [--to B]
+-- steps FILE [--from A] [--to B] [--csv]
 abbrev pub on_steps : App
-on_steps = with_rule (with_rule (on_file (codes "steps")) (number_rule (codes "from") 1 4294967295))
-    (number_rule (codes "to") 1 4294967295)
+on_steps = with_rule (with_rule (with_rule (on_file (codes "steps"))
+    (number_rule (codes "from") 1 4294967295)) (number_rule (codes "to") 1 4294967295))
+    (flag_rule (codes "csv"))
 
 -- NAME FILE --workers W [--plan P]
 abbrev pub with_workers : Text → App
@@ -76,6 +77,10 @@ abbrev pub on_watch : App
 on_watch = with_manner (with_rule (with_rule (with_workers (codes "watch"))
     (needed (option_rule (codes "cells")))) (needed (number_rule (codes "rounds") 1 1000000)))
 
+-- replay FILE --workers W [--plan P] [--csv]
+abbrev pub on_replay : App
+on_replay = with_rule (with_workers (codes "replay")) (flag_rule (codes "csv"))
+
 -- the program without its subcommands, of which one must stand
 abbrev pub bare : App
 bare =
@@ -97,7 +102,7 @@ pramx =
     with_subcommand (with_subcommand (with_subcommand on_machine
     on_run.top)
     on_watch.top)
-    (with_workers (codes "replay")).top
+    on_replay.top
 
 -- The subcommand of this name was met, with this file.
 pub record HasFile (matches : Option (Text × List Row)) (name file : Text) : Type 0 where
@@ -105,19 +110,27 @@ pub record HasFile (matches : Option (Text × List Row)) (name file : Text) : Ty
   pub met : matches ≡ Some (name, rows)
   pub has_file : first_of (codes "file") rows ≡ Some file
 
+-- The flag is set where the option stands.
+pub record IsFlag (found : Option Text) (flag : Bool) : Type 0 where
+  pub set : found ≡ Some (codes "true") → flag ≡ true
+  pub unset : found ≡ Some (codes "false") → flag ≡ false
+  pub none : found ≡ None → flag ≡ false
+
 -- The number is that of the option's value.
 abbrev pub IsNumberOf : Text → List Row → ℕ → Type 0
 IsNumberOf option rows number = IsSomeAnd (one_of option rows)
     (λ text. number ≡ digits_value 10 (without_leading_plus text))
 
--- The subcommand of this name was met, with this file, these workers, and this plan if it has one.
+-- The subcommand of this name was met, with this file, these workers, this plan if it has one, and
+-- a flag for rows alone.
 pub record HasWorkers (matches : Option (Text × List Row)) (name file : Text) (workers : ℕ)
-    (plan : Option Text) : Type 0 where
+    (plan : Option Text) (alone : Bool) : Type 0 where
   pub of_file : HasFile matches name file
   pub has_workers : IsNumberOf (codes "workers") of_file.rows workers
   pub some : 1 ≤ workers
   pub few : workers ≤ 64
   pub has_plan : first_of (codes "plan") of_file.rows ≡ plan
+  pub has_csv : IsFlag (one_of (codes "csv") of_file.rows) alone
 
 -- The same, or this number where the option is left out.
 abbrev pub IsNumberOr : Text → List Row → ℕ → ℕ → Type 0
@@ -129,18 +142,13 @@ abbrev pub IsNumberIfSet : Text → List Row → Option ℕ → Type 0
 IsNumberIfSet option rows number = MatchOption (first_of option rows) (number ≡ None)
     (λ _. IsSomeAnd number (IsNumberOf option rows))
 
--- The subcommand of this name was met, with this file and these steps.
-pub record HasSteps (matches : Option (Text × List Row)) (name file : Text) (from to : ℕ) :
-    Type 0 where
+-- The subcommand of this name was met, with this file, these steps, and a flag for rows alone.
+pub record HasSteps (matches : Option (Text × List Row)) (name file : Text) (from to : ℕ)
+    (alone : Bool) : Type 0 where
   pub of_file : HasFile matches name file
   pub has_from : IsNumberOr (codes "from") of_file.rows 1 from
   pub has_to : IsNumberOr (codes "to") of_file.rows (2 ^ 32 - 1) to
-
--- The flag is set where the option stands.
-pub record IsFlag (found : Option Text) (flag : Bool) : Type 0 where
-  pub set : found ≡ Some (codes "true") → flag ≡ true
-  pub unset : found ≡ Some (codes "false") → flag ≡ false
-  pub none : found ≡ None → flag ≡ false
+  pub has_csv : IsFlag (one_of (codes "csv") of_file.rows) alone
 
 -- The size of the block is the number of its option; there is none where that is left out.
 abbrev pub IsBlockIfSet : List Row → Option Block → Type 0
@@ -174,13 +182,14 @@ abbrev pub IsMet : Option (Text × List Row) → Line → Type 0
 IsMet matches (Check file) = HasFile matches (codes "check") file.now
 IsMet matches (Plain file) = HasFile matches (codes "plain") file.now
 IsMet matches (Cost file) = HasFile matches (codes "cost") file.now
-IsMet matches (Steps file from to) = HasSteps matches (codes "steps") file.now from to
+IsMet matches (Steps file from to alone) =
+    HasSteps matches (codes "steps") file.now from to alone
 IsMet matches (Run file plan manner) =
     HasRun matches (codes "run") file.now (text_of plan) manner
 IsMet matches (Watch file plan manner cells rounds) =
     HasWatch matches (codes "watch") file.now (text_of plan) manner cells.text.now rounds
-IsMet matches (Replay file workers plan) =
-    HasWorkers matches (codes "replay") file.now workers.count (text_of plan)
+IsMet matches (Replay file workers plan alone) =
+    HasWorkers matches (codes "replay") file.now workers.count (text_of plan) alone
 
 -- The line is what was met, and so is whether a refusal is to be explained.
 pub record IsAsked (matches : Option (Text × List Row)) (asked : Asked) : Type 0 where

@@ -8,7 +8,8 @@ ghost use Rattle.pramx.specs.CommandLine.{AreRefused, FailsByWords, HasBadBlock,
 ghost use Rattle.pramx.specs.CommandLine.{HasBadValue, HasBadWindow, IsAsked};
 ghost use Rattle.pramx.specs.CommandLine.{HasManner, IsBlockIfSet, IsMet, IsNumberIfSet};
 ghost use Rattle.pramx.specs.CommandLine.{IsNumberOf, IsNumberOr, flag_rule, pramx};
-ghost use Rattle.pramx.specs.CommandLine.{needed, on_file, on_machine, on_run, on_steps, on_watch};
+ghost use Rattle.pramx.specs.CommandLine.{needed, on_file, on_machine, on_replay, on_run};
+ghost use Rattle.pramx.specs.CommandLine.{on_steps, on_watch};
 ghost use Rattle.pramx.specs.CommandLine.{option_rule, with_manner, with_progress, with_workers};
 
 use clap::builder::ValueParser;
@@ -36,6 +37,9 @@ const MOST_ROUNDS: i64 = 1_000_000;
 
 /// The longest pause of a pace, in microseconds.
 const MOST_PACE: i64 = 1_000_000;
+
+/// What `--csv` does.
+const ROWS_ALONE: &str = "Print the rows alone, without the answer";
 
 /// What the words ask: a line, and whether a refusal is to be explained.
 #[derive(Clone, Copy, Debug, PartialEq, Eq)]
@@ -184,11 +188,7 @@ fn command<'a>(alloc: Global) -> Result<Command<'a>, AllocError>
     let machine = machine_command(alloc)?;
     let run = run_command(alloc)?;
     let watch = watch_command(alloc)?;
-    let replay = workers_command(
-        alloc,
-        "replay",
-        "Run a job on one thread, and print each step",
-    )?;
+    let replay = replay_command(alloc)?;
     machine
         .subcommand(run)?
         .subcommand(watch)?
@@ -243,7 +243,19 @@ fn steps_command<'a>(alloc: Global) -> Result<Command<'a>, AllocError>
         "Run a job on the plain machine, and print what each processor asks for in each step",
     )?
     .arg(numbered(from, value_parser!(u32).range(1..=MOST_STEPS)))?
-    .arg(numbered(to, value_parser!(u32).range(1..=MOST_STEPS)))
+    .arg(numbered(to, value_parser!(u32).range(1..=MOST_STEPS)))?
+    .arg(flag(alloc, "csv", ROWS_ALONE))
+}
+
+fn replay_command<'a>(alloc: Global) -> Result<Command<'a>, AllocError>
+    ensures { IfOk result (λ command. app_of command ≡ on_replay) }
+{
+    workers_command(
+        alloc,
+        "replay",
+        "Run a job on one thread, and print each step",
+    )?
+    .arg(flag(alloc, "csv", ROWS_ALONE))
 }
 
 fn run_command<'a>(alloc: Global) -> Result<Command<'a>, AllocError>
@@ -414,7 +426,12 @@ fn line_of<'a>(matches: &ArgMatches<'a>, on_terminal: bool) -> Option<Line<'a>>
         "cost" => Some(Line::Cost { file }),
         "steps" => {
             let (from, to) = window_of(inner)?;
-            Some(Line::Steps { file, from, to })
+            Some(Line::Steps {
+                file,
+                from,
+                to,
+                alone: inner.get_flag("csv"),
+            })
         }
         "run" => {
             let manner = manner_of(inner, on_terminal)?;
@@ -437,6 +454,7 @@ fn line_of<'a>(matches: &ArgMatches<'a>, on_terminal: bool) -> Option<Line<'a>>
                 file,
                 workers,
                 plan,
+                alone: inner.get_flag("csv"),
             })
         }
         _ => None,

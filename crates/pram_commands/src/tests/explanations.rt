@@ -11,6 +11,7 @@ const REPLAY: Line<'static> = Line::Replay {
     file: "sum.pram",
     workers: Workers { count: 2 },
     plan: Some("-"),
+    alone: false,
 };
 
 #[test]

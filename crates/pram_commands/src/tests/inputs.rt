@@ -51,7 +51,7 @@ fn takes_a_job_and_its_plan(rt: HostRuntime) -> Result<(), Fail> {
 fn replays_between_devices(rt: HostRuntime) -> Result<(), Fail> {
     let alloc = rt.alloc();
     let mut out = IntoWrite::new(Vec::new(alloc));
-    let answer = replay(alloc, TWO, &mut sources(), &mut out);
+    let answer = replay(alloc, TWO, false, &mut sources(), &mut out);
     match answer {
         Ok(RunAnswer::Final(cells)) => assert_eq!(rt; cells.as_slice(), [5].as_slice()),
         _ => panic!(rt; "no answer"),

@@ -10,6 +10,7 @@ const REPLAY: Line<'static> = Line::Replay {
     file: FILE,
     workers: Workers { count: 2 },
     plan: Some("plan.csv"),
+    alone: false,
 };
 
 const RUN: Line<'static> = Line::Run {

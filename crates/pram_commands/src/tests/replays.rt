@@ -26,6 +26,7 @@ fn replay_line(count: u32) -> Line<'static>
         file: FILE,
         workers: Workers { count },
         plan: Some("plan.csv"),
+        alone: false,
     }
 }
 
@@ -44,6 +45,7 @@ fn replayed<R: Threads + Wait + Clock + Eprint + Sync>(
         file: FILE,
         workers: Workers { count: workers },
         plan: None,
+        alone: false,
     };
     Ok(serve_text(rt, alloc, &line, text.as_slice()))
 }

@@ -1,6 +1,6 @@
 //! What a line that was served writes and answers. In texts and outputs `/` stands for a line feed.
-use crate::Line;
 use crate::tests::served::{CHECK, COST, FILE, PLAIN, lines_of, serve_text};
+use crate::{Line, Workers};
 use std::alloc::Global;
 use std::process::Abort;
 use std::rt::Clock;
@@ -141,6 +141,7 @@ fn steps_answers_with_a_status(rt: HostRuntime) -> Result<(), Fail> {
         file: FILE,
         from: 2,
         to: 3,
+        alone: false,
     };
     let rows = [
         (
@@ -176,4 +177,47 @@ fn steps_answers_with_a_status(rt: HostRuntime) -> Result<(), Fail> {
         ),
     ];
     expect(&rt, rt.alloc(), &steps, &rows)
+}
+
+// The same without the answer: the status tells how the job ended.
+#[test]
+fn rows_stand_alone_with_a_status(rt: HostRuntime) -> Result<(), Fail> {
+    let alloc = rt.alloc();
+    let steps = Line::Steps {
+        file: FILE,
+        from: 2,
+        to: 3,
+        alone: true,
+    };
+    let rows = [
+        (
+            "pram 1/cells 1/procs 2/steps 2/code/pid r0/st r1 r0/",
+            "step,processor,place,instruction,writes,value,next/\
+             2,0,1,st r1 r0,cell 0,0,2/\
+             2,1,1,st r1 r0,cell 0,1,2/",
+            "",
+            1,
+        ),
+        (
+            "pram 1/cells 1/procs 1/steps 2/code/halt/",
+            "step,processor,place,instruction,writes,value,next/\
+             2,0,1,halted,,,1/",
+            "",
+            0,
+        ),
+    ];
+    expect(&rt, alloc, &steps, &rows)?;
+    let replay = Line::Replay {
+        file: FILE,
+        workers: Workers { count: 1 },
+        plan: None,
+        alone: true,
+    };
+    let rows = [(
+        "pram 1/cells 1/procs 1/steps 0/code/halt/",
+        "tick,worker,op,word,before,after/1,0,load,1,0,0/2,0,load,0,0,0/",
+        "",
+        0,
+    )];
+    expect(&rt, alloc, &replay, &rows)
 }

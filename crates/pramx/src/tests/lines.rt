@@ -75,6 +75,7 @@ fn steps(from: u32, to: u32) -> Line<'static> {
         file: "f",
         from,
         to,
+        alone: false,
     }
 }
 
@@ -115,11 +116,21 @@ fn words_make_a_line(rt: HostRuntime) -> Result<(), Fail> {
             },
         ),
         (
+            ROWS,
+            Line::Steps {
+                file: "f",
+                from: 1,
+                to: u32::MAX,
+                alone: true,
+            },
+        ),
+        (
             REPLAY,
             Line::Replay {
                 file: "job.txt",
                 workers: Workers { count: 1 },
                 plan: None,
+                alone: false,
             },
         ),
         (
@@ -143,6 +154,8 @@ fn words_make_a_line(rt: HostRuntime) -> Result<(), Fail> {
     }
     Ok(())
 }
+
+const ROWS: &[&str] = &["pramx", "steps", "--csv", "f"];
 
 const EXPLAINED: &[&str] = &["pramx", "check", "--explain", "f"];
 

@@ -1,10 +1,7 @@
 use Rattle.std.proofs.Common.{Result, Ok, Err, inr, subst, sym, ◌-◌}
-use Rattle.std.proofs.KnownBytes.{Appends-trans}
 use Rattle.std.specs.Io.KnownBytes.{Appends}
 use Rattle.std.specs.Prelude.{OnErr}
 use Rattle.pram_step.specs.Runs.{IsReached}
-use Rattle.pram_streams.proofs.Beginnings.{beginning-after, beginning-longer}
-use Rattle.pram_streams.specs.Printed.{printed}
 use Rattle.pram_streams.specs.Transfer.{AppendsBeginning}
 use Rattle.pram_rows.specs.Rows.{rows_text}
 use Rattle.pram_rows.proofs.Reaching.{last-reached}
@@ -27,7 +24,7 @@ returns-in_err-print_rows-clause-device g c = λ _.
     record {
       answer = c.in_ok-answer.answer;
       answers = c.in_ok-answer.ensures;
-      prints = beginning-longer _ _ _ (printed c.in_ok-answer.answer c.args.job.now.steps) begins;
+      prints = begins;
     }
 
 pub returns-in_err-print_rows-clause-memory : goal.returns-in_err-print_rows-clause-memory
@@ -38,36 +35,7 @@ returns-in_err-print_rows-clause-memory g c =
     on_err _ (inr (record {
       answer = c.in_ok-answer.answer;
       answers = c.in_ok-answer.ensures;
-      prints = beginning-longer _ _ _ (printed c.in_ok-answer.answer c.args.job.now.steps) begins;
-    }))
-
-pub returns-in_err-print_answer-clause-device : goal.returns-in_err-print_answer-clause-device
-returns-in_err-print_answer-clause-device g c = λ _.
-    let rows = subst (λ last. Appends (g.W.Sink.taken c.args.sink.now) (g.W.Sink.taken
-    c.print_rows.new.sink) (rows_text c.args.job.now c.args.window.from c.args.window.to last))
-    c.last_of-last.ensures c.in_ok-print_rows.ensures.ok in
-    let answer = subst (λ steps. AppendsBeginning (g.W.Sink.taken c.print_rows.new.sink)
-    (g.W.Sink.taken c.print_answer.new.sink) (printed c.in_ok-answer.answer steps))
-    c.steps.ensures.value c.in_err-print_answer.ensures.beginning in
-    record {
-      answer = c.in_ok-answer.answer;
-      answers = c.in_ok-answer.ensures;
-      prints = beginning-after _ _ _ _ _ rows answer;
-    }
-
-pub returns-in_err-print_answer-clause-memory : goal.returns-in_err-print_answer-clause-memory
-returns-in_err-print_answer-clause-memory g c =
-    let rows =
-    subst (λ last. Appends (g.W.Sink.taken c.args.sink.now) (g.W.Sink.taken c.print_rows.new.sink)
-    (rows_text c.args.job.now c.args.window.from c.args.window.to last))
-    c.last_of-last.ensures c.in_ok-print_rows.ensures.ok in
-    let answer = subst (λ steps. AppendsBeginning (g.W.Sink.taken c.print_rows.new.sink)
-    (g.W.Sink.taken c.print_answer.new.sink) (printed c.in_ok-answer.answer steps))
-    c.steps.ensures.value c.in_err-print_answer.ensures.beginning in
-    on_err _ (inr (record {
-      answer = c.in_ok-answer.answer;
-      answers = c.in_ok-answer.ensures;
-      prints = beginning-after _ _ _ _ _ rows answer;
+      prints = begins;
     }))
 
 pub returns-clause-ok : goal.returns-clause-ok
@@ -76,7 +44,4 @@ returns-clause-ok g c =
     subst (λ last. Appends (g.W.Sink.taken c.args.sink.now) (g.W.Sink.taken c.print_rows.new.sink)
     (rows_text c.args.job.now c.args.window.from c.args.window.to last))
     c.last_of-last.ensures c.in_ok-print_rows.ensures.ok in
-    let answer = subst (λ steps. Appends (g.W.Sink.taken c.print_rows.new.sink)
-    (g.W.Sink.taken c.print_answer.new.sink) (printed c.in_ok-answer.answer steps))
-    c.steps.ensures.value c.in_ok-print_answer.ensures.ok in
-    record { answers = c.in_ok-answer.ensures; prints = Appends-trans _ _ _ _ _ rows answer }
+    record { answers = c.in_ok-answer.ensures; prints = rows }

@@ -4,7 +4,7 @@ use Rattle.clap.specs.Words.{rows_of, subcommand_name_of, subcommand_rows_of}
 use Rattle.clap.specs.declared.ArgMatches.{ArgMatches}
 use Rattle.clap.proofs.WalkLemmas.{first_value-rows}
 use Rattle.pramx.specs.CommandLine.{HasFile}
-use Rattle.pramx.proofs.Matches.{pair_of}
+use Rattle.pramx.proofs.Matches.{flag_of, pair_of}
 use Rattle.pramx.proofs.line.line_of.Goals as goal
 
 module _ (m inner : ArgMatches) (name file : Text) (has_name : Some name ≡ subcommand_name_of m)
@@ -40,6 +40,8 @@ returns-in_ok-from-in-steps c = rw (← c.in-steps.is) (record {
       met_file _ _ _ _ c.in_ok-name.ensures.name c.in_ok-name.ensures.rows c.in_ok-file.ensures;
   has_from = c.in_ok-from-in-steps.ensures.from;
   has_to = c.in_ok-from-in-steps.ensures.to;
+  has_csv = flag_of (found_of c.in_ok-name.inner.now) (codes "csv") _ c.get_flag.ensures.none
+      c.get_flag.ensures.value c.get_flag.ensures.other;
 })
 
 pub returns-in_ok-manner-in-run : goal.returns-in_ok-manner-in-run
@@ -70,4 +72,7 @@ returns-in_ok-workers-in-replay c = rw (← c.in-replay.is) (record {
   some = c.in_ok-workers-in-replay.workers.some;
   few = c.in_ok-workers-in-replay.workers.most;
   has_plan = met_plan c.in_ok-name.inner.now _ c.get_str-plan.ensures;
+  has_csv = flag_of (found_of c.in_ok-name.inner.now) (codes "csv") _
+      c.get_flag-in-replay.ensures.none c.get_flag-in-replay.ensures.value
+      c.get_flag-in-replay.ensures.other;
 })

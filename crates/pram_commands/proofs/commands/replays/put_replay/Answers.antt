@@ -10,23 +10,23 @@ returns-in_err-answer g c =
     let failed = c.in_err-answer.ensures.failed in
     put_failed _ _ _ _ _ c.in_err-answer.field-0.0
     (err_is _ _ c.from_residual.ensures)
-    (begins_front _ c.args.inputs.now.job _ begins.answer _ (begins.trace, begins.is, refl)
-    begins.prints)
+    (begins_front c.args.alone _ c.args.inputs.now.job _ begins.answer _
+    (begins.trace, begins.is, refl) begins.prints)
     (λ e. inr tt) ((λ f. err_as _ Device (failed.0 f)), (λ e. failed.1 (err_as _ Device e)))
 
-pub returns-in_err-print_answer : goal.returns-in_err-print_answer
-returns-in_err-print_answer g c =
+pub returns-in_err-print_ending : goal.returns-in_err-print_ending
+returns-in_err-print_ending g c =
     let takes = c.in_ok-answer.ensures.ok in
-    put_failed _ _ _ _ _ c.in_err-print_answer.field-0.0
-    (err_is _ _ c.from_residual-in_err-print_answer.ensures)
-    (begins_after _ c.args.inputs.now.job _ c.in_ok-answer.answer _ _ _
+    put_failed _ _ _ _ _ c.in_err-print_ending.field-0.0
+    (err_is _ _ c.from_residual-in_err-print_ending.ensures)
+    (begins_after c.args.alone _ c.args.inputs.now.job _ c.in_ok-answer.answer _ _ _
     (takes.trace, takes.is, refl) c.steps.ensures.value takes.prints
-    c.in_err-print_answer.ensures.beginning)
-    (λ e. inr tt) c.in_err-print_answer.ensures.failed
+    c.in_err-print_ending.ensures.beginning)
+    (λ e. inr tt) c.in_err-print_ending.ensures.failed
 
 pub returns : goal.returns
 returns g c =
     let takes = c.in_ok-answer.ensures.ok in
-    put_both _ _ c.args.inputs.now.job _ c.in_ok-answer.answer _ _ _
+    put_both c.args.alone _ _ c.args.inputs.now.job _ c.in_ok-answer.answer _ _ _
     (takes.trace, takes.is, refl) c.steps.ensures.value takes.prints
-    c.in_ok-print_answer.ensures.ok c.in_ok-print_answer.ensures.failed
+    c.in_ok-print_ending.ensures.ok c.in_ok-print_ending.ensures.failed

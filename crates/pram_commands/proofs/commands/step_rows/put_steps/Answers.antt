@@ -1,65 +1,64 @@
-use Rattle.std.proofs.Common.{◌⊎◌, Some, Result, Ok, Err, IfOk, IsTrue, inl, inr, refl}
-use Rattle.std.specs.Prelude.{◌↔◌, IsErrOf, OnErr, ⊤}
+use Rattle.std.proofs.Common.{◌≡◌, ◌⊎◌, Bool, Result, Err, IsTrue, inl, inr, refl, subst, sym}
+use Rattle.std.specs.Prelude.{◌↔◌, IsErrOf, ⊤}
 use Rattle.pram_text.specs.Job.{JobData}
 use Rattle.pram_step.specs.declared.answer.RunAnswer.{RunAnswer}
 use Rattle.pram_streams.specs.declared.print.PrintFault.{PrintFault}
 use Rattle.pram_streams.specs.declared.print.PrintFault.TheVariants.{Device, Memory}
-use Rattle.pram_rows.specs.Rows.{rows_text}
-use Rattle.pram_rows.specs.Shown.{BeginsSteps, TakesSteps, last_step}
+use Rattle.pram_rows.specs.Shown.{BeginsSteps}
 use Rattle.pram_rows.specs.declared.window.Window.{Window}
 use Rattle.pram_commands.specs.Did.{Writing, tells}
 use Rattle.pram_commands.specs.Inner.Puts.{PutBeginning, Puts}
 use Rattle.pram_commands.specs.Plain.{no_plan}
 use Rattle.pram_commands.specs.Steps.{stepping}
+use Rattle.pram_commands.proofs.Doing.{begins_after, begins_front, err_is, put_both, put_failed}
 use Rattle.pram_commands.proofs.commands.step_rows.put_steps.Goals as goal
 
-module _ (job : JobData) (window : Window) (w : Writing) where
+module _ (alone : Bool) (job : JobData) (window : Window) (w : Writing) where
   beginning : BeginsSteps job window w.out w.out' →
-      PutBeginning ((stepping window).Comes job no_plan) w
-  beginning begins = record {
-    text = _;
-    answer = Some begins.answer;
-    comes = record {
-      ended = begins.answer;
-      front = rows_text job window.from window.to (last_step job begins.answer);
-      ends = (begins.answers, refl);
-      prints = refl;
-      gives = refl;
-    };
-    takes = begins.prints;
-  }
+      PutBeginning ((stepping alone window).Comes job no_plan) w
+  beginning begins =
+      begins_front alone _ job w begins.answer _ (begins.answers, refl) begins.prints
 
-  put : (result : Result RunAnswer PrintFault) → IfOk result (TakesSteps job window w.out w.out') →
-      (IsErrOf result Device → BeginsSteps job window w.out w.out') →
-      OnErr result (w.Unwritten ⊎ BeginsSteps job window w.out w.out') →
-      (IsTrue w.failed ↔ IsErrOf result Device) →
-      Puts ((stepping window).Comes job no_plan) ⊤ w tells result
-  put (Ok answer) ok device memory failed = record {
-    done = record {
-      text = _;
-      answer = Some answer;
-      comes = record {
-        ended = answer;
-        front = rows_text job window.from window.to (last_step job answer);
-        ends = (ok.answers, refl);
-        prints = refl;
-        gives = refl;
-      };
-      takes = ok.prints;
-      is = refl;
-    };
-    wrote = tt;
-    failed = failed;
-  }
-  put (Err Device) ok device memory failed =
-      record { done = tt; wrote = beginning (device refl); failed = failed }
-  put (Err Memory) ok device memory failed = record {
-    done = tt;
-    wrote = elim memory [ inl unwritten ↦ inl unwritten | inr begins ↦ inr (tt, beginning begins) ];
-    failed = failed;
-  }
+  -- where the rows failed
+  rows_failed : (result : Result RunAnswer PrintFault) (e : PrintFault) → result ≡ Err e →
+      (IsErrOf {T = RunAnswer} (Err e) Device → BeginsSteps job window w.out w.out') →
+      w.Unwritten ⊎ BeginsSteps job window w.out w.out' →
+      (IsTrue w.failed ↔ IsErrOf {T = RunAnswer} (Err e) Device) →
+      Puts ((stepping alone window).Comes job no_plan) ⊤ w tells result
+  rows_failed result Device is device memory failed =
+      subst (λ (x : Result RunAnswer PrintFault).
+      Puts ((stepping alone window).Comes job no_plan) ⊤ w tells x) (sym is)
+      (record { done = tt; wrote = beginning (device refl); failed = failed })
+  rows_failed result Memory is device memory failed =
+      subst (λ (x : Result RunAnswer PrintFault).
+      Puts ((stepping alone window).Comes job no_plan) ⊤ w tells x) (sym is)
+      (record {
+        done = tt;
+        wrote = elim memory [
+          | inl unwritten ↦ inl unwritten
+          | inr begins ↦ inr (tt, beginning begins)
+        ];
+        failed = failed;
+      })
+
+pub returns-in_err-answer : goal.returns-in_err-answer
+returns-in_err-answer g c =
+    rows_failed c.args.alone c.args.job.now c.args.window _ _ c.in_err-answer.field-0.0
+    (err_is _ _ c.from_residual.ensures) c.in_err-answer.ensures.device
+    c.in_err-answer.ensures.memory c.in_err-answer.ensures.failed
+
+pub returns-in_err-print_ending : goal.returns-in_err-print_ending
+returns-in_err-print_ending g c =
+    put_failed _ _ _ _ _ c.in_err-print_ending.field-0.0
+    (err_is _ _ c.from_residual-in_err-print_ending.ensures)
+    (begins_after c.args.alone _ c.args.job.now _ c.in_ok-answer.answer _ _ _
+    (c.in_ok-answer.ensures.ok.answers, refl) c.steps.ensures.value
+    c.in_ok-answer.ensures.ok.prints c.in_err-print_ending.ensures.beginning)
+    (λ e. inr tt) c.in_err-print_ending.ensures.failed
 
 pub returns : goal.returns
 returns g c =
-    let told = c.print_steps.ensures in
-    put c.args.job.now c.args.window _ _ told.ok told.device told.memory told.failed
+    put_both c.args.alone _ _ c.args.job.now _ c.in_ok-answer.answer _ _ _
+    (c.in_ok-answer.ensures.ok.answers, refl) c.steps.ensures.value
+    c.in_ok-answer.ensures.ok.prints c.in_ok-print_ending.ensures.ok
+    c.in_ok-print_ending.ensures.failed

@@ -1,4 +1,4 @@
-use Rattle.std.proofs.Common.{inr, refl, subst}
+use Rattle.std.proofs.Common.{false, inr, refl, subst}
 use Rattle.std.specs.Io.KnownBytes.{Appends}
 use Rattle.pram_streams.specs.Transfer.{AppendsBeginning}
 use Rattle.pram_run.specs.Printed.{sights_text}
@@ -22,7 +22,7 @@ returns-in_err-print_sights g c =
     } in
     put_failed _ _ _ _ _ c.in_err-print_sights.field-0.0
     (err_is _ _ c.from_residual-in_err-print_sights.ensures)
-    (begins_front _ c.args.watched.now.inputs.now.job _ c.in_ok-answer.answer _ told begins)
+    (begins_front false _ c.args.watched.now.inputs.now.job _ c.in_ok-answer.answer _ told begins)
     (λ e. inr tt) c.in_err-print_sights.ensures.failed
 
 pub returns-in_err-print_answer : goal.returns-in_err-print_answer
@@ -41,7 +41,7 @@ returns-in_err-print_answer g c =
     } in
     put_failed _ _ _ _ _ c.in_err-print_answer.field-0.0
     (err_is _ _ c.from_residual-in_err-print_answer.ensures)
-    (begins_after _ c.args.watched.now.inputs.now.job _ c.in_ok-answer.answer
+    (begins_after false _ c.args.watched.now.inputs.now.job _ c.in_ok-answer.answer
     _ _ _ told c.steps.ensures.value sights c.in_err-print_answer.ensures.beginning)
     (λ e. inr tt) c.in_err-print_answer.ensures.failed
 
@@ -59,5 +59,5 @@ returns g c =
       ends = record { later = _; at_it = c.in_ok-answer.ensures.ends };
       text = refl;
     } in
-    put_both _ _ c.args.watched.now.inputs.now.job _ c.in_ok-answer.answer _ _ _ told
+    put_both false _ _ c.args.watched.now.inputs.now.job _ c.in_ok-answer.answer _ _ _ told
     c.steps.ensures.value sights c.in_ok-print_answer.ensures.ok c.in_ok-print_answer.ensures.failed
