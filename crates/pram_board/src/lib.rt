@@ -10,8 +10,6 @@ mod plays;
 mod rest;
 mod seat;
 mod task;
-#[cfg(test)]
-mod tests;
 mod work;
 
 pub use board::Board;

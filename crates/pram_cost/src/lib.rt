@@ -8,8 +8,6 @@ mod meeting;
 mod moment;
 mod pram;
 mod print;
-#[cfg(test)]
-mod tests;
 mod work;
 
 pub use access::{is_running, read_of, write_of};

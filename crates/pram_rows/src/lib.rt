@@ -5,8 +5,6 @@ mod instruction;
 mod moment;
 mod print;
 mod row;
-#[cfg(test)]
-mod tests;
 mod window;
 
 pub use instruction::instruction_text;

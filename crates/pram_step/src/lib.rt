@@ -13,8 +13,6 @@ mod run;
 mod running;
 mod state;
 mod stores;
-#[cfg(test)]
-mod tests;
 
 pub use answer::{Cells, Dispute, Fault, RunAnswer};
 pub use arrival::{Arrival, go_to, make_step};

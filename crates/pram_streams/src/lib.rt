@@ -5,8 +5,6 @@ mod device;
 mod from_read;
 mod into_write;
 mod print;
-#[cfg(test)]
-mod tests;
 mod transfer;
 
 pub use device::{Empty, Failed, Reason, Sink, Source};

@@ -20,6 +20,3 @@ pub use fault::{TextFault, TextKind};
 pub use instr::{Instr, Operands, Rule};
 pub use job::Job;
 pub use reader::read_job;
-
-#[cfg(test)]
-mod tests;

@@ -21,6 +21,3 @@ pub use phases::{Kind, LAST_PHASE, kind_of, phase, step_of};
 pub use stamps::{newer_payload, older, payload, stamp, stamped};
 pub use tree::{first_leaf, goes_right, height, leaves, left, parent, right};
 pub use words::Word;
-
-#[cfg(test)]
-mod tests;

@@ -4,8 +4,6 @@
 mod event;
 pub mod laws;
 mod outcome;
-#[cfg(test)]
-mod tests;
 mod world;
 
 pub use event::{Effect, Event, Standing};

@@ -14,6 +14,3 @@ mod rows;
 pub use gate::{Gate, Open, Paced};
 pub use plan::{Act, Plan, PlanFault, PlanKind, Row};
 pub use read::read_plan;
-
-#[cfg(test)]
-mod tests;

@@ -31,6 +31,3 @@ pub use record::Recorded;
 pub use steps::Steps;
 pub use words::{request_of, seen_step};
 pub use worker::Worker;
-
-#[cfg(test)]
-mod tests;

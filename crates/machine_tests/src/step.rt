@@ -1,0 +1,342 @@
+//! Worked rows of steps and of runs.
+use pram_step::{
+    Arrival, Dispute, Fault, Outcome, Request, RunAnswer, State, StepFault, counter, dispute,
+    go_to, laws, make_step, plain_answer, request, request_after, run_plain, step,
+};
+use pram_text::{Job, read_job};
+use std::process::Abort;
+use std::test::Fail;
+
+fn job<R: AllocGlobal>(rt: &R, text: &str) -> Result<Job, Fail> {
+    Ok(read_job(rt.alloc(), text.as_bytes())?)
+}
+
+// Checks that the job ends with these cells.
+fn ends<R: AllocGlobal + Abort>(rt: &R, text: &str, cells: &[u32]) -> Result<(), Fail> {
+    let job = job(rt, text)?;
+    match plain_answer(rt.alloc(), &job)? {
+        RunAnswer::Final(found) => assert_eq!(rt; found.as_slice(), cells),
+        _ => panic!(rt; "{text}"),
+    }
+    match run_plain(rt.alloc(), &job)? {
+        Outcome::Final(state) => {
+            assert_eq!(rt; state.into_cells(&job).into_vec().as_slice(), cells);
+        }
+        _ => panic!(rt; "{text}"),
+    }
+    Ok(())
+}
+
+// Checks that the job ends with this first conflict.
+fn conflicts<R: AllocGlobal + Abort>(rt: &R, text: &str, fault: Fault) -> Result<(), Fail> {
+    let job = job(rt, text)?;
+    match plain_answer(rt.alloc(), &job)? {
+        RunAnswer::Conflict(found) => assert_eq!(rt; found, fault),
+        _ => panic!(rt; "{text}"),
+    }
+    match run_plain(rt.alloc(), &job)? {
+        Outcome::Conflict {
+            step,
+            cell,
+            first,
+            second,
+        } => {
+            let found = Fault {
+                step,
+                cell,
+                first,
+                second,
+            };
+            assert_eq!(rt; found, fault);
+        }
+        _ => panic!(rt; "{text}"),
+    }
+    Ok(())
+}
+
+#[test]
+fn no_steps_leave_the_start(rt: HostRuntime) -> Result<(), Fail> {
+    let text = "pram 1\ncells 1\nprocs 1\nsteps 0\ninit 0 5\ncode\n\
+        halt\n";
+    ends(&rt, text, &[5])
+}
+
+#[test]
+fn registers_are_no_cells(rt: HostRuntime) -> Result<(), Fail> {
+    let text = "pram 1\ncells 1\nprocs 1\nsteps 1\ncode\n\
+        set r0 7\n";
+    ends(&rt, text, &[0])
+}
+
+#[test]
+fn loads_come_before_stores(rt: HostRuntime) -> Result<(), Fail> {
+    let text = "pram 1\ncells 2\nprocs 2\nsteps 5\ninit 0 7\ninit 1 9\ncode\n\
+        pid r0\nset r1 1\nsub r1 r1 r0\nld r2 r1\nst r0 r2\n";
+    ends(&rt, text, &[9, 7])
+}
+
+#[test]
+fn two_writers_of_equal_values(rt: HostRuntime) -> Result<(), Fail> {
+    let text = "pram 1\ncells 5\nprocs 4\nsteps 5\ninit 1 1\ninit 3 1\ncode\n\
+        pid r0\nld r1 r0\njz r1 end\nset r2 4\nst r2 r1\nend: halt\n";
+    ends(&rt, text, &[0, 1, 0, 1, 1])
+}
+
+#[test]
+fn two_writers_of_different_values(rt: HostRuntime) -> Result<(), Fail> {
+    let text = "pram 1\ncells 5\nprocs 4\nsteps 5\ninit 1 1\ninit 3 1\ncode\n\
+        pid r0\nld r1 r0\njz r1 end\nset r2 4\nst r2 r0\nend: halt\n";
+    let fault = Fault {
+        step: 5,
+        cell: 4,
+        first: 1,
+        second: 3,
+    };
+    conflicts(&rt, text, fault)
+}
+
+#[test]
+fn least_of_two_disputed_cells(rt: HostRuntime) -> Result<(), Fail> {
+    let text = "pram 1\ncells 2\nprocs 4\nsteps 4\ncode\n\
+        pid r0\nset r1 1\nand r2 r0 r1\nst r2 r0\n";
+    let fault = Fault {
+        step: 4,
+        cell: 0,
+        first: 0,
+        second: 2,
+    };
+    conflicts(&rt, text, fault)
+}
+
+#[test]
+fn sub_goes_below_zero(rt: HostRuntime) -> Result<(), Fail> {
+    let text = "pram 1\ncells 1\nprocs 1\nsteps 3\ncode\n\
+        set r1 1\nsub r2 r0 r1\nst r0 r2\n";
+    ends(&rt, text, &[4294967295])
+}
+
+#[test]
+fn load_out_of_range(rt: HostRuntime) -> Result<(), Fail> {
+    let text = "pram 1\ncells 2\nprocs 2\nsteps 5\ninit 0 5\ninit 1 9\ncode\n\
+        pid r0\nset r1 1\nadd r2 r0 r1\nld r3 r2\nst r0 r3\n";
+    ends(&rt, text, &[9, 9])
+}
+
+#[test]
+fn three_processors_write_apart(rt: HostRuntime) -> Result<(), Fail> {
+    let text = "pram 1\ncells 3\nprocs 3\nsteps 4\ncode\n\
+        pid r0\nset r1 10\nadd r1 r0 r1\nst r0 r1\n";
+    ends(&rt, text, &[10, 11, 12])
+}
+
+#[test]
+fn cells_that_nobody_writes(rt: HostRuntime) -> Result<(), Fail> {
+    let text = "pram 1\ncells 3\nprocs 2\nsteps 3\ninit 2 8\ncode\n\
+        pid r0\nset r1 6\nst r0 r1\n";
+    ends(&rt, text, &[6, 6, 8])
+}
+
+#[test]
+fn least_of_three_writers(rt: HostRuntime) -> Result<(), Fail> {
+    let text = "pram 1\ncells 1\nprocs 3\nsteps 2\ncode\n\
+        pid r0\nst r1 r0\n";
+    let fault = Fault {
+        step: 2,
+        cell: 0,
+        first: 0,
+        second: 1,
+    };
+    conflicts(&rt, text, fault)
+}
+
+#[test]
+fn store_out_of_range(rt: HostRuntime) -> Result<(), Fail> {
+    let text = "pram 1\ncells 1\nprocs 2\nsteps 2\ncode\n\
+        pid r0\nst r0 r0\n";
+    ends(&rt, text, &[0])
+}
+
+#[test]
+fn mul_goes_past_the_greatest_number(rt: HostRuntime) -> Result<(), Fail> {
+    let text = "pram 1\ncells 1\nprocs 1\nsteps 4\ncode\n\
+        set r1 4294967295\nmul r2 r1 r1\nlt r3 r2 r1\nst r0 r3\n";
+    ends(&rt, text, &[1])
+}
+
+#[test]
+fn a_loop_counts(rt: HostRuntime) -> Result<(), Fail> {
+    let text = "pram 1\ncells 1\nprocs 1\nsteps 6\ncode\n\
+        set r1 1\nl: add r2 r2 r1\nst r0 r2\njmp l\n";
+    ends(&rt, text, &[2])
+}
+
+#[test]
+fn halted_machine_ends_at_once(rt: HostRuntime) -> Result<(), Fail> {
+    let text = "pram 1\ncells 2\nprocs 3\nsteps 4294967295\ncode\n\
+        pid r0\nhalt\n";
+    ends(&rt, text, &[0, 0])
+}
+
+#[test]
+fn common_takes_equal_values(rt: HostRuntime) -> Result<(), Fail> {
+    let text = "pram 2\ncells 5\nprocs 4\nsteps 5\nrule common\ninit 1 1\ninit 3 1\ncode\n\
+        pid r0\nld r1 r0\njz r1 end\nset r2 4\nst r2 r1\nend: halt\n";
+    ends(&rt, text, &[0, 1, 0, 1, 1])
+}
+
+#[test]
+fn priority_takes_the_least_writer(rt: HostRuntime) -> Result<(), Fail> {
+    let text = "pram 2\ncells 5\nprocs 4\nsteps 5\nrule priority\ninit 1 1\ninit 3 1\ncode\n\
+        pid r0\nld r1 r0\njz r1 end\nset r2 4\nst r2 r0\nend: halt\n";
+    ends(&rt, text, &[0, 1, 0, 1, 1])
+}
+
+#[test]
+fn priority_takes_the_least_writer_of_each_cell(rt: HostRuntime) -> Result<(), Fail> {
+    let text = "pram 2\ncells 2\nprocs 4\nsteps 4\nrule priority\ncode\n\
+        pid r0\nset r1 1\nand r2 r0 r1\nst r2 r0\n";
+    ends(&rt, text, &[0, 1])
+}
+
+#[test]
+fn crew_refuses_equal_values(rt: HostRuntime) -> Result<(), Fail> {
+    let text = "pram 2\ncells 5\nprocs 4\nsteps 5\nrule crew\ninit 1 1\ninit 3 1\ncode\n\
+        pid r0\nld r1 r0\njz r1 end\nset r2 4\nst r2 r1\nend: halt\n";
+    let fault = Fault {
+        step: 5,
+        cell: 4,
+        first: 1,
+        second: 3,
+    };
+    conflicts(&rt, text, fault)
+}
+
+#[test]
+fn crew_names_the_two_least_writers(rt: HostRuntime) -> Result<(), Fail> {
+    let text = "pram 2\ncells 1\nprocs 3\nsteps 1\nrule crew\ncode\n\
+        st r0 r1\n";
+    let fault = Fault {
+        step: 1,
+        cell: 0,
+        first: 0,
+        second: 1,
+    };
+    conflicts(&rt, text, fault)
+}
+
+// Checks that the second instruction stops the only processor, its address being out of range.
+fn stops_out_of_range<R: AllocGlobal + Abort>(rt: &R, text: &str) -> Result<(), Fail> {
+    let job = job(rt, text)?;
+    assert_eq!(rt; job.cells(), 1);
+    assert_eq!(rt; job.procs(), 1);
+    let mut state = State::start(rt.alloc(), &job)?;
+    step(rt.alloc(), &job, &mut state)?;
+    assert_eq!(rt; state.get(5), 1);
+    step(rt.alloc(), &job, &mut state)?;
+    assert_eq!(rt; state.get(5), 3);
+    Ok(())
+}
+
+#[test]
+fn load_out_of_range_stops_the_processor(rt: HostRuntime) -> Result<(), Fail> {
+    let text = "pram 1\ncells 1\nprocs 1\nsteps 2\ncode\nset r0 1\nld r1 r0\n";
+    stops_out_of_range(&rt, text)
+}
+
+#[test]
+fn store_out_of_range_stops_the_processor(rt: HostRuntime) -> Result<(), Fail> {
+    let text = "pram 1\ncells 1\nprocs 1\nsteps 2\ncode\nset r0 1\nst r0 r0\n";
+    stops_out_of_range(&rt, text)
+}
+
+#[test]
+fn disputed_step_changes_nothing(rt: HostRuntime) -> Result<(), Fail> {
+    let text = "pram 2\ncells 1\nprocs 2\nsteps 1\nrule crew\ninit 0 5\ncode\nst r0 r1\n";
+    let job = job(&rt, text)?;
+    assert_eq!(rt; job.procs(), 2);
+    let mut state = State::start(rt.alloc(), &job)?;
+    let wanted = Request {
+        put: Some((0, 0)),
+        next: 1,
+    };
+    assert_eq!(rt; request(&job, &state, 1), wanted);
+    let conflict = StepFault::Conflict {
+        cell: 0,
+        first: 0,
+        second: 1,
+    };
+    assert_eq!(rt; step(rt.alloc(), &job, &mut state), Err(conflict));
+    let start = [5, 0, 0, 0, 0, 0, 0, 0, 0, 0, 0];
+    assert_eq!(rt; state.places(), start.as_slice());
+    Ok(())
+}
+
+#[test]
+fn steps_are_gone_through(rt: HostRuntime) -> Result<(), Fail> {
+    let text = "pram 2\ncells 1\nprocs 2\nsteps 3\nrule crew\ncode\npid r0\nst r1 r0\n";
+    let job = job(&rt, text)?;
+    assert_eq!(rt; job.procs(), 2);
+    job.limits_hold();
+    laws::states_have_all_places();
+    let fault = Fault {
+        step: 2,
+        cell: 0,
+        first: 0,
+        second: 1,
+    };
+    match go_to(rt.alloc(), &job, 3, 3)? {
+        Arrival::Disputed(found) => assert_eq!(rt; found, fault),
+        _ => panic!(rt; "step 3"),
+    }
+    assert!(rt; matches!(go_to(rt.alloc(), &job, 3, 1)?, Arrival::TooFar));
+    match go_to(rt.alloc(), &job, 1, 1)? {
+        Arrival::Reached(mut state) => {
+            assert_eq!(rt; counter(&job, &state, 1), 1);
+            let wanted = Request {
+                put: Some((0, 1)),
+                next: 2,
+            };
+            assert_eq!(rt; request_after(&job, &state, 1), wanted);
+            assert_eq!(rt; make_step(rt.alloc(), &job, &mut state, 1)?, Some(fault));
+        }
+        _ => panic!(rt; "step 1"),
+    }
+    Ok(())
+}
+
+fn disputed(cell: u32, first: u32, second: u32) -> Option<Dispute> {
+    Some(Dispute {
+        cell,
+        first,
+        second,
+    })
+}
+
+#[test]
+fn disputes_in_lists_of_requests(rt: HostRuntime) -> Result<(), Fail> {
+    let text = "pram 1\ncells 6\nprocs 5\nsteps 1\ncode\nhalt\n";
+    let job = job(&rt, text)?;
+    assert_eq!(rt; job.procs(), 5);
+    let lists = [
+        (
+            [Some((4, 1)), None, Some((4, 3)), Some((0, 9)), Some((0, 9))],
+            disputed(4, 0, 2),
+        ),
+        (
+            [
+                Some((1, 5)),
+                Some((0, 2)),
+                Some((1, 6)),
+                Some((0, 2)),
+                Some((0, 3)),
+            ],
+            disputed(0, 1, 4),
+        ),
+        ([Some((4, 1)), Some((4, 1)), Some((4, 1)), None, None], None),
+    ];
+    for (puts, found) in lists {
+        let requests = puts.map(|put| Request { put, next: 0 });
+        assert_eq!(rt; dispute(rt.alloc(), &job, &requests)?, found);
+    }
+    Ok(())
+}

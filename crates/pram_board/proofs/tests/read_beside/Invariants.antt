@@ -1,9 +1,0 @@
-use Rattle.std.proofs.Common.{◌≡◌}
-use Rattle.pram_board.specs.Worked.{Works}
-use Rattle.pram_board.proofs.tests.read_beside.Given as goal
-
-abbrev pub invariant-loop : goal.invariant-loop
-invariant-loop g l = record {
-  reader : l.reader.desk ≡ l.board;
-  works : Works l.board l.seat l.worker;
-}

@@ -1,5 +1,0 @@
-use Rattle.walkx.specs.Serving.{Serves}
-use Rattle.walkx.proofs.tests.follow.Given as goal
-
-abbrev pub invariant-loop-step : goal.invariant-loop-step
-invariant-loop-step g l = Serves l.job l.layout l.worker

@@ -1,5 +1,0 @@
-use Rattle.walkx.specs.Serving.{Serves}
-use Rattle.walkx.proofs.tests.make.Given as goal
-
-abbrev pub invariant-loop : goal.invariant-loop
-invariant-loop g l = Serves l.job l.layout l.worker
