@@ -1,6 +1,6 @@
 -- Seats that go on, and what they show of the end of a job.
 use Rattle.std.proofs.Common.{◌≡◌, ◌≢◌, ◌⊎◌, ℕ, ◌<◌, ◌==◌, if◌then◌else◌, Option}
-use Rattle.std.proofs.Common.{◌≤◌, List, [], ◌∷◌, ◌++◌, length, Some, None, true}
+use Rattle.std.proofs.Common.{◌≤◌, List, [], ◌∷◌, ◌++◌, length, take, Some, None, true}
 use Rattle.std.proofs.Common.{false, refl, sym, ap, subst, ◌∙◌, inl, inr, arith}
 use Rattle.std.proofs.lemmas.Bool.{cases_Bool, eqb-true, eqb-false}
 use Rattle.std.specs.List.{AllByRecursion}
@@ -10,7 +10,7 @@ use Rattle.pram_step.specs.declared.answer.Fault.{Fault}
 use Rattle.pram_step.specs.declared.answer.RunAnswer.{RunAnswer}
 use Rattle.pram_step.specs.declared.answer.RunAnswer.TheVariants as answer
 use Rattle.pram_step.specs.declared.answer.RunAnswer.TheVariants.{Final, Unfinished}
-use Rattle.pram_step.specs.Runs.{IsFault}
+use Rattle.pram_step.specs.Runs.{IsFault, state_after}
 use Rattle.pram_step.proofs.LawAnswer.{one_conflict}
 use Rattle.pram_words.specs.declared.words.Word.TheVariants.{Conflict, Node}
 use Rattle.pram_words.specs.Words.{LayoutData, number_of}
@@ -209,6 +209,29 @@ conflict_shown t p q later progress fault h some goes is =
     subst (λ (u : ℕ). Heard t.layout later.record_of Conflict u) same
     (heard_all t.layout q.record_of later.record_of Conflict h.named
     (begins_all q.record_of later.record_of goes.begins) (heard_named t p q progress h))
+
+-- there is an answer, also where memory is refused to tell it
+pub conflict_exists : (t : Task) (p q later : SeatData) (progress : Progress) →
+    Progressed t p q progress → is_some progress.conflict ≡ true → GoesOn q later →
+    (a : RunAnswer) × Tells t later.record_of a
+conflict_exists t p q later progress h some goes =
+    let c = h.well.conflict (some_named h.named progress.conflict h.conflict some) in
+    (answer.Conflict c.fault, (c.is, conflict_shown t p q later progress c.fault h some goes c.is))
+
+pub final_exists : (t : Task) (p q later : SeatData) (progress : Progress) →
+    Progressed t p q progress → t.job.steps ≤ progress.step → GoesOn q later →
+    (a : RunAnswer) × Tells t later.record_of a
+final_exists t p q later progress h le goes = (
+  Final (take t.job.cells (state_after t.job t.job.steps)),
+  (
+    (
+      state_after t.job t.job.steps,
+      record { reached = λ earlier lt. h.well.reached earlier (omega arith); state = refl },
+      refl,
+    ),
+    shows_goes t.layout q later t.job.steps goes (last_shown t p q progress h le),
+  ),
+)
 
 pub unfinished_shown : (t : Task) (p q : SeatData) (progress : Progress) →
     Progressed t p q progress → Sound t.job t.layout q.record_of →

@@ -10,4 +10,5 @@ pub mod Endings
 pub mod Joining
 pub mod Obeying
 pub mod Watches
+pub mod Reading
 pub mod Hearing

@@ -116,6 +116,13 @@ sights-more sights n d within =
     ∙ sights-append (take n sights) (get_or sights n d ∷ [])
     ∙ ap (λ l. sight_lines (take n sights) ++ l) (append-nil (sight_line (get_or sights n d)))
 
+-- the lines of all the sights, where they were made from the first one on
+pub sights-all : (sights : List Sight) (lines : List ℕ) →
+    sight_lines (take 0 sights) ++ lines ≡ sight_lines (take (length sights) sights) →
+    lines ≡ sight_lines sights
+sights-all sights lines is =
+    is ∙ ap (λ l. sight_lines l) (take_all (length sights) sights (omega arith))
+
 -- a beginning of the text of the first sights is one of the whole text
 pub sights-begin : (a b : Option (List ℕ)) (sights : List Sight) (n : ℕ) →
     AppendsBeginning a b (sights_text (take n sights)) → AppendsBeginning a b (sights_text sights)

@@ -3,6 +3,7 @@ use Rattle.std.proofs.Common.{◌≡◌, ℕ, zero, suc, ◌<◌, ◌≤◌, Lis
 use Rattle.std.proofs.Common.{length, get_or, map, refl, sym, ap, subst, ◌∙◌}
 use Rattle.std.proofs.Common.{arith, append_assoc, add-one, take, ◌+◌, ◌*◌}
 use Rattle.std.specs.List.{All, repeat}
+use Rattle.std.specs.Prelude.{Ok, Err, IfOk}
 use Rattle.std.specs.List.Sorted.{IsNonDecreasingBy}
 use Rattle.std.proofs.Math.Nat.{suc-mul}
 use Rattle.std.proofs.Math.Seq.{take-suc}
@@ -13,13 +14,18 @@ use Rattle.walkx.specs.declared.operation.Reading.TheVariants.{At}
 use Rattle.walkx.specs.Reads.{reader_script}
 use Rattle.walkx.specs.Scripts.{heard_in}
 use Rattle.lawful_walk.specs.Seen.{KnowsStep}
+use Rattle.pram_step.specs.declared.answer.RunAnswer.{RunAnswer}
 use Rattle.pram_board.specs.declared.task.Task.{Task}
 use Rattle.pram_board.specs.Seats.{SeatData, WasRead, unites}
 use Rattle.pram_run.specs.declared.sight.Sight.{Sight}
 use Rattle.pram_run.specs.declared.watcher.Watched.{Watched}
 use Rattle.stop_plan.specs.Plan.{PlanData}
 use Rattle.pram_run.specs.Obeyed.{AllObeyed, HasLooked}
-use Rattle.pram_run.specs.Watching.{HasRead, IsTrueSight, IsWatch, HasWatched}
+use Rattle.pram_run.specs.Heard.{Ended}
+use Rattle.pram_run.specs.Running.{IsRun}
+use Rattle.pram_run.specs.Watching.{HasRead, IsTrueSight, IsWatch, HasWatched, HasReadBeside}
+use Rattle.pram_run.specs.Watching.{HasWatchedWith}
+use Rattle.pram_run.specs.Inner.Hearing.{IsJoined, TellsEnd}
 use Rattle.pram_run.specs.Inner.Obeying.{GoesOn, IsToWatch}
 use Rattle.pram_run.proofs.Records.{begins_all, knows_all}
 use Rattle.pram_run.proofs.Endings.{goes_self, goes_trans, goes_all, looked_more, looked_same}
@@ -163,3 +169,34 @@ watched_later t plan cells rounds first p q sights h looked = record {
   watch = h.watch;
   looked = looked_more (unites h.seat h.reader) p q h.looked looked;
 }
+
+-- the seats of the workers and of the reader are joined
+pub read_with : (t : Task) (plan : PlanData) (given looker : SeatData) (n : ℕ)
+    (joined later reader : SeatData) (Reads : SeatData → Type 0) →
+    IsJoined t plan given looker n joined → n ≡ plan.workers → HasLooked reader looker →
+    Reads reader → HasLooked joined later → HasReadBeside t plan given later Reads
+read_with t plan given looker n joined later reader Reads is count beside reads looked = record {
+  seat = is.seat;
+  obeyed = subst (λ (k : ℕ). AllObeyed t plan.rows given k is.seat) count is.obeyed;
+  reader = reader;
+  reads = reads;
+  looker = looker;
+  beside = beside;
+  looked = subst (λ (s : SeatData). HasLooked s later) is.is looked;
+}
+
+-- such a watch, and its answer
+pub watched_with : (t : Task) (plan : PlanData) (given later : SeatData) (Reads : SeatData → Type 0)
+    (ended : Ended) → HasReadBeside t plan given later Reads →
+    (a : RunAnswer) × IsRun t plan later.record_of a → IfOk ended (IsRun t plan later.record_of) →
+    HasWatchedWith t plan given later Reads ended
+watched_with t plan given later Reads (Ok answer) ran some told =
+    record { ran = ran; answer = answer; told = told; given_if = refl }
+watched_with t plan given later Reads (Err refused) ran some told =
+    record { ran = ran; answer = some.0; told = some.1; given_if = tt }
+
+-- where the end of the job was told there is an answer
+pub some_run : (t : Task) (plan : PlanData) (later : SeatData) (ended : Ended) → TellsEnd ended →
+    IfOk ended (IsRun t plan later.record_of) → (a : RunAnswer) × IsRun t plan later.record_of a
+some_run t plan later (Ok answer) ends told = (answer, told)
+some_run t plan later (Err refused) ends told = absurd ends

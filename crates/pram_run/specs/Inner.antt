@@ -2,5 +2,6 @@
 pub mod Progress
 pub mod Obeying
 pub mod Printing
+pub mod Reading
 pub mod Hearing
 pub mod Underway

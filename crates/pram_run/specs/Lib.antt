@@ -2,6 +2,7 @@ pub mod Heard
 pub mod Inner
 pub mod Obeyed
 pub mod Printed
+pub mod PutReads
 pub mod Replays
 pub mod Running
 pub mod Traces

@@ -1,14 +1,17 @@
 -- What a watch lists.
-use Rattle.std.specs.Prelude.{◌≡◌, ◌≤◌, ℕ, List, [], ◌∷◌, map, slice_index, All}
+use Rattle.std.specs.Prelude.{◌≡◌, ◌≤◌, ℕ, List, [], ◌∷◌, map, slice_index, All, IfOk}
 use Rattle.std.specs.List.{repeat}
 use Rattle.std.specs.List.Sorted.{IsNonDecreasingBy}
+use Rattle.pram_step.specs.declared.answer.RunAnswer.{RunAnswer}
 use Rattle.pram_step.specs.Runs.{IsReached, state_after}
 use Rattle.walkx.specs.declared.operation.Reading.TheVariants.{At}
 use Rattle.lawful_walk.specs.Seen.{KnowsStep}
 use Rattle.pram_board.specs.declared.task.Task.{Task}
 use Rattle.stop_plan.specs.Plan.{PlanData}
 use Rattle.pram_board.specs.Seats.{SeatData, WasRead, unites}
+use Rattle.pram_run.specs.Heard.{Ended}
 use Rattle.pram_run.specs.Obeyed.{AllObeyed, HasLooked}
+use Rattle.pram_run.specs.Running.{IsRun}
 use Rattle.pram_run.specs.declared.sight.Sight.{Sight}
 
 -- the cells that were read, in order
@@ -49,3 +52,31 @@ pub record HasWatched (task : Task) (plan : PlanData) (cells : List ℕ) (rounds
   pub reader : SeatData
   pub watch : IsWatch task cells rounds given sights reader
   pub looked : HasLooked (unites seat reader) later
+
+-- The plan's workers obeyed it from the given seat. A reader did this beside them, and then looked
+-- at the board; the seat that joins theirs, the reader's last, looked at it too.
+pub record HasReadBeside (task : Task) (plan : PlanData) (given later : SeatData)
+    (Reads : SeatData → Type 0) : Type 0 where
+  pub seat : SeatData
+  pub obeyed : AllObeyed task plan.rows given plan.workers seat
+  pub reader : SeatData
+  pub reads : Reads reader
+  pub looker : SeatData
+  pub beside : HasLooked reader looker
+  pub looked : HasLooked (unites seat looker) later
+
+-- So a reader did. The later seat's record tells an answer, which was given if memory was.
+pub record HasWatchedWith (task : Task) (plan : PlanData) (given later : SeatData)
+    (Reads : SeatData → Type 0) (ended : Ended) : Type 0 where
+  pub ran : HasReadBeside task plan given later Reads
+  pub answer : RunAnswer
+  pub told : IsRun task plan later.record_of answer
+  pub given_if : IfOk ended (λ found. found ≡ answer)
+
+-- A reader read so up to a seat, and what it was then heard how the run ended.
+pub record ReadsAndHears {P H : Type 0} (Reads : SeatData → P → Type 0)
+    (Hears : P → Ended → H → Type 0) (ended : Ended) (heard : H) (later : SeatData)
+    : Type 0 where
+  pub after : P
+  pub reads : Reads later after
+  pub hears : Hears after ended heard

@@ -2,6 +2,7 @@
 ghost use Rattle.std.specs.Prelude.{◌≡◌, IfOk};
 ghost use Rattle.pram_run.specs.Obeyed.{HasLooked};
 ghost use Rattle.pram_run.specs.Running.{Tells};
+ghost use Rattle.pram_step.specs.declared.answer.RunAnswer.{RunAnswer};
 
 use pram_board::{Board, Seat};
 use pram_step::{Cells, RunAnswer};
@@ -19,6 +20,7 @@ pub(crate) fn answer(
     requires seat { seat.old.desk ≡ board.now }
     ensures answer { IfOk result (Tells board.now.task seat.new.record_of) }
     ensures looked { HasLooked seat.old seat.new }
+    ensures some { (answer : RunAnswer) × Tells board.now.task seat.new.record_of answer }
 {
     let progress = board.progress(seat);
     if progress.conflict.is_some() {

@@ -85,13 +85,13 @@ pub fn run_heard<R: Threads + Wait, G: Gate + Sync, H, L: Listener<Heard = H>>(
     )
 }
 
-// A crew, the job that it works on, and where memory comes from.
+/// A crew, the job that it works on, and where memory comes from.
 #[derive(Drop)]
-struct Shift<'c, 'a, G> {
-    alloc: Global,
-    job: &'a Job,
-    crew: Crew<'c, G>,
-    ghost opened: { crew.board.now.task.job ≡ job.now },
+pub(crate) struct Shift<'c, 'a, G> {
+    pub alloc: Global,
+    pub job: &'a Job,
+    pub crew: Crew<'c, G>,
+    pub ghost opened: { crew.board.now.task.job ≡ job.now },
 }
 
 // Starts a thread of the scope for each worker, has the listener hear how the run ended, before
@@ -132,9 +132,9 @@ fn work_heard<'s, E, R: Threads + Wait, G: Gate + Sync, H, L: Listener<Heard = H
     (seat, ended, heard)
 }
 
-// Looks at the board whenever a worker has left, until it tells the end, memory is refused, or all
-// of them have left.
-fn await_end<R: Wait, G>(
+/// Looks at the board whenever a worker has left, until it tells the end, memory is refused, or all
+/// of them have left.
+pub(crate) fn await_end<R: Wait, G>(
     rt: &R,
     shift: &Shift<'_, '_, G>,
     mut seat: Seat,
@@ -161,8 +161,8 @@ fn may_end_yet(told: &Result<RunAnswer, AllocError>) -> bool {
     matches!(told, Ok(RunAnswer::Unfinished { .. }))
 }
 
-// Whether this is the job's one answer, and not how far it was seen.
-fn tells_end(ended: &Result<RunAnswer, AllocError>) -> bool
+/// Whether this is the job's one answer, and not how far it was seen.
+pub(crate) fn tells_end(ended: &Result<RunAnswer, AllocError>) -> bool
     ensures { IsTrue result ↔ TellsEnd ended.now }
 {
     match ended {
@@ -171,8 +171,8 @@ fn tells_end(ended: &Result<RunAnswer, AllocError>) -> bool
     }
 }
 
-// Joins the threads, and then the seat that looked at the board beside them.
-fn join_beside<'s, R: Threads, G: Gate + Sync>(
+/// Joins the threads, and then the seat that looked at the board beside them.
+pub(crate) fn join_beside<'s, R: Threads, G: Gate + Sync>(
     rt: &R,
     crew: &Crew<'s, G>,
     seat: Seat,
@@ -180,7 +180,7 @@ fn join_beside<'s, R: Threads, G: Gate + Sync>(
     threads: Vec<PromisedHandle<Seat, Obeyed<'s>>>,
 ) -> Seat
     requires seat { seat.desk ≡ crew.now.board.now }
-    requires looker { HasLooked seat looker }
+    requires looker { GoesOn seat looker }
     requires promised { (k : ℕ) (d : _) → k < vec_len threads →
         IsToObey crew.now.plan.now.rows k seat (slice_index_or threads.items k d).promise }
     ensures { IsJoined crew.now.board.now.task crew.now.plan.now seat looker

@@ -5,22 +5,20 @@ mod bell;
 mod crew;
 mod ending;
 mod heard;
-#[cfg(test)]
-mod heard_tests;
 mod listener;
+mod observation;
 mod print;
 mod runner;
 mod schedule;
 mod sight;
 #[cfg(test)]
 mod tests;
-#[cfg(test)]
-mod thread_tests;
 mod trace;
 mod watcher;
 
 pub use heard::{Assignment, run_heard};
 pub use listener::Listener;
+pub use observation::{Observation, Reads, print_reads, watch_heard};
 pub use print::{OutFault, print_sights, print_trace, write_trace};
 pub use runner::run;
 pub use schedule::{replay, replay_to};

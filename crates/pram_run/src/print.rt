@@ -1,5 +1,5 @@
 //! Traces and sights as text, written with `csv`.
-ghost use Rattle.std.specs.Prelude.{◌≡◌, ◌+◌, ◌<◌, ◌≤◌, ◌^◌, ◌++◌, ◌↔◌, false, decimal, length};
+ghost use Rattle.std.specs.Prelude.{◌≡◌, ◌+◌, ◌<◌, ◌≤◌, ◌^◌, ◌++◌, ◌↔◌, [], false, decimal, length};
 ghost use Rattle.std.specs.Prelude.{map, take, IfOk, OnOk, IsErrOf, IsTrue};
 ghost use Rattle.std.specs.Io.KnownBytes.{Appends};
 ghost use Rattle.csv.specs.Writing.{default_writer, field_text, row_text, text_written};
@@ -179,6 +179,35 @@ pub fn print_sights<W: Sink>(
         put(sink, lines.as_slice())?;
         done = end;
     }
+    Ok(())
+}
+
+/// Prints the header of sights.
+pub(crate) fn begin_sights<W: Sink>(sink: &mut W) -> Result<(), PrintFault>
+    requires { W.has_failed sink.old ≡ false }
+    ensures ok { OnOk result (Appends (W.taken sink.old) (W.taken sink.new) (sights_text [])) }
+    ensures beginning { AppendsBeginning (W.taken sink.old) (W.taken sink.new) (sights_text []) }
+    ensures failed { IsTrue (W.has_failed sink.new) ↔ IsErrOf result PrintFault.Device }
+{
+    put(sink, SIGHTS_HEADER.as_bytes())?;
+    Ok(())
+}
+
+/// Prints the lines of sights.
+pub(crate) fn put_sights<W: Sink>(
+    alloc: Global,
+    sink: &mut W,
+    sights: &[Sight],
+) -> Result<(), PrintFault>
+    requires { W.has_failed sink.old ≡ false }
+    ensures ok { OnOk result (Appends (W.taken sink.old) (W.taken sink.new)
+        (sight_lines sights.now)) }
+    ensures beginning { AppendsBeginning (W.taken sink.old) (W.taken sink.new)
+        (sight_lines sights.now) }
+    ensures failed { IsTrue (W.has_failed sink.new) ↔ IsErrOf result PrintFault.Device }
+{
+    let lines = sights_between(alloc, sights, 0, sights.len())?;
+    put(sink, lines.as_slice())?;
     Ok(())
 }
 

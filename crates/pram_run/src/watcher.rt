@@ -1,12 +1,13 @@
 //! A reader beside the workers of a plan.
 ghost use Rattle.std.specs.Prelude.{◌≡◌, ◌≤◌, ◌<◌, ◌+◌, ◌*◌, ◌++◌, All, IfOk, length, vec_len};
-ghost use Rattle.std.specs.Prelude.{vec_capacity};
+ghost use Rattle.std.specs.Prelude.{vec_capacity, List};
 ghost use Rattle.walkx.specs.declared.operation.Reading.TheVariants.{At};
 ghost use Rattle.lawful_walk.specs.Seen.{BeginsWith};
 ghost use Rattle.pram_board.specs.Seats.{SeatData};
 ghost use Rattle.pram_run.specs.Inner.Obeying.{AllEndOrStop, GoesOn, IsToWatch};
 ghost use Rattle.pram_run.specs.Running.{IsBoardFor, IsRun};
 ghost use Rattle.pram_run.specs.Watching.{HasRead, HasWatched, IsWatch, cells_of};
+ghost use Rattle.pram_run.specs.declared.sight.Sight.{Sight};
 
 use crate::bell::Bell;
 use crate::crew::Crew;
@@ -218,15 +219,15 @@ fn room_for(alloc: Global, cells: &[u32], rounds: u32) -> Result<Vec<Sight>, All
     Vec::with_capacity(alloc, count)
 }
 
-// A round of the reader: a read of each of the cells, after it passed the gate as the worker of
-// this number.
+/// A round of the reader: a read of each of the cells, after it passed the gate as the worker of
+/// this number.
 #[derive(Drop)]
-struct Round<'a, G> {
-    board: &'a Board,
-    gate: &'a G,
-    number: u32,
-    cells: &'a [u32],
-    ghost within: { All (λ c. c < board.now.task.job.cells) cells.now },
+pub(crate) struct Round<'a, G> {
+    pub board: &'a Board,
+    pub gate: &'a G,
+    pub number: u32,
+    pub cells: &'a [u32],
+    pub ghost within: { All (λ c. c < board.now.task.job.cells) cells.now },
 }
 
 // Goes so many rounds through the cells.
@@ -244,25 +245,34 @@ fn read_all<G: Gate>(
         result.1.items result.0 }
 {
     for _ in 0..rounds {
-        read_round(round, &mut seat, &mut sights);
+        let reads = sights.len() as u64;
+        read_round(round, &mut seat, reads, &mut sights);
     }
     (seat, sights)
 }
 
-// Reads each of the cells, and notes what was read.
-fn read_round<G: Gate>(round: &Round<'_, G>, seat: &mut Seat, sights: &mut Vec<Sight>)
+/// Reads each of the cells, and notes what was read, so many reads having gone before.
+pub(crate) fn read_round<G: Gate>(
+    round: &Round<'_, G>,
+    seat: &mut Seat,
+    reads: u64,
+    sights: &mut Vec<Sight>,
+)
     requires seat { seat.old.desk ≡ round.now.board.now }
     requires room { vec_len sights.old + length round.now.cells.now ≤ vec_capacity sights.old }
     ensures desk { seat.new.desk ≡ round.now.board.now }
-    ensures reads { (p : SeatData) → HasRead round.now.board.now.task p sights.old.items seat.old →
-        HasRead round.now.board.now.task p sights.new.items seat.new }
+    ensures reads { (front : List Sight) (p : SeatData) →
+        HasRead round.now.board.now.task p (front ++ sights.old.items) seat.old →
+        HasRead round.now.board.now.task p (front ++ sights.new.items) seat.new }
     ensures cells { cells_of sights.new.items ≡ cells_of sights.old.items ++ round.now.cells.now }
     ensures len { vec_len sights.new ≡ vec_len sights.old + length round.now.cells.now }
     ensures capacity { vec_capacity sights.new ≡ vec_capacity sights.old }
 {
+    let mut passes = reads;
     for cell in round.cells {
         let cell = *cell;
-        round.gate.pass(round.number, sights.len() as u64);
+        round.gate.pass(round.number, passes);
+        passes = passes.saturating_add(1);
         let sight = sight_of(cell, round.board.read(seat, cell));
         sights.push_reserved(sight);
     }

@@ -2,12 +2,11 @@
 //! same call then succeeds.
 ghost use Rattle.std.specs.Prelude.{◌≡◌, IfOk};
 
-use super::SWAP;
+use super::{SWAP, Wanted};
 use crate::{Sight, Trace, replay, run, watch};
 use pram_board::{Board, Seat};
 use pram_step::RunAnswer;
 use pram_text::{Job, read_job};
-use std::process::Abort;
 use std::sync::Wait;
 use std::test::Fail;
 use std::thread::Threads;
@@ -88,11 +87,8 @@ fn watched_again(
     Ok(watched?)
 }
 
-fn is_swapped(rt: &impl Abort, answer: &RunAnswer) {
-    match answer {
-        RunAnswer::Final(cells) => assert_eq!(rt; cells.as_slice(), [9, 7].as_slice()),
-        _ => panic!(rt; "not final"),
-    }
+fn is_swapped(answer: &RunAnswer) -> bool {
+    Wanted::Cells(&[9, 7]).is(answer)
 }
 
 // It prints whether one was refused.
@@ -102,12 +98,12 @@ fn refused_growths_are_told(rt: HostRuntime) -> Result<(), Fail> {
     let plan = Plan::empty(rt.alloc(), 2);
     let mut refused = 0u32;
     let (answer, trace) = replayed_again(&rt, &job, &plan, &mut refused)?;
-    is_swapped(&rt, &answer);
-    assert_eq!(rt; trace.rows().len(), 630);
-    is_swapped(&rt, &ran_again(&rt, &job, &plan, &mut refused)?);
+    assert!(rt; is_swapped(&answer));
+    assert!(rt; trace.rows().len() == 630);
+    assert!(rt; is_swapped(&ran_again(&rt, &job, &plan, &mut refused)?));
     let (answer, sights) = watched_again(&rt, &job, &plan, &mut refused)?;
-    is_swapped(&rt, &answer);
-    assert_eq!(rt; sights.len(), 0);
+    assert!(rt; is_swapped(&answer));
+    assert!(rt; sights.is_empty());
     println!(rt; "refused={refused}")?;
     Ok(())
 }

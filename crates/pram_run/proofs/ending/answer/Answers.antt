@@ -1,8 +1,10 @@
 use Rattle.std.proofs.Common.{◌≤◌, ◌<◌, sym, ap, ◌∙◌, inl, arith}
 use Rattle.pram_text.specs.Job.{JobData}
+use Rattle.pram_step.specs.declared.answer.RunAnswer.TheVariants.{Unfinished}
 use Rattle.pram_run.proofs.Endings.{progress_heard, progress_looks, looked_more}
 use Rattle.pram_run.proofs.Endings.{looked_same, loads_go, last_shown}
 use Rattle.pram_run.proofs.Endings.{conflict_shown, unfinished_shown, shows_goes}
+use Rattle.pram_run.proofs.Endings.{conflict_exists, final_exists, same_goes}
 use Rattle.pram_run.proofs.ending.answer.Goals as goal
 
 pub fault-requires-clause-knows : goal.fault-requires-clause-knows
@@ -14,6 +16,45 @@ returns-in_err-fault-clause-looked c =
     looked_more c.args.seat.now c.progress-progress.new.seat c.fault.new.seat
     (progress_looks _ _ _ _ c.progress-progress.ensures.progressed)
     (_, c.in_err-fault.ensures.refused.1)
+
+pub returns-in_err-fault-clause-some : goal.returns-in_err-fault-clause-some
+returns-in_err-fault-clause-some c =
+    conflict_exists c.args.board.now.task c.args.seat.now c.progress-progress.new.seat
+    c.fault.new.seat c.progress-progress.result c.progress-progress.ensures.progressed
+    (sym c.is_some.ensures ∙ c.if-is_some.true) (loads_go _ _ _ c.in_err-fault.ensures.refused.1)
+
+pub returns-then-is_some-clause-some : goal.returns-then-is_some-clause-some
+returns-then-is_some-clause-some c =
+    conflict_exists c.args.board.now.task c.args.seat.now c.progress-progress.new.seat
+    c.fault.new.seat c.progress-progress.result c.progress-progress.ensures.progressed
+    (sym c.is_some.ensures ∙ c.if-is_some.true) (loads_go _ _ _ c.in_ok-fault.ensures.loads)
+
+pub returns-then-progress-steps-clause-some : goal.returns-then-progress-steps-clause-some
+returns-then-progress-steps-clause-some c =
+    let low : c.progress-progress.result.step < c.args.board.now.task.job.steps =
+    omega (arith, c.steps.ensures.value, ap (λ (j : JobData). j.steps) c.requires.job) in (
+      Unfinished c.progress-progress.result.step,
+      unfinished_shown c.args.board.now.task
+          c.args.seat.now c.progress-progress.new.seat c.progress-progress.result
+          c.progress-progress.ensures.progressed c.progress-progress.ensures.later.sound
+          (sym c.is_some.ensures ∙ c.if-is_some.false) low,
+    )
+
+pub returns-in_err-cells-clause-some : goal.returns-in_err-cells-clause-some
+returns-in_err-cells-clause-some c =
+    let high : c.args.board.now.task.job.steps ≤ c.progress-progress.result.step =
+    omega (arith, c.steps.ensures.value, ap (λ (j : JobData). j.steps) c.requires.job) in
+    final_exists c.args.board.now.task c.args.seat.now c.progress-progress.new.seat
+    c.memory.new.seat c.progress-progress.result c.progress-progress.ensures.progressed high
+    (same_goes _ _ c.in_err-cells.ensures.refused)
+
+pub returns-clause-some : goal.returns-clause-some
+returns-clause-some c =
+    let high : c.args.board.now.task.job.steps ≤ c.progress-progress.result.step =
+    omega (arith, c.steps.ensures.value, ap (λ (j : JobData). j.steps) c.requires.job) in
+    final_exists c.args.board.now.task c.args.seat.now c.progress-progress.new.seat
+    c.memory.new.seat c.progress-progress.result c.progress-progress.ensures.progressed high
+    (loads_go _ _ _ c.in_ok-cells.ensures.loads)
 
 pub returns-then-is_some-clause-answer : goal.returns-then-is_some-clause-answer
 returns-then-is_some-clause-answer c = (

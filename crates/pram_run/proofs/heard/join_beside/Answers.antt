@@ -1,12 +1,12 @@
 use Rattle.std.proofs.Common.{◌∙◌}
-use Rattle.pram_run.proofs.Endings.{ends_front, goes_united, looked_goes}
+use Rattle.pram_run.proofs.Endings.{ends_front, goes_united}
 use Rattle.pram_run.proofs.heard.join_beside.Goals as goal
 
 pub join-requires-clause-first : goal.join-requires-clause-first
 join-requires-clause-first g c = c.join_all-seat.ensures.goes_on.desk ∙ c.requires.seat
 
 pub join-requires-clause-second : goal.join-requires-clause-second
-join-requires-clause-second g c = (looked_goes _ _ c.requires.looker).desk ∙ c.requires.seat
+join-requires-clause-second g c = c.requires.looker.desk ∙ c.requires.seat
 
 pub returns : goal.returns
 returns g c =
@@ -19,5 +19,5 @@ returns g c =
           (c.join_all-seat.ensures.ends worker lt);
       is = is;
       goes_on = goes_united c.args.seat seat c.args.looker c.join.result is
-          c.join_all-seat.ensures.goes_on (looked_goes _ _ c.requires.looker);
+          c.join_all-seat.ensures.goes_on c.requires.looker;
     }

@@ -1,4 +1,4 @@
-use Rattle.std.proofs.Common.{◌≡◌, refl, subst, ap, ◌∙◌}
+use Rattle.std.proofs.Common.{◌≡◌, refl, sym, subst, ap, ◌∙◌}
 use Rattle.pram_board.specs.Seats.{Desk, SeatData}
 use Rattle.pram_run.specs.Inner.Obeying.{GoesOn}
 use Rattle.pram_run.specs.Obeyed.{HasLooked}
@@ -6,6 +6,18 @@ use Rattle.pram_run.proofs.Endings.{goes_self, goes_trans, looked_goes, looked_s
 use Rattle.pram_run.proofs.Hearing.{all_of, early_run, late_run, ran_beside}
 use Rattle.pram_run.proofs.Joining.{any_ok}
 use Rattle.pram_run.proofs.heard.work_heard.Goals as goal
+
+pub join_beside-seat-requires-clause-looker : goal.join_beside-seat-requires-clause-looker
+join_beside-seat-requires-clause-looker g c κs within =
+    subst (λ (s : SeatData). GoesOn s c.await_end-looker.result.0)
+    (c.split-seat.ensures.second ∙ sym c.split-seat.ensures.first
+    ∙ sym c.start_all-seat.ensures.seat) (looked_goes _ _ c.await_end-looker.ensures.looked)
+
+pub join_beside-seat-requires-2-clause-looker : goal.join_beside-seat-requires-2-clause-looker
+join_beside-seat-requires-2-clause-looker g c κs within =
+    subst (λ (s : SeatData). GoesOn s c.await_end-looker.result.0)
+    (c.split-seat.ensures.second ∙ sym c.split-seat.ensures.first
+    ∙ sym c.start_all-seat.ensures.seat) (looked_goes _ _ c.await_end-looker.ensures.looked)
 
 pub returns-in_default-clause-goes_on : goal.returns-in_default-clause-goes_on
 returns-in_default-clause-goes_on g c = goes_self c.args.seat

@@ -1,4 +1,5 @@
-use Rattle.std.proofs.Common.{◌≡◌, ℕ, List, get_or, refl, sym, subst, ◌∙◌, arith}
+use Rattle.std.proofs.Common.{◌≡◌, ℕ, List, [], ◌∷◌, ◌++◌, get_or, refl, sym, subst, ◌∙◌}
+use Rattle.std.proofs.Common.{append_assoc, arith}
 use Rattle.std.proofs.lemmas.List.{append-nil}
 use Rattle.walkx.specs.declared.operation.Reading.{Reading}
 use Rattle.walkx.specs.declared.operation.Reading.TheVariants.{At}
@@ -11,7 +12,7 @@ use Rattle.pram_run.proofs.watcher.read_round.Goals as goal
 pub loop-cell-init : goal.loop-cell-init
 loop-cell-init g c = record {
   desk = c.requires.seat;
-  reads = λ p h. h;
+  reads = λ front p h. h;
   listed = sym (append-nil _);
   len = omega arith;
   capacity = refl;
@@ -31,8 +32,12 @@ loop-cell-preserved g c =
     (subst (λ (n : ℕ). WasRead task seat next n c.read.result) (sym cell) c.read.ensures.read) in
     let items = c.push_reserved.ensures.items in record {
       desk = c.read.ensures.later.desk;
-      reads = λ p h. subst (λ (ss : List Sight). HasRead task p ss next) (sym items)
-          (has_read_more task p seat next c.loop-cell.sights.items sight (was.reads p h) read);
+      reads = λ front p h.
+          subst (λ (ss : List Sight). HasRead task p (front ++ ss) next) (sym items)
+          (subst (λ (ss : List Sight). HasRead task p ss next)
+          (append_assoc front c.loop-cell.sights.items (sight ∷ []))
+          (has_read_more task p seat next (front ++ c.loop-cell.sights.items) sight
+          (was.reads front p h) read));
       listed =
           listed_more _ c.args.round.now.cells.now c.loop-cell.cell-index c.loop-cell.sights.items
           c.push_reserved.new.self.items sight c.loop-cell-test.true items cell was.listed;

@@ -1,4 +1,4 @@
-use Rattle.std.proofs.Common.{◌≡◌, ◌+◌, ◌++◌, map, take, vec_items, vec_len, vec_capacity}
+use Rattle.std.proofs.Common.{◌≡◌, ◌+◌, List, ◌++◌, map, take, vec_items, vec_len, vec_capacity}
 use Rattle.pram_board.specs.Seats.{SeatData}
 use Rattle.pram_run.specs.Watching.{HasRead}
 use Rattle.pram_run.specs.declared.sight.Sight.{Sight}
@@ -7,9 +7,9 @@ use Rattle.pram_run.proofs.watcher.read_round.Given as goal
 abbrev pub invariant-loop-cell : goal.invariant-loop-cell
 invariant-loop-cell g l = record {
   desk : l.seat.desk ≡ l.round.board.now;
-  reads : (p : SeatData) →
-      HasRead l.round.board.now.task p (vec_items l.initial.sights) l.initial.seat →
-      HasRead l.round.board.now.task p (vec_items l.sights) l.seat;
+  reads : (front : List Sight) (p : SeatData) →
+      HasRead l.round.board.now.task p (front ++ vec_items l.initial.sights) l.initial.seat →
+      HasRead l.round.board.now.task p (front ++ vec_items l.sights) l.seat;
   listed : map (λ (s : Sight). s.cell) (vec_items l.sights) ≡ map (λ (s : Sight). s.cell)
       (vec_items l.initial.sights) ++ take l.cell-index l.round.cells.now;
   len : vec_len l.sights ≡ vec_len l.initial.sights + l.cell-index;

@@ -1,7 +1,8 @@
 //! Answers that are heard while a worker is held, and after all have left.
 ghost use Rattle.std.specs.Prelude.{◌≡◌, ◌≤◌, ⊤};
 
-use super::*;
+use super::{SWAP, TWO_CELLS, holds_at, plan_of};
+use crate::{Assignment, Listener, run_heard};
 use pram_board::Board;
 use pram_step::RunAnswer;
 use pram_text::read_job;
@@ -14,13 +15,7 @@ use std::test::Fail;
 use std::thread;
 use std::thread::Threads;
 use std::time::Duration;
-use stop_plan::{Gate, read_plan};
-
-const SWAP: &str = "pram 1\ncells 2\nprocs 2\nsteps 5\ninit 0 7\ninit 1 9\ncode\n\
-    pid r0\nset r1 1\nsub r1 r1 r0\nld r2 r1\nst r0 r2\n";
-
-const DISPUTED: &str = "pram 1\ncells 2\nprocs 4\nsteps 4\ncode\n\
-    pid r0\nset r1 1\nand r2 r0 r1\nst r2 r0\n";
+use stop_plan::Gate;
 
 // The polls of a hold, a millisecond each.
 const LIMIT: u32 = 10_000;
@@ -64,7 +59,7 @@ impl<C: Clock> Gate for Held<'_, C> {
 }
 
 // How a run ended, as it was heard.
-#[derive(Clone, Copy, Debug, PartialEq, Eq)]
+#[derive(Clone, Copy, PartialEq, Eq)]
 enum Sound {
     Done,
     Conflict(u32),
@@ -105,9 +100,7 @@ fn heard<C: Clock + Sync + Drop>(
 ) -> Result<Sound, Fail> {
     let alloc = rt.alloc();
     let job = read_job(alloc, text.as_bytes())?;
-    let plan = format!(in alloc; "worker,act,ticks\n{rows}")?;
-    let plan = read_plan(alloc, plan.as_bytes(), 3)?;
-    assert!(rt; plan.workers() == 3);
+    let plan = plan_of(rt, 3, rows)?;
     let (board, seat) = Board::open_wide(alloc, &job, 3)?;
     let ear = Ear::new();
     let gate = Held { clock, ear: &ear };
@@ -119,7 +112,7 @@ fn heard<C: Clock + Sync + Drop>(
     };
     let (_seat, ended, sound) = run_heard(rt, alloc, &assignment, seat, Hears { ear: &ear });
     assert!(rt; ended.is_ok());
-    assert!(rt; !ear.let_go.load(Ordering::SeqCst), "{text}");
+    assert!(rt; !ear.let_go.load(Ordering::SeqCst));
     Ok(sound)
 }
 
@@ -130,7 +123,7 @@ fn an_answer_is_heard_while_a_worker_is_held(rt: HostRuntime) -> Result<(), Fail
     let rows = [
         (SWAP, "", Sound::Done),
         (SWAP, "1,go,30\n1,stop,0\n", Sound::Done),
-        (DISPUTED, "2,stop,0\n", Sound::Conflict(4)),
+        (TWO_CELLS, "2,stop,0\n", Sound::Conflict(4)),
         (
             SWAP,
             "0,stop,0\n1,stop,0\n2,go,9\n2,stop,0\n",
@@ -139,7 +132,7 @@ fn an_answer_is_heard_while_a_worker_is_held(rt: HostRuntime) -> Result<(), Fail
     ];
     for (text, plan, wanted) in rows {
         let sound = heard(&rt, rt.clone()?, text, plan)?;
-        assert_eq!(rt; sound, wanted, "{plan}");
+        holds_at(&rt, sound == wanted, plan);
     }
     Ok(())
 }
