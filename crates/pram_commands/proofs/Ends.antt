@@ -7,7 +7,7 @@ use Rattle.pram_step.specs.Runs.{IsReached, state_after}
 use Rattle.stop_plan.specs.Plan.{PlanData}
 use Rattle.pram_board.specs.Seats.{Desk, SeatData}
 use Rattle.pram_board.specs.declared.task.Task.{Task}
-use Rattle.pram_run.specs.Watching.{HasWatched, IsTrueSight}
+use Rattle.pram_run.specs.Watching.{IsTrueSight, IsWatch}
 use Rattle.pram_run.specs.declared.sight.Sight.{Sight}
 use Rattle.pram_commands.specs.Threads.{HasSights, IsNewBoard, IsTrueOf}
 
@@ -30,13 +30,13 @@ is_true t job sight same told = record {
       same told.value;
 }
 
-pub has_sights : (t : Task) (job : JobData) (plan : PlanData)
-    (cells : List ℕ) (rounds : ℕ) (p : SeatData) (sights : List Sight) (later : SeatData) →
-    t.job ≡ job → HasWatched t plan cells rounds p sights later → HasSights job cells rounds sights
-has_sights t job plan cells rounds p sights later same watched = record {
-  listed = watched.watch.listed;
+pub has_sights : (t : Task) (job : JobData) (cells : List ℕ) (rounds : ℕ) (p : SeatData)
+    (sights : List Sight) (later : SeatData) → t.job ≡ job →
+    IsWatch t cells rounds p sights later → HasSights job cells rounds sights
+has_sights t job cells rounds p sights later same watch = record {
+  listed = watch.listed;
   tells =
       All-weaker (λ (sight : Sight). IsTrueSight t sight) (λ (sight : Sight). IsTrueOf job sight)
-      (λ sight told. is_true t job sight same told) sights watched.watch.tells;
-  rises = watched.watch.rises;
+      (λ sight told. is_true t job sight same told) sights watch.tells;
+  rises = watch.rises;
 }

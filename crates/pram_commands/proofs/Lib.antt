@@ -4,3 +4,4 @@ pub mod Doing
 pub mod Ends
 pub mod Statuses
 pub mod Hearing
+pub mod Watching

@@ -3,3 +3,4 @@ pub mod Puts
 pub mod Refusals
 pub mod Cells
 pub mod Hearing
+pub mod Watching

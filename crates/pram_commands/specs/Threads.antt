@@ -12,11 +12,10 @@ use Rattle.pram_board.specs.Seats.{Desk, SeatData, IsOpened}
 use Rattle.pram_run.specs.Heard.{HasRunBeside}
 use Rattle.pram_run.specs.Printed.{sights_text}
 use Rattle.pram_run.specs.Running.{IsRun}
-use Rattle.pram_run.specs.Watching.{HasWatched}
+use Rattle.pram_run.specs.Watching.{HasReadBeside, IsWatch}
 use Rattle.pram_run.specs.declared.sight.Sight.{Sight}
 use Rattle.pram_commands.specs.Did.{Answering, Command}
 use Rattle.pram_commands.specs.declared.block.Block.{Block}
-use Rattle.pram_commands.specs.declared.sources.Inputs.{Inputs}
 
 -- how many processors a block has
 abbrev pub size_of : Block → ℕ
@@ -72,14 +71,9 @@ pub record WatchEndsAt (job : JobData) (plan : PlanData) (cells : List ℕ) (rou
     (later : SeatData) (sights : List Sight) (answer : RunAnswer) : Type 0 where
   pub made : Desk × SeatData
   pub opened : IsNewBoard job plan made
-  pub ran : HasWatched made.0.task plan cells rounds made.1 sights later
+  pub ran : HasReadBeside made.0.task plan made.1 later
+      (IsWatch made.0.task cells rounds made.1 sights)
   pub told : IsRun made.0.task plan later.record_of answer
-
--- The same, and what each sight says is true.
-pub record IsWatched (inputs : Inputs) (cells : List ℕ) (rounds : ℕ) (later : SeatData)
-    (sights : List Sight) (answer : RunAnswer) : Type 0 where
-  pub saw : HasSights inputs.job cells rounds sights
-  pub ends : WatchEndsAt inputs.job inputs.plan cells rounds later sights answer
 
 -- some run came to the sights and the answer
 pub record IsWatchEnd (job : JobData) (plan : PlanData) (cells : List ℕ) (rounds : ℕ)

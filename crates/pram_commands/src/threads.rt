@@ -1,17 +1,18 @@
 //! Runs and watches over a new board.
-ghost use Rattle.std.specs.Prelude.{◌≡◌, ◌<◌, ◌*◌, All, IfOk};
+ghost use Rattle.std.specs.Prelude.{◌≡◌, ◌⊎◌, ◌<◌, ◌*◌, All, IfOk};
 ghost use Rattle.std.specs.Duration.{as_nanos};
 ghost use Rattle.pram_words.specs.declared.layout.Form.TheVariants.{Wide};
 ghost use Rattle.pram_board.specs.Seats.{IsOpened};
 ghost use Rattle.pram_commands.specs.Inner.Hearing.{without_seat};
-ghost use Rattle.pram_commands.specs.Threads.{EndsAt, IsNewBoard, IsWatched, grain_by};
+ghost use Rattle.pram_commands.specs.Inner.Watching.{HasHeardAlone, HasWatchedOn, IsWatchedBy};
+ghost use Rattle.pram_commands.specs.Threads.{EndsAt, IsNewBoard, grain_by};
 
 use crate::block::Block;
 use crate::progress::{Teller, Telling, start_teller};
 use crate::sources::Inputs;
 use crate::workers::Workers;
 use pram_board::{Board, Seat};
-use pram_run::{Assignment, Listener, Sight, run_heard};
+use pram_run::{Assignment, Listener, Observation, Reads, Sight, run_heard, watch_heard};
 use pram_step::RunAnswer;
 use std::alloc::{AllocError, Global};
 use std::rt::Clock;
@@ -40,16 +41,6 @@ pub(crate) struct Watched<'a> {
     pub cells: &'a [u32],
     pub rounds: u32,
     pub ghost within: { All (λ cell. cell < inputs.now.job.cells) cells.now },
-}
-
-/// What workers go over: a board, past a gate, while a teller tells how far it is.
-#[derive(Drop)]
-struct Floor<'a, G> {
-    alloc: Global,
-    board: &'a Board,
-    gate: &'a G,
-    teller: &'a Teller,
-    ghost steps: { teller.now.steps ≡ board.now.task.job.steps },
 }
 
 // The gate whose passes each take so many microseconds.
@@ -227,6 +218,32 @@ impl<R: Clock, L: Listener> Listener for Hushing<'_, R, L> {
     }
 }
 
+impl<R: Clock, L: Reads> Reads for Hushing<'_, R, L> {
+    ghost can_read = { λ hushing. L.can_read hushing.listener };
+
+    ghost reads = { λ hushing task cells rounds given later after.
+        L.reads hushing.listener task cells rounds given later after.listener };
+
+    fn read<G: Gate>(
+        self,
+        observation: &Observation<'_, '_, G>,
+        seat: &mut Seat,
+        sights: &mut Vec<Sight>,
+    ) -> Self {
+        let Hushing {
+            rt,
+            teller,
+            listener,
+        } = self;
+        let listener = listener.read(observation, seat, sights);
+        Hushing {
+            rt,
+            teller,
+            listener,
+        }
+    }
+}
+
 // The answer with the seat that saw it.
 fn with_seat(
     ended: Result<RunAnswer, AllocError>,
@@ -241,93 +258,141 @@ fn with_seat(
     }
 }
 
-/// The same as `run_job`, with a reader beside the workers, and what it read. The reader takes a
-/// pause before each read too.
-pub(crate) fn watch_job<R: Threads + Wait + Clock + Eprint + Sync>(
+/// The same as `run_job`, with a reader beside the workers, which takes a pause before each read
+/// too, and then hears the answer. Where the board or a thread is refused, it hears that alone.
+pub(crate) fn watch_job<R: Threads + Wait + Clock + Eprint + Sync, H, P: Reads<Heard = H>>(
     rt: &R,
     alloc: Global,
     watched: &Watched<'_>,
     manner: Manner,
-) -> Result<(RunAnswer, Vec<Sight>, Seat), AllocError>
-    ensures { IfOk result (λ ended. IsWatched watched.now.inputs.now watched.now.cells.now
-        watched.now.rounds ended.2 ended.1.items ended.0) }
+    reader: P,
+) -> (Result<RunAnswer, AllocError>, H)
+    requires reader { P.can_read reader }
+    requires listener { P.can_hear reader }
+    ensures { HasHeardAlone P.hears reader result ⊎ IsWatchedBy (P.reads reader) P.hears
+        watched.now.inputs.now watched.now.cells.now watched.now.rounds result }
 {
     match manner.pace {
-        None => watch_past(rt, alloc, watched, manner, &Open),
-        Some(micros) => watch_past(rt, alloc, watched, manner, &paced(rt, micros)),
+        None => watch_past(
+            rt,
+            alloc,
+            watched,
+            &Way {
+                manner,
+                gate: &Open,
+            },
+            reader,
+        ),
+        Some(micros) => {
+            let gate = &paced(rt, micros);
+            watch_past(rt, alloc, watched, &Way { manner, gate }, reader)
+        }
     }
 }
 
 // The same past a gate.
-fn watch_past<R: Threads + Wait + Clock + Eprint + Sync, G: Gate + Sync>(
+fn watch_past<R: Threads + Wait + Clock + Eprint + Sync, G: Gate + Sync, H, P: Reads<Heard = H>>(
     rt: &R,
     alloc: Global,
     watched: &Watched<'_>,
-    manner: Manner,
-    gate: &G,
-) -> Result<(RunAnswer, Vec<Sight>, Seat), AllocError>
-    ensures { IfOk result (λ ended. IsWatched watched.now.inputs.now watched.now.cells.now
-        watched.now.rounds ended.2 ended.1.items ended.0) }
+    way: &Way<'_, G>,
+    reader: P,
+) -> (Result<RunAnswer, AllocError>, H)
+    requires reader { P.can_read reader }
+    requires listener { P.can_hear reader }
+    ensures { HasHeardAlone P.hears reader result ⊎ IsWatchedBy (P.reads reader) P.hears
+        watched.now.inputs.now watched.now.cells.now watched.now.rounds result }
 {
+    let (manner, gate) = (way.manner, way.gate);
     let (inputs, cells, rounds) = (watched.inputs, watched.cells, watched.rounds);
-    let (board, seat) = open(alloc, inputs, manner.block)?;
+    let Ok((board, seat)) = open(alloc, inputs, manner.block) else {
+        let heard = reader.hear(&Err(AllocError));
+        return (Err(AllocError), heard);
+    };
+    let piece = piece_at(manner.pace);
     let teller = Teller::new(manner.progress, inputs.job.steps());
     let (board, teller) = (&board, &teller);
     thread::scope(
         thread::scope_env(),
         rt,
-        |scope| -> Result<(RunAnswer, Vec<Sight>, Seat), AllocError>
+        |scope| -> (Result<RunAnswer, AllocError>, H)
             requires opened { IsNewBoard inputs.now.job inputs.now.plan (board.now, seat) }
             requires within { All (λ cell. cell < inputs.now.job.cells) cells.now }
             requires steps { teller.now.steps ≡ board.now.task.job.steps }
-            ensures { IfOk result (λ ended. IsWatched inputs.entry.now cells.entry.now rounds
-                ended.2 ended.1.items ended.0) }
+            requires reader { P.can_read reader }
+            requires listener { P.can_hear reader }
+            ensures { HasHeardAlone P.hears reader result ⊎ IsWatchedBy (P.reads reader) P.hears
+                inputs.entry.now cells.entry.now rounds result }
         {
-            let watched = Watched {
-                inputs,
+            let observation = Observation {
+                assignment: Assignment {
+                    job: &inputs.job,
+                    board,
+                    plan: &inputs.plan,
+                    gate,
+                },
                 cells,
                 rounds,
+                piece,
             };
-            let floor = Floor {
+            let outing = Outing {
                 alloc,
-                board,
-                gate,
+                observation,
                 teller,
             };
-            watch_on(scope, rt, &floor, &watched, seat)
+            watch_on(scope, rt, &outing, seat, reader)
         },
     )
 }
 
+// How many reads wait until they are printed. With a pace each round is printed as it is read.
+fn piece_at(pace: Option<u32>) -> usize {
+    match pace {
+        None => 2048,
+        Some(_) => 1,
+    }
+}
+
+// What the workers of a watch and its reader go over, while a teller tells how far they are.
+#[derive(Drop)]
+struct Outing<'c, 'b, 'a, G> {
+    alloc: Global,
+    observation: Observation<'c, 'b, G>,
+    teller: &'a Teller,
+    ghost steps: { teller.now.steps ≡ observation.assignment.board.now.task.job.steps },
+}
+
 // Starts the teller in the scope, and watches beside it.
-fn watch_on<'s, E, R: Threads + Wait + Clock + Eprint + Sync, G: Gate + Sync>(
+fn watch_on<
+    's,
+    E,
+    R: Threads + Wait + Clock + Eprint + Sync,
+    G: Gate + Sync,
+    H,
+    P: Reads<Heard = H>,
+>(
     scope: &Scope<'s, E>,
     rt: &'s R,
-    floor: &Floor<'s, G>,
-    watched: &Watched<'_>,
+    outing: &Outing<'s, 's, 's, G>,
     seat: Seat,
-) -> Result<(RunAnswer, Vec<Sight>, Seat), AllocError>
-    requires { IsNewBoard watched.now.inputs.now.job watched.now.inputs.now.plan
-        (floor.now.board.now, seat) }
-    ensures { IfOk result (λ ended. IsWatched watched.now.inputs.now watched.now.cells.now
-        watched.now.rounds ended.2 ended.1.items ended.0) }
+    reader: P,
+) -> (Result<RunAnswer, AllocError>, H)
+    requires opened { IsNewBoard outing.now.observation.assignment.job.now
+        outing.now.observation.assignment.plan.now
+        (outing.now.observation.assignment.board.now, seat) }
+    requires reader { P.can_read reader }
+    requires listener { P.can_hear reader }
+    ensures { HasHeardAlone P.hears reader result ⊎ HasWatchedOn (P.reads reader) P.hears
+        outing.now.observation.assignment.board.now outing.now.observation.assignment.plan.now
+        outing.now.observation.cells.now outing.now.observation.rounds seat result }
 {
-    let (board, gate, teller) = (floor.board, floor.gate, floor.teller);
-    let (job, plan) = (&watched.inputs.job, &watched.inputs.plan);
-    let (cells, rounds) = (watched.cells, watched.rounds);
-    let seat = start_teller(scope, rt, board, seat, teller);
-    let (seat, done) = pram_run::watch(
+    let (observation, teller) = (&outing.observation, outing.teller);
+    let seat = start_teller(scope, rt, observation.assignment.board, seat, teller);
+    let listener = Hushing {
         rt,
-        floor.alloc,
-        job,
-        board,
-        seat,
-        plan,
-        cells,
-        rounds,
-        gate,
-    );
-    teller.end(rt);
-    let (answer, sights) = done?;
-    Ok((answer, sights, seat))
+        teller,
+        listener: reader,
+    };
+    let (_seat, ended, heard) = watch_heard(rt, outing.alloc, observation, seat, listener);
+    (ended, heard)
 }

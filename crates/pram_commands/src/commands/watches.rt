@@ -3,6 +3,7 @@ ghost use Rattle.std.specs.Prelude.{◌≡◌, [], false};
 ghost use Rattle.pram_commands.specs.CellLists.{cells_of};
 ghost use Rattle.pram_commands.specs.Did.{Did, tells, writing};
 ghost use Rattle.pram_commands.specs.Inner.Puts.{Puts};
+ghost use Rattle.pram_commands.specs.Inner.Watching.{watch_outcome};
 ghost use Rattle.pram_commands.specs.Inputs.{AreReady, first_outside, taking};
 ghost use Rattle.pram_commands.specs.Threads.{watching};
 
@@ -10,13 +11,13 @@ use crate::cell_list::CellList;
 use crate::commands::printed;
 use crate::fault::CommandFault;
 use crate::inputs::take_inputs;
+use crate::printing::{Printing, PrintingReads, take_back};
 use crate::sources::Sources;
 use crate::threads::{Manner, Watched, watch_job};
-use pram_run::print_sights;
 use pram_step::RunAnswer;
-use pram_streams::{PrintFault, Sink, Source, print_answer};
+use pram_streams::{PrintFault, Sink, Source};
 use pram_text::Job;
-use std::alloc::Global;
+use std::alloc::{AllocError, Global};
 use std::rt::Clock;
 use std::sync::Wait;
 use std::thread::Threads;
@@ -30,8 +31,10 @@ pub struct Reads<'a> {
 }
 
 /// Does what `run` does, with a reader beside the workers; what each read told is printed before
-/// the answer, in order. The cells are judged after the job and its plan. The reads stand in memory
-/// until the workers are done, and the reader keeps the workers' pace.
+/// the answer, in order, while the reader goes on: each round as it is read where there is a pace,
+/// and else 2,048 reads at once. The cells are judged after the job and its plan, and the reader
+/// keeps the workers' pace. Where a thread is refused, that is out of memory, and nothing is
+/// printed.
 pub fn watch<R: Threads + Wait + Clock + Eprint + Sync, J: Source, P: Source, O: Sink>(
     rt: &R,
     alloc: Global,
@@ -64,7 +67,7 @@ pub fn watch<R: Threads + Wait + Clock + Eprint + Sync, J: Source, P: Source, O:
     printed(put_watch(rt, alloc, &watched, manner, out))
 }
 
-// Prints the reads of a watch, then its answer.
+// Prints the reads of a watch as they are made, and its answer as soon as it is known.
 fn put_watch<R: Threads + Wait + Clock + Eprint + Sync, O: Sink>(
     rt: &R,
     alloc: Global,
@@ -77,10 +80,27 @@ fn put_watch<R: Threads + Wait + Clock + Eprint + Sync, O: Sink>(
         watched.now.inputs.now.job watched.now.inputs.now.plan) (watching 0 [] 0).InPieces
         (writing O.Sink out.old out.new) tells result }
 {
-    let (answer, sights, _seat) = watch_job(rt, alloc, watched, manner)?;
-    print_sights(alloc, out, sights.as_slice())?;
-    print_answer(alloc, out, &answer, watched.inputs.job.steps())?;
-    Ok(answer)
+    let printing = Printing {
+        alloc,
+        steps: watched.inputs.job.steps(),
+        out,
+    };
+    let printed = Ok(());
+    let reader = PrintingReads { printing, printed };
+    let (ended, (out, put)) = watch_job(rt, alloc, watched, manner, reader);
+    take_back(out);
+    watch_outcome(put, ended)
+}
+
+// What a watch that was printed answers.
+fn watch_outcome(
+    put: Result<(), PrintFault>,
+    ended: Result<RunAnswer, AllocError>,
+) -> Result<RunAnswer, PrintFault>
+    ensures { result ≡ watch_outcome put ended }
+{
+    put?;
+    Ok(ended?)
 }
 
 // The first of the cells that the job does not have.

@@ -1,36 +1,26 @@
-use Rattle.std.proofs.Common.{Result, IfOk, Vec, Global, subst}
-use Rattle.std.specs.declared.alloc.AllocError.{AllocError}
-use Rattle.pram_step.specs.declared.answer.RunAnswer.{RunAnswer}
-use Rattle.pram_run.specs.Running.{IsRun}
-use Rattle.pram_run.specs.Watching.{HasWatched}
-use Rattle.pram_run.specs.declared.sight.Sight.{Sight}
-use Rattle.pram_commands.proofs.Ends.{job_of, opened_as, has_sights}
+use Rattle.std.proofs.Common.{inl, inr, subst}
+use Rattle.pram_board.specs.Seats.{SeatData}
+use Rattle.pram_run.specs.Watching.{HasWatchedWith, ReadsAndHears}
+use Rattle.pram_commands.proofs.Watching.{watched_as}
 use Rattle.pram_commands.proofs.threads.watch_on.Goals as goal
 
 pub returns : goal.returns
 returns g c =
-    let job = c.args.watched.now.inputs.now.job in
-    let plan = c.args.watched.now.inputs.now.plan in
-    let cells = c.args.watched.now.cells.now in
-    let rounds = c.args.watched.now.rounds in
-    let desk = c.args.floor.now.board.now in
-    let seat = c.start_teller-seat.result in
-    let later = c.watch-seat.result.0 in
-    let told : IsRun desk.task plan later.record_of c.in_ok-answer.answer =
-    subst (λ (x : Result (RunAnswer × Vec Sight Global) AllocError).
-    IfOk x (λ r. IsRun desk.task plan later.record_of r.0))
-    (c.in_ok-answer.was {u = tt}) c.watch-seat.ensures.answer in
-    let ran : HasWatched desk.task plan cells rounds seat c.in_ok-answer.sights.items later =
-    subst (λ (x : Result (RunAnswer × Vec Sight Global) AllocError).
-    IfOk x (λ r. HasWatched desk.task plan cells rounds seat r.1.items later))
-    (c.in_ok-answer.was {u = tt}) c.watch-seat.ensures.sights in
-    record {
-      saw = has_sights desk.task job plan cells rounds seat c.in_ok-answer.sights.items later
-          (job_of job plan (desk, c.args.seat) c.requires) ran;
-      ends = record {
-        made = (desk, seat);
-        opened = opened_as job plan desk c.args.seat seat c.start_teller-seat.ensures c.requires;
-        ran = ran;
-        told = told;
-      };
-    }
+    let observation = c.args.outing.now.observation in
+    let task = observation.assignment.board.now.task in
+    let plan = observation.assignment.plan.now in
+    let cells = observation.cells.now in
+    let heard = c.watch_heard-seat.result in
+    let Reads = g.P.Reads.reads c.args.reader task cells observation.rounds in
+    elim c.watch_heard-seat.ensures.watched [
+      | inl alone ↦ inl alone
+      | inr all ↦ inr (record {
+        later = heard.0;
+        watched = subst (λ (s : SeatData). HasWatchedWith task plan s heard.0
+            (ReadsAndHears (Reads s) g.P.Listener.hears heard.1 heard.2) heard.1)
+            c.start_teller-seat.ensures
+            (watched_as task plan c.start_teller-seat.result heard.0 heard.1 heard.2 _ _
+            (Reads c.start_teller-seat.result) g.P.Listener.hears (λ hushing. hushing.listener)
+            (λ q p reads. reads) (λ p hears. hears) all);
+      })
+    ]

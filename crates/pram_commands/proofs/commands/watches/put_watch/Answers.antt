@@ -1,63 +1,27 @@
-use Rattle.std.proofs.Common.{false, inr, refl, subst}
-use Rattle.std.specs.Io.KnownBytes.{Appends}
-use Rattle.pram_streams.specs.Transfer.{AppendsBeginning}
-use Rattle.pram_run.specs.Printed.{sights_text}
-use Rattle.pram_commands.specs.Threads.{TellsSights}
-use Rattle.pram_commands.proofs.Doing.{begins_after, begins_front, err_is, put_both, put_failed}
+use Rattle.std.proofs.Common.{◌∙◌, inl, inr, refl, sym}
+use Rattle.pram_commands.proofs.Watching.{puts_alone, puts_read, told_by}
+use Rattle.pram_commands.specs.Did.{writing}
 use Rattle.pram_commands.proofs.commands.watches.put_watch.Goals as goal
 
-pub returns-in_err-print_sights : goal.returns-in_err-print_sights
-returns-in_err-print_sights g c =
-    let begins = subst (λ sights. AppendsBeginning (g.O.Sink.taken c.args.out.now)
-    (g.O.Sink.taken c.print_sights.new.sink) (sights_text sights))
-    c.as_slice.ensures.value c.in_err-print_sights.ensures.beginning in
-    let told : TellsSights c.args.watched.now.inputs.now.job c.args.watched.now.inputs.now.plan
-    c.args.watched.now.cells.now c.args.watched.now.rounds c.in_ok-answer.answer
-    (sights_text c.in_ok-answer.sights.items) =
-    record {
-      sights = c.in_ok-answer.sights.items;
-      saw = c.in_ok-answer.ensures.saw;
-      ends = record { later = _; at_it = c.in_ok-answer.ensures.ends };
-      text = refl;
-    } in
-    put_failed _ _ _ _ _ c.in_err-print_sights.field-0.0
-    (err_is _ _ c.from_residual-in_err-print_sights.ensures)
-    (begins_front false _ c.args.watched.now.inputs.now.job _ c.in_ok-answer.answer _ told begins)
-    (λ e. inr tt) c.in_err-print_sights.ensures.failed
-
-pub returns-in_err-print_answer : goal.returns-in_err-print_answer
-returns-in_err-print_answer g c =
-    let sights = subst (λ sights. Appends (g.O.Sink.taken c.args.out.now)
-    (g.O.Sink.taken c.print_sights.new.sink) (sights_text sights))
-    c.as_slice.ensures.value c.in_ok-print_sights.ensures.ok in
-    let told : TellsSights c.args.watched.now.inputs.now.job c.args.watched.now.inputs.now.plan
-    c.args.watched.now.cells.now c.args.watched.now.rounds c.in_ok-answer.answer
-    (sights_text c.in_ok-answer.sights.items) =
-    record {
-      sights = c.in_ok-answer.sights.items;
-      saw = c.in_ok-answer.ensures.saw;
-      ends = record { later = _; at_it = c.in_ok-answer.ensures.ends };
-      text = refl;
-    } in
-    put_failed _ _ _ _ _ c.in_err-print_answer.field-0.0
-    (err_is _ _ c.from_residual-in_err-print_answer.ensures)
-    (begins_after false _ c.args.watched.now.inputs.now.job _ c.in_ok-answer.answer
-    _ _ _ told c.steps.ensures.value sights c.in_err-print_answer.ensures.beginning)
-    (λ e. inr tt) c.in_err-print_answer.ensures.failed
-
+-- the output's last value is what was handed back
 pub returns : goal.returns
 returns g c =
-    let sights = subst (λ sights. Appends (g.O.Sink.taken c.args.out.now)
-    (g.O.Sink.taken c.print_sights.new.sink) (sights_text sights))
-    c.as_slice.ensures.value c.in_ok-print_sights.ensures.ok in
-    let told : TellsSights c.args.watched.now.inputs.now.job c.args.watched.now.inputs.now.plan
-    c.args.watched.now.cells.now c.args.watched.now.rounds c.in_ok-answer.answer
-    (sights_text c.in_ok-answer.sights.items) =
-    record {
-      sights = c.in_ok-answer.sights.items;
-      saw = c.in_ok-answer.ensures.saw;
-      ends = record { later = _; at_it = c.in_ok-answer.ensures.ends };
-      text = refl;
-    } in
-    put_both false _ _ c.args.watched.now.inputs.now.job _ c.in_ok-answer.answer _ _ _ told
-    c.steps.ensures.value sights c.in_ok-print_answer.ensures.ok c.in_ok-print_answer.ensures.failed
+    let inputs = c.args.watched.now.inputs.now in
+    let cells = c.args.watched.now.cells.now in
+    let rounds = c.args.watched.now.rounds in
+    let ended = c.watch_job-ended.result in
+    elim c.watch_job-ended.ensures [
+      | inl alone ↦ rw (c.out-1.given.1 (sym alone.1.0) ∙ c.take_back.ensures)
+          (puts_alone g.O.Sink inputs cells rounds c.args.out.now c.args.out.now ended.1.0.now
+          c.steps.result ended.0 ended.1.1 c.watch_outcome.result alone.0 alone.1.1 c.requires
+          c.watch_outcome.ensures)
+      | inr by ↦
+          let read = by.on.watched.ran.reads in
+          rw (c.out-1.given.1 (sym (read.hears.0 ∙ read.reads.0)) ∙ c.take_back.ensures)
+          (puts_read g.O.Sink inputs cells rounds c.args.out.now read.after.printing.out.now
+          ended.1.0.now by.on.watched.answer _ read.after.printing.steps read.after.printed ended.0
+          ended.1.1 c.watch_outcome.result (told_by _ _ inputs cells rounds ended _ _ _ by
+          read.reads.2) by.on.watched.given_if read.reads.2.ok read.reads.2.beginning
+          read.reads.3 (read.reads.1 ∙ c.steps.ensures.value) read.hears.1
+          c.watch_outcome.ensures)
+    ]

@@ -1,0 +1,165 @@
+-- What printing the reads of a watch came to, and then its answer.
+use Rattle.std.proofs.Common.{◌≡◌, ℕ, List, Option, Result, Ok, Err, IsTrue, false}
+use Rattle.std.proofs.Common.{refl, sym, ap, subst, inl, inr, ◌∙◌}
+use Rattle.std.specs.Io.KnownBytes.{Appends}
+use Rattle.std.specs.Prelude.{◌↔◌, IfOk, IsErrOf, OnOk, ⊤}
+use Rattle.pram_text.specs.Job.{JobData}
+use Rattle.pram_step.specs.declared.answer.RunAnswer.{RunAnswer}
+use Rattle.pram_streams.specs.Transfer.{AppendsBeginning}
+use Rattle.pram_streams.specs.declared.device.Sink as a_sink
+use Rattle.pram_streams.specs.declared.print.PrintFault.{PrintFault}
+use Rattle.pram_streams.specs.declared.print.PrintFault.TheVariants.{Device, Memory}
+use Rattle.stop_plan.specs.Plan.{PlanData}
+use Rattle.pram_board.specs.declared.task.Task.{Task}
+use Rattle.pram_board.specs.Seats.{SeatData}
+use Rattle.pram_run.specs.Heard.{Ended}
+use Rattle.pram_run.specs.Printed.{sights_text}
+use Rattle.pram_run.specs.PutReads.{Printing, PutWatch}
+use Rattle.pram_run.specs.Watching.{HasWatchedWith, ReadsAndHears}
+use Rattle.pram_run.specs.declared.sight.Sight.{Sight}
+use Rattle.pram_commands.specs.Did.{Answering, tells, writing}
+use Rattle.pram_commands.specs.Inner.Hearing.{HasPrinted}
+use Rattle.pram_commands.specs.Inner.Puts.{Puts}
+use Rattle.pram_commands.specs.Inner.Watching.{Hearing, HasPrintedAfter, IsWatchedBy}
+use Rattle.pram_commands.specs.Inner.Watching.{Reading, watch_outcome}
+use Rattle.pram_commands.specs.Threads.{TellsSights}
+use Rattle.pram_commands.specs.declared.sources.Inputs.{Inputs}
+use Rattle.pram_commands.proofs.Doing.{begins_after, begins_front, ok_not_err, put_both, put_failed}
+use Rattle.pram_commands.proofs.Doing.{well}
+use Rattle.pram_commands.proofs.Ends.{has_sights, job_of}
+
+-- a watch by one reader is one by another who does more
+pub watched_as : {P Q H : Type 0} (task : Task) (plan : PlanData) (given later : SeatData)
+    (ended : Ended) (heard : H) (Reads : SeatData → P → Type 0) (Hears : Hearing P H)
+    (Reads' : SeatData → Q → Type 0) (Hears' : Hearing Q H) (of : P → Q) →
+    ((q : SeatData) (p : P) → Reads q p → Reads' q (of p)) →
+    ((p : P) → Hears p ended heard → Hears' (of p) ended heard) →
+    HasWatchedWith task plan given later (ReadsAndHears Reads Hears ended heard) ended →
+    HasWatchedWith task plan given later (ReadsAndHears Reads' Hears' ended heard) ended
+watched_as task plan given later ended heard Reads Hears Reads' Hears' of reads hears h =
+    let was = h.ran.reads in
+    record {
+      ran = record {
+        seat = h.ran.seat;
+        obeyed = h.ran.obeyed;
+        reader = h.ran.reader;
+        reads = record {
+          after = of was.after;
+          reads = reads h.ran.reader was.after was.reads;
+          hears = hears was.after was.hears;
+        };
+        looker = h.ran.looker;
+        beside = h.ran.beside;
+        looked = h.ran.looked;
+      };
+      answer = h.answer;
+      told = h.told;
+      given_if = h.given_if;
+    }
+
+-- what a watch tells whose reads were put
+pub told_by : {P H : Type 0} (Reads : Reading P) (Hears : Hearing P H) (inputs : Inputs)
+    (cells : List ℕ) (rounds : ℕ) (ended : Ended × H) (a b : Option (List ℕ))
+    (printed : Printing) (by : IsWatchedBy Reads Hears inputs cells rounds ended) →
+    (put : PutWatch by.made.0.task cells rounds by.made.1 by.on.watched.ran.reader a b printed) →
+    TellsSights inputs.job inputs.plan cells rounds by.on.watched.answer (sights_text put.sights)
+told_by Reads Hears inputs cells rounds ended a b printed by put =
+    let all = by.on.watched in
+    record {
+      sights = put.sights;
+      saw = has_sights by.made.0.task inputs.job cells rounds by.made.1 put.sights all.ran.reader
+          (job_of inputs.job inputs.plan by.made by.opened) put.watch;
+      ends = record {
+        later = by.on.later;
+        at_it = record {
+          made = by.made;
+          opened = by.opened;
+          ran = record {
+            seat = all.ran.seat;
+            obeyed = all.ran.obeyed;
+            reader = all.ran.reader;
+            reads = put.watch;
+            looker = all.ran.looker;
+            beside = all.ran.beside;
+            looked = all.ran.looked;
+          };
+          told = all.told;
+        };
+      };
+      text = refl;
+    }
+
+no_device : IsErrOf {T = Unit {0}} (Err Memory) Device → ⊥
+no_device is = cc is
+
+no_answer : IsErrOf {T = RunAnswer} (Err Memory) Device → ⊥
+no_answer is = cc is
+
+module _ {O : Type 0} (of_out : a_sink.Ghosts O) (inputs : Inputs) (cells : List ℕ) (rounds : ℕ)
+    (before mid last : O) where
+  abbrev Tells : RunAnswer → List ℕ → Type 0
+  Tells = TellsSights inputs.job inputs.plan cells rounds
+
+  abbrev Watches : Result RunAnswer PrintFault → Type 0
+  Watches = Puts (Answering Tells inputs.job) ⊤ (writing of_out before last) tells
+
+  -- nothing was read
+  pub puts_alone : (steps : ℕ) (ended : Ended) (put : Printing)
+      (result : Result RunAnswer PrintFault) → OnOk ended ⊥ →
+      HasPrinted (writing of_out before last) steps ended put → of_out.has_failed before ≡ false →
+      result ≡ watch_outcome put ended → Watches result
+  puts_alone steps (Ok answer) put result never h well_before is = absurd never
+  puts_alone steps (Err refused) put result never h well_before is =
+      subst Watches (sym (is ∙ ap (λ (x : Printing). watch_outcome x (Err refused)) h.0)) (record {
+        done = tt;
+        wrote = inl h.1;
+        failed = (
+          (λ f. absurd (well _ (ap of_out.has_failed h.1 ∙ well_before) f)),
+          (λ e. absurd (no_answer e)),
+        );
+      })
+
+  -- where nothing was written after the reads, a beginning was
+  stopped : (answer : RunAnswer) (front : List ℕ) (fault : PrintFault)
+      (result : Result RunAnswer PrintFault) → Tells answer front →
+      AppendsBeginning (of_out.taken before) (of_out.taken mid) front → last ≡ mid →
+      (IsTrue (of_out.has_failed last) ↔ IsErrOf {T = Unit {0}} (Err fault) Device) →
+      result ≡ Err fault → Watches result
+  stopped answer front fault result told begins unwritten failed is =
+      put_failed (Answering Tells inputs.job) ⊤ (writing of_out before last) tells result fault is
+      (begins_front false Tells inputs.job (writing of_out before last) answer front told
+      (subst (λ (o : O). AppendsBeginning (of_out.taken before) (of_out.taken o) front)
+      (sym unwritten) begins)) (λ e. inr tt) failed
+
+  -- what was read was put, or a beginning of it; and then the answer
+  pub puts_read : (answer : RunAnswer) (front : List ℕ) (steps : ℕ) (printed : Printing)
+      (ended : Ended) (put : Printing) (result : Result RunAnswer PrintFault) →
+      Tells answer front → IfOk ended (λ found. found ≡ answer) →
+      OnOk printed (Appends (of_out.taken before) (of_out.taken mid) front) →
+      AppendsBeginning (of_out.taken before) (of_out.taken mid) front →
+      (IsTrue (of_out.has_failed mid) ↔ IsErrOf printed Device) → steps ≡ inputs.job.steps →
+      HasPrintedAfter printed (writing of_out mid last) steps ended put →
+      result ≡ watch_outcome put ended → Watches result
+  puts_read answer front steps (Err fault) ended put result told same all begins failed count h is =
+      stopped answer front fault result told begins h.1
+      (subst (λ (o : O). IsTrue (of_out.has_failed o) ↔ IsErrOf {T = Unit {0}} (Err fault) Device)
+      (sym h.1) failed) (is ∙ ap (λ (x : Printing). watch_outcome x ended) h.0)
+  puts_read answer front steps (Ok done) (Err refused) put result
+      told same all begins failed count h is =
+      stopped answer front Memory result told begins h.1 (
+        (λ f. absurd (ok_not_err done Device
+            (failed.0 (subst (λ (o : O). IsTrue (of_out.has_failed o)) h.1 f)))),
+        (λ e. absurd (no_device e)),
+      ) (is ∙ ap (λ (x : Printing). watch_outcome x (Err refused)) h.0)
+  puts_read answer front steps (Ok done) (Ok found) (Ok ended) result
+      told same all begins failed count h is =
+      subst Watches (sym is)
+      (put_both false Tells ⊤ inputs.job (writing of_out before last) found steps front
+      (of_out.taken mid) (subst (λ (a : RunAnswer). Tells a front) (sym same) told) count all h.ok
+      h.failed)
+  puts_read answer front steps (Ok done) (Ok found) (Err fault) result
+      told same all begins failed count h is =
+      put_failed (Answering Tells inputs.job) ⊤ (writing of_out before last) tells result fault is
+      (begins_after false Tells inputs.job (writing of_out before last) found steps front
+      (of_out.taken mid) (subst (λ (a : RunAnswer). Tells a front) (sym same) told) count all
+      h.beginning) (λ e. inr tt) h.failed

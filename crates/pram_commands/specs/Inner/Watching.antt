@@ -1,0 +1,53 @@
+-- What comes of a watch whose reads are printed as they are made.
+use Rattle.std.specs.Prelude.{◌≡◌, ◌⊎◌, ℕ, List, Result, Ok, Err, OnOk}
+use Rattle.pram_step.specs.declared.answer.RunAnswer.{RunAnswer}
+use Rattle.pram_streams.specs.declared.print.PrintFault.{PrintFault}
+use Rattle.pram_streams.specs.declared.print.PrintFault.TheVariants.{Memory}
+use Rattle.stop_plan.specs.Plan.{PlanData}
+use Rattle.pram_board.specs.declared.task.Task.{Task}
+use Rattle.pram_board.specs.Seats.{Desk, SeatData}
+use Rattle.pram_run.specs.Heard.{Ended}
+use Rattle.pram_run.specs.PutReads.{Printing}
+use Rattle.pram_run.specs.Watching.{HasWatchedWith, ReadsAndHears}
+use Rattle.pram_commands.specs.Did.{Writing}
+use Rattle.pram_commands.specs.Inner.Hearing.{HasPrinted}
+use Rattle.pram_commands.specs.Threads.{IsNewBoard}
+use Rattle.pram_commands.specs.declared.sources.Inputs.{Inputs}
+
+-- What reading comes to, of a task, cells and rounds, from a seat to a later one.
+abbrev pub Reading : Type 0 → Type 1
+Reading P = Task → List ℕ → ℕ → SeatData → SeatData → P → Type 0
+
+-- What hearing how a run ended comes to.
+abbrev pub Hearing : Type 0 → Type 0 → Type 1
+Hearing P H = P → Ended → H → Type 0
+
+-- A reader heard that the run is out of memory, and did not read.
+abbrev pub HasHeardAlone : {P H : Type 0} → Hearing P H → P → Ended × H → Type 0
+HasHeardAlone Hears reader ended = OnOk ended.0 ⊥ × Hears reader ended.0 ended.1
+
+-- A watch from this seat of the board: its reader read, and heard that it ended so.
+pub record HasWatchedOn {P H : Type 0} (Reads : Reading P) (Hears : Hearing P H) (desk : Desk)
+    (plan : PlanData) (cells : List ℕ) (rounds : ℕ) (given : SeatData) (ended : Ended × H)
+    : Type 0 where
+  pub later : SeatData
+  pub watched : HasWatchedWith desk.task plan given later
+      (ReadsAndHears (Reads desk.task cells rounds given) Hears ended.0 ended.1) ended.0
+
+-- So on a new board of the job.
+pub record IsWatchedBy {P H : Type 0} (Reads : Reading P) (Hears : Hearing P H) (inputs : Inputs)
+    (cells : List ℕ) (rounds : ℕ) (ended : Ended × H) : Type 0 where
+  pub made : Desk × SeatData
+  pub opened : IsNewBoard inputs.job inputs.plan made
+  pub on : HasWatchedOn Reads Hears made.0 inputs.plan cells rounds made.1 ended
+
+-- what printing comes to after reads that were printed so
+abbrev pub HasPrintedAfter : Printing → Writing → ℕ → Ended → Printing → Type 0
+HasPrintedAfter (Ok done) writes steps ended put = HasPrinted writes steps ended put
+HasPrintedAfter (Err fault) writes steps ended put = (put ≡ Err fault) × writes.Unwritten
+
+-- what a watch that was printed answers
+abbrev pub watch_outcome : Printing → Ended → Result RunAnswer PrintFault
+watch_outcome (Err fault) ended = Err fault
+watch_outcome (Ok done) (Ok answer) = Ok answer
+watch_outcome (Ok done) (Err refused) = Err Memory
