@@ -7,6 +7,8 @@ mod cost;
 #[cfg(test)]
 mod devices;
 #[cfg(test)]
+mod fates;
+#[cfg(test)]
 mod plan;
 #[cfg(test)]
 mod printed;

@@ -1,0 +1,6 @@
+pub mod Skipping
+pub mod Counting
+pub mod Losing
+pub mod Ending
+pub mod LawOne
+pub mod LawLines

@@ -1,0 +1,8 @@
+use Rattle.std.proofs.Common.{ℕ, ◌<◌}
+use Rattle.pram_step.specs.Machine.{IsStopped}
+use Rattle.pram_step.specs.Runs.{state_after}
+use Rattle.pram_fates.proofs.looks.first_running.Given as goal
+
+abbrev pub invariant-loop-processor : goal.invariant-loop-processor
+invariant-loop-processor l = (j : ℕ) → j < l.processor →
+    IsStopped l.moment.job.now (state_after l.moment.job.now l.moment.made) j

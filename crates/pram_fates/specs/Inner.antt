@@ -1,0 +1,3 @@
+-- What private contracts alone cite.
+pub mod Ahead
+pub mod Losses

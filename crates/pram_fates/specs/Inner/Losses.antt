@@ -1,0 +1,10 @@
+-- What a counter says of an address.
+use Rattle.std.specs.Prelude.{◌≡◌, ℕ, ◌<◌}
+use Rattle.pram_text.specs.Job.{JobData}
+use Rattle.pram_step.specs.Machine.{State, counter, out_of_range}
+
+-- some processor's counter says that its address was out of range
+pub record SomeIsLost (job : JobData) (state : State) : Type 0 where
+  pub processor : ℕ
+  pub within : processor < job.procs
+  pub lost : counter job state processor ≡ out_of_range job
