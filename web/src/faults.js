@@ -22,14 +22,14 @@ export const INSTRUCTIONS = /*INSTRUCTIONS*/[];
 // The program's sentences, of the faults from 1 on, which the page's maker reads from its source.
 export const SENTENCES = /*SENTENCES*/[];
 
-// The operands in words, and an example.
+// The operands in words, an example, and one of an array, which pram 3 has.
 const OPERANDS = {
   Bare: ['no operand', ''],
   Target: ['one register', ' r0'],
   TargetNumber: ['a register and a number', ' r1 5'],
-  TargetOne: ['two registers', ' r1 r0'],
+  TargetPlace: ['two registers', ' r1 r0', ' r1 A r0'],
   TargetTwo: ['three registers', ' r2 r0 r1'],
-  Two: ['two registers', ' r0 r1'],
+  PlaceValue: ['two registers', ' r0 r1', ' A r0 r1'],
   RegisterIndex: ['a register and a label', ' r0 again'],
   Index: ['one label', ' again'],
 };
@@ -37,8 +37,9 @@ const OPERANDS = {
 function usageOf(name) {
   const row = INSTRUCTIONS.find(([known]) => known === name);
   if (!row) return undefined;
-  const [words, example] = OPERANDS[row[1]];
-  return { words, example: `${name}${example}` };
+  const [words, example, named] = OPERANDS[row[1]];
+  const more = named === undefined ? '' : `, or in pram 3 of an array A “${name}${named}”`;
+  return { words, example: `${name}${example}`, more };
 }
 
 const LIMITS = {
@@ -46,12 +47,14 @@ const LIMITS = {
   procs: 'There are 1 to 1,024 processors.',
   steps: 'There are at most 4,294,967,295 steps.',
   init: 'A cell must be one that there is, and a value is at most 4,294,967,295.',
+  array: 'An array has a cell at least, and all of its cells must be ones that there are.',
 };
 
 const HEADER =
   'The lines before the program are, in this order: pram 1, cells M, procs N, steps T, ' +
   'any number of init CELL VALUE, code. With pram 2, a line rule common, rule priority or ' +
-  'rule crew stands after steps.';
+  'rule crew stands after steps. With pram 3, any number of array NAME BASE LENGTH stand after ' +
+  'that, and an init may have more values, for the cells that follow.';
 
 function wordsOf(line) {
   const words = line.split(';', 1)[0].split(/[ \t\r]+/).filter((word) => word !== '');
@@ -75,11 +78,15 @@ function foreignCharacter(line) {
 
 function badHeader(line) {
   const words = wordsOf(line);
+  if (words[0] === 'array' && words.length === 4) {
+    return `“${words[1]}” names an array already or can name none, or array does not stand ` +
+      `here. ${HEADER}`;
+  }
   if (words[0] === 'init' && words.length === 3) {
     return `Cell ${words[1]} was given a value before, or init does not stand here. ${HEADER}`;
   }
   if (words[0] === 'rule') {
-    return `A rule is common, priority or crew, and stands only in a text of pram 2. ${HEADER}`;
+    return `A rule is common, priority or crew, and stands only in a text of pram 2 or 3. ${HEADER}`;
   }
   const found = words.length > 0
     ? `“${words.join(' ')}” does not stand here. ` : 'A line is missing. ';
@@ -98,14 +105,14 @@ function unknownInstruction(line) {
   const labelled = wordsOf(line)[0].endsWith(':') && !/^[A-Za-z_]\w*:$/.test(wordsOf(line)[0]);
   if (labelled) return 'A label is a letter or _, then letters, digits and _, then “:”.';
   const names = INSTRUCTIONS.map(([known]) => known).join(', ');
-  return `There is no instruction “${name}”. There are ${names}.`;
+  return `There is no instruction “${name}”. There are ${names}; shl and shr with pram 3 alone.`;
 }
 
 function wrongOperands(line) {
   const [name] = instructionOf(line);
   const usage = usageOf(name);
   if (!usage) return '';
-  return `“${name}” needs ${usage.words}, as in “${usage.example}”.`;
+  return `“${name}” needs ${usage.words}, as in “${usage.example}”${usage.more}.`;
 }
 
 function badRegister(line) {

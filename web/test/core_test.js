@@ -195,6 +195,10 @@ const REFUSED = [
   ['pram 1\ncells 0', FAULT.OUT_OF_LIMITS, 2, '1 to 65,536'],
   ['é', FAULT.NOT_ASCII, 1, '“é” in column 1'],
   ['code x', FAULT.BAD_HEADER, 1, 'does not stand here'],
+  ['pram 3\ncells 4\nprocs 1\nsteps 1\nrule crew\narray A 1 4', FAULT.OUT_OF_LIMITS, 6,
+    'An array has a cell'],
+  ['pram 3\ncells 4\nprocs 1\nsteps 1\nrule crew\narray r0 0 4', FAULT.BAD_HEADER, 6,
+    '“r0” names an array already or can name none'],
 ];
 const CODE_REFUSED = [
   ['ld r1', FAULT.WRONG_OPERANDS, 'or too many. “ld” needs two registers, as in “ld r1 r0”'],

@@ -177,9 +177,9 @@ module _ (job : JobData) (y : LayoutData)
       (λ values. reads_cell y (suc x) (cell_read job instr (slice_index values 0)) after
       (λ v. raises_request y (suc x) i (decided job i
       (counter job s i) instr (slice_index values 0) (slice_index values 1) v) after))
-      history (sources_fit (length job.code) instr fits) sees (λ longer more.
+      history (sources_fit job.cells (length job.code) instr fits) sees (λ longer more.
       cell (cell_read job instr (operand_held job s i instr 0))
-      (λ c f. cell_is job instr (operand_held job s i instr 0) c f) (λ v. raises_request y (suc x) i
+      (λ c f. cell_is job instr (operand_held job s i instr 0) c fits f) (λ v. raises_request y (suc x) i
       (decided job i (counter job s i) instr (operand_held job s i instr 0)
       (operand_held job s i instr 1) v) after) longer more (λ longest known.
       raises_it (decided_in job s i instr) longest (asks_for job s i instr e) known))

@@ -115,6 +115,39 @@ fn sub_goes_below_zero(rt: HostRuntime) -> Result<(), Fail> {
     ends(&rt, text, &[4294967295])
 }
 
+// Each processor in its own rows: the shifts, numbers as operands, and places of an array, the last
+// of which is none.
+#[test]
+fn version_3(rt: HostRuntime) -> Result<(), Fail> {
+    let text = "pram 3\ncells 8\nprocs 4\nsteps 9\nrule crew\narray A 1 3\narray B 4 4\n\
+        init 0 9 20 30 40\ncode\n\
+        pid r0\nld r1 A r0\nadd r1 r1 4294967295\nshl r2 r1 r0\nshr r2 r2 1\n\
+        st B r0 r2\nld r3 A 0\nlt r3 r3 20\nst B 2 r3\n";
+    // Processor 3 has stopped where it loads; of the others the last stores are against the rule.
+    let fault = Fault {
+        step: 9,
+        cell: 6,
+        first: 0,
+        second: 1,
+    };
+    conflicts(&rt, text, fault)?;
+    let fewer = "pram 3\ncells 8\nprocs 4\nsteps 8\nrule crew\narray A 1 3\narray B 4 4\n\
+        init 0 9 20 30 40\ncode\n\
+        pid r0\nld r1 A r0\nadd r1 r1 4294967295\nshl r2 r1 r0\nshr r2 r2 1\n\
+        st B r0 r2\nst B 3 r2\nhalt\n";
+    let alone = "pram 3\ncells 5\nprocs 1\nsteps 9\nrule common\ncode\n\
+        st 1 7\nset r0 1\nshl r1 r0 32\nst 0 r1\nshl r1 r0 31\nst 2 r1\nld r2 1\nst r2 r0\n\
+        halt\n";
+    ends(&rt, alone, &[0, 7, 2_147_483_648, 0, 0])?;
+    let fault = Fault {
+        step: 7,
+        cell: 7,
+        first: 0,
+        second: 1,
+    };
+    conflicts(&rt, fewer, fault)
+}
+
 #[test]
 fn load_out_of_range(rt: HostRuntime) -> Result<(), Fail> {
     let text = "pram 1\ncells 2\nprocs 2\nsteps 5\ninit 0 5\ninit 1 9\ncode\n\

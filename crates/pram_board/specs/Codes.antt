@@ -1,19 +1,25 @@
 -- A code for tasks, by which they are told apart: what lets a task stand in what contracts see of a
 -- seat.
-use Rattle.std.specs.Prelude.{◌≡◌, ℕ, zero, suc, Bool, if◌then◌else◌, List, [], ◌∷◌, refl}
+use Rattle.std.specs.Prelude.{◌≡◌, ℕ, zero, suc, Bool, true, if◌then◌else◌, List, [], ◌∷◌, refl}
 use native.Mathlib.Omega.{arith}
+use Rattle.std.proofs.Common.{ap, ap₂, ◌∙◌}
 use Rattle.std.specs.Str.{bytes_eq}
 use Rattle.std.specs.Coded.{Coded, code_by, coded×, coded_ℕ, coded_bool, coded_list}
 use Rattle.pram_text.specs.Job.{JobData}
 use Rattle.pram_text.specs.declared.instr.Instr.{Instr}
 use Rattle.pram_text.specs.declared.instr.Instr.TheVariants.{Halt}
+use Rattle.pram_text.specs.declared.instr.Operand.{Operand}
+use Rattle.pram_text.specs.declared.instr.Operand.TheVariants.{Register, Number}
 use Rattle.pram_text.specs.declared.instr.Operands.{Operands}
 use Rattle.pram_text.specs.declared.instr.Operands.TheVariants.{Bare, Target, TargetNumber}
-use Rattle.pram_text.specs.declared.instr.Operands.TheVariants.{TargetOne, TargetTwo, Two}
+use Rattle.pram_text.specs.declared.instr.Operands.TheVariants.{TargetPlace, TargetTwo, PlaceValue}
 use Rattle.pram_text.specs.declared.instr.Operands.TheVariants.{RegisterIndex, Index}
 use Rattle.pram_text.specs.Instructions as Instructions
-use Rattle.pram_text.specs.Instructions.{bare, only_target, target_number, target_one, target_two}
-use Rattle.pram_text.specs.Instructions.{pair, register_index, only_index, row_of, table}
+use Rattle.pram_text.specs.declared.instr.Place.{Place}
+use Rattle.pram_text.specs.declared.instr.Place.TheVariants.{Cell, Named}
+use Rattle.pram_text.specs.Instructions.{bare, only_target, target_number, target_place}
+use Rattle.pram_text.specs.Instructions.{target_two, place_value, register_index, only_index}
+use Rattle.pram_text.specs.Instructions.{row_of, table}
 use Rattle.pram_text.specs.Lines.{Word}
 use Rattle.pram_text.specs.declared.instr.Rule.{Rule}
 use Rattle.pram_text.specs.declared.instr.Rule.TheVariants.{Common, Priority, Crew}
@@ -40,47 +46,110 @@ rule_again Common = refl
 rule_again Priority = refl
 rule_again Crew = refl
 
+-- ---- operands and places: a number for the kind, and what there is of it
+
+operand_parts : Operand → ℕ × ℕ
+operand_parts (Register register) = (0, register)
+operand_parts (Number number) = (1, number)
+
+operand_by : ℕ → ℕ → Operand
+operand_by zero number = Register number
+operand_by (suc more) number = Number number
+
+operand_from : ℕ × ℕ → Operand
+operand_from parts = operand_by parts.0 parts.1
+
+operand_again : (operand : Operand) → operand_from (operand_parts operand) ≡ operand
+unfolding operand_parts operand_by operand_from
+operand_again (Register register) = refl
+operand_again (Number number) = refl
+
+abbrev PlaceParts : Type 0
+PlaceParts = ℕ × ((ℕ × ℕ) × (ℕ × ℕ))
+
+place_parts : Place → PlaceParts
+place_parts (Cell index) = (0, ((0, 0), operand_parts index))
+place_parts (Named array index) = (1, ((array.base, array.len), operand_parts index))
+
+place_by : ℕ → ℕ × ℕ → Operand → Place
+place_by zero array index = Cell index
+place_by (suc more) array index = Named (record { base = array.0; len = array.1 }) index
+
+place_from : PlaceParts → Place
+place_from parts = place_by parts.0 parts.1.0 (operand_from parts.1.1)
+
+place_again : (place : Place) → place_from (place_parts place) ≡ place
+unfolding place_parts place_by place_from
+place_again (Cell index) = ap (λ index. Cell index) (operand_again index)
+place_again (Named array index) = ap (λ index. Named array index) (operand_again index)
+
 -- ---- instructions: the number of the row in the table, and the operands
 
-parts_by : Operands → ℕ × (ℕ × ℕ)
-parts_by Bare = (0, (0, 0))
-parts_by (Target target) = (target, (0, 0))
-parts_by (TargetNumber target number) = (target, (number, 0))
-parts_by (TargetOne target register) = (target, (register, 0))
-parts_by (TargetTwo target first second) = (target, (first, second))
-parts_by (Two first second) = (first, (second, 0))
-parts_by (RegisterIndex register index) = (register, (index, 0))
-parts_by (Index index) = (index, (0, 0))
+-- two numbers, an operand and a place, of which no row has all
+abbrev Parts : Type 0
+Parts = (ℕ × ℕ) × ((ℕ × ℕ) × PlaceParts)
 
-made_by : Instructions.Form → ℕ × (ℕ × ℕ) → Instr
-made_by (bare instr) parts = instr
-made_by (only_target make) parts = make parts.0
-made_by (target_number make) parts = make parts.0 parts.1.0
-made_by (target_one make) parts = make parts.0 parts.1.0
-made_by (target_two make) parts = make parts.0 parts.1.0 parts.1.1
-made_by (pair make) parts = make parts.0 parts.1.0
-made_by (register_index make) parts = make parts.0 parts.1.0
-made_by (only_index make) parts = make parts.0
+no_operand : Operand
+no_operand = Register 0
+
+no_place : Place
+no_place = Cell no_operand
+
+split : Operands → (ℕ × ℕ) × (Operand × Place)
+split Bare = ((0, 0), (no_operand, no_place))
+split (Target target) = ((target, 0), (no_operand, no_place))
+split (TargetNumber target number) = ((target, number), (no_operand, no_place))
+split (TargetPlace target place) = ((target, 0), (no_operand, place))
+split (TargetTwo target first second) = ((target, first), (second, no_place))
+split (PlaceValue place value) = ((0, 0), (value, place))
+split (RegisterIndex register index) = ((register, index), (no_operand, no_place))
+split (Index index) = ((index, 0), (no_operand, no_place))
+
+parts_by : (ℕ × ℕ) × (Operand × Place) → Parts
+parts_by (numbers, (operand, place)) = (numbers, (operand_parts operand, place_parts place))
+
+made_by : Instructions.Form → ℕ → ℕ → Operand → Place → Instr
+made_by (bare instr) first second operand place = instr
+made_by (only_target make) first second operand place = make first
+made_by (target_number make) first second operand place = make first second
+made_by (target_place make) first second operand place = make first place
+made_by (target_two make) first second operand place = make first second operand
+made_by (place_value make) first second operand place = make place operand
+made_by (register_index make) first second operand place = make first second
+made_by (only_index make) first second operand place = make first
 
 -- the first row of this name
 row_number : List (Word × Instructions.Form) → Word → ℕ
 row_number [] name = 0
 row_number (row ∷ rows) name = if bytes_eq name row.0 then 0 else suc (row_number rows name)
 
-made_in : List (Word × Instructions.Form) → ℕ → ℕ × (ℕ × ℕ) → Instr
-made_in [] number parts = Halt
-made_in (row ∷ rows) zero parts = made_by row.1 parts
-made_in (row ∷ rows) (suc number) parts = made_in rows number parts
+made_in : List (Word × Instructions.Form) → ℕ → ℕ → ℕ → Operand → Place → Instr
+made_in [] number first second operand place = Halt
+made_in (row ∷ rows) zero first second operand place = made_by row.1 first second operand place
+made_in (row ∷ rows) (suc number) first second operand place =
+    made_in rows number first second operand place
 
-parts_of : Instr → ℕ × (ℕ × (ℕ × ℕ))
-parts_of instr = (row_number table (row_of instr).0, parts_by (row_of instr).1)
+parts_of : Instr → ℕ × Parts
+parts_of instr = (row_number (table true) (row_of instr).0, parts_by (split (row_of instr).1))
 
-instr_from : ℕ × (ℕ × (ℕ × ℕ)) → Instr
-instr_from parts = made_in table parts.0 parts.1
+instr_from : ℕ × Parts → Instr
+instr_from parts = made_in (table true) parts.0 parts.1.0.0 parts.1.0.1
+    (operand_from parts.1.1.0) (place_from parts.1.1.1)
+
+-- what its row makes of its operands
+made_again : (instr : Instr) → made_in (table true) (row_number (table true) (row_of instr).0)
+    (split (row_of instr).1).0.0 (split (row_of instr).1).0.1
+    (split (row_of instr).1).1.0 (split (row_of instr).1).1.1 ≡ instr
+unfolding split made_by row_number made_in
+made_again instr = grind arith
 
 instr_again : (instr : Instr) → instr_from (parts_of instr) ≡ instr
-unfolding parts_of instr_from parts_by made_by row_number made_in
-instr_again instr = grind arith
+unfolding parts_of instr_from parts_by
+instr_again instr =
+    let own = split (row_of instr).1 in
+    ap₂ (λ operand place. made_in (table true) (row_number (table true) (row_of instr).0)
+    own.0.0 own.0.1 operand place) (operand_again own.1.0) (place_again own.1.1)
+    ∙ made_again instr
 
 -- ---- forms
 
@@ -102,10 +171,15 @@ form_again (Wide grain) = refl
 pub coded_rule : Coded Rule
 coded_rule = code_by ℕ coded_ℕ rule_number rule_from rule_again
 
+coded_two : Coded (ℕ × ℕ)
+coded_two = coded× coded_ℕ coded_ℕ
+
+coded_parts : Coded Parts
+coded_parts =
+    coded× coded_two (coded× coded_two (coded× coded_ℕ (coded× coded_two coded_two)))
+
 pub coded_instr : Coded Instr
-coded_instr =
-    code_by (ℕ × (ℕ × (ℕ × ℕ))) (coded× coded_ℕ (coded× coded_ℕ (coded× coded_ℕ coded_ℕ)))
-    parts_of instr_from instr_again
+coded_instr = code_by (ℕ × Parts) (coded× coded_ℕ coded_parts) parts_of instr_from instr_again
 
 pub coded_form : Coded Form
 coded_form = code_by ℕ coded_ℕ form_number form_from form_again

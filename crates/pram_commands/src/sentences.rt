@@ -13,7 +13,7 @@ pub(crate) fn of_text(kind: TextKind) -> &'static str {
         TextKind::OutOfLimits => "a number is outside its limits",
         TextKind::UnknownInstruction => "no instruction stands here",
         TextKind::WrongOperands => "the instruction has too few operands, or too many",
-        TextKind::BadRegister => "a register must stand here: r0, r1, r2 or r3",
+        TextKind::BadRegister => "no register stands here (r0 to r3), nor what may stand for one",
         TextKind::DuplicateLabel => "an earlier line defines this label",
         TextKind::UnknownLabel => "no line defines the label of this jump",
         TextKind::NoCode => "no instruction follows the line code",

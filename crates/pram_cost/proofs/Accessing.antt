@@ -9,7 +9,6 @@ use Rattle.std.proofs.lemmas.List.Folds.{list_any_at, list_any_none}
 use Rattle.std.proofs.lemmas.List.FromFn.{length-range_with_len, get_or-range_with_len}
 use Rattle.std.proofs.lemmas.Option.{none-some, slice_get_past, cond_some}
 use Rattle.pram_text.specs.declared.instr.Instr.{Instr}
-use Rattle.pram_text.specs.declared.instr.Instr.TheVariants.{Ld}
 use Rattle.pram_text.specs.Job.{JobData}
 use Rattle.pram_cost.specs.declared.meeting.Sharing.{Sharing}
 use Rattle.pram_cost.specs.declared.meeting.Sharing.TheVariants.{SameRead, SameWrite, OtherValue}
@@ -84,40 +83,6 @@ module _ (job : JobData) (s : State) (xs : List ℕ) (runs : xs ≡ running_in j
             subst P at.2 (listed at.0 at.1)
         | inr stopped ↦ idle i stopped
       ])
-
--- ---- the cell of an access
-
-put_low : (job : JobData) (o : Option (ℕ × ℕ)) →
-    IfSome (put_to_cell job o) (λ a. a.0 < job.cells)
-put_low job None = tt
-put_low job (Some put) = tested (nat_lt put.0 job.cells) (ltb-true put.0 job.cells)
-  where
-    tested : (b : Bool) → (b ≡ true → put.0 < job.cells) →
-        IfSome (cond b (Some put) None) (λ a. a.0 < job.cells)
-    tested true low = low refl
-    tested false low = tt
-
-abbrev at_zero : ℕ → ℕ × ℕ
-at_zero cell = (cell, 0)
-
-pub access_low : (sharing : Sharing) (job : JobData) (s : State) (i : ℕ) →
-    IfSome (access_by sharing job s i) (λ a. a.0 < job.cells)
-access_low SameRead job s i = read_low (slice_get job.code (counter job s i))
-  where
-    tested : (b : Bool) (cell : ℕ) → (b ≡ true → cell < job.cells) →
-        IfSome {T = ℕ × ℕ} (option_map at_zero (cond b (Some cell) None)) (λ a. a.0 < job.cells)
-    tested true cell low = low refl
-    tested false cell low = tt
-
-    read_low : (o : Option Instr) →
-        IfSome {T = ℕ × ℕ} (option_map at_zero (cell_by job s i o)) (λ a. a.0 < job.cells)
-    read_low None = tt
-    read_low (Some (Ld target register)) =
-        let address = operand_held job s i (Ld target register) 0 in
-        tested (nat_lt address job.cells) address (ltb-true address job.cells)
-    read_low (Some _) = tt
-access_low SameWrite job s i = put_low job (request_in job s i).put
-access_low OtherValue job s i = put_low job (request_in job s i).put
 
 -- ---- whether some processor has an access
 

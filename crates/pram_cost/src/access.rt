@@ -1,5 +1,5 @@
 //! Which processors run in a state, and which cells they read and write in the step after it.
-ghost use Rattle.std.specs.Prelude.{◌≡◌, ◌<◌, length};
+ghost use Rattle.std.specs.Prelude.{◌≡◌, ◌<◌, length, IfSome};
 ghost use Rattle.pram_cost.specs.Accesses.{is_running, read_by, write_by};
 ghost use Rattle.pram_step.specs.Machine.{place_count};
 
@@ -20,7 +20,8 @@ pub fn is_running(job: &Job, state: &State, processor: u32) -> bool
 pub fn read_of(job: &Job, state: &State, processor: u32) -> Option<u32>
     requires processor { processor < job.now.procs }
     requires places { length state.now ≡ place_count job.now }
-    ensures { result ≡ read_by job.now state.now processor }
+    ensures value { result ≡ read_by job.now state.now processor }
+    ensures within { IfSome result (λ cell. cell < job.now.cells) }
 {
     let instr = *job.code().get(counter(job, state, processor) as usize)?;
     match sources_of(instr) {

@@ -163,7 +163,8 @@ fn cell(job: &Job, state: &State, processor: u32, counter: u32) -> Option<u32>
     requires processor { processor < job.now.procs }
     requires places { length state.now ≡ place_count job.now }
     requires counter { counter ≡ counter_of job.now state.now processor }
-    ensures { result ≡ cell_in job.now state.now processor }
+    ensures value { result ≡ cell_in job.now state.now processor }
+    ensures within { IfSome result (λ c. c < job.now.cells) }
 {
     let instr = *job.code().get(counter as usize)?;
     match sources_of(instr) {

@@ -1,5 +1,5 @@
 -- The fields of a row, which csv writes without quotes.
-use Rattle.std.proofs.Common.{◌≡◌, ◌∙◌, ◌==◌, ◌++◌, ◌-◌, ◌<◌, ◌^◌, ◌∷◌, [], ℕ, List}
+use Rattle.std.proofs.Common.{◌≡◌, ◌∙◌, ◌==◌, ◌++◌, ◌+◌, ◌-◌, ◌<◌, ◌^◌, ◌∷◌, [], ℕ, List}
 use Rattle.std.proofs.Common.{Option, Some, None, Bool, true, false, cond, refl}
 use Rattle.std.proofs.Common.{sym, subst, append_assoc, arith, length, inl, inr}
 use Rattle.std.proofs.lemmas.Bool.{ne_eqb}
@@ -16,13 +16,17 @@ use Rattle.pram_text.specs.Job.{JobData, IsInstr, IsJob}
 use Rattle.pram_text.specs.declared.instr.Instr.{Instr}
 use Rattle.pram_text.specs.declared.instr.Operands.{Operands}
 use Rattle.pram_text.specs.declared.instr.Operands.TheVariants.{Bare, Target, TargetNumber}
-use Rattle.pram_text.specs.declared.instr.Operands.TheVariants.{TargetOne, TargetTwo, Two}
+use Rattle.pram_text.specs.declared.instr.Operands.TheVariants.{TargetPlace, TargetTwo, PlaceValue}
 use Rattle.pram_text.specs.declared.instr.Operands.TheVariants.{RegisterIndex, Index}
-use Rattle.pram_text.specs.Instructions.{AreOperands, row_of}
+use Rattle.pram_text.specs.declared.instr.Operand.{Operand}
+use Rattle.pram_text.specs.declared.instr.Operand.TheVariants.{Register, Number}
+use Rattle.pram_text.specs.declared.instr.Place.{Place}
+use Rattle.pram_text.specs.declared.instr.Place.TheVariants.{Cell, Named}
+use Rattle.pram_text.specs.Instructions.{IsOperand, IsPlace, AreOperands, row_of}
 use Rattle.pram_step.specs.Instructions.{request_in}
 use Rattle.pram_step.specs.Machine.{IsDataPlace, State, counter, halted, register_place}
-use Rattle.pram_rows.specs.Instructions.{instruction_text, one_register, register_number}
-use Rattle.pram_rows.specs.Instructions.{spelled, two_registers, three_registers}
+use Rattle.pram_rows.specs.Instructions.{operand_text, array_text, place_text, and_then}
+use Rattle.pram_rows.specs.Instructions.{instruction_text, one_register, register_number, spelled}
 use Rattle.pram_rows.specs.Rows.{instruction_at, instruction_or_stop}
 use Rattle.pram_rows.specs.Rows.{row_line, target_text, value_text}
 
@@ -65,47 +69,68 @@ number-unquoted : (text between : List ℕ) (n : ℕ) → IsUnquoted text → Is
 number-unquoted text between n first second fits = append-unquoted (text ++ between) (decimal n)
     (append-unquoted text between first second) (decimal-unquoted n fits)
 
+-- a text, a blank, and another text
+and_then-unquoted : (before after : List ℕ) → IsUnquoted before → IsUnquoted after →
+    IsUnquoted (and_then before after)
+and_then-unquoted before after first second = append-unquoted (before ++ codes " ") after
+    (append-unquoted before (codes " ") first refl) second
+
+register-unquoted : (r : ℕ) → r < 4 → IsUnquoted (operand_text (Register r))
+register-unquoted r low =
+    append-unquoted (codes "r") (decimal r) refl (decimal-unquoted r (omega arith))
+
+operand-unquoted : (operand : Operand) → IsOperand operand → IsUnquoted (operand_text operand)
+operand-unquoted (Register r) is = register-unquoted r is
+operand-unquoted (Number n) is = decimal-unquoted n (omega arith)
+
+place-unquoted : (cells : ℕ) (place : Place) → cells < 2 ^ 32 → IsPlace cells place →
+    IsUnquoted (place_text place)
+place-unquoted cells (Cell index) short is = operand-unquoted index is
+place-unquoted cells (Named array index) short (fits, is) =
+    and_then-unquoted (array_text array) (operand_text index)
+    (number-unquoted (decimal array.base) (codes "..") (array.base + array.len - 1)
+    (decimal-unquoted array.base (omega (arith, fits.1))) refl (omega (arith, fits.1)))
+    (operand-unquoted index is)
+
 one-unquoted : (name : List ℕ) (r : ℕ) → IsUnquoted name → r < 4 → IsUnquoted (one_register name r)
-one-unquoted name r named low = number-unquoted name (codes " r") r named refl (omega arith)
+one-unquoted name r named low =
+    and_then-unquoted name (operand_text (Register r)) named (register-unquoted r low)
 
 register_number-unquoted : (name : List ℕ) (r k : ℕ) → IsUnquoted name → r < 4 → k < 2 ^ 64 →
     IsUnquoted (register_number name r k)
-register_number-unquoted name r k named low fits =
-    number-unquoted (one_register name r) (codes " ") k (one-unquoted name r named low) refl fits
-
-two-unquoted : (name : List ℕ) (a b : ℕ) → IsUnquoted name → a < 4 → b < 4 →
-    IsUnquoted (two_registers name a b)
-two-unquoted name a b named low low' = number-unquoted (one_register name a) (codes " r") b
-    (one-unquoted name a named low) refl (omega arith)
-
-three-unquoted : (name : List ℕ) (r a b : ℕ) → IsUnquoted name → (r < 4) × (a < 4) × (b < 4) →
-    IsUnquoted (three_registers name r a b)
-three-unquoted name r a b named (first, second, third) = number-unquoted (two_registers name r a)
-    (codes " r") b (two-unquoted name r a named first second) refl (omega arith)
+register_number-unquoted name r k named low fits = and_then-unquoted (one_register name r)
+    (decimal k) (one-unquoted name r named low) (decimal-unquoted k fits)
 
 name-unquoted : (instr : Instr) → IsUnquoted (row_of instr).0
 name-unquoted instr = grind arith
 
-spelled-unquoted : (len : ℕ) (name : List ℕ) (operands : Operands) → len < 2 ^ 32 →
-    IsUnquoted name → AreOperands len operands → IsUnquoted (spelled name operands)
-spelled-unquoted len name Bare short named are = named
-spelled-unquoted len name (Target r) short named are = one-unquoted name r named are
-spelled-unquoted len name (TargetNumber r k) short named (register, fits) =
+spelled-unquoted : (cells len : ℕ) (name : List ℕ) (operands : Operands) → cells < 2 ^ 32 →
+    len < 2 ^ 32 → IsUnquoted name → AreOperands cells len operands →
+    IsUnquoted (spelled name operands)
+spelled-unquoted cells len name Bare few short named are = named
+spelled-unquoted cells len name (Target r) few short named are = one-unquoted name r named are
+spelled-unquoted cells len name (TargetNumber r k) few short named (register, fits) =
     register_number-unquoted name r k named register (omega arith)
-spelled-unquoted len name (TargetOne r a) short named (first, second) =
-    two-unquoted name r a named first second
-spelled-unquoted len name (TargetTwo r a b) short named are = three-unquoted name r a b named are
-spelled-unquoted len name (Two a b) short named (first, second) =
-    two-unquoted name a b named first second
-spelled-unquoted len name (RegisterIndex r index) short named (register, within) =
+spelled-unquoted cells len name (TargetPlace r place) few short named (register, is) =
+    and_then-unquoted (one_register name r) (place_text place) (one-unquoted name r named register)
+    (place-unquoted cells place few is)
+spelled-unquoted cells len name (TargetTwo r a b) few short named (target, first, second) =
+    and_then-unquoted (and_then (one_register name r) (operand_text (Register a)))
+    (operand_text b) (and_then-unquoted (one_register name r) (operand_text (Register a))
+    (one-unquoted name r named target) (register-unquoted a first)) (operand-unquoted b second)
+spelled-unquoted cells len name (PlaceValue place b) few short named (is, value) =
+    and_then-unquoted (and_then name (place_text place)) (operand_text b)
+    (and_then-unquoted name (place_text place) named (place-unquoted cells place few is))
+    (operand-unquoted b value)
+spelled-unquoted cells len name (RegisterIndex r index) few short named (register, within) =
     register_number-unquoted name r index named register (omega arith)
-spelled-unquoted len name (Index index) short named are =
-    number-unquoted name (codes " ") index named refl (omega arith)
+spelled-unquoted cells len name (Index index) few short named are =
+    and_then-unquoted name (decimal index) named (decimal-unquoted index (omega arith))
 
-instruction-unquoted : (len : ℕ) (instr : Instr) → len < 2 ^ 32 → IsInstr len instr →
-    IsUnquoted (instruction_text instr)
-instruction-unquoted len instr short is =
-    spelled-unquoted len (row_of instr).0 (row_of instr).1 short (name-unquoted instr) is
+instruction-unquoted : (cells len : ℕ) (instr : Instr) → cells < 2 ^ 32 → len < 2 ^ 32 →
+    IsInstr cells len instr → IsUnquoted (instruction_text instr)
+instruction-unquoted cells len instr few short is = spelled-unquoted cells len (row_of instr).0
+    (row_of instr).1 few short (name-unquoted instr) is
 
 either-unquoted : (b : Bool) (first second : List ℕ) → IsUnquoted first → IsUnquoted second →
     IsUnquoted (cond b first second)
@@ -118,9 +143,10 @@ stop-or-instruction job counter None is at =
     either-unquoted (counter == halted job) (codes "halted") (codes "out_of_range") refl refl
 stop-or-instruction job counter (Some instr) is at =
     let here = is.code_fits counter instr (slice_get_within job.code counter instr at) in
-    let instr_is = subst (λ (x : Instr). IsInstr (length job.code) x)
+    let instr_is = subst (λ (x : Instr). IsInstr job.cells (length job.code) x)
     (get_or_from_slice_get job.code counter instr instr at) here in
-    instruction-unquoted (length job.code) instr
+    instruction-unquoted job.cells (length job.code) instr
+    (let few = is.cells.1 in omega (arith, few))
     (let few = is.code_len.1 in omega (arith, few)) instr_is
 
 pub instruction-plain : (job : JobData) (counter : ℕ) → IsJob job →

@@ -1,38 +1,56 @@
 -- Instructions as a text spells them. A jump names a label there, whose index the job keeps: here
--- it names that index.
-use Rattle.std.specs.Prelude.{ℕ, List, ◌++◌, codes, decimal}
+-- it names that index. So it is with an array: here its cells stand for its name.
+use Rattle.std.specs.Prelude.{ℕ, ◌+◌, ◌-◌, List, ◌++◌, codes, decimal}
+use Rattle.pram_text.specs.declared.instr.Array.{Array}
 use Rattle.pram_text.specs.declared.instr.Instr.{Instr}
+use Rattle.pram_text.specs.declared.instr.Operand.{Operand}
+use Rattle.pram_text.specs.declared.instr.Operand.TheVariants.{Register, Number}
 use Rattle.pram_text.specs.declared.instr.Operands.{Operands}
 use Rattle.pram_text.specs.declared.instr.Operands.TheVariants.{Bare, Target, TargetNumber}
-use Rattle.pram_text.specs.declared.instr.Operands.TheVariants.{TargetOne, TargetTwo, Two}
+use Rattle.pram_text.specs.declared.instr.Operands.TheVariants.{TargetPlace, TargetTwo, PlaceValue}
 use Rattle.pram_text.specs.declared.instr.Operands.TheVariants.{RegisterIndex, Index}
+use Rattle.pram_text.specs.declared.instr.Place.{Place}
+use Rattle.pram_text.specs.declared.instr.Place.TheVariants.{Cell, Named}
 use Rattle.pram_text.specs.Instructions.{row_of}
 
--- a name, and the registers after it
+-- a register, or a number
+abbrev pub operand_text : Operand → List ℕ
+operand_text (Register register) = codes "r" ++ decimal register
+operand_text (Number number) = decimal number
+
+-- the first and the last cell of an array, as `8..11`
+abbrev pub array_text : Array → List ℕ
+array_text array =
+    (decimal array.base ++ codes "..") ++ decimal (array.base + array.len - 1)
+
+abbrev pub place_text : Place → List ℕ
+place_text (Cell index) = operand_text index
+place_text (Named array index) = (array_text array ++ codes " ") ++ operand_text index
+
+-- what stands before, and after a blank what follows it
+abbrev pub and_then : List ℕ → List ℕ → List ℕ
+and_then before after = (before ++ codes " ") ++ after
+
+-- a name, and a register or a number after it
 abbrev pub one_register : List ℕ → ℕ → List ℕ
-one_register name register = name ++ codes " r" ++ decimal register
+one_register name register = and_then name (operand_text (Register register))
 
-abbrev pub two_registers : List ℕ → ℕ → ℕ → List ℕ
-two_registers name first second = one_register name first ++ codes " r" ++ decimal second
-
-abbrev pub three_registers : List ℕ → ℕ → ℕ → ℕ → List ℕ
-three_registers name target first second =
-    two_registers name target first ++ codes " r" ++ decimal second
-
--- a name, a register and a number
 abbrev pub register_number : List ℕ → ℕ → ℕ → List ℕ
-register_number name register number = one_register name register ++ codes " " ++ decimal number
+register_number name register number = and_then (one_register name register) (decimal number)
 
 -- a name, and the operands after it
 abbrev pub spelled : List ℕ → Operands → List ℕ
 spelled name Bare = name
 spelled name (Target target) = one_register name target
 spelled name (TargetNumber target number) = register_number name target number
-spelled name (TargetOne target register) = two_registers name target register
-spelled name (TargetTwo target first second) = three_registers name target first second
-spelled name (Two first second) = two_registers name first second
+spelled name (TargetPlace target place) = and_then (one_register name target) (place_text place)
+spelled name (TargetTwo target first second) =
+    and_then (and_then (one_register name target) (operand_text (Register first)))
+    (operand_text second)
+spelled name (PlaceValue place value) =
+    and_then (and_then name (place_text place)) (operand_text value)
 spelled name (RegisterIndex register index) = register_number name register index
-spelled name (Index index) = name ++ codes " " ++ decimal index
+spelled name (Index index) = and_then name (decimal index)
 
 abbrev pub instruction_text : Instr → List ℕ
 instruction_text instr = spelled (row_of instr).0 (row_of instr).1

@@ -1,13 +1,16 @@
 //! Instructions as a text spells them.
 ghost use Rattle.std.specs.Prelude.{◌≡◌, string_bytes, IfOk};
-ghost use Rattle.pram_rows.specs.Instructions.{instruction_text, register_number};
-ghost use Rattle.pram_rows.specs.Instructions.{two_registers, three_registers};
+ghost use Rattle.pram_text.specs.declared.instr.Operand.TheVariants.{Register};
+ghost use Rattle.pram_rows.specs.Instructions.{instruction_text, operand_text, array_text};
+ghost use Rattle.pram_rows.specs.Instructions.{place_text, and_then, one_register};
+ghost use Rattle.pram_rows.specs.Instructions.{register_number};
 
-use pram_text::{Instr, Operands};
+use pram_text::{Array, Instr, Operand, Operands, Place};
 use std::alloc::{AllocError, Global};
 
 /// The instruction as a text spells it, with one blank between its words. A jump names the index
-/// that it goes to, counted from 0: the label that a text had for it is not kept.
+/// that it goes to, counted from 0: the label that a text had for it is not kept. Nor is the name of
+/// an array: its first and its last cell stand there, as `8..11`.
 pub fn instruction_text(alloc: Global, instr: Instr) -> Result<String, AllocError>
     ensures { IfOk result (λ text. string_bytes text ≡ instruction_text instr) }
 {
@@ -16,12 +19,51 @@ pub fn instruction_text(alloc: Global, instr: Instr) -> Result<String, AllocErro
         Operands::Bare => format!(in alloc; "{name}"),
         Operands::Target(r) => format!(in alloc; "{name} r{r}"),
         Operands::TargetNumber(r, k) => numbered(alloc, name, r, k),
-        Operands::TargetOne(r, a) => two(alloc, name, r, a),
-        Operands::TargetTwo(r, a, b) => three(alloc, name, r, a, b),
-        Operands::Two(a, b) => two(alloc, name, a, b),
+        Operands::TargetPlace(r, place) => {
+            let place = place_text(alloc, place)?;
+            two(alloc, name, r, &place)
+        }
+        Operands::TargetTwo(r, a, b) => {
+            let b = operand_text(alloc, b)?;
+            three(alloc, name, r, a, &b)
+        }
+        Operands::PlaceValue(place, b) => {
+            let place = place_text(alloc, place)?;
+            let b = operand_text(alloc, b)?;
+            joined(alloc, name, &place, &b)
+        }
         Operands::RegisterIndex(r, index) => numbered(alloc, name, r, index),
         Operands::Index(index) => format!(in alloc; "{name} {index}"),
     }
+}
+
+fn operand_text(alloc: Global, operand: Operand) -> Result<String, AllocError>
+    ensures { IfOk result (λ text. string_bytes text ≡ operand_text operand) }
+{
+    match operand {
+        Operand::Register(r) => format!(in alloc; "r{r}"),
+        Operand::Number(number) => format!(in alloc; "{number}"),
+    }
+}
+
+fn place_text(alloc: Global, place: Place) -> Result<String, AllocError>
+    ensures { IfOk result (λ text. string_bytes text ≡ place_text place) }
+{
+    match place {
+        Place::Cell(index) => operand_text(alloc, index),
+        Place::Named(array, index) => {
+            let index = operand_text(alloc, index)?;
+            in_array(alloc, array, &index)
+        }
+    }
+}
+
+fn in_array(alloc: Global, array: Array, index: &str) -> Result<String, AllocError>
+    ensures { IfOk result (λ text. string_bytes text ≡ and_then (array_text array) index.now) }
+{
+    let first = u64::from(array.base);
+    let last = (first + u64::from(array.len)).saturating_sub(1);
+    format!(in alloc; "{first}..{last} {index}")
 }
 
 fn numbered(alloc: Global, name: &str, r: u8, number: u32) -> Result<String, AllocError>
@@ -30,14 +72,23 @@ fn numbered(alloc: Global, name: &str, r: u8, number: u32) -> Result<String, All
     format!(in alloc; "{name} r{r} {number}")
 }
 
-fn two(alloc: Global, name: &str, a: u8, b: u8) -> Result<String, AllocError>
-    ensures { IfOk result (λ text. string_bytes text ≡ two_registers name.now a b) }
+fn two(alloc: Global, name: &str, r: u8, last: &str) -> Result<String, AllocError>
+    ensures { IfOk result (λ text. string_bytes text
+        ≡ and_then (one_register name.now r) last.now) }
 {
-    format!(in alloc; "{name} r{a} r{b}")
+    format!(in alloc; "{name} r{r} {last}")
 }
 
-fn three(alloc: Global, name: &str, r: u8, a: u8, b: u8) -> Result<String, AllocError>
-    ensures { IfOk result (λ text. string_bytes text ≡ three_registers name.now r a b) }
+fn three(alloc: Global, name: &str, r: u8, a: u8, last: &str) -> Result<String, AllocError>
+    ensures { IfOk result (λ text. string_bytes text
+        ≡ and_then (and_then (one_register name.now r) (operand_text (Register a))) last.now) }
 {
-    format!(in alloc; "{name} r{r} r{a} r{b}")
+    format!(in alloc; "{name} r{r} r{a} {last}")
+}
+
+fn joined(alloc: Global, name: &str, first: &str, last: &str) -> Result<String, AllocError>
+    ensures { IfOk result (λ text. string_bytes text
+        ≡ and_then (and_then name.now first.now) last.now) }
+{
+    format!(in alloc; "{name} {first} {last}")
 }

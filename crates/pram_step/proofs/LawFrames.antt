@@ -1,18 +1,24 @@
 -- A request depends on its processor's own places and on one cell at most.
-use Rattle.std.proofs.Common.{◌≡◌, ℕ, ◌<◌, Bool, true, false, cond, List, [], ◌∷◌, map}
-use Rattle.std.proofs.Common.{length, Option, Some, None, refl, sym, ap, subst, ◌∙◌, arith}
-use Rattle.std.specs.Prelude.{slice_get, slice_index, nat_lt}
-use Rattle.std.proofs.lemmas.Bool.{ltb-true}
-use Rattle.std.proofs.lemmas.Option.{none-some, same_Some}
+use Rattle.std.proofs.Common.{◌≡◌, ℕ, ◌<◌, List, [], ◌∷◌, ◌++◌, map}
+use Rattle.std.proofs.Common.{length, Option, Some, None, refl, sym, ap, ap₂, subst, ◌∙◌, arith}
+use Rattle.std.specs.Prelude.{slice_get, slice_index}
+use Rattle.std.proofs.lemmas.List.{map-append}
+use Rattle.std.proofs.lemmas.Option.{none-some}
 use Rattle.pram_text.specs.declared.instr.Instr.{Instr}
 use Rattle.pram_text.specs.declared.instr.Instr.TheVariants.{Set, Pid, Ld, St, Jz, Jmp, Halt}
+use Rattle.pram_text.specs.declared.instr.Operand.{Operand}
+use Rattle.pram_text.specs.declared.instr.Operand.TheVariants.{Register, Number}
+use Rattle.pram_text.specs.declared.instr.Place.{Place}
+use Rattle.pram_text.specs.declared.instr.Place.TheVariants.{Cell, Named}
+use Rattle.pram_text.specs.Instructions.{IsOperand, IsPlace}
 use Rattle.pram_text.specs.Job.{JobData, IsJob, IsInstr}
 use Rattle.pram_step.specs.declared.requests.Request.{Request}
 use Rattle.pram_step.specs.Machine.{State, register, counter}
-use Rattle.pram_step.specs.Instructions.{sources_of, cell_read, goes_to, decided}
+use Rattle.pram_step.specs.Instructions.{registers_in, index_of, sources_of, cell_read, goes_to}
+use Rattle.pram_step.specs.Instructions.{decided}
 use Rattle.pram_step.specs.Instructions.{operand_held, cell_held, decided_in, request_in}
 use Rattle.pram_step.specs.Laws.{SameOwn}
-use Rattle.pram_step.proofs.Shapes.{instr_is}
+use Rattle.pram_step.proofs.Shapes.{instr_is, reached_below}
 
 -- what processor i asks for in s it asks for in each state that holds the same in its own places
 -- and in one cell
@@ -26,32 +32,43 @@ SameRegisters job s t i rs = map (register job s i) rs ≡ map (register job t i
 
 -- the cell that is read is one of the job's
 cell_within : (job : JobData) (instr : Instr) (a cell : ℕ) →
-    cell_read job instr a ≡ Some cell → cell < job.cells
-cell_within job (Ld r _) a cell e = within (nat_lt a job.cells) (λ is. ltb-true a job.cells is) e
-  where
-    within : (b : Bool) → (b ≡ true → a < job.cells) →
-        cond b (Some a) None ≡ Some cell → cell < job.cells
-    within true low e = subst (λ c. c < job.cells) (same_Some a cell e) (low refl)
-    within false low e = absurd (none-some cell e)
-cell_within job Halt a cell e = absurd (none-some cell e)
-cell_within job _ a cell e = absurd (none-some cell e)
+    IsInstr job.cells (length job.code) instr → cell_read job instr a ≡ Some cell → cell < job.cells
+cell_within job (Ld r place) a cell is e = reached_below job place _ cell is.1 e
+cell_within job Halt a cell is e = absurd (none-some cell e)
+cell_within job _ a cell is e = absurd (none-some cell e)
 
 module _ (job : JobData) (s : State) (i : ℕ) (cell_zero : 0 < job.cells) where
-  operands_same : (t : State) (instr : Instr) → IsInstr (length job.code) instr →
+  operand_same : (t : State) (operand : Operand) → IsOperand operand → SameOwn job s t i →
+      SameRegisters job s t i (registers_in operand)
+  operand_same t (Register r) is own = λ k. own.registers r is k ∷ []
+  operand_same t (Number n) is own = refl
+
+  index_is : (place : Place) → IsPlace job.cells place → IsOperand (index_of place)
+  index_is (Cell index) is = is
+  index_is (Named array index) is = is.1
+
+  both_same : (t : State) (first second : List ℕ) → SameRegisters job s t i first →
+      SameRegisters job s t i second → SameRegisters job s t i (first ++ second)
+  both_same t first second a b = map-append (register job s i) first second
+      ∙ ap₂ (λ xs ys. xs ++ ys) a b ∙ sym (map-append (register job t i) first second)
+
+  operands_same : (t : State) (instr : Instr) → IsInstr job.cells (length job.code) instr →
       SameOwn job s t i → SameRegisters job s t i (sources_of instr)
   operands_same t (Set r k) is own = refl
   operands_same t (Pid r) is own = refl
-  operands_same t (Ld r a) is own = λ k. own.registers a is.1 k ∷ []
-  operands_same t (St a b) is own = λ k. own.registers a is.0 k ∷ own.registers b is.1 k ∷ []
+  operands_same t (Ld r place) is own = operand_same t (index_of place) (index_is place is.1) own
+  operands_same t (St place b) is own =
+      both_same t (registers_in (index_of place)) (registers_in b)
+      (operand_same t (index_of place) (index_is place is.0) own) (operand_same t b is.1 own)
   operands_same t (Jz r place) is own = λ k. own.registers r is.0 k ∷ []
   operands_same t (Jmp place) is own = refl
   operands_same t Halt is own = refl
-  operands_same t _ is own = λ k. own.registers _ is.1 k ∷ own.registers _ is.2 k ∷ []
+  operands_same t _ is own = λ k. own.registers _ is.1 k ∷ operand_same t _ is.2 own k
 
   abbrev held_by : State → Option ℕ → ℕ
   held_by q cell = elim cell [ None ↦ 0 | Some c ↦ slice_index q c ]
 
-  decided_reads : (instr : Instr) → IsInstr (length job.code) instr →
+  decided_reads : (instr : Instr) → IsInstr job.cells (length job.code) instr →
       ReadsOneCell job s i (λ q. decided_in job q i instr)
   decided_reads instr is = by_cell (cell_read job instr (operand_held job s i instr 0)) refl
     where
@@ -71,10 +88,10 @@ module _ (job : JobData) (s : State) (i : ℕ) (cell_zero : 0 < job.cells) where
           ReadsOneCell job s i (λ q. decided_in job q i instr)
       by_cell None e = (0, cell_zero, λ t own held. same_but t None e own refl)
       by_cell (Some cell) e =
-          (cell, cell_within job instr _ cell e, λ t own held. same_but t (Some cell) e own held)
+          (cell, cell_within job instr _ cell is e, λ t own held. same_but t (Some cell) e own held)
 
   fetched_reads : (o : Option Instr) →
-      ((instr : Instr) → o ≡ Some instr → IsInstr (length job.code) instr) → ReadsOneCell job s i
+      ((instr : Instr) → o ≡ Some instr → IsInstr job.cells (length job.code) instr) → ReadsOneCell job s i
       (λ q. elim o [ None ↦ goes_to (counter job q i) | Some instr ↦ decided_in job q i instr ])
   fetched_reads None is = (0, cell_zero, λ t own held. ap goes_to own.counters)
   fetched_reads (Some instr) is = decided_reads instr (is instr refl)

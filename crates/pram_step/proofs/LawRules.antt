@@ -5,7 +5,8 @@ use Rattle.std.specs.Prelude.{slice_get, slice_index}
 use Rattle.std.specs.List.{range_with_len}
 use Rattle.std.specs.Option.{option_or, unwrap_or}
 use Rattle.pram_text.specs.declared.instr.Instr.{Instr}
-use Rattle.pram_text.specs.declared.instr.Instr.TheVariants.{Halt}
+use Rattle.pram_text.specs.declared.instr.Instr.TheVariants.{Ld, St, Halt}
+use Rattle.pram_text.specs.declared.instr.Place.TheVariants.{Cell, Named}
 use Rattle.pram_text.specs.declared.instr.Rule.{Rule}
 use Rattle.pram_text.specs.declared.instr.Rule.TheVariants.{Common, Priority, Crew}
 use Rattle.pram_text.specs.Job.{JobData}
@@ -27,11 +28,17 @@ varied job r n = record job { rule = r; steps = n }
 decided_same : (job : JobData) (r : Rule) (n : ℕ) (i counter : ℕ) (instr : Instr) (a b v : ℕ) →
     decided (varied job r n) i counter instr a b v ≡ decided job i counter instr a b v
 unfolding decided
+decided_same job r n i counter (Ld _ (Cell _)) a b v = refl
+decided_same job r n i counter (Ld _ (Named _ _)) a b v = refl
+decided_same job r n i counter (St (Cell _) _) a b v = refl
+decided_same job r n i counter (St (Named _ _) _) a b v = refl
 decided_same job r n i counter Halt a b v = refl
 decided_same job r n i counter _ a b v = refl
 
 cell_same : (job : JobData) (r : Rule) (n : ℕ) (instr : Instr) (a : ℕ) →
     cell_read (varied job r n) instr a ≡ cell_read job instr a
+cell_same job r n (Ld _ (Cell _)) a = refl
+cell_same job r n (Ld _ (Named _ _)) a = refl
 cell_same job r n Halt a = refl
 cell_same job r n _ a = refl
 

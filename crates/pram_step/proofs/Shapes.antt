@@ -8,17 +8,25 @@ use Rattle.std.proofs.lemmas.List.{get_or_past}
 use Rattle.std.proofs.lemmas.List.FromFn.{length-map-range_with_len, get_or-map-range_with_len}
 use Rattle.std.proofs.lemmas.Bool.{cases_lt}
 use Rattle.std.proofs.lemmas.Nat.{and_le_l, or_lt, xor_lt}
+use Rattle.std.proofs.Math.Nat.{div-le_self}
 use Rattle.std.proofs.lemmas.Option.{none-some, same_Some, some_pair_parts, slice_get_within}
 use Rattle.std.proofs.lemmas.Option.{slice_get-get_or, get_or_from_slice_get}
 use Rattle.pram_text.specs.declared.instr.Instr.{Instr}
 use Rattle.pram_text.specs.declared.instr.Instr.TheVariants.{Set, Pid, And, Or, Xor, Lt}
-use Rattle.pram_text.specs.declared.instr.Instr.TheVariants.{Eq, Ld, St, Jz, Jmp, Halt}
+use Rattle.pram_text.specs.declared.instr.Instr.TheVariants.{Eq, Shl, Shr, Ld, St, Jz, Jmp, Halt}
+use Rattle.pram_text.specs.declared.instr.Operand.{Operand}
+use Rattle.pram_text.specs.declared.instr.Operand.TheVariants.{Register, Number}
+use Rattle.pram_text.specs.declared.instr.Place.{Place}
+use Rattle.pram_text.specs.declared.instr.Place.TheVariants.{Cell, Named}
+use Rattle.pram_text.specs.Instructions.{IsOperand, IsPlace}
 use Rattle.pram_text.specs.Job.{JobData, IsJob, IsInstr}
 use Rattle.pram_step.specs.declared.requests.Request.{Request}
 use Rattle.pram_step.specs.Machine.{State, IsDataPlace, register_place}
 use Rattle.pram_step.specs.Machine.{counter_place, register, counter, out_of_range}
-use Rattle.pram_step.specs.Instructions.{sources_of, cell_read, gives, goes_to, decided, HasShape}
-use Rattle.pram_step.specs.Instructions.{operand_held, decided_in, request_in, requests_in}
+use Rattle.pram_step.specs.Instructions.{value_of, held_after, index_of, reached, cell_of}
+use Rattle.pram_step.specs.Instructions.{sources_of, cell_read, gives, goes_to, within, shifted}
+use Rattle.pram_step.specs.Instructions.{decided, HasShape, operand_held, decided_in, request_in}
+use Rattle.pram_step.specs.Instructions.{requests_in}
 use Rattle.pram_step.specs.Inner.Passes.{IsIdle}
 use Rattle.pram_step.proofs.RequestList.{request_at}
 
@@ -49,9 +57,9 @@ asked_is job s i r e = same_Some _ _ (sym e ∙ asks job s i (asked_by job s i r
 -- ---- by cases: whether there is an instruction at the counter, and whether a test holds
 
 pub instr_is : (job : JobData) (k : ℕ) (instr : Instr) → IsJob job →
-    slice_get job.code k ≡ Some instr → IsInstr (length job.code) instr
+    slice_get job.code k ≡ Some instr → IsInstr job.cells (length job.code) instr
 instr_is job k instr is_job e =
-    subst (λ (x : Instr). IsInstr (length job.code) x)
+    subst (λ (x : Instr). IsInstr job.cells (length job.code) x)
     (get_or_from_slice_get job.code k instr instr e)
     (is_job.code_fits k instr (slice_get_within job.code k instr e))
 
@@ -75,18 +83,44 @@ request_by P job s i stays runs = by_instr (slice_get job.code (counter job s i)
     by_instr None e = stays
     by_instr (Some instr) e = runs instr e
 
-by_test : (P : Request → Type 0) (b : Bool) (x y : Request) → (b ≡ true → P x) →
-    (b ≡ false → P y) → P (cond b x y)
-by_test P true x y f g = f refl
-by_test P false x y f g = g refl
-
 either : (P : ℕ → Type 0) (b : Bool) (x y : ℕ) → P x → P y → P (cond b x y)
 either P true x y f g = f
 either P false x y f g = g
 
+-- ---- operands and places
+
+pub value_fits : (operand : Operand) (held : ℕ) → IsOperand operand → held < 2 ^ 32 →
+    value_of operand held < 2 ^ 32
+value_fits (Register r) held is fits = fits
+value_fits (Number n) held is fits = is
+
+held_fits : (operand : Operand) (a b : ℕ) → a < 2 ^ 32 → b < 2 ^ 32 → held_after operand a b < 2 ^ 32
+held_fits (Register r) a b fits fits_too = fits_too
+held_fits (Number n) a b fits fits_too = fits
+
+tested : (b : Bool) (n m k : ℕ) → (b ≡ true → n < k) → cond b (Some n) None ≡ Some m → m < k
+tested true n m k low e = subst (λ c. c < k) (same_Some n m e) (low refl)
+tested false n m k low e = absurd (none-some m e)
+
+-- what is reached is a cell
+pub reached_below : (job : JobData) (place : Place) (index cell : ℕ) → IsPlace job.cells place →
+    reached job place index ≡ Some cell → cell < job.cells
+reached_below job (Cell _) index cell is =
+    tested (nat_lt index job.cells) index cell job.cells (λ low. ltb-true index job.cells low)
+reached_below job (Named array _) index cell is =
+    tested (nat_lt index array.len) (array.base + index) cell job.cells
+    (λ low. omega (arith, ltb-true index array.len low, is.0.1))
+
 -- ---- what an instruction may ask for
 
 module _ (job : JobData) (i counter a b v : ℕ) where
+  -- what holds where there is a cell, and where there is none
+  by_cell : (P : Request → Type 0) (o : Option ℕ) (asks : ℕ → Request) →
+      P (goes_to (out_of_range job)) → ((cell : ℕ) → o ≡ Some cell → P (asks cell)) →
+      P (within o (out_of_range job) asks)
+  by_cell P None asks none some = none
+  by_cell P (Some cell) asks none some = some cell refl
+
   -- data of the request goes to a cell or an own register
   abbrev GoesWell : Request → Type 0
   GoesWell r = (place value : ℕ) → r.put ≡ Some (place, value) → IsDataPlace job i place
@@ -96,20 +130,23 @@ module _ (job : JobData) (i counter a b v : ℕ) where
       let e = (some_pair_parts (register_place job i r) place value v h).0 in
       inr (omega arith, omega arith)
 
-  to_cell : a < job.cells → GoesWell (record { put = Some (a, b); next = counter + 1 })
-  to_cell low place v h = let e = (some_pair_parts a place b v h).0 in inl (omega arith)
+  to_cell : (cell value : ℕ) → cell < job.cells →
+      GoesWell (record { put = Some (cell, value); next = counter + 1 })
+  to_cell cell value low place v h =
+      let e = (some_pair_parts cell place value v h).0 in inl (omega arith)
 
   to_none : GoesWell (goes_to 0)
   to_none place v h = absurd (none-some (place, v) h)
 
-  pub decided_place : (instr : Instr) → IsInstr (length job.code) instr → (place value : ℕ) →
-      (decided job i counter instr a b v).put ≡ Some (place, value) → IsDataPlace job i place
+  pub decided_place : (instr : Instr) → IsInstr job.cells (length job.code) instr →
+      (place value : ℕ) → (decided job i counter instr a b v).put ≡ Some (place, value) →
+      IsDataPlace job i place
   unfolding decided
   decided_place (Pid r) is = to_register r i is
-  decided_place (Ld r _) is =
-      by_test GoesWell (nat_lt a job.cells) _ _ (λ low. to_register r v is.0) (λ high. to_none)
-  decided_place (St _ _) is = by_test GoesWell (nat_lt a job.cells) _ _
-      (λ low. to_cell (ltb-true a job.cells low)) (λ high. to_none)
+  decided_place (Ld r place) is = by_cell GoesWell (cell_of job place a) _ to_none
+      (λ cell e. to_register r v is.0)
+  decided_place (St place _) is = by_cell GoesWell (cell_of job place a) _ to_none
+      (λ cell e. to_cell cell _ (reached_below job place _ cell is.0 e))
   decided_place (Jz r place) is = to_none
   decided_place (Jmp place) is = to_none
   decided_place Halt is = to_none
@@ -125,35 +162,49 @@ module _ (job : JobData) (i counter a b v : ℕ) where
   of_none : HasValue (goes_to 0)
   of_none place v h = absurd (none-some (place, v) h)
 
-  pub decided_value : (instr : Instr) → IsInstr (length job.code) instr →
+  shifted_fits : (by n : ℕ) → n < 2 ^ 32 → shifted by n < 2 ^ 32
+  shifted_fits by n low = either (λ n. n < 2 ^ 32) (nat_lt by 32) n 0 low (omega arith)
+
+  pub decided_value : (instr : Instr) → IsInstr job.cells (length job.code) instr →
       i < 2 ^ 32 → a < 2 ^ 32 → b < 2 ^ 32 → v < 2 ^ 32 → (place value : ℕ) →
       (decided job i counter instr a b v).put ≡ Some (place, value) → value < 2 ^ 32
   unfolding decided
   decided_value (Set r k) is low fits fits_too held = of_value _ _ is.1
   decided_value (Pid r) is low fits fits_too held = of_value _ _ low
-  decided_value (And r _ _) is low fits fits_too held = of_value _ _ (omega (arith, and_le_l a b))
-  decided_value (Or r _ _) is low fits fits_too held = of_value _ _ (or_lt 32 a b fits fits_too)
-  decided_value (Xor r _ _) is low fits fits_too held = of_value _ _ (xor_lt 32 a b fits fits_too)
-  decided_value (Lt r _ _) is low fits fits_too held =
-      of_value _ _ (either (λ n. n < 2 ^ 32) (nat_lt a b) 1 0 (omega arith) (omega arith))
-  decided_value (Eq r _ _) is low fits fits_too held =
-      of_value _ _ (either (λ n. n < 2 ^ 32) (a == b) 1 0 (omega arith) (omega arith))
-  decided_value (Ld r _) is low fits fits_too held =
-      by_test HasValue (nat_lt a job.cells) _ _ (λ low. of_value _ _ held) (λ high. of_none)
-  decided_value (St _ _) is low fits fits_too held =
-      by_test HasValue (nat_lt a job.cells) _ _ (λ low. of_value _ _ fits_too) (λ high. of_none)
+  decided_value (And r _ c) is low fits fits_too held =
+      of_value _ _ (omega (arith, and_le_l a (value_of c b)))
+  decided_value (Or r _ c) is low fits fits_too held =
+      of_value _ _ (or_lt 32 a (value_of c b) fits (value_fits c b is.2 fits_too))
+  decided_value (Xor r _ c) is low fits fits_too held =
+      of_value _ _ (xor_lt 32 a (value_of c b) fits (value_fits c b is.2 fits_too))
+  decided_value (Lt r _ c) is low fits fits_too held =
+      of_value _ _ (either (λ n. n < 2 ^ 32) (nat_lt a (value_of c b)) 1 0 (omega arith)
+      (omega arith))
+  decided_value (Eq r _ c) is low fits fits_too held =
+      of_value _ _ (either (λ n. n < 2 ^ 32) (a == value_of c b) 1 0 (omega arith) (omega arith))
+  decided_value (Shl r _ c) is low fits fits_too held =
+      of_value _ _ (shifted_fits (value_of c b) _ (omega arith))
+  decided_value (Shr r _ c) is low fits fits_too held =
+      of_value _ _ (shifted_fits (value_of c b) _
+      (omega (arith, div-le_self a (2 ^ value_of c b))))
+  decided_value (Ld r place) is low fits fits_too held =
+      by_cell HasValue (cell_of job place a) _ of_none (λ cell e. of_value _ _ held)
+  decided_value (St place c) is low fits fits_too held =
+      by_cell HasValue (cell_of job place a) _ of_none (λ cell e. of_value _ _
+      (value_fits c (held_after (index_of place) a b) is.1
+      (held_fits (index_of place) a b fits fits_too)))
   decided_value (Jz r place) is low fits fits_too held = of_none
   decided_value (Jmp place) is low fits fits_too held = of_none
   decided_value Halt is low fits fits_too held = of_none
   decided_value _ is low fits fits_too held = of_value _ _ (omega arith)
 
-  pub decided_next : (instr : Instr) → IsInstr (length job.code) instr → counter < length job.code →
-      (decided job i counter instr a b v).next ≤ out_of_range job
+  pub decided_next : (instr : Instr) → IsInstr job.cells (length job.code) instr →
+      counter < length job.code → (decided job i counter instr a b v).next ≤ out_of_range job
   unfolding decided
-  decided_next (Ld r _) is low = by_test (λ r. r.next ≤ out_of_range job) (nat_lt a job.cells) _ _
-      (λ is. omega arith) (λ is. omega arith)
-  decided_next (St _ _) is low = by_test (λ r. r.next ≤ out_of_range job) (nat_lt a job.cells) _ _
-      (λ is. omega arith) (λ is. omega arith)
+  decided_next (Ld r place) is low = by_cell (λ r. r.next ≤ out_of_range job)
+      (cell_of job place a) _ (omega arith) (λ cell e. omega arith)
+  decided_next (St place _) is low = by_cell (λ r. r.next ≤ out_of_range job)
+      (cell_of job place a) _ (omega arith) (λ cell e. omega arith)
   decided_next (Jz r place) is low = either (λ n. n ≤ out_of_range job) (a == 0) place (counter + 1)
       (omega (arith, is.1)) (omega arith)
   decided_next (Jmp place) is low = omega (arith, is)
@@ -166,16 +217,16 @@ module _ (job : JobData) (i counter a b v : ℕ) where
   pub decided_idle : (instr : Instr) → (decided job i counter instr a b v).next ≡ counter →
       decided job i counter instr a b v ≡ goes_to counter
   unfolding decided
-  decided_idle (Ld r _) = by_test Stays (nat_lt a job.cells) _ _
-      (λ is (e : counter + 1 ≡ counter). absurd (omega arith)) (λ is e. ap goes_to e)
-  decided_idle (St _ _) = by_test Stays (nat_lt a job.cells) _ _
-      (λ is (e : counter + 1 ≡ counter). absurd (omega arith)) (λ is e. ap goes_to e)
+  decided_idle (Ld r place) = by_cell Stays (cell_of job place a) _ (λ e. ap goes_to e)
+      (λ cell is (e : counter + 1 ≡ counter). absurd (omega arith))
+  decided_idle (St place _) = by_cell Stays (cell_of job place a) _ (λ e. ap goes_to e)
+      (λ cell is (e : counter + 1 ≡ counter). absurd (omega arith))
   decided_idle (Jz r place) = λ e. ap goes_to e
   decided_idle (Jmp place) = λ e. ap goes_to e
   decided_idle Halt = λ e. ap goes_to e
   decided_idle _ = λ (e : counter + 1 ≡ counter). absurd (omega arith)
 
-  pub decided_shape : (instr : Instr) → IsInstr (length job.code) instr →
+  pub decided_shape : (instr : Instr) → IsInstr job.cells (length job.code) instr →
       i < 2 ^ 32 → a < 2 ^ 32 → b < 2 ^ 32 → v < 2 ^ 32 → counter < length job.code →
       HasShape job i (decided job i counter instr a b v)
   decided_shape instr is low fits fits_too held inside = record {

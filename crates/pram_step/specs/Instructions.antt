@@ -1,14 +1,19 @@
--- The table of the fifteen instructions, and what a processor asks for in a state.
-use Rattle.std.specs.Prelude.{◌≡◌, ℕ, zero, suc, ◌+◌, ◌-◌, ◌*◌, ◌%◌, ◌^◌}
-use Rattle.std.specs.Prelude.{◌<◌, ◌≤◌, ◌==◌, nat_lt, if◌then◌else◌, List, [], ◌∷◌, map}
+-- The table of the seventeen instructions, and what a processor asks for in a state.
+use Rattle.std.specs.Prelude.{◌≡◌, ℕ, zero, suc, ◌+◌, ◌-◌, ◌*◌, ◌/◌, ◌%◌, ◌^◌}
+use Rattle.std.specs.Prelude.{◌<◌, ◌≤◌, ◌==◌, nat_lt, if◌then◌else◌, List, [], ◌∷◌, ◌++◌, map}
 use Rattle.std.specs.Prelude.{slice_get, slice_index, Option, Some, None, bit_and, bit_or, bit_xor}
 use Rattle.std.specs.List.{range_with_len}
 use Rattle.pram_text.specs.declared.instr.Instr.{Instr}
 use Rattle.pram_text.specs.declared.instr.Instr.TheVariants.{Set, Pid, Add, Sub, Mul, And, Or, Xor}
-use Rattle.pram_text.specs.declared.instr.Instr.TheVariants.{Lt, Eq, Ld, St, Jz, Jmp, Halt}
+use Rattle.pram_text.specs.declared.instr.Instr.TheVariants.{Lt, Eq, Shl, Shr, Ld, St, Jz, Jmp}
+use Rattle.pram_text.specs.declared.instr.Instr.TheVariants.{Halt}
+use Rattle.pram_text.specs.declared.instr.Operand.{Operand}
+use Rattle.pram_text.specs.declared.instr.Operand.TheVariants.{Register, Number}
+use Rattle.pram_text.specs.declared.instr.Place.{Place}
+use Rattle.pram_text.specs.declared.instr.Place.TheVariants.{Cell, Named}
 use Rattle.pram_text.specs.declared.instr.Operands.{Operands}
 use Rattle.pram_text.specs.declared.instr.Operands.TheVariants.{Bare, Target, TargetNumber}
-use Rattle.pram_text.specs.declared.instr.Operands.TheVariants.{TargetOne, TargetTwo, Two}
+use Rattle.pram_text.specs.declared.instr.Operands.TheVariants.{TargetPlace, TargetTwo, PlaceValue}
 use Rattle.pram_text.specs.declared.instr.Operands.TheVariants.{RegisterIndex, Index}
 use Rattle.pram_text.specs.Instructions.{row_of}
 use Rattle.pram_text.specs.Job.{JobData}
@@ -18,6 +23,37 @@ use Rattle.pram_step.specs.declared.requests.Request.{Request}
 use Rattle.pram_step.specs.Machine.{State, register_place, IsDataPlace, register}
 use Rattle.pram_step.specs.Machine.{counter, halted, out_of_range}
 
+-- ---- operands
+
+-- the register of an operand, if it has one
+abbrev pub registers_in : Operand → List ℕ
+registers_in (Register register) = register ∷ []
+registers_in (Number number) = []
+
+-- the value of an operand, where its register holds this
+abbrev pub value_of : Operand → ℕ → ℕ
+value_of (Register register) held = held
+value_of (Number number) held = number
+
+-- what the register of the operand after this one holds, of the first and the second that are read
+abbrev pub held_after : Operand → ℕ → ℕ → ℕ
+held_after (Register register) first second = second
+held_after (Number number) first second = first
+
+abbrev pub index_of : Place → Operand
+index_of (Cell index) = index
+index_of (Named array index) = index
+
+-- the cell of a place with this index, if there is one
+abbrev pub reached : JobData → Place → ℕ → Option ℕ
+reached job (Cell _) index = if nat_lt index job.cells then Some index else None
+reached job (Named array _) index =
+    if nat_lt index array.len then Some (array.base + index) else None
+
+-- the same, where the register of its index holds this
+abbrev pub cell_of : JobData → Place → ℕ → Option ℕ
+cell_of job place held = reached job place (value_of (index_of place) held)
+
 -- ---- the table
 
 -- the registers that are read, in the order in which they are written
@@ -25,18 +61,18 @@ abbrev pub read_by : Operands → List ℕ
 read_by Bare = []
 read_by (Target target) = []
 read_by (TargetNumber target number) = []
-read_by (TargetOne target register) = register ∷ []
-read_by (TargetTwo target first second) = first ∷ second ∷ []
-read_by (Two first second) = first ∷ second ∷ []
+read_by (TargetPlace target place) = registers_in (index_of place)
+read_by (TargetTwo target first second) = first ∷ registers_in second
+read_by (PlaceValue place value) = registers_in (index_of place) ++ registers_in value
 read_by (RegisterIndex register index) = register ∷ []
 read_by (Index index) = []
 
 abbrev pub sources_of : Instr → List ℕ
 sources_of instr = read_by (row_of instr).1
 
--- the cell that an instruction reads, where its first operand holds this
+-- the cell that an instruction reads, where the first register that it reads holds this
 abbrev pub cell_read : JobData → Instr → ℕ → Option ℕ
-cell_read job (Ld target register) first = if nat_lt first job.cells then Some first else None
+cell_read job (Ld target place) first = cell_of job place first
 cell_read job _ first = None
 
 -- a register takes a value
@@ -48,32 +84,48 @@ gives job i counter register value =
 abbrev pub goes_to : ℕ → Request
 goes_to next = record { put = None; next = next }
 
--- What processor i asks for by the instruction at its counter, where its first and its second
--- operand hold these, and the cell that it reads holds this value.
+-- what is asked for of a cell, and where there is none the next counter
+abbrev pub within : Option ℕ → ℕ → (ℕ → Request) → Request
+within None otherwise asks = goes_to otherwise
+within (Some cell) otherwise asks = asks cell
+
+-- shifted by 32 bits or more, nothing is left of a number
+abbrev pub shifted : ℕ → ℕ → ℕ
+shifted by value = if nat_lt by 32 then value else 0
+
+-- What processor i asks for by the instruction at its counter, where the first and the second
+-- register that it reads hold these, and the cell that it reads holds this value.
 unfoldable pub decided : JobData → ℕ → ℕ → Instr → ℕ → ℕ → ℕ → Request
 decided job i counter (Set target number) first second value = gives job i counter target number
 decided job i counter (Pid target) first second value = gives job i counter target i
-decided job i counter (Add target _ _) first second value =
-    gives job i counter target ((first + second) % 2 ^ 32)
-decided job i counter (Sub target _ _) first second value =
-    gives job i counter target ((first + (2 ^ 32 - second)) % 2 ^ 32)
-decided job i counter (Mul target _ _) first second value =
-    gives job i counter target ((first * second) % 2 ^ 32)
-decided job i counter (And target _ _) first second value =
-    gives job i counter target (bit_and first second)
-decided job i counter (Or target _ _) first second value =
-    gives job i counter target (bit_or first second)
-decided job i counter (Xor target _ _) first second value =
-    gives job i counter target (bit_xor first second)
-decided job i counter (Lt target _ _) first second value =
-    gives job i counter target (if nat_lt first second then 1 else 0)
-decided job i counter (Eq target _ _) first second value =
-    gives job i counter target (if first == second then 1 else 0)
-decided job i counter (Ld target _) first second value =
-    if nat_lt first job.cells then gives job i counter target value else goes_to (out_of_range job)
-decided job i counter (St _ _) first second value =
-    if nat_lt first job.cells then record { put = Some (first, second); next = counter + 1 }
-    else goes_to (out_of_range job)
+decided job i counter (Add target _ b) first second value =
+    gives job i counter target ((first + value_of b second) % 2 ^ 32)
+decided job i counter (Sub target _ b) first second value =
+    gives job i counter target ((first + (2 ^ 32 - value_of b second)) % 2 ^ 32)
+decided job i counter (Mul target _ b) first second value =
+    gives job i counter target ((first * value_of b second) % 2 ^ 32)
+decided job i counter (And target _ b) first second value =
+    gives job i counter target (bit_and first (value_of b second))
+decided job i counter (Or target _ b) first second value =
+    gives job i counter target (bit_or first (value_of b second))
+decided job i counter (Xor target _ b) first second value =
+    gives job i counter target (bit_xor first (value_of b second))
+decided job i counter (Lt target _ b) first second value =
+    gives job i counter target (if nat_lt first (value_of b second) then 1 else 0)
+decided job i counter (Eq target _ b) first second value =
+    gives job i counter target (if first == value_of b second then 1 else 0)
+decided job i counter (Shl target _ b) first second value =
+    gives job i counter target
+    (shifted (value_of b second) ((first * 2 ^ value_of b second) % 2 ^ 32))
+decided job i counter (Shr target _ b) first second value =
+    gives job i counter target (shifted (value_of b second) (first / 2 ^ value_of b second))
+decided job i counter (Ld target place) first second value =
+    within (cell_of job place first) (out_of_range job) (λ cell. gives job i counter target value)
+decided job i counter (St place b) first second value =
+    within (cell_of job place first) (out_of_range job) (λ cell. record {
+      put = Some (cell, value_of b (held_after (index_of place) first second));
+      next = counter + 1;
+    })
 decided job i counter (Jz _ index) first second value =
     goes_to (if first == 0 then index else counter + 1)
 decided job i counter (Jmp index) first second value = goes_to index
@@ -108,7 +160,7 @@ pub record HasShape (job : JobData) (i : ℕ) (request : Request) : Type 0 where
 
 -- ---- in a state
 
--- what an operand of an instruction holds, and the cell that it reads
+-- what a register that an instruction reads holds, and the cell that it reads
 abbrev pub operand_held : JobData → State → ℕ → Instr → ℕ → ℕ
 operand_held job state i instr which =
     slice_index (map (register job state i) (sources_of instr)) which

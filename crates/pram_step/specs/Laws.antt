@@ -39,7 +39,7 @@ RequestsHaveShape =
 abbrev pub DecisionsHaveShape : Type 0
 DecisionsHaveShape =
     (job : JobData) (i counter first second value : ℕ) (instr : Instr)
-    → IsInstr (length job.code) instr → i < 2 ^ 32 → first < 2 ^ 32 → second < 2 ^ 32
+    → IsInstr job.cells (length job.code) instr → i < 2 ^ 32 → first < 2 ^ 32 → second < 2 ^ 32
     → value < 2 ^ 32 → counter < length job.code
     → HasShape job i (decided job i counter instr first second value)
 

@@ -1,12 +1,14 @@
-//! The table of the fifteen instructions: what each reads, and what it asks for.
+//! The table of the seventeen instructions: what each reads, and what it asks for.
 ghost use Rattle.std.specs.Prelude.{◌≡◌, ℕ, ◌+◌, ◌^◌, ◌<◌, List, [], ◌∷◌, length, slice_index};
-ghost use Rattle.std.specs.Prelude.{All, Option, Some};
+ghost use Rattle.std.specs.Prelude.{◌++◌, All, IfSome, Option, Some};
+ghost use Rattle.pram_text.specs.Instructions.{IsOperand, IsPlace};
 ghost use Rattle.pram_text.specs.Job.{IsInstr};
-ghost use Rattle.pram_step.specs.Instructions.{sources_of, listed, cell_read};
+ghost use Rattle.pram_step.specs.Instructions.{registers_in, value_of, held_after, index_of};
+ghost use Rattle.pram_step.specs.Instructions.{reached, sources_of, listed, cell_read};
 ghost use Rattle.pram_step.specs.Instructions.{gives, goes_to, decided, HasShape};
 
 use crate::requests::Request;
-use pram_text::{Instr, Job, Operands};
+use pram_text::{Instr, Job, Operand, Operands, Place};
 
 /// The registers that an instruction reads, in the order in which it is written.
 #[derive(Clone, Copy, Debug, PartialEq, Eq)]
@@ -20,25 +22,89 @@ pub enum Sources {
 #[inline(always)]
 pub fn sources_of(instr: Instr) -> Sources
     ensures listed { listed result ≡ sources_of instr }
-    ensures registers { (len : ℕ) → IsInstr len instr → All (λ r. r < 4) (listed result) }
+    ensures registers { (cells len : ℕ) → IsInstr cells len instr
+        → All (λ r. r < 4) (listed result) }
 {
     match instr.row().1 {
         Operands::Bare | Operands::Target(_) | Operands::TargetNumber(_, _) => Sources::None,
         Operands::Index(_) => Sources::None,
-        Operands::TargetOne(_, a) => Sources::One(a),
+        Operands::TargetPlace(_, place) => of_one(index_of(place)),
         Operands::RegisterIndex(r, _) => Sources::One(r),
-        Operands::TargetTwo(_, a, b) => Sources::Two(a, b),
-        Operands::Two(a, b) => Sources::Two(a, b),
+        Operands::TargetTwo(_, a, b) => of_two(a, b),
+        Operands::PlaceValue(place, b) => match index_of(place) {
+            Operand::Register(a) => of_two(a, b),
+            Operand::Number(_) => of_one(b),
+        },
     }
 }
 
-/// The cell that an instruction reads, this being what its first operand holds.
+// The register of an operand.
 #[inline(always)]
-pub fn cell_read(job: &Job, instr: Instr, address: u32) -> Option<u32>
-    ensures { result ≡ cell_read job.now instr address }
+fn of_one(operand: Operand) -> Sources
+    ensures { listed result ≡ registers_in operand }
+{
+    match operand {
+        Operand::Register(r) => Sources::One(r),
+        Operand::Number(_) => Sources::None,
+    }
+}
+
+// A register, and that of an operand.
+#[inline(always)]
+fn of_two(first: u8, operand: Operand) -> Sources
+    ensures { listed result ≡ first ∷ registers_in operand }
+{
+    match operand {
+        Operand::Register(r) => Sources::Two(first, r),
+        Operand::Number(_) => Sources::One(first),
+    }
+}
+
+// The index of a place.
+#[inline(always)]
+fn index_of(place: Place) -> Operand
+    ensures { result ≡ index_of place }
+{
+    match place {
+        Place::Cell(index) | Place::Named(_, index) => index,
+    }
+}
+
+// The value of an operand, where its register holds this.
+#[inline(always)]
+fn value_of(operand: Operand, held: u32) -> u32
+    ensures { result ≡ value_of operand held }
+{
+    match operand {
+        Operand::Register(_) => held,
+        Operand::Number(number) => number,
+    }
+}
+
+// The cell of a place with this index, if there is one.
+#[inline(always)]
+fn reached(job: &Job, place: Place, index: u32) -> Option<u32>
+    requires { IsPlace job.now.cells place }
+    ensures value { result ≡ reached job.now place index }
+    ensures within { IfSome result (λ cell. cell < job.now.cells) }
+{
+    job.limits_hold();
+    match place {
+        Place::Cell(_) if index < job.cells() => Some(index),
+        Place::Named(array, _) if index < array.len => Some(array.base + index),
+        _ => None,
+    }
+}
+
+/// The cell that an instruction reads, this being what the first register that it reads holds.
+#[inline(always)]
+pub fn cell_read(job: &Job, instr: Instr, first: u32) -> Option<u32>
+    requires { IsInstr job.now.cells (length job.now.code) instr }
+    ensures value { result ≡ cell_read job.now instr first }
+    ensures within { IfSome result (λ cell. cell < job.now.cells) }
 {
     match instr {
-        Instr::Ld(_, _) if address < job.cells() => Some(address),
+        Instr::Ld(_, place) => reached(job, place, value_of(index_of(place), first)),
         _ => None,
     }
 }
@@ -83,7 +149,7 @@ pub(crate) fn decide<H: Held>(
 ) -> Request
     requires processor { processor < job.now.procs }
     requires counter { counter < length job.now.code }
-    requires instr { IsInstr (length job.now.code) instr }
+    requires instr { IsInstr job.now.cells (length job.now.code) instr }
     requires cells { H.cells held.now ≡ job.now.cells }
     ensures { result ≡ decided job.now processor counter instr
         (H.operand held.now (sources_of instr) 0) (H.operand held.now (sources_of instr) 1)
@@ -95,30 +161,24 @@ pub(crate) fn decide<H: Held>(
     match instr {
         Instr::Set(r, k) => gives(r, k),
         Instr::Pid(r) => gives(r, processor),
-        Instr::Add(r, a, b) => gives(r, held.first(a).wrapping_add(held.second(b))),
-        Instr::Sub(r, a, b) => gives(r, held.first(a).wrapping_sub(held.second(b))),
-        Instr::Mul(r, a, b) => gives(r, held.first(a).wrapping_mul(held.second(b))),
-        Instr::And(r, a, b) => gives(r, held.first(a) & held.second(b)),
-        Instr::Or(r, a, b) => gives(r, held.first(a) | held.second(b)),
-        Instr::Xor(r, a, b) => gives(r, held.first(a) ^ held.second(b)),
-        Instr::Lt(r, a, b) => gives(r, u32::from(held.first(a) < held.second(b))),
-        Instr::Eq(r, a, b) => gives(r, u32::from(held.first(a) == held.second(b))),
-        Instr::Ld(r, a) => {
-            let address = held.first(a);
-            if address < job.cells() {
-                gives(r, held.cell(address))
-            } else {
-                out_of_range
-            }
-        }
-        Instr::St(a, b) => {
-            let place = held.first(a);
-            if place < job.cells() {
-                puts(place, held.second(b), counter)
-            } else {
-                out_of_range
-            }
-        }
+        Instr::Add(r, a, b) => gives(r, held.first(a).wrapping_add(second(held, b))),
+        Instr::Sub(r, a, b) => gives(r, held.first(a).wrapping_sub(second(held, b))),
+        Instr::Mul(r, a, b) => gives(r, held.first(a).wrapping_mul(second(held, b))),
+        Instr::And(r, a, b) => gives(r, held.first(a) & second(held, b)),
+        Instr::Or(r, a, b) => gives(r, held.first(a) | second(held, b)),
+        Instr::Xor(r, a, b) => gives(r, held.first(a) ^ second(held, b)),
+        Instr::Lt(r, a, b) => gives(r, u32::from(held.first(a) < second(held, b))),
+        Instr::Eq(r, a, b) => gives(r, u32::from(held.first(a) == second(held, b))),
+        Instr::Shl(r, a, b) => gives(r, held.first(a).checked_shl(second(held, b)).unwrap_or(0)),
+        Instr::Shr(r, a, b) => gives(r, held.first(a).checked_shr(second(held, b)).unwrap_or(0)),
+        Instr::Ld(r, place) => match reached(job, place, first(held, index_of(place))) {
+            Some(cell) => gives(r, held.cell(cell)),
+            None => out_of_range,
+        },
+        Instr::St(place, b) => match reached(job, place, first(held, index_of(place))) {
+            Some(cell) => puts(cell, stored(held, index_of(place), b), counter),
+            None => out_of_range,
+        },
         Instr::Jz(r, index) => goes_to(if held.first(r) == 0 {
             index
         } else {
@@ -129,13 +189,54 @@ pub(crate) fn decide<H: Held>(
     }
 }
 
-/// What the operands of an instruction and the cell that it reads hold. For those that it has not
-/// any number will do.
+// The value of an operand before which no register is read.
+#[inline(always)]
+fn first<H: Held>(held: &H, operand: Operand) -> u32
+    requires { IsOperand operand }
+    ensures alone { result ≡ value_of operand (H.operand held.now (registers_in operand) 0) }
+    ensures before { (rest : List ℕ) → result
+        ≡ value_of operand (H.operand held.now (registers_in operand ++ rest) 0) }
+{
+    match operand {
+        Operand::Register(r) => held.first(r),
+        Operand::Number(number) => number,
+    }
+}
+
+// The value of an operand before which one register is read.
+#[inline(always)]
+fn second<H: Held>(held: &H, operand: Operand) -> u32
+    requires { IsOperand operand }
+    ensures { (r : ℕ) → result
+        ≡ value_of operand (H.operand held.now (r ∷ registers_in operand) 1) }
+{
+    match operand {
+        Operand::Register(r) => held.second(r),
+        Operand::Number(number) => number,
+    }
+}
+
+// The value that is stored, after the index of a place was read.
+#[inline(always)]
+fn stored<H: Held>(held: &H, index: Operand, operand: Operand) -> u32
+    requires { IsOperand operand }
+    ensures { result ≡ value_of operand (held_after index
+        (H.operand held.now (registers_in index ++ registers_in operand) 0)
+        (H.operand held.now (registers_in index ++ registers_in operand) 1)) }
+{
+    match index {
+        Operand::Register(_) => second(held, operand),
+        Operand::Number(_) => first(held, operand),
+    }
+}
+
+/// What the registers and the cell that an instruction reads hold. For those that it has not any
+/// number will do.
 #[derive(Clone, Copy, Debug, PartialEq, Eq)]
 pub struct Found {
-    /// The first operand.
+    /// The first register.
     pub a: u32,
-    /// The second operand.
+    /// The second register.
     pub b: u32,
     /// The cell.
     pub value: u32,
@@ -147,7 +248,7 @@ pub struct Found {
 pub fn decided(job: &Job, processor: u32, counter: u32, instr: Instr, found: Found) -> Request
     requires processor { processor < job.now.procs }
     requires counter { counter < length job.now.code }
-    requires instr { IsInstr (length job.now.code) instr }
+    requires instr { IsInstr job.now.cells (length job.now.code) instr }
     ensures request { result ≡ decided job.now processor counter instr found.a found.b found.value }
     ensures shape { HasShape job.now processor result }
 {

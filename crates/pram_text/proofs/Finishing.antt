@@ -14,8 +14,9 @@ use Rattle.pram_text.specs.declared.instr.Instr.TheVariants.{Halt}
 use Rattle.pram_text.specs.declared.program.Program.{Program}
 use Rattle.pram_text.specs.declared.reader.Reader.{Reader}
 use Rattle.pram_text.specs.Lines.{Line, is_filled}
-use Rattle.pram_text.specs.Judgement.{instr_of, unlabelled}
-use Rattle.pram_text.specs.Inner.Reading.{given, HoldsAt, HoldsCode, index_at, fault_of_index}
+use Rattle.pram_text.specs.Judgement.{Scope, instr_of, unlabelled}
+use Rattle.pram_text.specs.Inner.Reading.{given, HoldsAt, HoldsCode, scope_by, index_at}
+use Rattle.pram_text.specs.Inner.Reading.{fault_of_index}
 use Rattle.pram_text.specs.Inner.Statement.{resolved}
 use Rattle.pram_text.specs.Text.{end_fault, has_code, index_of}
 use Rattle.pram_text.specs.Text.{label_fault_at, IsFirst, SpellsLines}
@@ -50,35 +51,37 @@ module _ (before : List Line) (reader : Reader) (h : HoldsAt Code before reader)
   unfolding end_fault
   end_fault-empty e =
       let none = ap is_filled (body_of-held before reader h
-      ∙ nil_from_length h.2 (length-held h.2 reader.program h.6 ∙ e)) in
+      ∙ nil_from_length h.2 (length-held (scope_by reader h.5.entries) h.2 reader.program h.6 ∙ e)) in
       rw (has_code-held before reader h, none) refl
 
   pub end_fault-none : 1 ≤ length reader.program.written.items → end_fault before ≡ None
   unfolding end_fault
   end_fault-none l =
       let some = ap is_filled (body_of-held before reader h)
-      ∙ filled h.2 (omega (arith, length-held h.2 reader.program h.6)) in
+      ∙ filled h.2 (omega (arith, length-held (scope_by reader h.5.entries) h.2 reader.program h.6)) in
       rw (has_code-held before reader h, some) refl
 
 -- ---- statements and instructions
 
 -- what each line says is what its statement says
-outcomes-held : (body : List Line) (program : Program) → HoldsCode body program →
-    map (λ line. instr_of (index_of body) (unlabelled line)) body
+outcomes-held : (scope : Scope) (body : List Line) (program : Program) →
+    HoldsCode scope body program →
+    map (λ line. instr_of scope (index_of body) (unlabelled line)) body
     ≡ map (λ w. resolved (index_at program.indices) w.statement) program.written.items
-outcomes-held body program h = h.said (index_of body)
+outcomes-held scope body program h = h.said (index_of body)
     ∙ (λ i. map (λ w. resolved (λ name. sym (h.indices name) i) w.statement) program.written.items)
 
 -- the first statement that is wrong stands in the first line that is
-pub first_unknown : (body : List Line) (program : Program) (k : ℕ) (kind : TextKind) →
-    HoldsCode body program → IsFirst (fault_of_index
+pub first_unknown : (scope : Scope) (body : List Line) (program : Program) (k : ℕ)
+    (kind : TextKind) → HoldsCode scope body program → IsFirst (fault_of_index
     (map (λ w. resolved (index_at program.indices) w.statement) program.written.items))
-    (length program.written.items) k kind → IsFirst (label_fault_at body) (length body) k kind
-first_unknown body program k kind h first =
-    let len = length-held body program h in
+    (length program.written.items) k kind →
+    IsFirst (label_fault_at scope body) (length body) k kind
+first_unknown scope body program k kind h first =
+    let len = length-held scope body program h in
     let same = λ (j : ℕ) (l : j < length body).
-    sym (get_or-map (λ line. instr_of (index_of body) (unlabelled line)) body j [] (Ok Halt) l)
-    ∙ ap (λ os. get_or os j (Ok Halt)) (outcomes-held body program h) in
+    sym (get_or-map (λ line. instr_of scope (index_of body) (unlabelled line)) body j [] (Ok Halt) l)
+    ∙ ap (λ os. get_or os j (Ok Halt)) (outcomes-held scope body program h) in
     let here : k < length body = omega (arith, first.within) in
     record {
       within = here;
@@ -90,7 +93,7 @@ first_unknown body program k kind h first =
 
 module _ (before : List Line) (reader : Reader)
     (init : List ℕ) (code : List Instr) (h : HoldsAt Code before reader)
-    (values : init ≡ map (λ c. unwrap_or (given reader.start.items c) 0)
+    (values : init ≡ map (λ c. unwrap_or (given reader.setup.values.items c) 0)
     (range_with_len 0 reader.head.cells))
     (coded : map (λ w. resolved (index_at reader.program.indices) w.statement)
     reader.program.written.items ≡ map (λ i. Ok i) code)
@@ -108,12 +111,14 @@ module _ (before : List Line) (reader : Reader)
     header = h.0;
     inits = h.1;
     body = h.2;
+    entries = h.5.entries;
     parts = h.3;
     sizes = h.4;
-    init = SpellsInit-held reader.head.cells h.1 reader.start.items init h.5 values;
+    said = h.5.said;
+    init = SpellsInit-held _ reader.head.cells h.1 reader.setup init h.5 values;
     code = record {
-      some = omega (arith, length-held h.2 reader.program h.6);
+      some = omega (arith, length-held (scope_by reader h.5.entries) h.2 reader.program h.6);
       labelled = h.6.labelled;
-      said = outcomes-held h.2 reader.program h.6 ∙ coded;
+      said = outcomes-held (scope_by reader h.5.entries) h.2 reader.program h.6 ∙ coded;
     };
   }

@@ -1,5 +1,5 @@
 -- The lines of a header, one at a time.
-use Rattle.std.proofs.Common.{◌≡◌, ◌≢◌, ℕ, ◌==◌, ⊎_elim, if◌then◌else◌}
+use Rattle.std.proofs.Common.{◌≡◌, ◌≢◌, ℕ, nat_le, le-leb, ⊎_elim, if◌then◌else◌}
 use Rattle.std.proofs.Common.{List, [], ◌∷◌, ◌++◌, Ok, refl, ap, ◌∙◌}
 use Rattle.std.specs.Result.{result_err}
 use Rattle.pram_text.specs.declared.head.Head.{Head}
@@ -11,7 +11,7 @@ use Rattle.pram_text.specs.Lines.{Line}
 use Rattle.pram_text.specs.Judgement.{version_of, cells_of, procs_of, steps_of, rule_of}
 use Rattle.pram_text.specs.Inner.Reading.{HoldsHead}
 use Rattle.pram_text.specs.Text.{words_fault}
-use Rattle.pram_text.proofs.Stages.{version_cases, names_rule_at}
+use Rattle.pram_text.proofs.Stages.{version_cases, names_rule_later, rule_named}
 
 -- ---- the fault of a line of the header
 
@@ -39,18 +39,18 @@ pub fault_at_rule : (before : List Line) (w : Line) (head : Head) → HoldsHead 
     words_fault before w ≡ result_err (rule_of w)
 unfolding words_fault
 fault_at_rule before w head h =
-    rw (h.4, names_rule_at h.0 head.version h.5, h.9) refl
+    rw (h.4, names_rule_later h.0 head.version h.5 h.9) refl
 
 -- ---- what follows the line `steps`, and the line `rule`
 
 pub HoldsHead-steps : (before : List Line) (w : Line) (head : Head) (n : ℕ) (next : Next) →
     HoldsHead Steps before head → steps_of w ≡ Ok n →
-    next ≡ (if head.version == 2 then Rules else Start) →
+    next ≡ (if nat_le 2 head.version then Rules else Start) →
     HoldsHead next (before ++ w ∷ []) (record head { steps = n; next = next }) × (next ≢ Code)
 HoldsHead-steps before w head n next h said is =
     let lines : before ++ w ∷ [] ≡ h.0 ∷ h.1 ∷ h.2 ∷ w ∷ [] = ap (λ ls. ls ++ w ∷ []) h.3 in
     ⊎_elim (λ one.
-    let at : next ≡ Start = is ∙ ap (λ k. if k == 2 then Rules else Start) one in
+    let at : next ≡ Start = is ∙ ap (λ k. if nat_le 2 k then Rules else Start) one in
     rw at (
       record {
         version_line = h.0;
@@ -67,7 +67,7 @@ HoldsHead-steps before w head n next h said is =
       },
       λ e. cc,
     )) (λ two.
-    let at : next ≡ Rules = is ∙ ap (λ k. if k == 2 then Rules else Start) two in
+    let at : next ≡ Rules = is ∙ ap (λ b. if b then Rules else Start) (le-leb 2 head.version two) in
     rw at ((h.0, h.1, h.2, w, lines, h.4, h.5, h.6, said, two), λ e. cc))
     (version_cases h.0 head.version h.4)
 
@@ -86,5 +86,5 @@ HoldsHead-rule before w head rule h said =
       cells_said = h.6;
       procs_said = h.7;
       steps_said = h.8;
-      rule_said = rw h.9 (w, refl, said);
+      rule_said = rule_named head.version rule (w ∷ []) h.9 (w, refl, said);
     }

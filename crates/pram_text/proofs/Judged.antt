@@ -23,7 +23,7 @@ use Rattle.pram_text.specs.Job.{JobData}
 use Rattle.pram_text.specs.Lines.{Line, lines_of, words_of, worded, is_allowed, is_filled}
 use Rattle.pram_text.specs.Inner.Reading.{Holds, numbers_of, number_if, Finishes, TakesLine}
 use Rattle.pram_text.specs.Text.{line_fault, end_fault, fault_at, label_fault_at, has_code, body_of}
-use Rattle.pram_text.specs.Text.{numbered_body, IsFirst, Bears, IsRefusal, Spells, SpellsLines}
+use Rattle.pram_text.specs.Text.{scope_in, numbered_body, IsFirst, Bears, IsRefusal, Spells, SpellsLines}
 use Rattle.pram_text.proofs.Worded.{numbered_body-push, words-numbered_body}
 
 -- ---- one line more
@@ -184,9 +184,10 @@ Bears-end text n reader fault h all other told = ⊎_elim
       (λ j l. fault_at-fine lines j (h.clean j (omega arith)) unknown.0),
       unknown.1.0,
       unknown.1.1 ∙ ap (λ ns. slice_index ns unknown.1.0) numbers,
-      subst (λ ls. IsFirst (label_fault_at ls) (length body) unknown.1.0 fault.kind) (sym words)
-          (subst (λ m. IsFirst (label_fault_at (body_of (worded lines))) m unknown.1.0 fault.kind)
-          len unknown.1.2),
+      subst (λ ls. IsFirst (label_fault_at (scope_in (worded lines)) ls) (length body)
+          unknown.1.0 fault.kind) (sym words)
+          (subst (λ m. IsFirst (label_fault_at (scope_in (worded lines)) (body_of (worded lines)))
+          m unknown.1.0 fault.kind) len unknown.1.2),
     )) (told other)
 
 Spells-end : (text : List ℕ) (n : ℕ) (reader : Reader) (job : JobData) →

@@ -19,7 +19,8 @@ use Rattle.pram_text.specs.declared.program.Program.{Program}
 use Rattle.pram_text.specs.declared.program.Written.{Written}
 use Rattle.pram_text.specs.declared.statement.Statement.{Statement}
 use Rattle.pram_text.specs.Lines.{Line, Word}
-use Rattle.pram_text.specs.Judgement.{label_of, unlabelled, is_name, instr_of, index_in, ◌>>=◌}
+use Rattle.pram_text.specs.Judgement.{label_of, unlabelled, is_name, Scope, instr_of}
+use Rattle.pram_text.specs.Judgement.{index_in, ◌>>=◌}
 use Rattle.pram_text.specs.Inner.Reading.{HoldsCode, HoldsIndices, index_at, define_fault}
 use Rattle.pram_text.specs.Inner.Statement.{resolved, aimed, ReadsLine}
 use Rattle.pram_text.specs.declared.limits.TheConstants.{MAX_CODE}
@@ -177,35 +178,35 @@ IsLabelled-push body line h below fine = record {
   once = all_pairs_push AreApart body line h.once (label_is_apart body line fine);
 }
 
-pub HoldsCode-push : (body : List Line) (old new : Program) (line : Line) (w : Written) →
-    HoldsCode body old → length body < MAX_CODE → label_fault body line ≡ None →
-    HoldsIndices (body ++ line ∷ []) new.indices → ReadsLine (unlabelled line) (Ok w.statement) →
-    new.written.items ≡ old.written.items ++ w ∷ [] → HoldsCode (body ++ line ∷ []) new
-HoldsCode-push body old new line w h below fine indices said items = record {
+pub HoldsCode-push : (scope : Scope) (body : List Line) (old new : Program) (line : Line) (w : Written) →
+    HoldsCode scope body old → length body < MAX_CODE → label_fault body line ≡ None →
+    HoldsIndices (body ++ line ∷ []) new.indices → ReadsLine scope (unlabelled line) (Ok w.statement) →
+    new.written.items ≡ old.written.items ++ w ∷ [] → HoldsCode scope (body ++ line ∷ []) new
+HoldsCode-push scope body old new line w h below fine indices said items = record {
   labelled = IsLabelled-push body line h.labelled below fine;
   indices = indices;
-  said = λ find. map-append (λ l. instr_of find (unlabelled l)) body (line ∷ []) ∙ ap₂ (λ xs r.
+  said = λ find. map-append (λ l. instr_of scope find (unlabelled l)) body (line ∷ []) ∙ ap₂ (λ xs r.
       xs ++ r ∷ []) (h.said find) (said find) ∙ sym (ap (map (λ w. resolved find w.statement)) items
       ∙ map-append (λ w. resolved find w.statement) old.written.items (w ∷ []));
 }
 
 -- ---- the fault of a line
 
-pub instr_fault-long : (body : List Line) (line : Line) → MAX_CODE ≤ length body →
-    instr_fault body line ≡ Some TooLong
+pub instr_fault-long : (scope : Scope) (body : List Line) (line : Line) → MAX_CODE ≤ length body →
+    instr_fault scope body line ≡ Some TooLong
 unfolding instr_fault
-instr_fault-long body line l = rw (le-leb MAX_CODE (length body) l) refl
+instr_fault-long scope body line l = rw (le-leb MAX_CODE (length body) l) refl
 
-pub instr_fault-label : (body : List Line) (line : Line) (kind : TextKind) →
-    length body < MAX_CODE → label_fault body line ≡ Some kind → instr_fault body line ≡ Some kind
+pub instr_fault-label : (scope : Scope) (body : List Line) (line : Line) (kind : TextKind) →
+    length body < MAX_CODE → label_fault body line ≡ Some kind → instr_fault scope body line ≡ Some kind
 unfolding instr_fault
-instr_fault-label body line kind l e = rw (lt-leb MAX_CODE (length body) l, e) refl
+instr_fault-label scope body line kind l e = rw (lt-leb MAX_CODE (length body) l, e) refl
 
-pub instr_fault-rest : (body : List Line) (line : Line) →
+pub instr_fault-rest : (scope : Scope) (body : List Line) (line : Line) →
     length body < MAX_CODE → label_fault body line ≡ None →
-    instr_fault body line ≡ result_err (instr_of (λ label. Some 0) (unlabelled line))
+    instr_fault scope body line ≡ result_err (instr_of scope (λ label. Some 0) (unlabelled line))
 unfolding instr_fault
-instr_fault-rest body line l e = rw (lt-leb MAX_CODE (length body) l, e) refl
+instr_fault-rest scope body line l e = rw (lt-leb MAX_CODE (length body) l, e) refl
 
 pub resolved-known : (s : Statement) → result_err (resolved (λ label. Some 0) s) ≡ None
 resolved-known s = elim s.target as (λ t. result_err (elim t [
@@ -214,25 +215,25 @@ resolved-known s = elim s.target as (λ t. result_err (elim t [
 ]) ≡ None) [ None ↦ refl | Some label ↦ refl ]
 
 -- as many lines as statements
-pub length-held : (body : List Line) (program : Program) → HoldsCode body program →
+pub length-held : (scope : Scope) (body : List Line) (program : Program) → HoldsCode scope body program →
     length body ≡ length program.written.items
-length-held body program h =
-    sym (length-map body (λ line. instr_of (λ label. None) (unlabelled line)))
+length-held scope body program h =
+    sym (length-map body (λ line. instr_of scope (λ label. None) (unlabelled line)))
     ∙ ap length (h.said (λ label. None))
     ∙ length-map program.written.items (λ w. resolved (λ label. None) w.statement)
 
 -- a line without a fault of its own
-pub instr_fault-none : (body : List Line) (line : Line) → instr_fault body line ≡ None →
+pub instr_fault-none : (scope : Scope) (body : List Line) (line : Line) → instr_fault scope body line ≡ None →
     (length body < MAX_CODE) × (label_fault body line ≡ None)
-    × (result_err (instr_of (λ label. Some 0) (unlabelled line)) ≡ None)
+    × (result_err (instr_of scope (λ label. Some 0) (unlabelled line)) ≡ None)
 unfolding instr_fault
-instr_fault-none body line e = ⊎_elim (λ long.
-    absurd (let some = instr_fault-long body line (leb-true MAX_CODE (length body) long) in cc))
+instr_fault-none scope body line e = ⊎_elim (λ long.
+    absurd (let some = instr_fault-long scope body line (leb-true MAX_CODE (length body) long) in cc))
     (λ few. let below = leb-false MAX_CODE (length body) few in
     by_label (label_fault body line) refl below) (cases_Bool (nat_le MAX_CODE (length body))) where
       by_label : (o : Option TextKind) → label_fault body line ≡ o → length body < MAX_CODE →
           (length body < MAX_CODE) × (label_fault body line ≡ None)
-          × (result_err (instr_of (λ label. Some 0) (unlabelled line)) ≡ None)
-      by_label None f below = (below, f, sym (instr_fault-rest body line below f) ∙ e)
+          × (result_err (instr_of scope (λ label. Some 0) (unlabelled line)) ≡ None)
+      by_label None f below = (below, f, sym (instr_fault-rest scope body line below f) ∙ e)
       by_label (Some kind) f below =
-          absurd (let some = instr_fault-label body line kind below f in cc)
+          absurd (let some = instr_fault-label scope body line kind below f in cc)

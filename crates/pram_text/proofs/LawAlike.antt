@@ -10,11 +10,11 @@ use Rattle.std.proofs.lemmas.List.Elements.{recursion_from_All, All-from_recursi
 use Rattle.pram_text.specs.declared.fault.TextKind.{TextKind}
 use Rattle.pram_text.specs.declared.fault.TextKind.TheVariants.{NotAscii}
 use Rattle.pram_text.specs.Job.{JobData}
-use Rattle.pram_text.specs.Lines.{Line, lines_of, words_of, is_allowed, is_filled}
+use Rattle.pram_text.specs.Lines.{Line, lines_of, words_of, worded, is_allowed, is_filled}
 use Rattle.pram_text.specs.Judgement.{is_code}
 use Rattle.pram_text.specs.Laws.{HasOtherLine, SpellsSame, BearsSame}
 use Rattle.pram_text.specs.Text.{Spells, words_fault, line_fault, numbered_body, end_fault}
-use Rattle.pram_text.specs.Text.{fault_at, label_fault_at, IsFirst, Bears, SpellsLines}
+use Rattle.pram_text.specs.Text.{fault_at, scope_in, label_fault_at, IsFirst, Bears, SpellsLines}
 
 -- whether a line's bytes are allowed
 abbrev pub allowed : List ℕ → Bool
@@ -83,6 +83,9 @@ bears_alike text other s line kind = go
     body = ap (λ words. after_first (λ l. is_code l.1)
         (drop 4 (filter (λ l. is_filled l.1) (enumerate_from 1 words)))) s.words
 
+    scope : scope_in (worded (lines_of text)) ≡ scope_in (worded (lines_of other))
+    scope = ap (λ words. scope_in (filter is_filled words)) s.words
+
     go : Bears text line kind → Bears other line kind
     go (inl first) = inl (
       first.0,
@@ -94,8 +97,11 @@ bears_alike text other s line kind = go
       (λ j lt. sym (same j) ∙ label.0 j (subst (λ n. j < n) (sym len) lt)),
       label.1,
       label.2 ∙ ap (λ ls. slice_index (map (λ l. l.0) ls) label.1) body,
-      subst (λ (ls : List (ℕ × Line)).
-          IsFirst (label_fault_at (map (λ l. l.1) ls)) (length ls) label.1 kind) body label.3,
+      subst (λ scope. IsFirst (label_fault_at scope (map (λ l. l.1) (numbered_body
+          (lines_of other)))) (length (numbered_body (lines_of other))) label.1 kind) scope
+          (subst (λ (ls : List (ℕ × Line)). IsFirst (label_fault_at
+          (scope_in (worded (lines_of text))) (map (λ l. l.1) ls)) (length ls) label.1 kind)
+          body label.3),
     )
 
 allowed_alike : (a b : List (List ℕ)) →

@@ -1,5 +1,5 @@
 -- Lines without a fault are a header, start values, the line `code` and instructions.
-use Rattle.std.proofs.Common.{◌≡◌, ℕ, ◌<◌, ◌≤◌, Bool, true, false, not, ◌==◌, if◌then◌else◌}
+use Rattle.std.proofs.Common.{◌≡◌, ℕ, ◌<◌, ◌≤◌, Bool, true, false, not, if◌then◌else◌}
 use Rattle.std.proofs.Common.{List, [], ◌∷◌, ◌++◌, length, Option, Some, None, Result, Ok, Err}
 use Rattle.std.proofs.Common.{get_or, refl, sym, ap, subst, ◌∙◌, inl, inr, append_assoc, arith}
 use Rattle.std.specs.List.{list_any}
@@ -13,16 +13,19 @@ use Rattle.pram_text.specs.declared.instr.Rule.{Rule}
 use Rattle.pram_text.specs.declared.instr.Rule.TheVariants.{Common}
 use Rattle.pram_text.specs.Job.{JobData}
 use Rattle.pram_text.specs.Lines.{Line, is_filled}
-use Rattle.pram_text.specs.Judgement.{version_of, cells_of, procs_of, steps_of}
-use Rattle.pram_text.specs.Judgement.{rule_of, is_code, unlabelled, instr_of}
-use Rattle.pram_text.specs.Text.{index_of, code_line, NamesCells, IsLabelled, SpellsHeader}
-use Rattle.pram_text.specs.Text.{SpellsLines, init_fault, instr_fault, rest_fault, words_fault}
+use Rattle.pram_text.specs.Judgement.{version_of, is_later, cells_of, procs_of, steps_of}
+use Rattle.pram_text.specs.Judgement.{rule_of, Entry, is_code, unlabelled, Scope, instr_of}
+use Rattle.pram_text.specs.Text.{index_of, code_line, SaysEntries, IsLabelled, SpellsHeader}
+use Rattle.pram_text.specs.Text.{SpellsLines, entry_fault, instr_fault, rest_fault, words_fault}
+use Rattle.pram_text.specs.Text.{entries_in, scope_of, scope_in}
 use Rattle.pram_text.specs.Text.{names_rule, has_code, body_of, end_fault, label_fault_at}
 use Rattle.pram_text.proofs.Lists.{NonePasses, none_left, none_at, any_split, grown}
 use Rattle.pram_text.proofs.Said.{said_from_each}
-use Rattle.pram_text.proofs.Inits.{NamesCells-none, NamesCells-more, SpellsInit-from}
+use Rattle.pram_text.proofs.Inits.{SaysEntries-none, SaysEntries-more, SpellsInit-from}
+use Rattle.pram_text.proofs.Inits.{entries_in-said}
 use Rattle.pram_text.proofs.Labels.{IsLabelled-none, IsLabelled-push, instr_fault-none}
-use Rattle.pram_text.proofs.Stages.{version_cases, names_rule_at, code_line_is}
+use Rattle.pram_text.proofs.Stages.{version_cases, names_rule_later, rule_named, code_line_is}
+use Rattle.pram_text.proofs.Stages.{scope_in-body}
 use Rattle.pram_text.proofs.Stages.{rest_fault-inits, rest_fault-body}
 use Rattle.pram_text.proofs.Stages.{words_fault-after, has_code-after, body_of-body}
 
@@ -91,7 +94,7 @@ has_header (a ∷ b ∷ c ∷ d ∷ lines) passes code =
           rule_said = rw one (refl, refl);
         };
       }
-      | inr two ↦ ruled lines (names_rule_at a v.0 v.1 ∙ ap (λ v. v == 2) two) passes code
+      | inr two ↦ ruled lines (names_rule_later a v.0 v.1 two) passes code
           (λ rule first rest said parts. record {
             version = v.0;
             cells = m.0;
@@ -112,7 +115,7 @@ has_header (a ∷ b ∷ c ∷ d ∷ lines) passes code =
               cells_said = m.1;
               procs_said = n.1;
               steps_said = t.1;
-              rule_said = rw two (first, refl, said);
+              rule_said = rule_named v.0 rule (first ∷ []) two (first, refl, said);
             };
           })
     ]
@@ -142,34 +145,41 @@ pub record HasParts (lines : List Line) : Type 0 where
   pub body : List Line
   pub parts : lines ≡ header ++ (inits ++ code_line ∷ body)
   pub sizes : SpellsHeader version cells procs steps rule header
-  pub pairs : List (ℕ × ℕ)
-  pub named : NamesCells cells inits pairs
-  pub passes : EachSplit body (λ before line. instr_fault before line ≡ None)
+  pub entries : List Entry
+  pub said : SaysEntries (is_later version) cells inits entries
+  pub scope : Scope
+  pub is_scope : scope_in lines ≡ scope
+  pub scope_is : scope ≡ scope_of (is_later version) entries
+  pub passes : EachSplit body (λ before line. instr_fault scope before line ≡ None)
   pub is_body : body_of lines ≡ body
 
 pub has_parts : (lines : List Line) → Passes lines → has_code lines ≡ true → HasParts lines
 has_parts lines passes code =
     let h = has_header lines passes code in
+    let later = is_later h.version in
     let cut = any_split is_code h.rest
     (sym (ap has_code h.parts ∙ has_code-after _ _ _ _ _ h.header h.sizes h.rest) ∙ code) in
     let rest : h.rest ≡ cut.0 ++ code_line ∷ cut.2 =
     cut.3 ∙ ap (λ l. cut.0 ++ l ∷ cut.2) (code_line_is cut.1 cut.5) in
-    let later : EachSplit (cut.0 ++ code_line ∷ cut.2)
-    (λ before line. rest_fault h.cells before line ≡ None) = λ before line after e.
+    let whole : lines ≡ h.header ++ (cut.0 ++ code_line ∷ cut.2) =
+    h.parts ∙ ap (λ ls. h.header ++ ls) rest in
+    let after_header : EachSplit (cut.0 ++ code_line ∷ cut.2)
+    (λ before line. rest_fault later h.cells before line ≡ None) = λ before line after e.
     sym (words_fault-after _ _ _ _ _ h.header h.sizes before line)
     ∙ passes (h.header ++ before) line after (h.parts ∙ ap (λ ls. h.header ++ ls) (rest ∙ e)
     ∙ sym (append_assoc h.header before (line ∷ after))) in
-    let inits : EachSplit cut.0 (λ before line. init_fault h.cells before line ≡ None) =
+    let inits : EachSplit cut.0 (λ before line. entry_fault later h.cells before line ≡ None) =
     λ before line after e.
     let none = subst (NonePasses is_code) e cut.4 in
-    sym (rest_fault-inits h.cells before line (none_left is_code before (line ∷ after) none)
-    ∙ ap (λ b. if b then None else init_fault h.cells before line)
+    sym (rest_fault-inits later h.cells before line (none_left is_code before (line ∷ after) none)
+    ∙ ap (λ b. if b then None else entry_fault later h.cells before line)
     (none_at is_code before line after none))
-    ∙ later before line (after ++ code_line ∷ cut.2) (ap (λ ls. ls ++ code_line ∷ cut.2) e
+    ∙ after_header before line (after ++ code_line ∷ cut.2) (ap (λ ls. ls ++ code_line ∷ cut.2) e
     ∙ append_assoc before (line ∷ after) (code_line ∷ cut.2)) in
-    let named = grown (λ ls. (pairs : List (ℕ × ℕ)) × NamesCells h.cells ls pairs) cut.0
-    ([], NamesCells-none h.cells) (λ before line after e more.
-    NamesCells-more h.cells before line more (inits before line after e)) in
+    let said = grown (λ ls. (entries : List Entry) × SaysEntries later h.cells ls entries) cut.0
+    ([], SaysEntries-none later h.cells) (λ before line after e more.
+    SaysEntries-more later h.cells before line more (inits before line after e)) in
+    let scope = scope_of later (entries_in later h.cells cut.0) in
     record {
       version = h.version;
       cells = h.cells;
@@ -179,15 +189,19 @@ has_parts lines passes code =
       header = h.header;
       inits = cut.0;
       body = cut.2;
-      parts = h.parts ∙ ap (λ ls. h.header ++ ls) rest;
+      parts = whole;
       sizes = h.sizes;
-      pairs = named.0;
-      named = named.1;
-      passes = λ before line after e. sym (rest_fault-body h.cells cut.0 before line cut.4)
-          ∙ later (cut.0 ++ code_line ∷ before) line after (ap (λ ls. cut.0 ++ code_line ∷ ls) e
+      entries = said.0;
+      said = said.1;
+      scope = scope;
+      is_scope =
+          ap scope_in whole ∙ scope_in-body _ _ _ _ _ h.header h.sizes cut.0 cut.2 cut.4;
+      scope_is = ap (scope_of later) (entries_in-said later h.cells cut.0 said.0 said.1.said);
+      passes = λ before line after e. sym (rest_fault-body later h.cells cut.0 before line cut.4)
+          ∙ after_header (cut.0 ++ code_line ∷ before) line after
+          (ap (λ ls. cut.0 ++ code_line ∷ ls) e
           ∙ sym (append_assoc cut.0 (code_line ∷ before) (line ∷ after)));
-      is_body = ap body_of (h.parts ∙ ap (λ ls. h.header ++ ls) rest)
-          ∙ body_of-body _ _ _ _ _ h.header h.sizes cut.0 cut.2 cut.4;
+      is_body = ap body_of whole ∙ body_of-body _ _ _ _ _ h.header h.sizes cut.0 cut.2 cut.4;
     }
 
 -- ---- where all labels are known, too
@@ -205,19 +219,24 @@ ends lines e =
     filled false f = cc
 
 pub lines_spell : (lines : List Line) → Passes lines → end_fault lines ≡ None →
-    ((k : ℕ) → k < length (body_of lines) → label_fault_at (body_of lines) k ≡ None) →
+    ((k : ℕ) → k < length (body_of lines) →
+    label_fault_at (scope_in lines) (body_of lines) k ≡ None) →
     (job : JobData) × SpellsLines job lines
 lines_spell lines passes e known =
     let end = ends lines e in
     let p = has_parts lines passes end.0 in
+    let scope = scope_of (is_later p.version) p.entries in
     let says : Line → Result Instr TextKind =
-    λ line. instr_of (index_of p.body) (unlabelled line) in
-    let known' : (k : ℕ) → k < length p.body → label_fault_at p.body k ≡ None =
-    subst (λ ls. (k : ℕ) → k < length ls → label_fault_at ls k ≡ None) p.is_body known in
+    λ line. instr_of scope (index_of p.body) (unlabelled line) in
+    let known' : (k : ℕ) → k < length p.body → label_fault_at scope p.body k ≡ None =
+    subst (λ sc. (k : ℕ) → k < length p.body → label_fault_at sc p.body k ≡ None)
+    (p.is_scope ∙ p.scope_is)
+    (subst (λ ls. (k : ℕ) → k < length ls → label_fault_at (scope_in lines) ls k ≡ None)
+    p.is_body known) in
     let code =
     said_from_each says p.body (λ k d lt. subst (λ line. (i : Instr) × (says line ≡ Ok i))
     (get_or_default p.body k [] d lt) (ok_from_no_err (says (get_or p.body k [])) (known' k lt))) in
-    let init = SpellsInit-from p.cells p.inits p.pairs p.named in (
+    let init = SpellsInit-from p.cells p.entries in (
       record {
         rule = p.rule;
         cells = p.cells;
@@ -231,13 +250,15 @@ lines_spell lines passes e known =
         header = p.header;
         inits = p.inits;
         body = p.body;
+        entries = p.entries;
         parts = p.parts;
         sizes = p.sizes;
+        said = p.said;
         init = init;
         code = record {
           some = some p.body (subst (λ ls. is_filled ls ≡ true) p.is_body end.1);
           labelled = grown IsLabelled p.body IsLabelled-none (λ before line after f h.
-              let fine = instr_fault-none before line (p.passes before line after f) in
+              let fine = instr_fault-none p.scope before line (p.passes before line after f) in
               IsLabelled-push before line h fine.0 fine.1);
           said = code.1;
         };

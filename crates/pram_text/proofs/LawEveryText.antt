@@ -14,7 +14,7 @@ use Rattle.pram_text.specs.Job.{JobData}
 use Rattle.pram_text.specs.Lines.{Line, lines_of, words_of, worded, is_allowed, is_filled}
 use Rattle.pram_text.specs.Judgement.{unlabelled}
 use Rattle.pram_text.specs.Text.{index_of, Spells, words_fault, line_fault, body_of, numbered_body}
-use Rattle.pram_text.specs.Text.{end_fault, fault_at, label_fault_at, IsFirst, Bears}
+use Rattle.pram_text.specs.Text.{end_fault, fault_at, scope_in, label_fault_at, IsFirst, Bears}
 use Rattle.pram_text.proofs.Worded.{worded_at, words-numbered_body}
 use Rattle.pram_text.proofs.Labels.{instr_fault-none}
 use Rattle.pram_text.proofs.LawNoFault.{instr_follows}
@@ -103,7 +103,8 @@ has_line text = omega (arith, length-slice_split (λ b. b == 10) text)
 faultless_spells : (text : List ℕ) →
     ((k : ℕ) → k < length (lines_of text) → fault_at (lines_of text) k ≡ None) →
     ((k : ℕ) → k < length (numbered_body (lines_of text)) →
-    label_fault_at (map (λ l. l.1) (numbered_body (lines_of text))) k ≡ None) →
+    label_fault_at (scope_in (worded (lines_of text)))
+    (map (λ l. l.1) (numbered_body (lines_of text))) k ≡ None) →
     (job : JobData) × Spells text job
 faultless_spells text none known =
     let lines = lines_of text in
@@ -112,14 +113,15 @@ faultless_spells text none known =
     let len : length (body_of (worded lines)) ≡ length (numbered_body lines) =
     ap length (sym words) ∙ length-map (numbered_body lines) (λ l. l.1) in
     let job = lines_spell (worded lines) (words_pass lines some none) (end_passes lines some none)
-    (λ k lt. subst (λ ls. label_fault_at ls k ≡ None) words (known k (omega arith))) in
+    (λ k lt. subst (λ ls. label_fault_at (scope_in (worded lines)) ls k ≡ None) words
+    (known k (omega arith))) in
     (job.0, record { allowed = all_allowed lines some none; lines = job.1 })
 
 pub spells_or_bears : (text : List ℕ) →
     ((job : JobData) × Spells text job) ⊎ ((line : ℕ) × (kind : TextKind) × Bears text line kind)
 unfolding Bears
 spells_or_bears text = go (search_for (fault_at lines) (length lines))
-    (search_for (label_fault_at (map (λ l. l.1) body)) (length body))
+    (search_for (label_fault_at (scope_in (worded lines)) (map (λ l. l.1) body)) (length body))
   where
     lines : List (List ℕ)
     lines = lines_of text
@@ -128,7 +130,8 @@ spells_or_bears text = go (search_for (fault_at lines) (length lines))
     body = numbered_body lines
 
     go : Searched (fault_at (lines_of text)) (length (lines_of text)) →
-        Searched (label_fault_at (map (λ l. l.1) (numbered_body (lines_of text))))
+        Searched (label_fault_at (scope_in (worded (lines_of text)))
+        (map (λ l. l.1) (numbered_body (lines_of text))))
         (length (numbered_body (lines_of text))) → ((job : JobData) × Spells text job)
         ⊎ ((line : ℕ) × (kind : TextKind) × Bears text line kind)
     go (inl first) labels = inr (first.0 + 1, first.1, inl (first.0, refl, first.2))
@@ -155,12 +158,13 @@ label_comes_last text line kind (inr label) none =
     let len : length p.body ≡ length (numbered_body lines) =
     sym (ap length body) ∙ length-map (numbered_body lines) (λ l. l.1) in
     let within : k < length p.body = omega (arith, label.3.within) in
-    let fine = instr_fault-none (take k p.body) (get_or p.body k []) (p.passes (take k p.body)
+    let fine = instr_fault-none p.scope (take k p.body) (get_or p.body k []) (p.passes (take k p.body)
     (get_or p.body k []) (drop (k + 1) p.body) (sym (take-append-drop k p.body)
     ∙ ap (λ l. take k p.body ++ l) (drop_more p.body k [] within))) in
-    let here : label_fault_at p.body k ≡ Some kind =
-    subst (λ ls. label_fault_at ls k ≡ Some kind) body label.3.here in
-    elim (instr_follows (index_of p.body) (unlabelled (get_or p.body k []))).same [
+    let here : label_fault_at p.scope p.body k ≡ Some kind =
+    subst (λ scope. label_fault_at scope p.body k ≡ Some kind) p.is_scope
+    (subst (λ ls. label_fault_at (scope_in (worded lines)) ls k ≡ Some kind) body label.3.here) in
+    elim (instr_follows p.scope (index_of p.body) (unlabelled (get_or p.body k []))).same [
       | inl same ↦ let known = fine.2 in cc
       | inr unknown ↦ let is = unknown.0 in cc
     ]

@@ -1,11 +1,11 @@
 -- A text that spells a job bears no fault: its lines by themselves.
-use Rattle.std.proofs.Common.{◌≡◌, ◌≢◌, ◌⊎◌, ℕ, ◌<◌, Bool, true, false, not, ◌==◌, if◌then◌else◌}
-use Rattle.std.proofs.Common.{List, [], ◌∷◌, ◌++◌, length, map, codes, bytes_eq, All, AllPairs}
+use Rattle.std.proofs.Common.{◌≡◌, ◌≢◌, ◌⊎◌, ℕ, ◌<◌, Bool, true, false, not, if◌then◌else◌}
+use Rattle.std.proofs.Common.{List, [], ◌∷◌, ◌++◌, length, bytes_eq, All}
 use Rattle.std.proofs.Common.{IsTrue, IfSome, Option, Some, None, Result, Ok, Err, ok_or, refl}
 use Rattle.std.proofs.Common.{sym, ap, subst, ◌∙◌, inl, inr, append-nil, arith}
 use Rattle.std.specs.List.{AllByRecursion, list_any}
 use Rattle.std.specs.Result.{result_err}
-use Rattle.std.proofs.lemmas.Bool.{cond-false, false_from_ne_true, ne_eqb}
+use Rattle.std.proofs.lemmas.Bool.{cond-false, false_from_ne_true}
 use Rattle.std.proofs.lemmas.List.{length-append}
 use Rattle.std.proofs.lemmas.List.Elements.{recursion_from_All}
 use Rattle.std.proofs.lemmas.Slice.Eq.{bytes_eq-Decides}
@@ -13,49 +13,39 @@ use Rattle.pram_text.specs.declared.fault.TextKind.{TextKind}
 use Rattle.pram_text.specs.declared.fault.TextKind.TheVariants.{BadHeader, UnknownInstruction}
 use Rattle.pram_text.specs.declared.fault.TextKind.TheVariants.{DuplicateLabel, UnknownLabel}
 use Rattle.pram_text.specs.declared.instr.Instr.{Instr}
-use Rattle.pram_text.specs.Instructions.{Form, bare, only_target, target_number, target_one}
-use Rattle.pram_text.specs.Instructions.{target_two, pair, register_index, only_index, table}
+use Rattle.pram_text.specs.Instructions.{Form, register_index, only_index, table}
 use Rattle.pram_text.specs.declared.instr.Rule.{Rule}
 use Rattle.pram_text.specs.declared.limits.TheConstants.{MAX_CODE}
 use Rattle.pram_text.specs.Job.{JobData}
 use Rattle.pram_text.specs.Lines.{Word, Line}
 use Rattle.pram_text.specs.Judgement.{◌>>=◌, version_of, cells_of, procs_of, steps_of, rule_of}
-use Rattle.pram_text.specs.Judgement.{init_of, is_code, label_of, unlabelled, is_name}
-use Rattle.pram_text.specs.Judgement.{register_of, no_operand, one_register, two_registers}
-use Rattle.pram_text.specs.Judgement.{three_registers, register_number, one_label}
+use Rattle.pram_text.specs.Judgement.{is_later, Entry, entry_of, is_code, label_of, unlabelled}
+use Rattle.pram_text.specs.Judgement.{is_name, Scope, register_of, one_label}
 use Rattle.pram_text.specs.Judgement.{register_label, index_in, instr_of, instr_by, made_of}
 use Rattle.pram_text.specs.Text.{is_named, new_label_fault, defines, index_of, code_line}
-use Rattle.pram_text.specs.Text.{NamesCells, SpellsInit, SpellsCode, SpellsRule}
-use Rattle.pram_text.specs.Text.{SpellsHeader, SpellsLines, names_rule, init_fault}
+use Rattle.pram_text.specs.Text.{SaysEntries, SpellsCode, SpellsRule, scope_of}
+use Rattle.pram_text.specs.Text.{SpellsHeader, SpellsLines, names_rule, entry_fault}
 use Rattle.pram_text.specs.Text.{label_fault, instr_fault, rest_fault, words_fault}
 use Rattle.pram_text.proofs.Lists.{split_of_append, NonePasses, none_left, none_at}
-use Rattle.pram_text.proofs.Lists.{any_none, all_at, pairs_at, pairs_before}
+use Rattle.pram_text.proofs.Lists.{any_none, all_at, pairs_at}
 use Rattle.pram_text.proofs.Said.{said_around}
-use Rattle.pram_text.proofs.Inits.{init_fault-ok}
+use Rattle.pram_text.proofs.Inits.{entry_fault-ok, SaysEntries-front, entries_in-said}
 use Rattle.pram_text.proofs.Labels.{instr_fault-rest}
-use Rattle.pram_text.proofs.Stages.{version_cases, names_rule_at, none_named, code_line_is_code}
+use Rattle.pram_text.proofs.Stages.{version_cases, names_rule_later, rule_line, none_named}
+use Rattle.pram_text.proofs.Stages.{code_line_is_code}
 use Rattle.pram_text.proofs.Stages.{rest_fault-inits, rest_fault-body, words_fault-after}
 
 -- ---- start values
 
-unnamed : (n : ℕ) (pairs : List (ℕ × ℕ)) → AllByRecursion (λ p. p.0 ≢ n) pairs →
-    NonePasses (λ c. c == n) (map (λ p. p.0) pairs)
-unnamed n [] h = tt
-unnamed n (p ∷ pairs) h = (ne_eqb p.0 n h.0, unnamed n pairs h.1)
-
-init_passes : (cells : ℕ) (before : List Line) (line : Line) (after : List Line) (init : List ℕ) →
-    SpellsInit cells (before ++ line ∷ after) init → init_fault cells before line ≡ None
-init_passes cells before line after init s =
-    let a = said_around (init_of cells) before line after s.pairs s.named.said in
-    let R : ℕ × ℕ → ℕ × ℕ → Type 0 = λ p q. p.0 ≢ q.0 in
-    let pairs = subst (AllPairs R) a.parts s.named.once in
-    let new = any_none (λ c. c == a.value.0) (map (λ p. p.0) a.front) (unnamed a.value.0 a.front
-    (recursion_from_All (λ (p : ℕ × ℕ). p.0 ≢ a.value.0) a.front
-    (pairs_at R a.front a.value a.back pairs))) in
-    let named : NamesCells cells before a.front =
-    record { said = a.said_front; once = pairs_before R a.front (a.value ∷ a.back) pairs } in
-    init_fault-ok cells before a.front line a.value named a.said_value
-    ∙ ap (λ b. if b then Some BadHeader else None) new
+entry_passes : (later : Bool) (cells : ℕ) (before : List Line) (line : Line) (after : List Line)
+    (entries : List Entry) → SaysEntries later cells (before ++ line ∷ after) entries →
+    entry_fault later cells before line ≡ None
+entry_passes later cells before line after entries s =
+    let a = said_around (entry_of later cells) before line after entries s.said in
+    let front = SaysEntries-front later cells (before ++ line ∷ after) before entries a.front a.value
+    a.back s a.parts a.said_front in
+    entry_fault-ok later cells before a.front line a.value front a.said_value
+    ∙ ap (λ b. if b then Some BadHeader else None) (s.fresh a.front a.value a.back a.parts)
 
 -- ---- instructions
 
@@ -93,28 +83,31 @@ jump_follows find make (r ∷ label ∷ []) = go (register_of r)
     go (Err kind) = follows_same (Err kind)
 jump_follows find make _ = follows_same _
 
-form_follows : (find : Word → Option ℕ) (form : Form) (operands : Line) →
-    Follows (made_of find form operands) (made_of (λ label. Some 0) form operands)
-form_follows find (register_index make) operands = jump_follows find make operands
-form_follows find (only_index make) operands = label_follows find make operands
-form_follows find _ operands = follows_same _
+module _ (scope : Scope) where
+  form_follows : (find : Word → Option ℕ) (form : Form) (operands : Line) →
+      Follows (made_of scope find form operands) (made_of scope (λ label. Some 0) form operands)
+  form_follows find (register_index make) operands = jump_follows find make operands
+  form_follows find (only_index make) operands = label_follows find make operands
+  form_follows find _ operands = follows_same _
 
-rows_follow : (find : Word → Option ℕ) (rows : List (Word × Form)) (name : Word) (operands : Line) →
-    Follows (instr_by rows find name operands) (instr_by rows (λ label. Some 0) name operands)
-rows_follow find [] name operands = follows_same _
-rows_follow find (row ∷ rows) name operands = either (bytes_eq name row.0) _ _ _ _
-    (form_follows find row.1 operands) (rows_follow find rows name operands)
+  rows_follow : (find : Word → Option ℕ) (rows : List (Word × Form)) (name : Word)
+      (operands : Line) → Follows (instr_by rows scope find name operands)
+      (instr_by rows scope (λ label. Some 0) name operands)
+  rows_follow find [] name operands = follows_same _
+  rows_follow find (row ∷ rows) name operands = either (bytes_eq name row.0) _ _ _ _
+      (form_follows find row.1 operands) (rows_follow find rows name operands)
 
-pub instr_follows : (find : Word → Option ℕ) (line : Line) →
-    Follows (instr_of find line) (instr_of (λ label. Some 0) line)
-unfolding instr_of
-instr_follows find [] = follows_same _
-instr_follows find (name ∷ operands) = rows_follow find table name operands
+  pub instr_follows : (find : Word → Option ℕ) (line : Line) →
+      Follows (instr_of scope find line) (instr_of scope (λ label. Some 0) line)
+  unfolding instr_of
+  instr_follows find [] = follows_same _
+  instr_follows find (name ∷ operands) = rows_follow find (table scope.later) name operands
 
 -- what is an instruction with these indices has no fault with any
-known_passes : (find : Word → Option ℕ) (line : Line) (instr : Instr) →
-    instr_of find line ≡ Ok instr → result_err (instr_of (λ label. Some 0) line) ≡ None
-known_passes find line instr e = elim (instr_follows find line).same [
+known_passes : (scope : Scope) (find : Word → Option ℕ) (line : Line) (instr : Instr) →
+    instr_of scope find line ≡ Ok instr →
+    result_err (instr_of scope (λ label. Some 0) line) ≡ None
+known_passes scope find line instr e = elim (instr_follows scope find line).same [
   | inl same ↦ sym same ∙ ap result_err e
   | inr unknown ↦ let none = ap result_err e in let some = unknown.0 in cc
 ]
@@ -133,10 +126,11 @@ undefined_all : (name : Word) (body : List Line) →
 undefined_all name [] h = tt
 undefined_all name (line ∷ body) h = (undefined name line h.0, undefined_all name body h.1)
 
-label_passes : (before : List Line) (line : Line) (after : List Line) (code : List Instr) →
-    SpellsCode (before ++ line ∷ after) code → label_fault before line ≡ None
+label_passes : (scope : Scope) (before : List Line) (line : Line) (after : List Line)
+    (code : List Instr) → SpellsCode scope (before ++ line ∷ after) code →
+    label_fault before line ≡ None
 unfolding label_fault
-label_passes before line after code s = go (label_of line) refl
+label_passes scope before line after code s = go (label_of line) refl
   where
     named : IfSome (label_of line) (λ label. IsTrue (is_name label))
     named = all_at (λ line. IfSome (label_of line) (λ label. IsTrue (is_name label)))
@@ -159,15 +153,17 @@ label_passes before line after code s = go (label_of line) refl
         ∙ cond-false _ (Some DuplicateLabel) None
         (any_none (defines label) before (undefined_all label before other))
 
-instr_passes : (before : List Line) (line : Line) (after : List Line) (code : List Instr) →
-    SpellsCode (before ++ line ∷ after) code → instr_fault before line ≡ None
-instr_passes before line after code s =
-    let a = said_around (λ (l : Line). instr_of (index_of (before ++ line ∷ after)) (unlabelled l))
+instr_passes : (scope : Scope) (before : List Line) (line : Line) (after : List Line)
+    (code : List Instr) → SpellsCode scope (before ++ line ∷ after) code →
+    instr_fault scope before line ≡ None
+instr_passes scope before line after code s =
+    let a = said_around
+    (λ (l : Line). instr_of scope (index_of (before ++ line ∷ after)) (unlabelled l))
     before line after code s.said in
     let few : length before < MAX_CODE =
     omega (arith, s.labelled.few, length-append before (line ∷ after)) in
-    instr_fault-rest before line few (label_passes before line after code s)
-    ∙ known_passes (index_of (before ++ line ∷ after)) (unlabelled line) a.value a.said_value
+    instr_fault-rest scope before line few (label_passes scope before line after code s)
+    ∙ known_passes scope (index_of (before ++ line ∷ after)) (unlabelled line) a.value a.said_value
 
 -- ---- all lines with words
 
@@ -200,9 +196,9 @@ header_passes version cells procs steps rule header before line after h e =
           | inl one ↦ no_line before
               (sym (subst (λ v. SpellsRule v rule h.rule_lines) one h.rule_said).0 ∙ ruled)
           | inr two ↦
-              let some = subst (λ v. SpellsRule v rule h.rule_lines) two h.rule_said in
-              let named : names_rule a ≡ true = names_rule_at a version
-              (ap version_of (sym first) ∙ h.version_said) ∙ ap (λ v. v == 2) two in
+              let some = rule_line version rule h.rule_lines two h.rule_said in
+              let named : names_rule a ≡ true = names_rule_later a version
+              (ap version_of (sym first) ∙ h.version_said) two in
               one_line before (sym some.1 ∙ ruled) some.2 named
         ]
       where
@@ -222,35 +218,43 @@ header_passes version cells procs steps rule header before line after h e =
 
 rest_passes : (job : JobData) (lines : List Line) (s : SpellsLines job lines) (before : List Line)
     (line : Line) (after : List Line) → s.inits ++ code_line ∷ s.body ≡ before ++ line ∷ after →
-    rest_fault job.cells before line ≡ None
+    rest_fault (is_later s.version) job.cells before line ≡ None
 rest_passes job lines s before line after e =
     elim (split_of_append s.inits (code_line ∷ s.body) before line after e) [
       | inl start ↦
           let none' = subst (NonePasses is_code) start.1 none in
-          rest_fault-inits job.cells before line (none_left is_code before (line ∷ start.0) none')
-          ∙ ap (λ b. if b then None else init_fault job.cells before line)
+          rest_fault-inits later job.cells before line
+          (none_left is_code before (line ∷ start.0) none')
+          ∙ ap (λ b. if b then None else entry_fault later job.cells before line)
           (none_at is_code before line start.0 none')
-          ∙ init_passes job.cells before line start.0 job.init
-          (subst (λ l. SpellsInit job.cells l job.init) start.1 s.init)
-      | inr later ↦ ap (λ ls. rest_fault job.cells ls line) later.1 ∙ go later.0 later.2
+          ∙ entry_passes later job.cells before line start.0 s.entries
+          (subst (λ l. SaysEntries later job.cells l s.entries) start.1 s.said)
+      | inr more ↦ ap (λ ls. rest_fault later job.cells ls line) more.1 ∙ go more.0 more.2
     ]
   where
+    later : Bool
+    later = is_later s.version
+
     none : NonePasses is_code s.inits
-    none = none_named job.cells s.inits s.init.pairs s.init.named
+    none = none_named (is_later s.version) job.cells s.inits s.entries s.said
 
     go : (more : List Line) → code_line ∷ s.body ≡ more ++ line ∷ after →
-        rest_fault job.cells (s.inits ++ more) line ≡ None
+        rest_fault later job.cells (s.inits ++ more) line ≡ None
     go [] f =
         let same : line ≡ code_line = cc in
-        ap (λ ls. rest_fault job.cells ls line) (append-nil s.inits) ∙ rest_fault-inits job.cells
-        s.inits line none ∙ ap (λ b. if b then None else init_fault job.cells s.inits line)
+        ap (λ ls. rest_fault later job.cells ls line) (append-nil s.inits)
+        ∙ rest_fault-inits later job.cells s.inits line none
+        ∙ ap (λ b. if b then None else entry_fault later job.cells s.inits line)
         (ap is_code same ∙ code_line_is_code)
     go (c ∷ more) f =
         let same : c ≡ code_line = cc in
         let body : s.body ≡ more ++ line ∷ after = cc in
-        ap (λ l. rest_fault job.cells (s.inits ++ l ∷ more) line) same
-        ∙ rest_fault-body job.cells s.inits more line none
-        ∙ instr_passes more line after job.code (subst (λ l. SpellsCode l job.code) body s.code)
+        ap (λ l. rest_fault later job.cells (s.inits ++ l ∷ more) line) same
+        ∙ rest_fault-body later job.cells s.inits more line none
+        ∙ ap (λ entries. instr_fault (scope_of later entries) more line)
+        (entries_in-said later job.cells s.inits s.entries s.said.said)
+        ∙ instr_passes (scope_of later s.entries) more line after job.code
+        (subst (λ l. SpellsCode (scope_of later s.entries) l job.code) body s.code)
 
 pub words_pass : (job : JobData) (lines before : List Line) (line : Line) (after : List Line) →
     SpellsLines job lines → lines ≡ before ++ line ∷ after → words_fault before line ≡ None

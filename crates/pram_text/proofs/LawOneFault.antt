@@ -11,14 +11,15 @@ use Rattle.pram_text.specs.declared.fault.TextKind.{TextKind}
 use Rattle.pram_text.specs.declared.instr.Instr.TheVariants.{Halt}
 use Rattle.pram_text.specs.Job.{JobData}
 use Rattle.pram_text.specs.Lines.{Line, lines_of, words_of, worded, is_allowed, is_filled}
-use Rattle.pram_text.specs.Judgement.{unlabelled, instr_of}
+use Rattle.pram_text.specs.Judgement.{is_later, unlabelled, instr_of}
 use Rattle.pram_text.specs.Text.{index_of, SpellsLines, Spells, words_fault}
-use Rattle.pram_text.specs.Text.{line_fault, has_code, body_of, numbered_body}
+use Rattle.pram_text.specs.Text.{line_fault, has_code, body_of, numbered_body, scope_of, scope_in}
 use Rattle.pram_text.specs.Text.{end_fault, fault_at, label_fault_at, IsFirst, Bears}
 use Rattle.pram_text.proofs.Coded.{no_fault-Ok}
 use Rattle.pram_text.proofs.Finishing.{filled}
 use Rattle.pram_text.proofs.LawNoFault.{words_pass}
-use Rattle.pram_text.proofs.Stages.{none_named, has_code-body, body_of-body}
+use Rattle.pram_text.proofs.Inits.{entries_in-said}
+use Rattle.pram_text.proofs.Stages.{none_named, has_code-body, body_of-body, scope_in-body}
 use Rattle.pram_text.proofs.Worded.{worded_around, words-numbered_body}
 
 -- ---- the end, and labels
@@ -26,20 +27,26 @@ use Rattle.pram_text.proofs.Worded.{worded_around, words-numbered_body}
 end_passes : (job : JobData) (lines : List Line) → SpellsLines job lines → end_fault lines ≡ None
 unfolding end_fault
 end_passes job lines s =
-    let none = none_named job.cells s.inits s.init.pairs s.init.named in
+    let none = none_named _ job.cells s.inits s.entries s.said in
     let code = ap has_code s.parts ∙ has_code-body _ _ _ _ _ s.header s.sizes s.inits s.body none in
     let body = ap body_of s.parts ∙ body_of-body _ _ _ _ _ s.header s.sizes s.inits s.body none in
     let some : is_filled (body_of lines) ≡ true = ap is_filled body ∙ filled s.body s.code.some in
     rw (code, some) refl
 
 labels_pass : (job : JobData) (lines : List Line) → SpellsLines job lines → (k : ℕ) →
-    k < length (body_of lines) → label_fault_at (body_of lines) k ≡ None
+    k < length (body_of lines) → label_fault_at (scope_in lines) (body_of lines) k ≡ None
 labels_pass job lines s k =
-    let body = ap body_of s.parts ∙ body_of-body _ _ _ _ _ s.header s.sizes s.inits s.body
-    (none_named job.cells s.inits s.init.pairs s.init.named) in
-    subst (λ ls. k < length ls → label_fault_at ls k ≡ None) (sym body) (λ lt.
-    ap result_err (sym (get_or-map (λ line. instr_of (index_of s.body) (unlabelled line)) s.body k
-    [] (Ok Halt) lt) ∙ ap (λ os. get_or os k (Ok Halt)) s.code.said) ∙ no_fault-Ok job.code k)
+    let none = none_named _ job.cells s.inits s.entries s.said in
+    let body = ap body_of s.parts ∙ body_of-body _ _ _ _ _ s.header s.sizes s.inits s.body none in
+    let scope : scope_in lines ≡ scope_of (is_later s.version) s.entries = ap scope_in s.parts
+    ∙ scope_in-body _ _ _ _ _ s.header s.sizes s.inits s.body none
+    ∙ ap (scope_of (is_later s.version))
+    (entries_in-said (is_later s.version) job.cells s.inits s.entries s.said.said) in
+    subst (λ ls. k < length ls → label_fault_at (scope_in lines) ls k ≡ None) (sym body)
+    (subst (λ sc. k < length s.body → label_fault_at sc s.body k ≡ None) (sym scope) (λ lt.
+    ap result_err (sym (get_or-map (λ line. instr_of (scope_of (is_later s.version) s.entries)
+    (index_of s.body) (unlabelled line)) s.body k [] (Ok Halt) lt)
+    ∙ ap (λ os. get_or os k (Ok Halt)) s.code.said) ∙ no_fault-Ok job.code k))
 
 -- ---- a line by itself
 
@@ -81,7 +88,8 @@ spelled_bears_none text job line kind s (inr label) =
     let words = words-numbered_body (lines_of text) in
     let len : length (body_of (worded (lines_of text))) ≡ length (numbered_body (lines_of text)) =
     ap length (sym words) ∙ length-map (numbered_body (lines_of text)) (λ l. l.1) in
-    let none = subst (λ ls. label_fault_at ls label.1 ≡ None) (sym words)
+    let none = subst (λ ls. label_fault_at (scope_in (worded (lines_of text))) ls label.1 ≡ None)
+    (sym words)
     (labels_pass job (worded (lines_of text)) s.lines label.1 (omega (arith, label.3.within))) in
     let some = label.3.here in cc
 
@@ -118,5 +126,6 @@ bears_once text line line' kind kind' (inr a) (inl b) =
 bears_once text line line' kind kind' (inr a) (inr b) =
     let body : List (ℕ × Line) = numbered_body (lines_of text) in
     let one =
-    first_once (label_fault_at (map (λ l. l.1) body)) (length body) a.1 b.1 kind kind' a.3 b.3 in
+    first_once (label_fault_at (scope_in (worded (lines_of text))) (map (λ l. l.1) body))
+    (length body) a.1 b.1 kind kind' a.3 b.3 in
     (a.2 ∙ ap (slice_index (map (λ l. l.0) body)) one.0 ∙ sym b.2, one.1)

@@ -1,38 +1,33 @@
 -- A text spells at most one job.
-use Rattle.std.proofs.Common.{◌≡◌, ◌⊎◌, ℕ, ◌<◌, List, ◌∷◌, ◌++◌, nat_eq}
-use Rattle.std.proofs.Common.{sym, ap, subst, ◌∙◌, ⊎_elim, arith}
-use Rattle.std.specs.Map.{lookup}
-use Rattle.std.specs.Option.{unwrap_or}
+use Rattle.std.proofs.Common.{◌≡◌, ◌⊎◌, ℕ, ◌<◌, ◌≤◌, List, ◌∷◌, ◌++◌}
+use Rattle.std.proofs.Common.{sym, ap, ap₂, subst, ◌∙◌, ⊎_elim, arith}
 use Rattle.std.proofs.lemmas.List.{ext_get_or}
 use Rattle.pram_text.specs.declared.instr.Rule.{Rule}
 use Rattle.pram_text.specs.Job.{JobData}
 use Rattle.pram_text.specs.Lines.{Line, lines_of, worded}
-use Rattle.pram_text.specs.Judgement.{rule_of, init_of, is_code, instr_of, unlabelled}
-use Rattle.pram_text.specs.Text.{index_of, code_line, SpellsInit, SpellsCode}
+use Rattle.pram_text.specs.Judgement.{is_later, rule_of, Entry, entry_of, is_code, instr_of}
+use Rattle.pram_text.specs.Judgement.{unlabelled}
+use Rattle.pram_text.specs.Text.{index_of, code_line, scope_of, SpellsInit, SpellsCode}
 use Rattle.pram_text.specs.Text.{SpellsRule, SpellsLines, Spells}
 use Rattle.pram_text.proofs.Lists.{cut_once}
-use Rattle.pram_text.proofs.Said.{said_once}
-use Rattle.pram_text.proofs.Stages.{version_cases, none_named, code_line_is_code}
+use Rattle.pram_text.proofs.Said.{Said, said_once}
+use Rattle.pram_text.proofs.Stages.{version_cases, rule_line, none_named, code_line_is_code}
 
 -- start values, for so many cells
-one_init : (cells : ℕ) (inits : List Line) (a b : List ℕ) → SpellsInit cells inits a →
-    SpellsInit cells inits b → a ≡ b
-one_init cells inits a b s t =
-    let same = said_once (init_of cells) inits s.pairs t.pairs s.named.said t.named.said in
-    ext_get_or 0 a b (s.len ∙ sym t.len) (λ c lt.
-    let within : c < cells = omega (arith, s.len) in
-    s.values c within ∙ ap (λ pairs. unwrap_or (lookup (λ d. nat_eq d c) pairs) 0) same
-    ∙ sym (t.values c within))
+one_init : (cells : ℕ) (entries : List Entry) (a b : List ℕ) → SpellsInit cells entries a →
+    SpellsInit cells entries b → a ≡ b
+one_init cells entries a b s t = ext_get_or 0 a b (s.len ∙ sym t.len) (λ c lt.
+    let within : c < cells = omega (arith, s.len) in s.values c within ∙ sym (t.values c within))
 
 one_rule : (v : ℕ) (r r' : Rule) (ruled ruled' rest rest' : List Line) →
-    (v ≡ 1) ⊎ (v ≡ 2) → SpellsRule v r ruled → SpellsRule v r' ruled' →
+    (v ≡ 1) ⊎ (2 ≤ v) → SpellsRule v r ruled → SpellsRule v r' ruled' →
     ruled ++ rest ≡ ruled' ++ rest' → (r ≡ r') × (rest ≡ rest')
 one_rule v r r' ruled ruled' rest rest' which s t e = ⊎_elim
     (λ one. let a = subst (λ v. SpellsRule v r ruled) one s in
     let b = subst (λ v. SpellsRule v r' ruled') one t in
     (a.1 ∙ sym b.1, sym (ap (λ ls. ls ++ rest) a.0) ∙ e ∙ ap (λ ls. ls ++ rest') b.0))
-    (λ two. let a = subst (λ v. SpellsRule v r ruled) two s in
-    let b = subst (λ v. SpellsRule v r' ruled') two t in
+    (λ two. let a = rule_line v r ruled two s in
+    let b = rule_line v r' ruled' two t in
     let cut : a.0 ∷ rest ≡ b.0 ∷ rest' =
     sym (ap (λ ls. ls ++ rest) a.1) ∙ e ∙ ap (λ ls. ls ++ rest') b.1 in
     let line : a.0 ≡ b.0 = cc in
@@ -53,18 +48,30 @@ one_lines a b lines s t =
     let c : a.cells ≡ b.cells = cc (h.cells_said, k.cells_said) in
     let p : a.procs ≡ b.procs = cc (h.procs_said, k.procs_said) in
     let n : a.steps ≡ b.steps = cc (h.steps_said, k.steps_said) in
-    let later : h.rule_lines ++ front ≡ k.rule_lines ++ front' = cc in
+    let ruled : h.rule_lines ++ front ≡ k.rule_lines ++ front' = cc in
     let r = one_rule t.version a.rule b.rule h.rule_lines k.rule_lines front front'
     (version_cases k.version_line t.version k.version_said)
-    (subst (λ v. SpellsRule v a.rule h.rule_lines) v h.rule_said) k.rule_said later in
+    (subst (λ v. SpellsRule v a.rule h.rule_lines) v h.rule_said) k.rule_said ruled in
     let cut = cut_once is_code s.inits code_line s.body t.inits code_line t.body
-    (none_named a.cells s.inits s.init.pairs s.init.named) code_line_is_code
-    (none_named b.cells t.inits t.init.pairs t.init.named) code_line_is_code r.1 in
-    let init = one_init b.cells t.inits a.init b.init
-    (subst (λ cells. SpellsInit cells t.inits a.init) c
-    (subst (λ inits. SpellsInit a.cells inits a.init) cut.0 s.init)) t.init in
-    let code = said_once (λ (line : Line). instr_of (index_of t.body) (unlabelled line)) t.body
-    a.code b.code (subst (λ body. SpellsCode body a.code) cut.1 s.code).said t.code.said in λ i.
+    (none_named _ a.cells s.inits s.entries s.said) code_line_is_code
+    (none_named _ b.cells t.inits t.entries t.said) code_line_is_code r.1 in
+    let later : is_later s.version ≡ is_later t.version = ap is_later v in
+    let said : Said (entry_of (is_later t.version) b.cells) t.inits s.entries =
+    subst (λ inits. Said (entry_of (is_later t.version) b.cells) inits s.entries) cut.0
+    (subst (λ cells. Said (entry_of (is_later t.version) cells) s.inits s.entries) c
+    (subst (λ new. Said (entry_of new a.cells) s.inits s.entries) later s.said.said)) in
+    let entries : s.entries ≡ t.entries = said_once (entry_of (is_later t.version) b.cells)
+    t.inits s.entries t.entries said t.said.said in
+    let init = one_init b.cells t.entries a.init b.init
+    (subst (λ cells. SpellsInit cells t.entries a.init) c
+    (subst (λ entries. SpellsInit a.cells entries a.init) entries s.init)) t.init in
+    let scope : scope_of (is_later s.version) s.entries ≡ scope_of (is_later t.version) t.entries =
+    ap₂ scope_of later entries in
+    let spelled = subst (λ scope. SpellsCode scope t.body a.code) scope
+    (subst (λ body. SpellsCode (scope_of (is_later s.version) s.entries) body a.code)
+    cut.1 s.code) in
+    let code = said_once (λ (line : Line). instr_of (scope_of (is_later t.version) t.entries)
+    (index_of t.body) (unlabelled line)) t.body a.code b.code spelled.said t.code.said in λ i.
     record { rule = r.0 i; cells = c i; procs = p i; steps = n i; init = init i; code = code i }
 
 pub spells_once : (text : List ℕ) (a b : JobData) → Spells text a → Spells text b → a ≡ b

@@ -6,6 +6,7 @@ pub mod Stages
 pub mod Table
 pub mod Lawful
 pub mod Front
+pub mod Values
 pub mod Inits
 pub mod Labels
 pub mod Coded

@@ -1,8 +1,9 @@
 -- A list around one of its elements.
 use Rattle.std.proofs.Common.{◌≡◌, ◌⊎◌, inl, inr, ⊎_elim, ◌+◌, suc, Bool, true, false, ◌||◌}
-use Rattle.std.proofs.Common.{cond, List, [], ◌∷◌, ◌++◌, length, drop, All, AllPairs, get_or}
+use Rattle.std.proofs.Common.{cond, List, [], ◌∷◌, ◌++◌, length, take, drop, All, AllPairs, get_or}
 use Rattle.std.proofs.Common.{refl, sym, ap, ap₂, subst, ◌∙◌, append-nil, append_assoc, arith}
-use Rattle.std.specs.List.{AllByRecursion, list_any, after_first, position_or_len}
+use Rattle.std.specs.List.{AllByRecursion, list_any, before_first, after_first}
+use Rattle.std.specs.List.{position_or_len}
 use Rattle.std.proofs.lemmas.Bool.{or_left, or_right, or_parts, cases_Bool}
 use Rattle.std.proofs.lemmas.List.{length-append, get_or_append_left, get_or_at}
 
@@ -103,6 +104,21 @@ module _ {X : Type 0} where
         let at : position_or_len p (x ∷ xs) + 1 ≡ suc (position_or_len p xs + 1) =
         rw e (omega arith) in
         ap (λ n. drop n (x ∷ xs)) at
+
+    take_before : (xs : List X) (c : X) (ys : List X) → take (length xs) (xs ++ c ∷ ys) ≡ xs
+    take_before [] c ys = refl
+    take_before (x ∷ xs) c ys = ap (λ zs. x ∷ zs) (take_before xs c ys)
+
+    pub before_first_at : (xs : List X) (c : X) (ys : List X) → NonePasses xs → p c ≡ true →
+        before_first p (xs ++ c ∷ ys) ≡ xs
+    before_first_at xs c ys h e =
+        ap (λ n. take n (xs ++ c ∷ ys)) (first_at xs c ys h e) ∙ take_before xs c ys
+
+    pub before_first_skip : (x : X) (xs : List X) → p x ≡ false →
+        before_first p (x ∷ xs) ≡ x ∷ before_first p xs
+    before_first_skip x xs e =
+        let at : position_or_len p (x ∷ xs) ≡ suc (position_or_len p xs) = rw e (omega arith) in
+        ap (λ n. take n (x ∷ xs)) at
 
     -- one element more
     pub after_first-push : (xs : List X) (y : X) →

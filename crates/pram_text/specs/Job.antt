@@ -24,9 +24,9 @@ job_data rule cells procs steps init code = record {
   code = code;
 }
 
--- what a processor of a code of this length may do
-abbrev pub IsInstr : ℕ → Instr → Type 0
-IsInstr len instr = AreOperands len (row_of instr).1
+-- what a processor of so many cells and of a code of this length may do
+abbrev pub IsInstr : ℕ → ℕ → Instr → Type 0
+IsInstr cells len instr = AreOperands cells len (row_of instr).1
 
 -- the limits of a job
 pub record IsJob (job : JobData) : Type 0 where
@@ -36,4 +36,4 @@ pub record IsJob (job : JobData) : Type 0 where
   pub init_len : length job.init ≡ job.cells
   pub init_fits : All (λ value. value < 2 ^ 32) job.init
   pub code_len : (1 ≤ length job.code) × (length job.code ≤ MAX_CODE)
-  pub code_fits : All (IsInstr (length job.code)) job.code
+  pub code_fits : All (IsInstr job.cells (length job.code)) job.code

@@ -1,12 +1,12 @@
 -- A text spells a job; a line of a text bears a fault.
-use Rattle.std.specs.Prelude.{◌≡◌, ◌≢◌, ℕ, ◌+◌, ◌<◌, ◌≤◌, Bool}
-use Rattle.std.specs.Prelude.{false, not, ◌&&◌, ◌==◌, nat_le, if◌then◌else◌, List}
+use Rattle.std.specs.Prelude.{◌≡◌, ◌≢◌, ℕ, ◌+◌, ◌-◌, ◌<◌, ◌≤◌, Bool, true}
+use Rattle.std.specs.Prelude.{false, not, ◌&&◌, ◌||◌, ◌==◌, nat_le, if◌then◌else◌, List}
 use Rattle.std.specs.Prelude.{[], ◌∷◌, ◌++◌, length, take, map, codes}
 use Rattle.std.specs.Prelude.{All, AllPairs, Option, Some, None, unwrap_or, Result}
 use Rattle.std.specs.Prelude.{Ok, Err, IfSome, IsTrue, ◌⊎◌, zero, suc}
-use Rattle.std.specs.Prelude.{drop, option_map, slice_index, slice_index_or, position}
-use Rattle.std.specs.List.{list_all, list_any, after_first, filter_map}
-use Rattle.std.specs.Map.{lookup}
+use Rattle.std.specs.Prelude.{drop, is_some, slice_get, slice_index, slice_index_or, position}
+use Rattle.std.specs.List.{list_all, list_any, before_first, after_first, filter_map}
+use Rattle.std.specs.List.{range_with_len}
 use Rattle.std.specs.Option.{option_or}
 use Rattle.std.specs.Result.{result_ok, result_err, result_unwrap_or}
 use Rattle.std.specs.Str.{bytes_eq}
@@ -15,6 +15,7 @@ use Rattle.pram_text.specs.declared.fault.TextKind.TheVariants.{NotAscii, BadHea
 use Rattle.pram_text.specs.declared.fault.TextKind.TheVariants.{UnknownInstruction, DuplicateLabel}
 use Rattle.pram_text.specs.declared.fault.TextKind.TheVariants.{NoCode, TooLong}
 use Rattle.pram_text.specs.declared.fault.TextKind.TheVariants.{Memory}
+use Rattle.pram_text.specs.declared.instr.Array.{Array}
 use Rattle.pram_text.specs.declared.instr.Instr.{Instr}
 use Rattle.pram_text.specs.declared.instr.Rule.TheVariants.{Common}
 use Rattle.pram_text.specs.declared.instr.Rule.{Rule}
@@ -22,8 +23,9 @@ use Rattle.pram_text.specs.declared.limits.TheConstants.{MAX_CODE}
 use Rattle.pram_text.specs.Job.{JobData}
 use Rattle.pram_text.specs.Lines.{Word, Line, lines_of, words_of}
 use Rattle.pram_text.specs.Lines.{worded, numbered, is_allowed, is_filled}
-use Rattle.pram_text.specs.Judgement.{version_of, cells_of, procs_of, steps_of, rule_of, init_of}
-use Rattle.pram_text.specs.Judgement.{is_code, label_of, unlabelled, is_name, instr_of}
+use Rattle.pram_text.specs.Judgement.{version_of, is_later, cells_of, procs_of, steps_of, rule_of}
+use Rattle.pram_text.specs.Judgement.{Entry, names, gives, entry_of, is_code, label_of, unlabelled}
+use Rattle.pram_text.specs.Judgement.{is_name, Scope, instr_of}
 
 -- ---- labels
 
@@ -42,18 +44,52 @@ index_of body name = position (defines name) body
 
 -- ---- a text spells a job
 
--- Each line names a cell and its value, and no two name one cell.
-pub record NamesCells (cells : ℕ) (inits : List Line) (pairs : List (ℕ × ℕ)) : Type 0 where
-  pub said : map (init_of cells) inits ≡ map (λ pair. Ok pair) pairs
-  pub once : AllPairs (λ (pair other : ℕ × ℕ). pair.0 ≢ other.0) pairs
+-- the array of a name
+abbrev pub array_by : Entry → Word → Option Array
+array_by (names name array) word = if bytes_eq name word then Some array else None
+array_by (gives first values) word = None
 
--- A cell that is named holds the value beside it, and the other cells hold 0.
-pub record SpellsInit (cells : ℕ) (inits : List Line) (init : List ℕ) : Type 0 where
-  pub pairs : List (ℕ × ℕ)
-  pub named : NamesCells cells inits pairs
+abbrev pub array_in : List Entry → Word → Option Array
+array_in [] word = None
+array_in (entry ∷ entries) word = option_or (array_by entry word) (array_in entries word)
+
+-- the value of a cell, if it is given one
+abbrev pub value_by : Entry → ℕ → Option ℕ
+value_by (names name array) cell = None
+value_by (gives first values) cell =
+    if nat_le first cell then slice_get values (cell - first) else None
+
+abbrev pub value_in : List Entry → ℕ → Option ℕ
+value_in [] cell = None
+value_in (entry ∷ entries) cell = option_or (value_by entry cell) (value_in entries cell)
+
+abbrev pub gives_values : Entry → Bool
+gives_values (names name array) = false
+gives_values (gives first values) = true
+
+-- A name is that of one array, and a cell is given one value. Arrays come before values.
+unfoldable pub is_taken : List Entry → Entry → Bool
+is_taken before (names name array) =
+    list_any gives_values before || is_some (array_in before name)
+is_taken before (gives first values) =
+    list_any (λ cell. is_some (value_in before cell)) (range_with_len first (length values))
+
+-- Each line says its entry, and takes nothing that those before it have taken.
+pub record SaysEntries (later : Bool) (cells : ℕ) (lines : List Line) (entries : List Entry) :
+    Type 0 where
+  pub said : map (entry_of later cells) lines ≡ map (λ entry. Ok entry) entries
+  pub fresh : (before : List Entry) (entry : Entry) (after : List Entry) →
+      entries ≡ before ++ entry ∷ after → is_taken before entry ≡ false
+
+-- A cell holds the value that it is given, or else 0.
+pub record SpellsInit (cells : ℕ) (entries : List Entry) (init : List ℕ) : Type 0 where
   pub len : length init ≡ cells
   pub values : (cell : ℕ) → cell < cells →
-      slice_index init cell ≡ unwrap_or (lookup (λ other. other == cell) pairs) 0
+      slice_index init cell ≡ unwrap_or (value_in entries cell) 0
+
+-- what the words of instruction lines may be, where these lines stand before `code`
+abbrev pub scope_of : Bool → List Entry → Scope
+scope_of later entries = record { later = later; arrays = array_in entries }
 
 -- So many lines at most, whose labels are names, and no two define one label.
 pub record IsLabelled (body : List Line) : Type 0 where
@@ -63,13 +99,13 @@ pub record IsLabelled (body : List Line) : Type 0 where
       label_of other ≢ Some label) body
 
 -- Each line says its instruction, a label standing for its index.
-pub record SpellsCode (body : List Line) (code : List Instr) : Type 0 where
+pub record SpellsCode (scope : Scope) (body : List Line) (code : List Instr) : Type 0 where
   pub some : 1 ≤ length body
   pub labelled : IsLabelled body
-  pub said : map (λ line. instr_of (index_of body) (unlabelled line)) body
+  pub said : map (λ line. instr_of scope (index_of body) (unlabelled line)) body
       ≡ map (λ instr. Ok instr) code
 
--- Version 1 has the rule common, and no line for it; version 2 has one line, which names its rule.
+-- Version 1 has the rule common, and no line for it; the others have one line, which names the rule.
 abbrev pub SpellsRule : ℕ → Rule → List Line → Type 0
 SpellsRule (suc zero) rule lines = (lines ≡ []) × (rule ≡ Common)
 SpellsRule version rule lines = (line : Line) × (lines ≡ line ∷ []) × (rule_of line ≡ Ok rule)
@@ -92,16 +128,18 @@ pub record SpellsHeader (version cells procs steps : ℕ) (rule : Rule) (lines :
 abbrev pub code_line : Line
 code_line = codes "code" ∷ []
 
--- The lines with words: the header, start values, the line `code`, and the instructions.
+-- The lines with words: the header, arrays and start values, the line `code`, and the instructions.
 pub record SpellsLines (job : JobData) (lines : List Line) : Type 0 where
   pub version : ℕ
   pub header : List Line
   pub inits : List Line
   pub body : List Line
+  pub entries : List Entry
   pub parts : lines ≡ header ++ (inits ++ code_line ∷ body)
   pub sizes : SpellsHeader version job.cells job.procs job.steps job.rule header
-  pub init : SpellsInit job.cells inits job.init
-  pub code : SpellsCode body job.code
+  pub said : SaysEntries (is_later version) job.cells inits entries
+  pub init : SpellsInit job.cells entries job.init
+  pub code : SpellsCode (scope_of (is_later version) entries) body job.code
 
 pub record Spells (text : List ℕ) (job : JobData) : Type 0 where
   pub allowed : All (λ line. IsTrue (list_all is_allowed line)) (lines_of text)
@@ -109,23 +147,29 @@ pub record Spells (text : List ℕ) (job : JobData) : Type 0 where
 
 -- ---- the fault of a line by itself, where these lines with words stand before it
 
+-- the version that the first line names, and the cells that the second asks for
+abbrev pub version_in : Line → ℕ
+version_in line = result_unwrap_or (version_of line) 0
+
+abbrev pub cells_in : Line → ℕ
+cells_in line = result_unwrap_or (cells_of line) 0
+
 -- whether the first line asks for a line `rule`
 abbrev pub names_rule : Line → Bool
-names_rule version = result_unwrap_or (version_of version) 0 == 2
+names_rule version = nat_le 2 (version_in version)
 
--- the cells that lines before have named
-abbrev pub named_cells : ℕ → List Line → List ℕ
-named_cells cells lines =
-    filter_map (λ line. option_map (λ pair. pair.0) (result_ok (init_of cells line))) lines
+-- what lines before have said
+abbrev pub entries_in : Bool → ℕ → List Line → List Entry
+entries_in later cells lines = filter_map (λ line. result_ok (entry_of later cells line)) lines
 
--- After the header stand start values, of each cell at most once.
-abbrev pub new_cell_fault : List ℕ → Result (ℕ × ℕ) TextKind → Option TextKind
-new_cell_fault named (Ok pair) =
-    if list_any (λ cell. cell == pair.0) named then Some BadHeader else None
-new_cell_fault named (Err kind) = Some kind
+-- After the header stand arrays and start values, which take nothing that is taken.
+abbrev pub new_entry_fault : List Entry → Result Entry TextKind → Option TextKind
+new_entry_fault entries (Ok entry) = if is_taken entries entry then Some BadHeader else None
+new_entry_fault entries (Err kind) = Some kind
 
-unfoldable pub init_fault : ℕ → List Line → Line → Option TextKind
-init_fault cells before line = new_cell_fault (named_cells cells before) (init_of cells line)
+unfoldable pub entry_fault : Bool → ℕ → List Line → Line → Option TextKind
+entry_fault later cells before line =
+    new_entry_fault (entries_in later cells before) (entry_of later cells line)
 
 -- A label is a name that is not known yet.
 abbrev pub new_label_fault : (Word → Bool) → Option Word → Option TextKind
@@ -138,11 +182,11 @@ unfoldable pub label_fault : List Line → Line → Option TextKind
 label_fault body line = new_label_fault (λ label. list_any (defines label) body) (label_of line)
 
 -- The label first, then the instruction; a jump's label counts as known.
-unfoldable pub instr_fault : List Line → Line → Option TextKind
-instr_fault body line =
+unfoldable pub instr_fault : Scope → List Line → Line → Option TextKind
+instr_fault scope body line =
     if nat_le MAX_CODE (length body) then Some TooLong
     else option_or (label_fault body line)
-    (result_err (instr_of (λ label. Some 0) (unlabelled line)))
+    (result_err (instr_of scope (λ label. Some 0) (unlabelled line)))
 
 -- whether the line `code` stands among lines without a fault, after the first four
 abbrev pub has_code : List Line → Bool
@@ -152,11 +196,23 @@ has_code lines = list_any is_code (drop 4 lines)
 abbrev pub body_of : List Line → List Line
 body_of lines = after_first is_code (drop 4 lines)
 
+-- what the words of instruction lines may be, after these lines
+abbrev pub scope_after : Bool → ℕ → List Line → Scope
+scope_after later cells lines =
+    scope_of later (entries_in later cells (before_first is_code lines))
+
+-- the same, of lines from the first
+abbrev pub scope_in : List Line → Scope
+scope_in lines =
+    scope_after (is_later (version_in (slice_index_or lines 0 [])))
+    (cells_in (slice_index_or lines 1 [])) (drop 4 lines)
+
 -- a line after the header, where these lines stand between
-abbrev pub rest_fault : ℕ → List Line → Line → Option TextKind
-rest_fault cells before line =
-    if list_any is_code before then instr_fault (after_first is_code before) line
-    else (if is_code line then None else init_fault cells before line)
+abbrev pub rest_fault : Bool → ℕ → List Line → Line → Option TextKind
+rest_fault later cells before line =
+    if list_any is_code before
+    then instr_fault (scope_after later cells before) (after_first is_code before) line
+    else (if is_code line then None else entry_fault later cells before line)
 
 unfoldable pub words_fault : List Line → Line → Option TextKind
 words_fault [] line = result_err (version_of line)
@@ -165,7 +221,7 @@ words_fault (version ∷ cells ∷ []) line = result_err (procs_of line)
 words_fault (version ∷ cells ∷ procs ∷ []) line = result_err (steps_of line)
 words_fault (version ∷ cells ∷ procs ∷ steps ∷ before) line =
     if names_rule version && not (is_filled before) then result_err (rule_of line)
-    else rest_fault (result_unwrap_or (cells_of cells) 0) before line
+    else rest_fault (is_later (version_in version)) (cells_in cells) before line
 
 unfoldable pub line_fault : List Line → List ℕ → Option TextKind
 line_fault before line =
@@ -192,9 +248,9 @@ abbrev pub numbered_body : List (List ℕ) → List (ℕ × Line)
 numbered_body lines = after_first (λ entry. is_code entry.1) (drop 4 (numbered lines))
 
 -- the fault of one of these instruction lines, whose own are none: its jump's label is not defined
-abbrev pub label_fault_at : List Line → ℕ → Option TextKind
-label_fault_at body index =
-    result_err (instr_of (index_of body) (unlabelled (slice_index_or body index [])))
+abbrev pub label_fault_at : Scope → List Line → ℕ → Option TextKind
+label_fault_at scope body index =
+    result_err (instr_of scope (index_of body) (unlabelled (slice_index_or body index [])))
 
 -- The first of so many with a fault has this one.
 pub record IsFirst (fault : ℕ → Option TextKind) (len index : ℕ) (kind : TextKind) : Type 0 where
@@ -210,7 +266,8 @@ Bears text line kind =
     ((index : ℕ) × (line ≡ index + 1) × IsFirst (fault_at lines) (length lines) index kind)
     ⊎ (((other : ℕ) → other < length lines → fault_at lines other ≡ None)
     × (index : ℕ) × (line ≡ slice_index (map (λ entry. entry.0) body) index)
-    × IsFirst (label_fault_at (map (λ entry. entry.1) body)) (length body) index kind)
+    × IsFirst (label_fault_at (scope_in (worded lines)) (map (λ entry. entry.1) body))
+    (length body) index kind)
 
 -- A refusal names a fault of the text. Out of memory it says nothing of it, and names line
 -- 0.

@@ -13,13 +13,14 @@ pub enum TextKind {
     BadHeader,
     /// A word that must be a number is not all digits.
     BadNumber,
-    /// A number is outside its limits.
+    /// A number is outside its limits, or a start value has no cell.
     OutOfLimits,
     /// No lawful label and no name of an instruction stands where one must.
     UnknownInstruction,
     /// The number of operands is wrong.
     WrongOperands,
-    /// An operand that must be a register is none of `r0` to `r3`.
+    /// An operand that must be a register is none of `r0` to `r3`; or, in version 3, one that must be
+    /// a register or a number is neither, or one that must name an array names none.
     BadRegister,
     /// An earlier line defined the label.
     DuplicateLabel,

@@ -1,5 +1,6 @@
 //! The header of a text.
-ghost use Rattle.std.specs.Prelude.{◌≡◌, ◌==◌, if◌then◌else◌, List};
+ghost use Rattle.std.specs.Prelude.{◌≡◌, nat_le, if◌then◌else◌, List};
+ghost use Rattle.pram_text.specs.Judgement.{is_later};
 ghost use Rattle.pram_text.specs.Lines.{Line, words_of};
 ghost use Rattle.pram_text.specs.Inner.Reading.{HoldsHead, TakesHead, IsFront};
 
@@ -15,7 +16,7 @@ pub(crate) enum Next {
     Procs,
     Steps,
     Rules,
-    /// A start value, or the line `code`.
+    /// An array, a start value, or the line `code`.
     Start,
     /// An instruction.
     Code,
@@ -86,12 +87,19 @@ impl Head {
 
     // What follows the line `steps`.
     fn after_steps(self) -> Next
-        ensures { result ≡ (if self.version == 2 then Next.Rules else Next.Start) }
+        ensures { result ≡ (if nat_le 2 self.version then Next.Rules else Next.Start) }
     {
-        if self.version == 2 {
+        if self.version >= 2 {
             Next::Rules
         } else {
             Next::Start
         }
+    }
+
+    /// Whether the text has what version 3 brought.
+    pub(crate) fn is_later(&self) -> bool
+        ensures { result ≡ is_later self.now.version }
+    {
+        self.version >= 3
     }
 }

@@ -1,14 +1,19 @@
 //! Header lines.
-ghost use Rattle.std.specs.Prelude.{◌≡◌, ◌≤◌};
+ghost use Rattle.std.specs.Prelude.{◌≡◌, ◌<◌, ◌≤◌, IfOk};
 ghost use Rattle.pram_text.specs.Lines.{words_of};
 ghost use Rattle.pram_text.specs.Judgement.{named_number, version_of, cells_of, procs_of, steps_of};
-ghost use Rattle.pram_text.specs.Judgement.{rule_of, init_of, is_code};
+ghost use Rattle.pram_text.specs.Judgement.{rule_of, is_array_name, says_array, are_values};
+ghost use Rattle.pram_text.specs.Judgement.{is_code};
+ghost use Rattle.pram_text.specs.Inner.Reading.{ReadsArray, ReadsInit};
 
 use crate::fault::TextKind;
-use crate::instr::Rule;
+use crate::instr::{Array, Rule};
 use crate::limits::{MAX_CELLS, MAX_PROCS};
 use crate::numbers::{is_numeric, number_within};
-use crate::words::{is_word, one_word, three_words, two_words};
+use crate::statement::{is_name_word, register_in};
+use crate::words::{
+    four_words, has_words, is_word, next_word, one_word, two_first_words, two_words,
+};
 
 /// The version that the first line names.
 #[tactic(auto, unfolding(crate::specs::Judgement::version_of, crate::specs::Judgement::number_in))]
@@ -24,7 +29,7 @@ pub(crate) fn version_in(line: &[u8]) -> Result<u32, TextKind>
     if !is_numeric(number) {
         return Err(TextKind::BadNumber);
     }
-    number_within(1, 2, number).map_err(|_| TextKind::BadHeader)
+    number_within(1, 3, number).map_err(|_| TextKind::BadHeader)
 }
 
 // The number of a line `NAME number`.
@@ -80,19 +85,70 @@ pub(crate) fn rule_in(line: &[u8]) -> Result<Rule, TextKind>
     }
 }
 
-/// The cell and the value of a line `init`.
-#[tactic(auto, unfolding(crate::specs::Judgement::init_of))]
-pub(crate) fn init_in(cells: u32, line: &[u8]) -> Result<(u32, u32), TextKind>
-    requires { 1 ≤ cells }
-    ensures { result ≡ init_of cells (words_of line.now) }
+// Whether the word may name an array.
+#[tactic(auto, unfolding(crate::specs::Judgement::is_array_name))]
+fn is_array_name_word(word: &[u8]) -> bool
+    ensures { result ≡ is_array_name word.now }
 {
-    match three_words(line) {
-        Some((first, cell, value)) if is_word(first, "init") => {
-            let cell = number_within(0, cells - 1, cell)?;
-            let value = number_within(0, u32::MAX, value)?;
-            Ok((cell, value))
-        }
-        _ => Err(TextKind::BadHeader),
+    match word.split_first() {
+        Some((&first, rest)) => if first == b'.' {
+            is_name_word(rest)
+        } else {
+            is_name_word(word) && register_in(word).is_err()
+        },
+        None => false,
+    }
+}
+
+/// Whether the line begins with the word `array`.
+#[tactic(auto, unfolding(crate::specs::Judgement::says_array))]
+pub(crate) fn is_array_line(line: &[u8]) -> bool
+    ensures { result ≡ says_array (words_of line.now) }
+{
+    next_word(line).is_some_and(|(word, _)| is_word(word, "array"))
+}
+
+/// The name and the array of a line `array`.
+#[tactic(auto, unfolding(crate::specs::Judgement::array_of))]
+pub(crate) fn array_in(cells: u32, line: &[u8]) -> Result<(&[u8], Array), TextKind>
+    requires { 1 ≤ cells }
+    ensures { ReadsArray cells (words_of line.now) result }
+{
+    let Some((_, name, base, len)) = four_words(line) else {
+        return Err(TextKind::BadHeader);
+    };
+    if !is_array_name_word(name) {
+        return Err(TextKind::BadHeader);
+    }
+    let base = number_within(0, cells - 1, base)?;
+    let len = number_within(1, cells - base, len)?;
+    Ok((name, Array { base, len }))
+}
+
+/// The first cell of a line `init`, and the words of the values.
+#[tactic(auto, unfolding(crate::specs::Judgement::init_of))]
+pub(crate) fn init_in(later: bool, cells: u32, line: &[u8]) -> Result<(u32, &[u8]), TextKind>
+    requires { 1 ≤ cells }
+    ensures read { ReadsInit later cells (words_of line.now) result }
+    ensures within { IfOk result (λ read. read.0 < cells) }
+{
+    let Some((first, cell, values)) = two_first_words(line) else {
+        return Err(TextKind::BadHeader);
+    };
+    if !is_word(first, "init") || !are_values(later, values) {
+        return Err(TextKind::BadHeader);
+    }
+    Ok((number_within(0, cells - 1, cell)?, values))
+}
+
+// Whether the words may be start values: at least one, and before version 3 just one.
+fn are_values(later: bool, words: &[u8]) -> bool
+    ensures { result ≡ are_values later (words_of words.now) }
+{
+    if later {
+        has_words(words)
+    } else {
+        one_word(words).is_some()
     }
 }
 

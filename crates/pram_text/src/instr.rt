@@ -1,4 +1,4 @@
-//! The table of the fifteen instructions, and the rules of writing.
+//! The table of the seventeen instructions, and the rules of writing.
 ghost use Rattle.std.specs.Prelude.{◌≡◌};
 ghost use Rattle.pram_text.specs.Instructions.{row_of};
 
@@ -12,31 +12,58 @@ pub enum Instr {
     /// `pid r`: r becomes the processor's number.
     Pid(u8),
     /// `add r a b`: r becomes a + b.
-    Add(u8, u8, u8),
+    Add(u8, u8, Operand),
     /// `sub r a b`: r becomes a - b.
-    Sub(u8, u8, u8),
+    Sub(u8, u8, Operand),
     /// `mul r a b`: r becomes a * b.
-    Mul(u8, u8, u8),
+    Mul(u8, u8, Operand),
     /// `and r a b`: r becomes the bits that a and b have.
-    And(u8, u8, u8),
+    And(u8, u8, Operand),
     /// `or r a b`: r becomes the bits that a or b has.
-    Or(u8, u8, u8),
+    Or(u8, u8, Operand),
     /// `xor r a b`: r becomes the bits that one of a and b has.
-    Xor(u8, u8, u8),
+    Xor(u8, u8, Operand),
     /// `lt r a b`: r becomes 1 if a is below b, else 0.
-    Lt(u8, u8, u8),
+    Lt(u8, u8, Operand),
     /// `eq r a b`: r becomes 1 if a equals b, else 0.
-    Eq(u8, u8, u8),
-    /// `ld r a`: r becomes what the cell of number a holds.
-    Ld(u8, u8),
-    /// `st a b`: the cell of number a becomes b.
-    St(u8, u8),
+    Eq(u8, u8, Operand),
+    /// `shl r a b`: r becomes a times 2^b.
+    Shl(u8, u8, Operand),
+    /// `shr r a b`: r becomes a divided by 2^b, rounded down.
+    Shr(u8, u8, Operand),
+    /// `ld r a` or `ld r NAME a`: r becomes what the place holds.
+    Ld(u8, Place),
+    /// `st a b` or `st NAME a b`: the place becomes b.
+    St(Place, Operand),
     /// `jz r label`: goes to the label's index if r is 0.
     Jz(u8, u32),
     /// `jmp label`: goes to the label's index.
     Jmp(u32),
     /// `halt`: the processor stays where it is from now on.
     Halt,
+}
+
+/// What an instruction reads: a register, or the number itself.
+#[derive(Clone, Copy, Debug, PartialEq, Eq)]
+pub enum Operand {
+    Register(u8),
+    Number(u32),
+}
+
+/// The cells from `base` on, so many. A text gives them a name.
+#[derive(Clone, Copy, Debug, PartialEq, Eq)]
+pub struct Array {
+    pub base: u32,
+    pub len: u32,
+}
+
+/// Where an instruction reads or writes.
+#[derive(Clone, Copy, Debug, PartialEq, Eq)]
+pub enum Place {
+    /// `a`: the cell of number a.
+    Cell(Operand),
+    /// `NAME a`: place a of the array.
+    Named(Array, Operand),
 }
 
 /// What a text has after the name of an instruction, in the order in which it is written. A target
@@ -50,12 +77,12 @@ pub enum Operands {
     Target(u8),
     /// `r k`
     TargetNumber(u8, u32),
-    /// `r a`
-    TargetOne(u8, u8),
+    /// `r a` or `r NAME a`
+    TargetPlace(u8, Place),
     /// `r a b`
-    TargetTwo(u8, u8, u8),
-    /// `a b`
-    Two(u8, u8),
+    TargetTwo(u8, u8, Operand),
+    /// `a b` or `NAME a b`
+    PlaceValue(Place, Operand),
     /// `r label`
     RegisterIndex(u8, u32),
     /// `label`
@@ -79,8 +106,10 @@ impl Instr {
             Instr::Xor(r, a, b) => ("xor", Operands::TargetTwo(r, a, b)),
             Instr::Lt(r, a, b) => ("lt", Operands::TargetTwo(r, a, b)),
             Instr::Eq(r, a, b) => ("eq", Operands::TargetTwo(r, a, b)),
-            Instr::Ld(r, a) => ("ld", Operands::TargetOne(r, a)),
-            Instr::St(a, b) => ("st", Operands::Two(a, b)),
+            Instr::Shl(r, a, b) => ("shl", Operands::TargetTwo(r, a, b)),
+            Instr::Shr(r, a, b) => ("shr", Operands::TargetTwo(r, a, b)),
+            Instr::Ld(r, place) => ("ld", Operands::TargetPlace(r, place)),
+            Instr::St(place, b) => ("st", Operands::PlaceValue(place, b)),
             Instr::Jz(r, index) => ("jz", Operands::RegisterIndex(r, index)),
             Instr::Jmp(index) => ("jmp", Operands::Index(index)),
             Instr::Halt => ("halt", Operands::Bare),

@@ -17,6 +17,6 @@ mod statement;
 mod words;
 
 pub use fault::{TextFault, TextKind};
-pub use instr::{Instr, Operands, Rule};
+pub use instr::{Array, Instr, Operand, Operands, Place, Rule};
 pub use job::Job;
 pub use reader::read_job;

@@ -1,5 +1,5 @@
 //! Numbers in words.
-ghost use Rattle.std.specs.Prelude.{◌≡◌, ◌-◌, ◌^◌, min};
+ghost use Rattle.std.specs.Prelude.{◌≡◌, ◌-◌, ◌^◌, ◌≤◌, min, IfOk};
 ghost use Rattle.std.specs.Char.{is_ascii_digit};
 ghost use Rattle.std.specs.List.{AllPass, list_all};
 ghost use Rattle.std.specs.Str.Parse.{digits_value};
@@ -37,7 +37,8 @@ fn value_of(digits: &[u8]) -> u64
 /// The number of a word, within limits.
 #[tactic(auto, unfolding(crate::specs::Judgement::number_in))]
 pub(crate) fn number_within(low: u32, high: u32, word: &[u8]) -> Result<u32, TextKind>
-    ensures { result ≡ number_in low high word.now }
+    ensures value { result ≡ number_in low high word.now }
+    ensures within { IfOk result (λ number. (low ≤ number) × (number ≤ high)) }
 {
     if !is_numeric(word) {
         return Err(TextKind::BadNumber);

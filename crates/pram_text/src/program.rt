@@ -2,14 +2,15 @@
 ghost use Rattle.std.specs.Prelude.{◌≡◌, ◌++◌, ◌∷◌, [], List, OnOk, IfErr};
 ghost use Rattle.std.specs.Option.{option_copied};
 ghost use Rattle.pram_text.specs.Lines.{Line, words_of};
-ghost use Rattle.pram_text.specs.Inner.Reading.{HoldsCode, TakesCode, Defines, IsCoded};
+ghost use Rattle.pram_text.specs.Inner.Reading.{HoldsCode, HoldsNoCode, TakesCode, Defines};
+ghost use Rattle.pram_text.specs.Inner.Reading.{IsCoded};
 ghost use Rattle.pram_text.specs.Inner.Reading.{numbers_of, index_at};
-ghost use Rattle.pram_text.specs.Inner.Statement.{aimed, resolved};
+ghost use Rattle.pram_text.specs.Inner.Statement.{aimed, known, resolved};
 
 use crate::fault::{TextFault, TextKind};
 use crate::instr::Instr;
 use crate::limits::MAX_CODE;
-use crate::statement::{Statement, is_name_word, split_label, statement_in};
+use crate::statement::{Names, Statement, is_name_word, split_label, statement_in};
 use std::alloc::{AllocError, Global};
 use std::collections::BTreeMap;
 
@@ -30,7 +31,7 @@ pub(crate) struct Program<'t> {
 impl<'t> Program<'t> {
     /// A program with no line.
     pub(crate) fn new(alloc: Global) -> Self
-        ensures held { HoldsCode [] result }
+        ensures held { HoldsNoCode result }
         ensures numbers { numbers_of result ≡ [] }
     {
         Program {
@@ -40,9 +41,14 @@ impl<'t> Program<'t> {
     }
 
     /// Reads one line more.
-    pub(crate) fn take(&mut self, number: u64, line: &'t [u8]) -> Result<(), TextKind>
-        ensures told { (body : List Line) → HoldsCode body self.old
-            → TakesCode body (words_of line.now) result self.new }
+    pub(crate) fn take(
+        &mut self,
+        number: u64,
+        line: &'t [u8],
+        names: &Names<'_, 't>,
+    ) -> Result<(), TextKind>
+        ensures told { (body : List Line) → HoldsCode (known names.now) body self.old
+            → TakesCode (known names.now) body (words_of line.now) result self.new }
         ensures number { OnOk result (numbers_of self.new ≡ numbers_of self.old ++ number ∷ []) }
     {
         let index = self.written.len();
@@ -51,7 +57,7 @@ impl<'t> Program<'t> {
         }
         let (label, rest) = split_label(line);
         define(&mut self.indices, label, index as u32)?;
-        let statement = statement_in(rest)?;
+        let statement = statement_in(rest, names)?;
         self.written.push(Written {
             line: number,
             statement,

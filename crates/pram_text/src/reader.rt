@@ -12,7 +12,8 @@ use crate::head::{Head, Next};
 use crate::header::is_code_line;
 use crate::job::Job;
 use crate::program::Program;
-use crate::start::{start_values, take_start};
+use crate::start::{Setup, start_values};
+use crate::statement::Names;
 use crate::words::{has_words, is_lawful};
 use memchr::memchr;
 use std::alloc::Global;
@@ -70,7 +71,7 @@ fn refusal(line: u64, kind: TextKind) -> TextFault
 #[derive(Drop)]
 struct Reader<'t> {
     head: Head,
-    start: Vec<Option<u32>>,
+    setup: Setup<'t>,
     program: Program<'t>,
 }
 
@@ -82,7 +83,7 @@ impl<'t> Reader<'t> {
     {
         Reader {
             head: Head::new(),
-            start: Vec::new(alloc),
+            setup: Setup::new(alloc),
             program: Program::new(alloc),
         }
     }
@@ -109,12 +110,21 @@ impl<'t> Reader<'t> {
             → TakesWords before (words_of line.now) self.old number result self.new }
     {
         match self.head.next {
-            Next::Code => self.program.take(number, line),
+            Next::Code => {
+                let names = Names {
+                    later: self.head.is_later(),
+                    arrays: &self.setup.arrays,
+                };
+                self.program.take(number, line, &names)
+            }
             Next::Start if is_code_line(line) => {
                 self.head.next = Next::Code;
                 Ok(())
             }
-            Next::Start => take_start(&mut self.start, self.head.cells, line),
+            Next::Start => {
+                let later = self.head.is_later();
+                self.setup.take(later, self.head.cells, line)
+            }
             _ => {
                 self.head = self.head.with(line)?;
                 Ok(())
@@ -153,8 +163,8 @@ impl<'t> Reader<'t> {
         ensures memory { IfErr result (λ fault. fault.kind ≡ TextKind.Memory → fault.line ≡ 0) }
     {
         let code = self.program.code()?;
-        let alloc = *self.start.allocator();
-        let init = start_values(alloc, &self.start, self.head.cells)?;
+        let alloc = *self.setup.values.allocator();
+        let init = start_values(alloc, &self.setup.values, self.head.cells)?;
         Ok(Job::new(&self.head, init, code))
     }
 }

@@ -1,30 +1,104 @@
-//! The start values of a text.
-ghost use Rattle.std.specs.Prelude.{◌≡◌, ◌<◌, ◌≤◌, ◌==◌, ℕ, List, Some, if◌then◌else◌};
-ghost use Rattle.std.specs.Prelude.{IfOk, OnOk, map, unwrap_or, vec_len};
-ghost use Rattle.std.specs.List.{range_with_len};
+//! The arrays and the start values of a text.
+ghost use Rattle.std.specs.Prelude.{◌≡◌, ◌+◌, ◌≤◌, ◌&&◌, ℕ, List};
+ghost use Rattle.std.specs.Prelude.{IfOk, OnOk, false, true, is_some, length, map};
+ghost use Rattle.std.specs.Prelude.{unwrap_or, vec_len};
+ghost use Rattle.std.specs.Option.{option_or};
+ghost use Rattle.std.specs.List.{list_any, range_with_len};
 ghost use Rattle.pram_text.specs.Lines.{Line, words_of};
-ghost use Rattle.pram_text.specs.Inner.Reading.{HoldsStart, TakesStart, given};
+ghost use Rattle.pram_text.specs.Judgement.{gives, says_array};
+ghost use Rattle.pram_text.specs.Text.{value_by};
+ghost use Rattle.pram_text.specs.Inner.Reading.{HoldsNothing, HoldsStart, ReadsValues, TakesStart};
+ghost use Rattle.pram_text.specs.Inner.Reading.{given};
 
 use crate::fault::TextKind;
-use crate::header::init_in;
+use crate::header::{array_in, init_in, is_array_line};
+use crate::instr::Array;
+use crate::numbers::number_within;
+use crate::words::next_word;
 use std::alloc::{AllocError, Global};
+use std::collections::BTreeMap;
 
-/// Reads one start value more. The first one makes room for all.
-pub(crate) fn take_start(
-    start: &mut Vec<Option<u32>>,
-    cells: u32,
-    line: &[u8],
-) -> Result<(), TextKind>
-    requires { 1 ≤ cells }
-    ensures { (inits : List Line) → HoldsStart cells inits start.old.items
-        → TakesStart cells inits (words_of line.now) result start.new.items }
-{
-    let (cell, value) = init_in(cells, line)?;
-    make_room(start, cells as usize)?;
-    match give(start, cell as usize, value) {
-        None => Ok(()),
-        Some(_) => Err(TextKind::BadHeader),
+/// The start values and the arrays so far.
+#[derive(Drop)]
+pub(crate) struct Setup<'t> {
+    pub(crate) values: Vec<Option<u32>>,
+    pub(crate) arrays: BTreeMap<&'t [u8], Array>,
+}
+
+impl<'t> Setup<'t> {
+    /// No array and no value.
+    pub(crate) fn new(alloc: Global) -> Self
+        ensures { HoldsNothing result }
+    {
+        Setup {
+            values: Vec::new(alloc),
+            arrays: BTreeMap::new(alloc),
+        }
     }
+
+    /// Reads one line more. The first start value makes room for all.
+    pub(crate) fn take(&mut self, later: bool, cells: u32, line: &'t [u8]) -> Result<(), TextKind>
+        requires { 1 ≤ cells }
+        ensures { (inits : List Line) → HoldsStart later cells inits self.old
+            → TakesStart later cells inits (words_of line.now) result self.new }
+    {
+        if later && is_array_line(line) {
+            self.take_array(cells, line)
+        } else {
+            self.take_values(later, cells, line)
+        }
+    }
+
+    fn take_array(&mut self, cells: u32, line: &'t [u8]) -> Result<(), TextKind>
+        requires cells { 1 ≤ cells }
+        requires line { says_array (words_of line.now) ≡ true }
+        ensures { (inits : List Line) → HoldsStart true cells inits self.old
+            → TakesStart true cells inits (words_of line.now) result self.new }
+    {
+        let (name, array) = array_in(cells, line)?;
+        if !self.values.is_empty() {
+            return Err(TextKind::BadHeader);
+        }
+        match self.arrays.insert(name, array)? {
+            None => Ok(()),
+            Some(_) => Err(TextKind::BadHeader),
+        }
+    }
+
+    fn take_values(&mut self, later: bool, cells: u32, line: &[u8]) -> Result<(), TextKind>
+        requires cells { 1 ≤ cells }
+        requires line { (later && says_array (words_of line.now)) ≡ false }
+        ensures { (inits : List Line) → HoldsStart later cells inits self.old
+            → TakesStart later cells inits (words_of line.now) result self.new }
+    {
+        let (first, words) = init_in(later, cells, line)?;
+        let values = values_in(*self.values.allocator(), cells - first, words)?;
+        make_room(&mut self.values, cells as usize)?;
+        let first = first as usize;
+        if is_given(&self.values, first, values.len()) {
+            return Err(TextKind::BadHeader);
+        }
+        give(&mut self.values, first, &values);
+        Ok(())
+    }
+}
+
+// The numbers of these words, for which there are so many cells.
+fn values_in(alloc: Global, room: u32, words: &[u8]) -> Result<Vec<u32>, TextKind>
+    ensures read { ReadsValues room (words_of words.now) result }
+    ensures fit { IfOk result (λ values. vec_len values ≤ room) }
+{
+    let mut values = Vec::new(alloc);
+    let mut rest = words;
+    while let Some((word, after)) = next_word(rest) {
+        let value = number_within(0, u32::MAX, word)?;
+        if values.len() >= room as usize {
+            return Err(TextKind::OutOfLimits);
+        }
+        values.push(value)?;
+        rest = after;
+    }
+    Ok(values)
 }
 
 // Makes room for the values of so many cells.
@@ -38,14 +112,24 @@ fn make_room(start: &mut Vec<Option<u32>>, cells: usize) -> Result<(), AllocErro
     Ok(())
 }
 
-// Gives a cell its value, and answers what it had before.
-fn give(start: &mut Vec<Option<u32>>, cell: usize, value: u32) -> Option<u32>
-    requires { cell < vec_len start.old }
-    ensures before { result ≡ given start.old.items cell }
-    ensures given { (c : ℕ) → given start.new.items c
-        ≡ (if c == cell then Some value else given start.old.items c) }
+// Whether one of so many cells, from the first on, has a value.
+fn is_given(start: &[Option<u32>], first: usize, len: usize) -> bool
+    requires { first + len ≤ length start.now }
+    ensures { result ≡ list_any (λ c. is_some (given start.now c)) (range_with_len first len) }
 {
-    start[cell].replace(value)
+    (first..first + len).any(|cell| start[cell].is_some())
+}
+
+// Gives the cells from the first on their values.
+fn give(start: &mut [Option<u32>], first: usize, values: &[u32])
+    requires { first + length values.now ≤ length start.old }
+    ensures len { length start.new ≡ length start.old }
+    ensures given { (c : ℕ) → given start.new c
+        ≡ option_or (value_by (gives first values.now) c) (given start.old c) }
+{
+    for (k, value) in values.iter().enumerate() {
+        start[first + k] = Some(*value);
+    }
 }
 
 /// The value of each cell, 0 where none is given.

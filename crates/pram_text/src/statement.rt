@@ -5,21 +5,30 @@ ghost use Rattle.std.specs.List.{list_all};
 ghost use Rattle.std.specs.Option.{option_copied};
 ghost use Rattle.std.specs.Str.{bytes_eq};
 ghost use Rattle.pram_text.specs.Lines.{words_of};
-ghost use Rattle.pram_text.specs.Inner.Statement.{ReadsNone, ReadsOne, ReadsTwo, ReadsThree};
-ghost use Rattle.pram_text.specs.Inner.Statement.{ReadsNumber, ReadsJump, ReadsLabel};
-ghost use Rattle.pram_text.specs.Inner.Statement.{ReadsLine};
+ghost use Rattle.pram_text.specs.Inner.Statement.{ReadsNone, ReadsOne, ReadsTwo, ReadsLoad};
+ghost use Rattle.pram_text.specs.Inner.Statement.{ReadsStore, ReadsNumber, ReadsJump, ReadsLabel};
+ghost use Rattle.pram_text.specs.Inner.Statement.{ReadsLine, ReadsShift, known};
 ghost use Rattle.pram_text.specs.Judgement.{label_of, unlabelled, is_name, register_of};
+ghost use Rattle.pram_text.specs.Judgement.{operand_of, array_at};
 
 use crate::fault::TextKind;
-use crate::instr::Instr;
-use crate::numbers::number_within;
+use crate::instr::{Array, Instr, Operand, Place};
+use crate::numbers::{is_numeric, number_within};
 use crate::words::{has_words, is_word, next_word, one_word, three_words, two_words};
+use std::collections::BTreeMap;
 
 /// An instruction, with the label that a jump goes to, whose index is 0 until it is known.
 #[derive(Clone, Copy)]
 pub(crate) struct Statement<'a> {
     pub(crate) instr: Instr,
     pub(crate) target: Option<&'a [u8]>,
+}
+
+/// What the operands of a line may be: in a text of version 3 numbers, and these arrays.
+#[derive(Clone, Copy)]
+pub(crate) struct Names<'s, 't> {
+    pub(crate) later: bool,
+    pub(crate) arrays: &'s BTreeMap<&'t [u8], Array>,
 }
 
 /// The label of a line without its colon, and the line after it.
@@ -62,7 +71,7 @@ pub(crate) fn is_name_word(word: &[u8]) -> bool
 }
 
 #[tactic(auto, unfolding(crate::specs::Judgement::register_of))]
-fn register_in(word: &[u8]) -> Result<u8, TextKind>
+pub(crate) fn register_in(word: &[u8]) -> Result<u8, TextKind>
     ensures { result ≡ register_of word.now }
 {
     if is_word(word, "r0") {
@@ -97,22 +106,63 @@ fn one_register_in(operands: &[u8]) -> Result<u8, TextKind>
     register_in(r)
 }
 
-fn two_registers_in(operands: &[u8]) -> Result<(u8, u8), TextKind>
-    ensures { ReadsTwo (words_of operands.now) result }
+fn operand_in(word: &[u8], later: bool) -> Result<Operand, TextKind>
+    ensures { result ≡ operand_of later word.now }
 {
-    let Some((a, b)) = two_words(operands) else {
-        return Err(TextKind::WrongOperands);
-    };
-    Ok((register_in(a)?, register_in(b)?))
+    if later && is_numeric(word) {
+        number_within(0, u32::MAX, word).map(Operand::Number)
+    } else {
+        register_in(word).map(Operand::Register)
+    }
 }
 
-fn three_registers_in(operands: &[u8]) -> Result<(u8, u8, u8), TextKind>
-    ensures { ReadsThree (words_of operands.now) result }
+fn array_in(word: &[u8], names: &Names<'_, '_>) -> Result<Array, TextKind>
+    ensures { result ≡ array_at (known names.now) word.now }
+{
+    names.arrays.get(word).copied().ok_or(TextKind::BadRegister)
+}
+
+fn two_operands_in(operands: &[u8], later: bool) -> Result<(u8, u8, Operand), TextKind>
+    ensures { ReadsTwo later (words_of operands.now) result }
 {
     let Some((r, a, b)) = three_words(operands) else {
         return Err(TextKind::WrongOperands);
     };
-    Ok((register_in(r)?, register_in(a)?, register_in(b)?))
+    Ok((register_in(r)?, register_in(a)?, operand_in(b, later)?))
+}
+
+fn load_in(operands: &[u8], names: &Names<'_, '_>) -> Result<(u8, Place), TextKind>
+    ensures { ReadsLoad (known names.now) (words_of operands.now) result }
+{
+    let later = names.later;
+    if let Some((r, a)) = two_words(operands) {
+        return Ok((register_in(r)?, Place::Cell(operand_in(a, later)?)));
+    }
+    match three_words(operands) {
+        Some((r, name, a)) if later => {
+            let r = register_in(r)?;
+            let array = array_in(name, names)?;
+            Ok((r, Place::Named(array, operand_in(a, later)?)))
+        }
+        _ => Err(TextKind::WrongOperands),
+    }
+}
+
+fn store_in(operands: &[u8], names: &Names<'_, '_>) -> Result<(Place, Operand), TextKind>
+    ensures { ReadsStore (known names.now) (words_of operands.now) result }
+{
+    let later = names.later;
+    if let Some((a, b)) = two_words(operands) {
+        return Ok((Place::Cell(operand_in(a, later)?), operand_in(b, later)?));
+    }
+    match three_words(operands) {
+        Some((name, a, b)) if later => {
+            let array = array_in(name, names)?;
+            let a = operand_in(a, later)?;
+            Ok((Place::Named(array, a), operand_in(b, later)?))
+        }
+        _ => Err(TextKind::WrongOperands),
+    }
 }
 
 fn register_number_in(operands: &[u8]) -> Result<(u8, u32), TextKind>
@@ -161,33 +211,38 @@ fn jump<'a>(instr: Instr, label: &'a [u8]) -> Statement<'a>
 
 // The statement of an instruction of this name: the table, read from its names.
 #[tactic(auto, unfolding(crate::specs::Judgement::instr_of))]
-fn statement_of<'a>(name: &[u8], operands: &'a [u8]) -> Result<Statement<'a>, TextKind>
-    ensures { ReadsLine (name.now ∷ words_of operands.now) result }
+fn statement_of<'a>(
+    name: &[u8],
+    operands: &'a [u8],
+    names: &Names<'_, '_>,
+) -> Result<Statement<'a>, TextKind>
+    ensures { ReadsLine (known names.now) (name.now ∷ words_of operands.now) result }
 {
+    let later = names.later;
     if is_word(name, "set") {
         register_number_in(operands).map(|(r, k)| plain(Instr::Set(r, k)))
     } else if is_word(name, "pid") {
         one_register_in(operands).map(|r| plain(Instr::Pid(r)))
     } else if is_word(name, "add") {
-        three_registers_in(operands).map(|(r, a, b)| plain(Instr::Add(r, a, b)))
+        two_operands_in(operands, later).map(|(r, a, b)| plain(Instr::Add(r, a, b)))
     } else if is_word(name, "sub") {
-        three_registers_in(operands).map(|(r, a, b)| plain(Instr::Sub(r, a, b)))
+        two_operands_in(operands, later).map(|(r, a, b)| plain(Instr::Sub(r, a, b)))
     } else if is_word(name, "mul") {
-        three_registers_in(operands).map(|(r, a, b)| plain(Instr::Mul(r, a, b)))
+        two_operands_in(operands, later).map(|(r, a, b)| plain(Instr::Mul(r, a, b)))
     } else if is_word(name, "and") {
-        three_registers_in(operands).map(|(r, a, b)| plain(Instr::And(r, a, b)))
+        two_operands_in(operands, later).map(|(r, a, b)| plain(Instr::And(r, a, b)))
     } else if is_word(name, "or") {
-        three_registers_in(operands).map(|(r, a, b)| plain(Instr::Or(r, a, b)))
+        two_operands_in(operands, later).map(|(r, a, b)| plain(Instr::Or(r, a, b)))
     } else if is_word(name, "xor") {
-        three_registers_in(operands).map(|(r, a, b)| plain(Instr::Xor(r, a, b)))
+        two_operands_in(operands, later).map(|(r, a, b)| plain(Instr::Xor(r, a, b)))
     } else if is_word(name, "lt") {
-        three_registers_in(operands).map(|(r, a, b)| plain(Instr::Lt(r, a, b)))
+        two_operands_in(operands, later).map(|(r, a, b)| plain(Instr::Lt(r, a, b)))
     } else if is_word(name, "eq") {
-        three_registers_in(operands).map(|(r, a, b)| plain(Instr::Eq(r, a, b)))
+        two_operands_in(operands, later).map(|(r, a, b)| plain(Instr::Eq(r, a, b)))
     } else if is_word(name, "ld") {
-        two_registers_in(operands).map(|(r, a)| plain(Instr::Ld(r, a)))
+        load_in(operands, names).map(|(r, place)| plain(Instr::Ld(r, place)))
     } else if is_word(name, "st") {
-        two_registers_in(operands).map(|(a, b)| plain(Instr::St(a, b)))
+        store_in(operands, names).map(|(place, b)| plain(Instr::St(place, b)))
     } else if is_word(name, "jz") {
         register_label_in(operands).map(|(r, label)| jump(Instr::Jz(r, 0), label))
     } else if is_word(name, "jmp") {
@@ -195,17 +250,33 @@ fn statement_of<'a>(name: &[u8], operands: &'a [u8]) -> Result<Statement<'a>, Te
     } else if is_word(name, "halt") {
         no_operand_in(operands).map(|()| plain(Instr::Halt))
     } else {
+        shift_of(name, operands, later)
+    }
+}
+
+// The same, of the rows that version 3 brought.
+fn shift_of<'a>(name: &[u8], operands: &[u8], later: bool) -> Result<Statement<'a>, TextKind>
+    ensures { ReadsShift later name.now (words_of operands.now) result }
+{
+    if later && is_word(name, "shl") {
+        two_operands_in(operands, later).map(|(r, a, b)| plain(Instr::Shl(r, a, b)))
+    } else if later && is_word(name, "shr") {
+        two_operands_in(operands, later).map(|(r, a, b)| plain(Instr::Shr(r, a, b)))
+    } else {
         Err(TextKind::UnknownInstruction)
     }
 }
 
 /// The statement of a line after its label.
 #[tactic(auto, unfolding(crate::specs::Judgement::instr_of))]
-pub(crate) fn statement_in(line: &[u8]) -> Result<Statement<'_>, TextKind>
-    ensures { ReadsLine (words_of line.now) result }
+pub(crate) fn statement_in<'a>(
+    line: &'a [u8],
+    names: &Names<'_, '_>,
+) -> Result<Statement<'a>, TextKind>
+    ensures { ReadsLine (known names.now) (words_of line.now) result }
 {
     let Some((name, operands)) = next_word(line) else {
         return Err(TextKind::UnknownInstruction);
     };
-    statement_of(name, operands)
+    statement_of(name, operands, names)
 }

@@ -3,7 +3,8 @@ ghost use Rattle.std.specs.Prelude.{◌≡◌, ◌∷◌, [], not, None, MatchOp
 ghost use Rattle.std.specs.List.{position, list_all};
 ghost use Rattle.std.specs.Str.{bytes_eq};
 ghost use Rattle.pram_text.specs.Lines.{is_allowed, is_blank, is_filled, words_of};
-ghost use Rattle.pram_text.specs.Inner.Words.{ends_word, one_of, two_of, three_of};
+ghost use Rattle.pram_text.specs.Inner.Words.{ends_word, one_of, two_of, three_of, four_of};
+ghost use Rattle.pram_text.specs.Inner.Words.{two_first_of};
 
 // What stands between words.
 fn blank(byte: u8) -> bool
@@ -83,6 +84,26 @@ pub(crate) fn three_words(line: &[u8]) -> Option<(&[u8], &[u8], &[u8])>
     let (first, rest) = next_word(line)?;
     let (second, third) = two_words(rest)?;
     Some((first, second, third))
+}
+
+/// The words of a line of four.
+pub(crate) fn four_words(line: &[u8]) -> Option<(&[u8], &[u8], &[u8], &[u8])>
+    ensures { MatchOption result (four_of (words_of line.now) ≡ None)
+        (λ x. words_of line.now ≡ x.0.now ∷ x.1.now ∷ x.2.now ∷ x.3.now ∷ []) }
+{
+    let (first, rest) = next_word(line)?;
+    let (second, third, fourth) = three_words(rest)?;
+    Some((first, second, third, fourth))
+}
+
+/// The first two words of a line, and the rest of the line after them.
+pub(crate) fn two_first_words(line: &[u8]) -> Option<(&[u8], &[u8], &[u8])>
+    ensures { MatchOption result (two_first_of (words_of line.now) ≡ None)
+        (λ x. words_of line.now ≡ x.0.now ∷ x.1.now ∷ words_of x.2.now) }
+{
+    let (first, rest) = next_word(line)?;
+    let (second, rest) = next_word(rest)?;
+    Some((first, second, rest))
 }
 
 /// Whether the word is this one.

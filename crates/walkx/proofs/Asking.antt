@@ -10,15 +10,20 @@ use Rattle.std.proofs.lemmas.Option.{slice_get_within}
 use Rattle.pram_text.specs.declared.instr.Instr.{Instr}
 use Rattle.pram_text.specs.declared.instr.Operands.{Operands}
 use Rattle.pram_text.specs.declared.instr.Operands.TheVariants.{Bare, Target, TargetNumber}
-use Rattle.pram_text.specs.declared.instr.Operands.TheVariants.{TargetOne, TargetTwo, Two}
+use Rattle.pram_text.specs.declared.instr.Operand.{Operand}
+use Rattle.pram_text.specs.declared.instr.Operand.TheVariants.{Register, Number}
+use Rattle.pram_text.specs.declared.instr.Operands.TheVariants.{TargetPlace, TargetTwo, PlaceValue}
+use Rattle.pram_text.specs.declared.instr.Place.{Place}
+use Rattle.pram_text.specs.declared.instr.Place.TheVariants.{Cell, Named}
 use Rattle.pram_text.specs.declared.instr.Operands.TheVariants.{RegisterIndex, Index}
-use Rattle.pram_text.specs.Instructions.{AreOperands, row_of}
+use Rattle.pram_text.specs.Instructions.{IsOperand, IsPlace, AreOperands, row_of}
 use Rattle.pram_text.specs.declared.instr.Rule.{Rule}
 use Rattle.pram_text.specs.declared.instr.Rule.TheVariants.{Common, Priority, Crew}
 use Rattle.pram_text.specs.Job.{JobData, IsInstr}
 use Rattle.pram_step.specs.declared.requests.Request.{Request}
 use Rattle.pram_step.specs.Machine.{register_place, counter_place}
-use Rattle.pram_step.specs.Instructions.{read_by, sources_of, cell_read, goes_to}
+use Rattle.pram_step.specs.Instructions.{registers_in, index_of, read_by, sources_of, cell_read}
+use Rattle.pram_step.specs.Instructions.{goes_to}
 use Rattle.pram_step.specs.Instructions.{place_part, value_part, HasShape}
 use Rattle.pram_step.proofs.Shapes.{decided_shape, instr_is}
 use Rattle.pram_words.specs.declared.phases.Kind.{Kind}
@@ -64,20 +69,37 @@ AllAsk job y (ends r) = Unit {0}
 
 -- ---- the request of an instruction
 
-sources_among : (len : ℕ) (operands : Operands) → AreOperands len operands →
-    AllByRecursion (λ r. r < 4) (read_by operands)
-sources_among len Bare are = tt
-sources_among len (Target r) are = tt
-sources_among len (TargetNumber r k) are = tt
-sources_among len (TargetOne r a) are = (are.1, tt)
-sources_among len (TargetTwo r a b) are = (are.1, (are.2, tt))
-sources_among len (Two a b) are = (are.0, (are.1, tt))
-sources_among len (RegisterIndex r index) are = (are.0, tt)
-sources_among len (Index index) are = tt
+register_among : (operand : Operand) → IsOperand operand →
+    AllByRecursion (λ r. r < 4) (registers_in operand)
+register_among (Register r) is = (is, tt)
+register_among (Number n) is = tt
 
-pub sources_fit : (len : ℕ) (instr : Instr) → IsInstr len instr →
+index_among : (cells : ℕ) (place : Place) → IsPlace cells place →
+    AllByRecursion (λ r. r < 4) (registers_in (index_of place))
+index_among cells (Cell index) is = register_among index is
+index_among cells (Named array index) is = register_among index is.1
+
+both_among : (rs qs : List ℕ) → AllByRecursion (λ r. r < 4) rs → AllByRecursion (λ r. r < 4) qs →
+    AllByRecursion (λ r. r < 4) (rs ++ qs)
+both_among [] qs a b = b
+both_among (r ∷ rs) qs a b = (a.0, both_among rs qs a.1 b)
+
+sources_among : (cells len : ℕ) (operands : Operands) → AreOperands cells len operands →
+    AllByRecursion (λ r. r < 4) (read_by operands)
+sources_among cells len Bare are = tt
+sources_among cells len (Target r) are = tt
+sources_among cells len (TargetNumber r k) are = tt
+sources_among cells len (TargetPlace r place) are = index_among cells place are.1
+sources_among cells len (TargetTwo r a b) are = (are.1, register_among b are.2)
+sources_among cells len (PlaceValue place b) are =
+    both_among (registers_in (index_of place)) (registers_in b) (index_among cells place are.0)
+    (register_among b are.1)
+sources_among cells len (RegisterIndex r index) are = (are.0, tt)
+sources_among cells len (Index index) are = tt
+
+pub sources_fit : (cells len : ℕ) (instr : Instr) → IsInstr cells len instr →
     AllByRecursion (λ r. r < 4) (sources_of instr)
-sources_fit len instr is = sources_among len (row_of instr).1 is
+sources_fit cells len instr is = sources_among cells len (row_of instr).1 is
 
 -- the data place is below the counters, the value below 2^32, and the next counter at most one past
 -- the code's end
@@ -238,9 +260,9 @@ module _ (job : JobData) (y : LayoutData) (board : IsBoard job y) where
       let is = instr_is job counter instr limits e in
       let within = slice_get_within job.code counter instr e in
       registers_ask t i (sources_of instr) [] after _ proc
-      (sources_fit (length job.code) instr is) tt late
+      (sources_fit job.cells (length job.code) instr is) tt late
       (λ values fit. cell_asks t (cell_read job instr (slice_index values 0)) after _
-      (λ c f. cell_is job instr (slice_index values 0) c f) late
+      (λ c f. cell_is job instr (slice_index values 0) c is f) late
       (λ v fits. raises_ask t i _ after time proc (shape_of job i _ _ (omega arith)
       (decided_shape job i counter (slice_index values 0) (slice_index values 1) v instr is (omega (
         arith,

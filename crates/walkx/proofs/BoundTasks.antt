@@ -5,14 +5,17 @@ use Rattle.std.proofs.lemmas.Bool.{cond_both}
 use Rattle.pram_text.specs.declared.instr.Instr.{Instr}
 use Rattle.pram_text.specs.declared.instr.Operands.{Operands}
 use Rattle.pram_text.specs.declared.instr.Operands.TheVariants.{Bare, Target, TargetNumber}
-use Rattle.pram_text.specs.declared.instr.Operands.TheVariants.{TargetOne, TargetTwo, Two}
+use Rattle.std.proofs.lemmas.List.{length-append}
+use Rattle.pram_text.specs.declared.instr.Operand.{Operand}
+use Rattle.pram_text.specs.declared.instr.Operand.TheVariants.{Register, Number}
+use Rattle.pram_text.specs.declared.instr.Operands.TheVariants.{TargetPlace, TargetTwo, PlaceValue}
 use Rattle.pram_text.specs.declared.instr.Operands.TheVariants.{RegisterIndex, Index}
 use Rattle.pram_text.specs.Instructions.{row_of}
 use Rattle.pram_text.specs.declared.instr.Rule.{Rule}
 use Rattle.pram_text.specs.declared.instr.Rule.TheVariants.{Common, Priority, Crew}
 use Rattle.pram_text.specs.Job.{JobData}
 use Rattle.pram_step.specs.declared.requests.Request.{Request}
-use Rattle.pram_step.specs.Instructions.{read_by, sources_of, goes_to}
+use Rattle.pram_step.specs.Instructions.{registers_in, index_of, read_by, sources_of, goes_to}
 use Rattle.pram_words.specs.declared.phases.Kind.{Kind}
 use Rattle.pram_words.specs.declared.phases.Kind.TheVariants.{Compute, Apply, Verify}
 use Rattle.pram_words.specs.declared.words.Word.TheVariants.{Claim}
@@ -61,13 +64,22 @@ writes_place_within G is k y t p value after late =
 
 -- ---- the compute task
 
+one_among : (operand : Operand) → length (registers_in operand) ≤ 1
+one_among (Register r) = omega arith
+one_among (Number n) = omega arith
+
 few_among : (operands : Operands) → length (read_by operands) ≤ 2
 few_among Bare = omega arith
 few_among (Target r) = omega arith
 few_among (TargetNumber r k) = omega arith
-few_among (TargetOne r a) = omega arith
-few_among (TargetTwo r a b) = omega arith
-few_among (Two a b) = omega arith
+few_among (TargetPlace r place) = omega (arith, one_among (index_of place))
+few_among (TargetTwo r a b) = omega (arith, one_among b)
+few_among (PlaceValue place b) = omega (
+  arith,
+  length-append (registers_in (index_of place)) (registers_in b),
+  one_among (index_of place),
+  one_among b,
+)
 few_among (RegisterIndex r index) = omega arith
 few_among (Index index) = omega arith
 

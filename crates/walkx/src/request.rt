@@ -46,14 +46,15 @@ pub(crate) fn read_register<S: Steps>(steps: &mut S, leaf: &Leaf, r: u8) -> Resu
     read_place(steps, leaf, leaf.register_place(r))
 }
 
-/// What the operands of an instruction held before the step, and 0 for each that it has not.
+/// What the registers that an instruction reads held before the step, and 0 for each that it has
+/// not.
 #[inline(always)]
 pub(crate) fn read_operands<S: Steps>(
     steps: &mut S,
     leaf: &Leaf,
     instr: Instr,
 ) -> Result<(u32, u32), Left>
-    requires instr { IsInstr (length leaf.now.job.code) instr }
+    requires instr { IsInstr leaf.now.job.cells (length leaf.now.job.code) instr }
     requires next { IsNext (S.stands leaf.now) steps.old (reads_operands leaf.now instr) }
     ensures plays { Plays (S.stands leaf.now) steps.old (reads_operands leaf.now instr) steps.new
         result }
@@ -80,6 +81,7 @@ pub(crate) fn read_cell<S: Steps>(
     instr: Instr,
     a: u32,
 ) -> Result<u32, Left>
+    requires instr { IsInstr leaf.now.job.cells (length leaf.now.job.code) instr }
     requires next { IsNext (S.stands leaf.now) steps.old (reads_cell_of leaf.now instr a) }
     ensures plays { Plays (S.stands leaf.now) steps.old (reads_cell_of leaf.now instr a) steps.new
         result }
@@ -132,7 +134,7 @@ pub(crate) fn execute<S: Steps>(
     instr: Instr,
 ) -> Result<(), Left>
     requires counter { counter < length leaf.now.job.code }
-    requires instr { IsInstr (length leaf.now.job.code) instr }
+    requires instr { IsInstr leaf.now.job.cells (length leaf.now.job.code) instr }
     requires due { IsDue (S.stands leaf.now) steps.old (executes_at leaf.now counter (Some instr)) }
     ensures ends { Ends (S.stands leaf.now) steps.old (executes_at leaf.now counter (Some instr))
         steps.new result }
@@ -164,7 +166,7 @@ pub(crate) fn compute<S: Steps>(steps: &mut S, leaf: &Leaf) -> Result<(), Left>
 fn fetch(leaf: &Leaf, counter: u32) -> Option<Instr>
     ensures value { result ≡ slice_get leaf.now.job.code counter }
     ensures fits { IfSome result (λ instr. (counter < length leaf.now.job.code)
-        × IsInstr (length leaf.now.job.code) instr) }
+        × IsInstr leaf.now.job.cells (length leaf.now.job.code) instr) }
 {
     match leaf.job().code().get(counter as usize) {
         None => None,
@@ -174,8 +176,8 @@ fn fetch(leaf: &Leaf, counter: u32) -> Option<Instr>
 
 // The cell that an instruction reads, if it reads one.
 #[inline(always)]
-#[tactic(auto, using(crate::proofs::Cells::cell_is))]
 fn cell_of(leaf: &Leaf, instr: Instr, a: u32) -> Option<u32>
+    requires { IsInstr leaf.now.job.cells (length leaf.now.job.code) instr }
     ensures value { result ≡ cell_read leaf.now.job instr a }
     ensures below { IfSome result (λ cell. cell < places_of leaf.now.layout) }
 {
@@ -187,7 +189,7 @@ fn cell_of(leaf: &Leaf, instr: Instr, a: u32) -> Option<u32>
 #[tactic(auto, using(crate::proofs::Boards::place_shape))]
 fn request(leaf: &Leaf, counter: u32, instr: Instr, found: Found) -> Request
     requires counter { counter < length leaf.now.job.code }
-    requires instr { IsInstr (length leaf.now.job.code) instr }
+    requires instr { IsInstr leaf.now.job.cells (length leaf.now.job.code) instr }
     ensures value { result ≡ decided leaf.now.job (processor_of leaf.now) counter instr found.a
         found.b found.value }
     ensures fits { place_part result < 2 ^ 32 }

@@ -1,13 +1,13 @@
 -- What a reader holds of the lines with words that it has read.
 use Rattle.std.specs.BTreeMap.{BTreeMap, get_by}
 use Rattle.std.specs.Cmp.Lexicographic.{slice_cmp}
-use Rattle.std.specs.Prelude.{◌≡◌, ◌≢◌, ℕ, ◌==◌, Bool, true, false, ◌&&◌, if◌then◌else◌}
+use Rattle.std.specs.Prelude.{◌≡◌, ◌≢◌, ℕ, ◌-◌, ◌≤◌, Bool, true, false, ◌&&◌, if◌then◌else◌}
 use Rattle.std.specs.Prelude.{List, [], ◌∷◌, ◌++◌, length, map, Option, Some, None}
 use Rattle.std.specs.Prelude.{Result, Ok, Err, ◌⊎◌, slice_index, slice_index_or, is_some, Vec}
 use Rattle.std.specs.Global.{Global}
 use Rattle.std.specs.Borrow.{Bor}
 use Rattle.std.specs.Ordering.{nat_cmp}
-use Rattle.std.specs.Map.{lookup}
+use Rattle.std.specs.List.{list_any}
 use Rattle.std.specs.Result.{result_err}
 use Rattle.pram_text.specs.declared.fault.TextFault.{TextFault}
 use Rattle.pram_text.specs.declared.fault.TextKind.{TextKind}
@@ -16,7 +16,9 @@ use Rattle.pram_text.specs.declared.head.Head.{Head}
 use Rattle.pram_text.specs.declared.head.Next.{Next}
 use Rattle.pram_text.specs.declared.head.Next.TheVariants.{Version, Cells, Procs, Steps}
 use Rattle.pram_text.specs.declared.head.Next.TheVariants.{Rules, Start, Code}
+use Rattle.pram_text.specs.declared.start.Setup.{Setup}
 use Rattle.pram_text.specs.declared.instr.Rule.TheVariants.{Common}
+use Rattle.pram_text.specs.declared.instr.Array.{Array}
 use Rattle.pram_text.specs.declared.instr.Instr.{Instr}
 use Rattle.pram_text.specs.declared.instr.Instr.TheVariants.{Halt}
 use Rattle.pram_text.specs.declared.program.Program.{Program}
@@ -25,11 +27,13 @@ use Rattle.pram_text.specs.declared.reader.Reader.{Reader}
 use Rattle.pram_text.specs.Job.{JobData, job_data}
 use Rattle.pram_text.specs.Lines.{Word, Line, words_of, worded, is_filled}
 use Rattle.pram_text.specs.Judgement.{version_of, cells_of, procs_of}
-use Rattle.pram_text.specs.Judgement.{steps_of, unlabelled, instr_of}
-use Rattle.pram_text.specs.Inner.Statement.{resolved}
-use Rattle.pram_text.specs.Text.{index_of, is_named, new_label_fault, NamesCells, IsLabelled}
+use Rattle.pram_text.specs.Judgement.{◌>>=◌, steps_of, is_later, Entry, names, gives, array_of}
+use Rattle.pram_text.specs.Judgement.{values_of, init_of, unlabelled, Scope, instr_of}
+use Rattle.pram_text.specs.Inner.Statement.{resolved, array_named}
+use Rattle.pram_text.specs.Text.{index_of, is_named, new_label_fault, SaysEntries, IsLabelled}
+use Rattle.pram_text.specs.Text.{array_in, value_in, gives_values, scope_of, scope_in}
 use Rattle.pram_text.specs.Text.{SpellsHeader, code_line, SpellsLines, words_fault, line_fault}
-use Rattle.pram_text.specs.Text.{init_fault, instr_fault, end_fault, has_code, body_of}
+use Rattle.pram_text.specs.Text.{entry_fault, instr_fault, end_fault, has_code, body_of}
 use Rattle.pram_text.specs.Text.{label_fault_at, IsFirst}
 
 -- ---- the header
@@ -62,7 +66,7 @@ HoldsHead Rules lines head =
     (version : Line) × (cells : Line) × (procs : Line) × (steps : Line)
     × (lines ≡ version ∷ cells ∷ procs ∷ steps ∷ [])
     × (version_of version ≡ Ok head.version) × (cells_of cells ≡ Ok head.cells)
-    × (procs_of procs ≡ Ok head.procs) × (steps_of steps ≡ Ok head.steps) × (head.version ≡ 2)
+    × (procs_of procs ≡ Ok head.procs) × (steps_of steps ≡ Ok head.steps) × (2 ≤ head.version)
 HoldsHead _ lines head = IsHeader lines head
 
 -- one line more
@@ -71,22 +75,43 @@ TakesHead before line (Ok head) = (words_fault before line ≡ None)
     × HoldsHead head.next (before ++ line ∷ []) head × (head.next ≢ Code)
 TakesHead before line (Err kind) = words_fault before line ≡ Some kind
 
--- ---- start values
+-- ---- arrays and start values
 
 -- the value given to a cell so far
 abbrev pub given : List (Option ℕ) → ℕ → Option ℕ
 given start cell = slice_index_or start cell None
 
-pub record HoldsStart (cells : ℕ) (inits : List Line) (start : List (Option ℕ)) : Type 0 where
-  pub pairs : List (ℕ × ℕ)
-  pub named : NamesCells cells inits pairs
-  pub found : (cell : ℕ) → given start cell ≡ lookup (λ other. other == cell) pairs
+-- nothing is said so far
+abbrev pub HoldsNothing : Setup → Type 0
+HoldsNothing start = (start.values.items ≡ []) × ((name : Word) →
+    array_named start.arrays name ≡ None)
 
-abbrev pub TakesStart : ℕ → List Line → Line → Result (Unit {0}) TextKind → List (Option ℕ) → Type 0
-TakesStart cells inits line (Ok _) start = (init_fault cells inits line ≡ None)
-    × HoldsStart cells (inits ++ line ∷ []) start
-TakesStart cells inits line (Err kind) start = kind ≢ Memory →
-    init_fault cells inits line ≡ Some kind
+pub record HoldsStart (later : Bool) (cells : ℕ) (inits : List Line) (start : Setup) : Type 0 where
+  pub entries : List Entry
+  pub said : SaysEntries later cells inits entries
+  pub arrays : (name : Word) → array_named start.arrays name ≡ array_in entries name
+  pub values : (cell : ℕ) → given start.values.items cell ≡ value_in entries cell
+  pub filled : is_filled start.values.items ≡ list_any gives_values entries
+
+abbrev pub TakesStart : Bool → ℕ → List Line → Line → Result (Unit {0}) TextKind → Setup → Type 0
+TakesStart later cells inits line (Ok _) start = (entry_fault later cells inits line ≡ None)
+    × HoldsStart later cells (inits ++ line ∷ []) start
+TakesStart later cells inits line (Err kind) start = kind ≢ Memory →
+    entry_fault later cells inits line ≡ Some kind
+
+-- What was read of a line is what the definitions say of it.
+abbrev pub ReadsArray : ℕ → Line → Result (Bor (List ℕ) × Array) TextKind → Type 0
+ReadsArray cells line result = array_of cells line ≡ (result >>= λ read. Ok (names read.0.now read.1))
+
+abbrev pub ReadsInit : Bool → ℕ → Line → Result (ℕ × Bor (List ℕ)) TextKind → Type 0
+ReadsInit later cells line result =
+    init_of later cells line ≡ (result >>= λ read. values_of (cells - read.0) (words_of read.1.now)
+    >>= λ values. Ok (gives read.0 values))
+
+-- numbers read, unless memory ran out
+abbrev pub ReadsValues : ℕ → Line → Result (Vec ℕ Global) TextKind → Type 0
+ReadsValues room words (Ok values) = values_of room words ≡ Ok values.items
+ReadsValues room words (Err kind) = kind ≢ Memory → values_of room words ≡ Err kind
 
 -- ---- instructions
 
@@ -111,21 +136,22 @@ Defines old label index (Err kind) new = kind ≢ Memory → define_fault old la
 abbrev pub HoldsIndices : List Line → BTreeMap (Bor (List ℕ)) ℕ → Type 0
 HoldsIndices body indices = (name : Word) → index_at indices name ≡ index_of body name
 
-pub record HoldsCode (body : List Line) (program : Program) : Type 0 where
+pub record HoldsCode (scope : Scope) (body : List Line) (program : Program) : Type 0 where
   pub labelled : IsLabelled body
   pub indices : HoldsIndices body program.indices
   pub said : (find : Word → Option ℕ) →
-      map (λ line. instr_of find (unlabelled line)) body
+      map (λ line. instr_of scope find (unlabelled line)) body
       ≡ map (λ entry. resolved find entry.statement) program.written.items
 
 -- the numbers of the lines with instructions
 abbrev pub numbers_of : Program → List ℕ
 numbers_of program = map (λ entry. entry.line) program.written.items
 
-abbrev pub TakesCode : List Line → Line → Result (Unit {0}) TextKind → Program → Type 0
-TakesCode body line (Ok _) program = (instr_fault body line ≡ None)
-    × HoldsCode (body ++ line ∷ []) program
-TakesCode body line (Err kind) program = kind ≢ Memory → instr_fault body line ≡ Some kind
+abbrev pub TakesCode : Scope → List Line → Line → Result (Unit {0}) TextKind → Program → Type 0
+TakesCode scope body line (Ok _) program = (instr_fault scope body line ≡ None)
+    × HoldsCode scope (body ++ line ∷ []) program
+TakesCode scope body line (Err kind) program = kind ≢ Memory →
+    instr_fault scope body line ≡ Some kind
 
 -- the fault of the outcome of this index
 abbrev pub fault_of_index : List (Result Instr TextKind) → ℕ → Option TextKind
@@ -144,19 +170,31 @@ IsCoded find written (Err fault) =
 
 -- ---- the whole
 
+-- no instruction so far
+abbrev pub HoldsNoCode : Program → Type 0
+HoldsNoCode program = (scope : Scope) → HoldsCode scope [] program
+
+-- arrays and start values so far, in a text with this header
+abbrev pub Starts : List Line → Reader → Type 0
+Starts inits reader =
+    HoldsStart (is_later reader.head.version) reader.head.cells inits reader.setup
+
+-- what the words of instruction lines may be, by these entries
+abbrev pub scope_by : Reader → List Entry → Scope
+scope_by reader entries = scope_of (is_later reader.head.version) entries
+
 -- the lines so far, by what comes next
 abbrev pub HoldsAt : Next → List Line → Reader → Type 0
 HoldsAt Start before reader =
     (front : List Line) × (inits : List Line) × (before ≡ front ++ inits)
-    × IsHeader front reader.head × HoldsStart reader.head.cells inits reader.start.items
-    × HoldsCode [] reader.program
+    × IsHeader front reader.head × Starts inits reader × HoldsNoCode reader.program
 HoldsAt Code before reader =
     (front : List Line) × (inits : List Line) × (body : List Line)
     × (before ≡ front ++ (inits ++ code_line ∷ body))
-    × IsHeader front reader.head × HoldsStart reader.head.cells inits reader.start.items
-    × HoldsCode body reader.program
-HoldsAt next before reader = HoldsHead next before reader.head × (reader.start.items ≡ [])
-    × HoldsCode [] reader.program
+    × IsHeader front reader.head × (starts : Starts inits reader)
+    × HoldsCode (scope_by reader starts.entries) body reader.program
+HoldsAt next before reader = HoldsHead next before reader.head × HoldsNothing reader.setup
+    × HoldsNoCode reader.program
 
 abbrev pub Holds : List Line → Reader → Type 0
 Holds before reader = HoldsAt reader.head.next before reader
@@ -190,7 +228,8 @@ TakesLine before line old number (Err kind) reader = kind ≢ Memory →
 abbrev pub IsUnknown : List Line → List ℕ → TextFault → Type 0
 IsUnknown before numbers fault =
     (index : ℕ) × (fault.line ≡ slice_index numbers index)
-    × IsFirst (label_fault_at (body_of before)) (length (body_of before)) index fault.kind
+    × IsFirst (label_fault_at (scope_in before) (body_of before)) (length (body_of before)) index
+    fault.kind
 
 -- what lines that were all read make: where they lack something, a fault of their last one
 abbrev pub Finishes : List Line → List ℕ → ℕ → Result JobData TextFault → Type 0

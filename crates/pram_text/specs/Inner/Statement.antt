@@ -1,14 +1,23 @@
 -- An instruction line whose jump still names its label.
-use Rattle.std.specs.Prelude.{◌≡◌, ℕ, List, Option, Some, None, Result, Ok}
+use Rattle.std.specs.Prelude.{◌≡◌, ℕ, Bool, if◌then◌else◌, List, [], Option, Some, None, Result, Ok}
 use Rattle.std.specs.Borrow.{Bor}
+use Rattle.std.specs.BTreeMap.{BTreeMap, get_by}
+use Rattle.std.specs.Cmp.Lexicographic.{slice_cmp}
+use Rattle.std.specs.Ordering.{nat_cmp}
 use Rattle.pram_text.specs.declared.fault.TextKind.{TextKind}
+use Rattle.pram_text.specs.declared.instr.Array.{Array}
 use Rattle.pram_text.specs.declared.instr.Instr.{Instr}
 use Rattle.pram_text.specs.declared.instr.Instr.TheVariants.{Jz, Jmp}
+use Rattle.pram_text.specs.declared.instr.Operand.{Operand}
+use Rattle.pram_text.specs.declared.instr.Place.{Place}
+use Rattle.pram_text.specs.declared.statement.Names.{Names}
 use Rattle.pram_text.specs.declared.statement.Statement.{Statement}
+use Rattle.pram_text.specs.Instructions.{shifts}
 use Rattle.pram_text.specs.Lines.{Word, Line}
-use Rattle.pram_text.specs.Judgement.{no_operand, one_register, two_registers, three_registers}
-use Rattle.pram_text.specs.Judgement.{register_number, register_label, one_label, index_in}
-use Rattle.pram_text.specs.Judgement.{instr_of, ◌>>=◌}
+use Rattle.pram_text.specs.Judgement.{Scope, no_operand, one_register, two_operands}
+use Rattle.pram_text.specs.Judgement.{register_place, place_operand, register_number}
+use Rattle.pram_text.specs.Judgement.{register_label, one_label, index_in, instr_by, instr_of}
+use Rattle.pram_text.specs.Judgement.{◌>>=◌}
 
 -- ---- operands
 
@@ -21,13 +30,17 @@ abbrev pub ReadsOne : Line → Result ℕ TextKind → Type 0
 ReadsOne operands result = (make : ℕ → Instr) →
     one_register make operands ≡ (result >>= λ register. Ok (make register))
 
-abbrev pub ReadsTwo : Line → Result (ℕ × ℕ) TextKind → Type 0
-ReadsTwo operands result = (make : ℕ → ℕ → Instr) →
-    two_registers make operands ≡ (result >>= λ read. Ok (make read.0 read.1))
+abbrev pub ReadsTwo : Bool → Line → Result (ℕ × ℕ × Operand) TextKind → Type 0
+ReadsTwo later operands result = (make : ℕ → ℕ → Operand → Instr) →
+    two_operands later make operands ≡ (result >>= λ read. Ok (make read.0 read.1 read.2))
 
-abbrev pub ReadsThree : Line → Result (ℕ × ℕ × ℕ) TextKind → Type 0
-ReadsThree operands result = (make : ℕ → ℕ → ℕ → Instr) →
-    three_registers make operands ≡ (result >>= λ read. Ok (make read.0 read.1 read.2))
+abbrev pub ReadsLoad : Scope → Line → Result (ℕ × Place) TextKind → Type 0
+ReadsLoad scope operands result = (make : ℕ → Place → Instr) →
+    register_place scope make operands ≡ (result >>= λ read. Ok (make read.0 read.1))
+
+abbrev pub ReadsStore : Scope → Line → Result (Place × Operand) TextKind → Type 0
+ReadsStore scope operands result = (make : Place → Operand → Instr) →
+    place_operand scope make operands ≡ (result >>= λ read. Ok (make read.0 read.1))
 
 abbrev pub ReadsNumber : Line → Result (ℕ × ℕ) TextKind → Type 0
 ReadsNumber operands result = (make : ℕ → ℕ → Instr) →
@@ -63,5 +76,22 @@ resolved find statement =
     ]
 
 -- What was read of a line is what it says, wherever its label is.
-abbrev pub ReadsLine : Line → Result Statement TextKind → Type 0
-ReadsLine line result = (find : Word → Option ℕ) → instr_of find line ≡ (result >>= resolved find)
+abbrev pub ReadsLine : Scope → Line → Result Statement TextKind → Type 0
+ReadsLine scope line result = (find : Word → Option ℕ) →
+    instr_of scope find line ≡ (result >>= resolved find)
+
+-- the same, of the rows that version 3 brought
+abbrev pub ReadsShift : Bool → Word → Line → Result Statement TextKind → Type 0
+ReadsShift later name operands result = (arrays : Word → Option Array) (find : Word → Option ℕ) →
+    instr_by (if later then shifts else []) (record { later = later; arrays = arrays }) find name
+    operands ≡ (result >>= resolved find)
+
+-- ---- what is known of a text
+
+-- the array of a name, if there is one
+abbrev pub array_named : BTreeMap (Bor (List ℕ)) Array → Word → Option Array
+array_named arrays name = get_by (λ key. slice_cmp nat_cmp name key.now) arrays
+
+-- what the words of instruction lines may be
+abbrev pub known : Names → Scope
+known names = record { later = names.later; arrays = array_named names.arrays.now }

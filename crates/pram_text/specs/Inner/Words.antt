@@ -20,3 +20,13 @@ two_of _ = None
 abbrev pub three_of : Line → Option (Word × Word × Word)
 three_of (first ∷ second ∷ third ∷ []) = Some (first, second, third)
 three_of _ = None
+
+-- the words of a line of four
+abbrev pub four_of : Line → Option (Word × Word × Word × Word)
+four_of (first ∷ second ∷ third ∷ fourth ∷ []) = Some (first, second, third, fourth)
+four_of _ = None
+
+-- the first two words, and those after them
+abbrev pub two_first_of : Line → Option (Word × Word × Line)
+two_first_of (first ∷ second ∷ words) = Some (first, second, words)
+two_first_of _ = None

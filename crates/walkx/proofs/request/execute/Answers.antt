@@ -22,18 +22,16 @@ returns-in_err-a g c =
       };
     })
 
-pub read_cell-requires : goal.read_cell-requires
-read_cell-requires g c =
+pub read_cell-requires-clause-next : goal.read_cell-requires-clause-next
+read_cell-requires-clause-next g c =
     let r = c.requires.due in
     record {
-      next = record {
-        from = r.from;
-        after = r.after;
-        next = after_cell c.args.leaf.now c.args.counter c.args.instr r.after
-            (c.in_ok-a.a, c.in_ok-a.b);
-        here = c.in_ok-a.ensures.plays.on r.from r.after
-            (after_operands c.args.leaf.now c.args.counter c.args.instr r.after) r.here;
-      };
+      from = r.from;
+      after = r.after;
+      next = after_cell c.args.leaf.now c.args.counter c.args.instr r.after
+          (c.in_ok-a.a, c.in_ok-a.b);
+      here = c.in_ok-a.ensures.plays.on r.from r.after
+          (after_operands c.args.leaf.now c.args.counter c.args.instr r.after) r.here;
     }
 
 pub returns-in_err-value : goal.returns-in_err-value

@@ -2,7 +2,7 @@ use Rattle.std.proofs.Common.{inr, arith}
 use Rattle.std.proofs.lemmas.Result.{err_from_is_err_and}
 use Rattle.pram_text.proofs.Finishing.{end_fault-none, first_unknown, SpellsLines-held}
 use Rattle.pram_text.proofs.Lawful.{lines_keep}
-use Rattle.pram_text.proofs.Taking.{body_of-held}
+use Rattle.pram_text.proofs.Taking.{body_of-held, scope_in-held}
 use Rattle.pram_text.proofs.reader.Reader.job.Goals as goal
 
 pub returns-in_err-code-clause-told : goal.returns-in_err-code-clause-told
@@ -16,8 +16,8 @@ returns-in_err-code-clause-told c = λ before last held.
       (
         first.0,
         first.1,
-        rw (body_of-held before c.args.self.now held)
-            (first_unknown held.2 c.args.self.now.program first.0 _ held.6 first.2),
+        rw (body_of-held before c.args.self.now held, scope_in-held before c.args.self.now held)
+            (first_unknown _ held.2 c.args.self.now.program first.0 _ held.6 first.2),
       ),
     ))
 

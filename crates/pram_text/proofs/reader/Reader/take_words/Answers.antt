@@ -6,14 +6,14 @@ use Rattle.pram_text.proofs.Taking.{HoldsAt-front, TakesWords-front, TakesWords-
 use Rattle.pram_text.proofs.Taking.{TakesWords-start, TakesWords-code}
 use Rattle.pram_text.proofs.reader.Reader.take_words.Goals as goal
 
-pub take_start-requires : goal.take_start-requires
-take_start-requires c =
-    let h = subst (λ n. HoldsAt n c.requires.0 c.args.self.now) c.in-Start.is c.requires.1 in
+pub take-requires-in-Start-2 : goal.take-requires-in-Start-2
+take-requires-in-Start-2 c =
+    let h = subst (λ n. HoldsAt n c.requires.0 c.args.self.now) c.in-Start-2.is c.requires.1 in
     (value_keeps _ (named_number-keeps _ _ _ _) h.3.cells_said).0
 
 pub returns-in-Code : goal.returns-in-Code
 returns-in-Code c = λ before h.
-    TakesWords-code before _ c.args.self.now _ _ _
+    TakesWords-code before _ c.args.self.now _ _ _ _ c.is_later.ensures
     (subst (λ n. HoldsAt n before c.args.self.now) c.in-Code.is h) c.in-Code.is
     c.take.ensures.told c.take.ensures.number
 
@@ -27,7 +27,8 @@ pub returns-in-Start-2 : goal.returns-in-Start-2
 returns-in-Start-2 c = λ before h.
     TakesWords-start before _ c.args.self.now _ _ _
     (subst (λ n. HoldsAt n before c.args.self.now) c.in-Start-2.is h) c.in-Start-2.is
-    (sym c.is_code_line.ensures ∙ c.if-is_code_line.false) c.take_start.ensures
+    (sym c.is_code_line.ensures ∙ c.if-is_code_line.false)
+    (rw c.is_later-later.ensures at c.take-in-Start-2.ensures)
 
 pub returns-in_ok-self-in_default : goal.returns-in_ok-self-in_default
 returns-in_ok-self-in_default c = λ before h.
