@@ -1,6 +1,4 @@
-pub mod Skipping
 pub mod Counting
 pub mod Losing
 pub mod Ending
 pub mod LawOne
-pub mod LawLines

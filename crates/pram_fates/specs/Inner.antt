@@ -1,3 +1,2 @@
 -- What private contracts alone cite.
-pub mod Ahead
 pub mod Losses

@@ -1,12 +1,10 @@
 -- The laws of what becomes of processors.
-use Rattle.std.specs.Prelude.{◌≡◌, ℕ, ◌+◌, List, length}
+use Rattle.std.specs.Prelude.{◌≡◌, ℕ, ◌+◌}
 use Rattle.pram_text.specs.Job.{JobData, IsJob}
-use Rattle.pram_text.specs.Text.{Spells}
 use Rattle.pram_step.specs.Machine.{counter, out_of_range}
 use Rattle.pram_step.specs.Runs.{state_after}
 use Rattle.pram_fates.specs.declared.fates.Fates.{Fates}
 use Rattle.pram_fates.specs.Fates.{AreFates, NamesNone}
-use Rattle.pram_fates.specs.InstructionLines.{instruction_lines}
 
 -- so many steps make one thing of the processors
 abbrev pub OneFates : Type 0
@@ -19,9 +17,3 @@ abbrev pub LostStaysLost : Type 0
 LostStaysLost =
     (job : JobData) (t more i : ℕ) → IsJob job → NamesNone job (state_after job t) i →
     counter job (state_after job (t + 1 + more)) i ≡ out_of_range job
-
--- each instruction of a job stands on a line of its text
-abbrev pub InstructionsHaveLines : Type 0
-InstructionsHaveLines =
-    (text : List ℕ) (job : JobData) → Spells text job →
-    length (instruction_lines text) ≡ length job.code

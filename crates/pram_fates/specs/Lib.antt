@@ -1,5 +1,4 @@
 pub mod Fates
-pub mod InstructionLines
 pub mod Told
 pub mod Laws
 pub mod Inner

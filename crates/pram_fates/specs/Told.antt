@@ -4,7 +4,7 @@ use Rattle.pram_fates.specs.declared.fates.End.{End}
 use Rattle.pram_fates.specs.declared.fates.End.TheVariants.{Running, Stopped}
 use Rattle.pram_fates.specs.declared.fates.Fates.{Fates}
 use Rattle.pram_fates.specs.declared.fates.Lost.{Lost}
-use Rattle.pram_fates.specs.InstructionLines.{line_of}
+use Rattle.pram_text.specs.InstructionLines.{line_of}
 
 -- how they are at the end, where there is one
 abbrev pub end_line : List ℕ → Option End → List ℕ

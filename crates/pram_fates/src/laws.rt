@@ -1,6 +1,6 @@
 //! What holds of what becomes of processors: each function here does nothing, and its contract is a
 //! law.
-ghost use Rattle.pram_fates.specs.Laws.{InstructionsHaveLines, LostStaysLost, OneFates};
+ghost use Rattle.pram_fates.specs.Laws.{LostStaysLost, OneFates};
 
 /// So many steps make one thing of the processors.
 pub fn one_fates()
@@ -10,9 +10,4 @@ pub fn one_fates()
 /// A processor that named a cell that there is not has stopped for good, and its counter says why.
 pub fn lost_stays_lost()
     ensures { LostStaysLost }
-{}
-
-/// Each instruction of a job stands on a line of its text.
-pub fn instructions_have_lines()
-    ensures { InstructionsHaveLines }
 {}

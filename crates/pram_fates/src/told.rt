@@ -3,7 +3,7 @@ ghost use Rattle.std.specs.Prelude.{◌≡◌, ◌++◌, string_bytes, IfOk};
 ghost use Rattle.pram_fates.specs.Told.{end_line, fates_text, lost_line};
 
 use crate::fates::{End, Fates, Lost};
-use crate::lines::instruction_line;
+use pram_text::instruction_line;
 use std::alloc::{AllocError, Global};
 
 /// The lines that say what became of the processors, by the text of their job. The time is linear

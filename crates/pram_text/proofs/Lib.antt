@@ -23,3 +23,5 @@ pub mod LawOneJob
 pub mod LawSkipped
 pub mod Worded
 pub mod Splitting
+pub mod Skipping
+pub mod LawLines

@@ -3,3 +3,4 @@ pub mod Words
 pub mod Statement
 pub mod Reading
 pub mod LinesAfter
+pub mod Ahead

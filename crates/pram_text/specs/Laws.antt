@@ -8,6 +8,7 @@ use Rattle.pram_text.specs.declared.limits.TheConstants.{MAX_CELLS, MAX_PROCS, M
 use Rattle.pram_text.specs.Job.{JobData, IsJob}
 use Rattle.pram_text.specs.Lines.{lines_of, words_of, is_allowed, is_blank}
 use Rattle.pram_text.specs.Text.{Spells, Bears, fault_at}
+use Rattle.pram_text.specs.InstructionLines.{instruction_lines}
 
 -- cells, processors, instructions and registers
 abbrev pub LimitsAre : Type 0
@@ -89,3 +90,9 @@ WordlessLinesAreSkipped =
     (text other : List ℕ) (before : List (List ℕ)) (line : List ℕ) (after : List (List ℕ))
     → lines_of text ≡ before ++ line ∷ after → lines_of other ≡ before ++ after
     → IsTrue (list_all is_allowed line) → words_of line ≡ [] → SpellsSame text other
+
+-- each instruction of a job stands on a line of its text
+abbrev pub InstructionsHaveLines : Type 0
+InstructionsHaveLines =
+    (text : List ℕ) (job : JobData) → Spells text job →
+    length (instruction_lines text) ≡ length job.code

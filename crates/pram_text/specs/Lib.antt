@@ -4,5 +4,6 @@ pub mod Places
 pub mod Lines
 pub mod Judgement
 pub mod Text
+pub mod InstructionLines
 pub mod Laws
 pub mod Inner

@@ -1,7 +1,7 @@
 //! Laws of the text: they show that the definitions mean what is meant.
 //! Nothing happens when they are called.
 ghost use Rattle.pram_text.specs.Laws.{BlanksSayNothing, CommentsSayNothing, FaultIsWithin};
-ghost use Rattle.pram_text.specs.Laws.{JobOrFault, LimitsAre, LinesAreCounted, LinesAreJoined};
+ghost use Rattle.pram_text.specs.Laws.{InstructionsHaveLines, JobOrFault, LimitsAre, LinesAreCounted, LinesAreJoined};
 ghost use Rattle.pram_text.specs.Laws.{OneFault, OneJob};
 ghost use Rattle.pram_text.specs.Laws.{SpelledBearsNothing, SpelledJobIsLawful};
 ghost use Rattle.pram_text.specs.Laws.{UnknownLabelComesLast, WordlessLinesAreSkipped};
@@ -66,4 +66,9 @@ pub fn blanks_say_nothing()
 /// A line without words can be left out.
 pub fn wordless_lines_are_skipped()
     ensures { WordlessLinesAreSkipped }
+{}
+
+/// Each instruction of a job stands on a line of its text.
+pub fn instructions_have_lines()
+    ensures { InstructionsHaveLines }
 {}

@@ -11,11 +11,11 @@ use crate::fault::{TextFault, TextKind};
 use crate::head::{Head, Next};
 use crate::header::is_code_line;
 use crate::job::Job;
+use crate::lines::first_line;
 use crate::program::Program;
 use crate::start::{Setup, start_values};
 use crate::statement::Names;
 use crate::words::{has_words, is_lawful};
-use memchr::memchr;
 use std::alloc::Global;
 
 /// The job that a text spells, or the first line that is wrong, and what is wrong with it.
@@ -38,20 +38,6 @@ pub fn read_job(alloc: Global, text: &[u8]) -> Result<Job, TextFault>
         rest = after;
     }
     reader.finish(number)
-}
-
-// The first line, and what is after its line feed, if it has one.
-fn first_line(text: &[u8]) -> (&[u8], Option<&[u8]>)
-    ensures lines { lines_of text.now ≡ result.0.now ∷ lines_after result.1 }
-    ensures shorter { IfSome result.1 (λ rest. length rest.now < length text.now) }
-{
-    match memchr(b'\n', text) {
-        None => (text, None),
-        Some(end) => {
-            let (line, rest) = text.split_at(end);
-            (line, Some(&rest[1..]))
-        }
-    }
 }
 
 // The fault of a line. Out of memory it is no line's.

@@ -1,5 +1,5 @@
-use pram_fates::{fates_after, fates_text, instruction_line};
-use pram_text::read_job;
+use pram_fates::{fates_after, fates_text};
+use pram_text::{instruction_line, read_job};
 use std::process::Abort;
 use std::test::Fail;
 

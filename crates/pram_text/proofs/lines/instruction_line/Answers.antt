@@ -1,8 +1,8 @@
 use Rattle.std.proofs.Common.{◌≡◌, ◌+◌, ◌<◌, ◌^◌, ◌∷◌, length, ap, ◌∙◌, arith, rules}
 use Rattle.pram_text.specs.Inner.LinesAfter.{lines_after}
 use Rattle.pram_text.proofs.Splitting.{lines_few}
-use Rattle.pram_fates.proofs.lines.instruction_line.Goals as goal
-use Rattle.pram_fates.proofs.lines.instruction_line.Goals.{After-first_line}
+use Rattle.pram_text.proofs.lines.instruction_line.Goals as goal
+use Rattle.pram_text.proofs.lines.instruction_line.Goals.{After-first_line}
 
 -- what is left begins with the line that was cut off
 next : (c : After-first_line) → lines_after c.loop-rest.rest

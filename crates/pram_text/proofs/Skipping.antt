@@ -3,10 +3,10 @@ use Rattle.std.proofs.Common.{◌≡◌, ◌≢◌, ℕ, zero, suc, ◌+◌, ◌
 use Rattle.std.proofs.Common.{refl, ap, subst, ◌∙◌, arith}
 use Rattle.pram_text.specs.Judgement.{is_code}
 use Rattle.pram_text.specs.Lines.{Line, is_filled, words_of}
-use Rattle.pram_fates.specs.declared.lines.Ahead.{Ahead}
-use Rattle.pram_fates.specs.declared.lines.Ahead.TheVariants.{Header, Body}
+use Rattle.pram_text.specs.declared.lines.Ahead.{Ahead}
+use Rattle.pram_text.specs.declared.lines.Ahead.TheVariants.{Header, Body}
 use Rattle.pram_text.proofs.Lists.{after_first_skip}
-use Rattle.pram_fates.specs.Inner.Ahead.{SkipsLine, line_ahead, line_among, numbered_from}
+use Rattle.pram_text.specs.Inner.Ahead.{SkipsLine, line_ahead, line_among, numbered_from}
 
 -- ---- among lines with words
 

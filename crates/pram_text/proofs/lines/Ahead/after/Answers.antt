@@ -1,10 +1,10 @@
 use Rattle.std.proofs.Common.{◌≡◌, ℕ, ◌-◌, sym, subst, ◌∙◌, arith}
 use Rattle.pram_text.specs.Lines.{words_of}
-use Rattle.pram_fates.specs.declared.lines.Ahead.{Ahead}
-use Rattle.pram_fates.specs.declared.lines.Ahead.TheVariants.{Header}
-use Rattle.pram_fates.specs.Inner.Ahead.{SkipsLine}
-use Rattle.pram_fates.proofs.Skipping.{skips_header, skips_other}
-use Rattle.pram_fates.proofs.lines.Ahead.after.Goals as goal
+use Rattle.pram_text.specs.declared.lines.Ahead.{Ahead}
+use Rattle.pram_text.specs.declared.lines.Ahead.TheVariants.{Header}
+use Rattle.pram_text.specs.Inner.Ahead.{SkipsLine}
+use Rattle.pram_text.proofs.Skipping.{skips_header, skips_other}
+use Rattle.pram_text.proofs.lines.Ahead.after.Goals as goal
 
 pub returns-then-lines-gt0 : goal.returns-then-lines-gt0
 returns-then-lines-gt0 c =

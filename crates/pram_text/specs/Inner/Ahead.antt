@@ -3,8 +3,8 @@ use Rattle.std.specs.Prelude.{◌≡◌, ℕ, List, ◌∷◌, map, drop, filter
 use Rattle.std.specs.List.{after_first, enumerate_from}
 use Rattle.pram_text.specs.Judgement.{is_code}
 use Rattle.pram_text.specs.Lines.{Line, is_filled, words_of}
-use Rattle.pram_fates.specs.declared.lines.Ahead.{Ahead}
-use Rattle.pram_fates.specs.declared.lines.Ahead.TheVariants.{Header, Body}
+use Rattle.pram_text.specs.declared.lines.Ahead.{Ahead}
+use Rattle.pram_text.specs.declared.lines.Ahead.TheVariants.{Header, Body}
 
 -- the lines with words, each with its number, where the first of all has this one
 abbrev pub numbered_from : ℕ → List (List ℕ) → List (ℕ × Line)

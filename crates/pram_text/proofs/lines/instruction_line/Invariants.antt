@@ -1,9 +1,9 @@
 use Rattle.std.proofs.Common.{◌≡◌, ◌+◌, length}
 use Rattle.pram_text.specs.Inner.LinesAfter.{lines_after}
 use Rattle.pram_text.specs.Lines.{lines_of}
-use Rattle.pram_fates.specs.Inner.Ahead.{line_ahead, numbered_from}
-use Rattle.pram_fates.specs.InstructionLines.{line_of}
-use Rattle.pram_fates.proofs.lines.instruction_line.Given as goal
+use Rattle.pram_text.specs.Inner.Ahead.{line_ahead, numbered_from}
+use Rattle.pram_text.specs.InstructionLines.{line_of}
+use Rattle.pram_text.proofs.lines.instruction_line.Given as goal
 
 abbrev pub invariant-loop-rest : goal.invariant-loop-rest
 invariant-loop-rest l = record {

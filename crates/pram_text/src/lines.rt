@@ -1,0 +1,81 @@
+//! The lines of a text, and those that have instructions.
+ghost use Rattle.std.specs.Prelude.{◌≡◌, ◌≢◌, ◌∷◌, ◌<◌, length, IfSome};
+ghost use Rattle.pram_text.specs.Inner.Ahead.{SkipsLine};
+ghost use Rattle.pram_text.specs.Inner.LinesAfter.{lines_after};
+ghost use Rattle.pram_text.specs.InstructionLines.{line_of};
+ghost use Rattle.pram_text.specs.Lines.{lines_of, words_of};
+
+use crate::header::is_code_line;
+use crate::words::has_words;
+use memchr::memchr;
+
+/// How many lines with words come before the line `code`.
+const HEADER: u32 = 4;
+
+/// What is left before the line that is looked for.
+#[derive(Clone, Copy, Debug, PartialEq, Eq)]
+enum Ahead {
+    /// So many lines with words, and then those up to the line `code`.
+    Header(u32),
+    /// So many instructions.
+    Body(u32),
+}
+
+impl Ahead {
+    // What is left after a line with words, which has another instruction or none.
+    fn after(self, line: &[u8], index: u32) -> Ahead
+        requires { self ≢ Ahead.Body 0 }
+        ensures { SkipsLine index self (words_of line.now) result }
+    {
+        match self {
+            Ahead::Header(lines) => {
+                if lines > 0 {
+                    Ahead::Header(lines - 1)
+                } else if is_code_line(line) {
+                    Ahead::Body(index)
+                } else {
+                    self
+                }
+            }
+            Ahead::Body(instructions) => Ahead::Body(instructions.saturating_sub(1)),
+        }
+    }
+}
+
+/// The number of the line that an instruction stands on, by its index in the job that the text
+/// spells; 0 if there is none. Lines count from 1.
+///
+/// The time is linear in the text up to that line.
+pub fn instruction_line(text: &[u8], index: u32) -> u64
+    ensures { result ≡ line_of text.now index }
+{
+    let mut ahead = Ahead::Header(HEADER);
+    let mut number = 0;
+    let mut rest = Some(text);
+    while let Some(below) = rest {
+        let (line, after) = first_line(below);
+        number += 1;
+        if has_words(line) {
+            if ahead == Ahead::Body(0) {
+                return number;
+            }
+            ahead = ahead.after(line, index);
+        }
+        rest = after;
+    }
+    0
+}
+
+/// The first line, and what is after its line feed, if it has one.
+pub(crate) fn first_line(text: &[u8]) -> (&[u8], Option<&[u8]>)
+    ensures lines { lines_of text.now ≡ result.0.now ∷ lines_after result.1 }
+    ensures shorter { IfSome result.1 (λ rest. length rest.now < length text.now) }
+{
+    match memchr(b'\n', text) {
+        None => (text, None),
+        Some(end) => {
+            let (line, rest) = text.split_at(end);
+            (line, Some(&rest[1..]))
+        }
+    }
+}
