@@ -1,5 +1,5 @@
 -- What a part of a row, a row that is begun, and a round make of a replay that is under way.
-use Rattle.std.proofs.Common.{◌≡◌, ◌⊎◌, ℕ, zero, suc, ◌+◌, ◌-◌, ◌<◌, ◌≤◌, Bool, true, false}
+use Rattle.std.proofs.Common.{◌≡◌, ℕ, ◌+◌, ◌-◌, ◌<◌, ◌≤◌, true, false}
 use Rattle.std.proofs.Common.{List, [], ◌∷◌, ◌++◌, replicate, refl, sym, ap, ap₂, subst, ◌∙◌}
 use Rattle.std.proofs.Common.{inl, inr, append_assoc, length, arith}
 use Rattle.std.proofs.lemmas.List.{append-nil, replicate-append-replicate}
@@ -8,7 +8,7 @@ use Rattle.stop_plan.specs.declared.plan.Act.{Act}
 use Rattle.stop_plan.specs.declared.plan.Act.TheVariants as act
 use Rattle.stop_plan.specs.declared.plan.Row.{Row}
 use Rattle.stop_plan.specs.Plan.{PlanData}
-use Rattle.stop_plan.specs.Schedule.{after_turns, after_rounds, events_of_act, events_of_rows}
+use Rattle.stop_plan.specs.Schedule.{after_turns, events_of_act, events_of_rows}
 use Rattle.walkx.specs.Bound.{most_steps}
 use Rattle.pram_world.specs.declared.event.Event.{Event}
 use Rattle.pram_world.specs.declared.event.Event.TheVariants.{Go}
@@ -16,7 +16,7 @@ use Rattle.pram_world.specs.Worlds.{WorldData, run, start, going}
 use Rattle.pram_run.specs.declared.schedule.Replaying.{Replaying}
 use Rattle.pram_run.specs.declared.trace.TraceRow.{TraceRow}
 use Rattle.pram_run.specs.Inner.Progress.{IsAfter}
-use Rattle.pram_run.specs.Inner.Underway.{AreMade, Further, HasCome, IsOver, ahead, parts}
+use Rattle.pram_run.specs.Inner.Underway.{AreMade, Further, HasCome, ahead}
 use Rattle.pram_run.specs.Inner.Underway.{row_parts, with_rounds}
 use Rattle.pram_run.specs.Replays.{running, world_events}
 use Rattle.pram_run.proofs.After.{rounds_more}

@@ -1,15 +1,14 @@
 -- Reads that are printed while they are made.
-use Rattle.std.proofs.Common.{◌≡◌, ◌∙◌, ◌+◌, ◌++◌, ℕ, List, [], Option, Result, Ok, Err, OnOk}
+use Rattle.std.proofs.Common.{◌≡◌, ◌∙◌, ◌+◌, ◌++◌, ℕ, List, [], Option, Ok, Err, OnOk}
 use Rattle.std.proofs.Common.{refl, sym, ap, subst, map, codes, append_assoc}
 use Rattle.std.proofs.lemmas.List.{append-nil, map-append}
 use Rattle.std.proofs.KnownBytes.{Appends-nil, Appends-trans}
 use Rattle.std.specs.Io.KnownBytes.{Appends}
-use Rattle.std.specs.List.{repeat}
 use Rattle.pram_streams.specs.Transfer.{AppendsBeginning}
 use Rattle.pram_streams.proofs.Beginnings.{beginning-after, beginning-longer}
 use Rattle.pram_board.specs.declared.task.Task.{Task}
 use Rattle.pram_board.specs.Seats.{SeatData}
-use Rattle.pram_run.specs.Inner.Reading.{HasPut, PassedSights, PutAfter}
+use Rattle.pram_run.specs.Inner.Reading.{HasPut, PassedSights, PutAfter, ReadsRound}
 use Rattle.pram_run.specs.Printed.{sight_lines, sights_text}
 use Rattle.pram_run.specs.PutReads.{Printing, PutWatch}
 use Rattle.pram_run.specs.Watching.{HasRead, cells_of}
@@ -100,18 +99,17 @@ module _ (task : Task) (cells : List ℕ) (rounds : ℕ) (given : SeatData) wher
   -- a round more is read
   pub put_round : (before later : SeatData) (old new : List Sight) (a b : Option (List ℕ))
       (printed : Printing) → HasPut task cells rounds given before old a b printed →
-      ((front : List Sight) (p : SeatData) → HasRead task p (front ++ old) before →
-      HasRead task p (front ++ new) later) → cells_of new ≡ cells_of old ++ cells →
+      ReadsRound task cells old before new later →
       HasPut task cells (rounds + 1) given later new a b printed
-  put_round before later old new a b printed has reads is =
+  put_round before later old new a b printed has round =
       let all : cells_of (has.gone ++ new) ≡ cells_of (has.gone ++ old) ++ cells =
       map-append (λ (s : Sight). s.cell) has.gone new
-      ∙ ap (λ (l : List ℕ). cells_of has.gone ++ l) is
+      ∙ ap (λ (l : List ℕ). cells_of has.gone ++ l) round.cells
       ∙ sym (append_assoc (cells_of has.gone) (cells_of old) cells)
       ∙ ap (λ (l : List ℕ). l ++ cells) (sym (map-append (λ (s : Sight). s.cell) has.gone old)) in
       record {
         gone = has.gone;
-        reads = reads has.gone given has.reads;
+        reads = round.reads has.gone given has.reads;
         listed = round_more rounds cells (cells_of (has.gone ++ old))
             (cells_of (has.gone ++ new)) all has.listed;
         ok = has.ok;

@@ -1,5 +1,6 @@
 -- What a watch lists.
-use Rattle.std.specs.Prelude.{◌≡◌, ◌≤◌, ℕ, List, [], ◌∷◌, map, slice_index, All, IfOk}
+use Rattle.std.specs.Prelude.{◌≡◌, ◌≤◌, ◌+◌, ◌⊎◌, ℕ, List, [], ◌∷◌, length, map, slice_index}
+use Rattle.std.specs.Prelude.{All, IfOk, OnOk}
 use Rattle.std.specs.List.{repeat}
 use Rattle.std.specs.List.Sorted.{IsNonDecreasingBy}
 use Rattle.pram_step.specs.declared.answer.RunAnswer.{RunAnswer}
@@ -12,6 +13,7 @@ use Rattle.pram_board.specs.Seats.{SeatData, WasRead, unites}
 use Rattle.pram_run.specs.Heard.{Ended}
 use Rattle.pram_run.specs.Obeyed.{AllObeyed, HasLooked}
 use Rattle.pram_run.specs.Running.{IsRun}
+use Rattle.pram_run.specs.declared.assignment.Observation.{Observation}
 use Rattle.pram_run.specs.declared.sight.Sight.{Sight}
 
 -- the cells that were read, in order
@@ -80,3 +82,15 @@ pub record ReadsAndHears {P H : Type 0} (Reads : SeatData → P → Type 0)
   pub after : P
   pub reads : Reads later after
   pub hears : Hears after ended heard
+
+-- The reader heard of a refusal, and did not read; or it read beside the plan's workers, from the
+-- given seat to a later one, and then heard how the run ended.
+abbrev pub ReadsUnlessRefused : {P H : Type 0} → Task → PlanData → SeatData → P →
+    (SeatData → P → Type 0) → (P → Ended → H → Type 0) → SeatData → Ended → H → Type 0
+ReadsUnlessRefused task plan given reader Reads Hears later ended heard =
+    (OnOk ended ⊥ × Hears reader ended heard)
+    ⊎ HasWatchedWith task plan given later (ReadsAndHears Reads Hears ended heard) ended
+
+-- how many reads wait at most: a piece, and a round
+abbrev pub most_waiting : {G : Type 0} → Observation G → ℕ
+most_waiting observation = observation.piece + length observation.cells.now

@@ -15,3 +15,18 @@ pub(crate) struct Crew<'a, G> {
     pub bell: &'a Bell,
     pub ghost workers: { board.now.task.layout.workers ≡ plan.now.workers },
 }
+
+impl<'a, G> Crew<'a, G> {
+    pub fn new(board: &'a Board, plan: &'a Plan, gate: &'a G, bell: &'a Bell) -> Crew<'a, G>
+        requires { board.now.task.layout.workers ≡ plan.now.workers }
+        ensures board { result.board.now ≡ board.now }
+        ensures plan { result.plan.now ≡ plan.now }
+    {
+        Crew {
+            board,
+            plan,
+            gate,
+            bell,
+        }
+    }
+}

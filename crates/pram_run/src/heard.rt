@@ -1,12 +1,12 @@
 //! Runs whose answer is heard before their threads are joined.
 ghost use Rattle.std.specs.Prelude.{◌≡◌, ◌↔◌, ◌<◌, ℕ, IfOk, IsTrue, OnOk, vec_len, slice_index_or};
 ghost use Rattle.lawful_walk.specs.Seen.{BeginsWith};
-ghost use Rattle.pram_run.specs.Heard.{HasRunBeside};
-ghost use Rattle.pram_run.specs.Inner.Hearing.{IsJoined, TellsEnd};
+ghost use Rattle.pram_run.specs.Heard.{HasRunBeside, HasRunOf, IsRunOf};
+ghost use Rattle.pram_run.specs.Inner.Hearing.{HasTold, IsJoined, TellsEnd};
 ghost use Rattle.pram_run.specs.Inner.Obeying.{GoesOn, IsToObey};
-ghost use Rattle.pram_run.specs.Obeyed.{HasLooked};
-ghost use Rattle.pram_run.specs.Running.{IsRun, IsUnfinished, Tells};
+ghost use Rattle.pram_run.specs.Running.{IsBoardFor, IsRun, IsUnfinished};
 
+use crate::assignment::Assignment;
 use crate::bell::Bell;
 use crate::crew::Crew;
 use crate::ending::answer;
@@ -21,18 +21,6 @@ use std::thread;
 use std::thread::{PromisedHandle, Scope, Threads};
 use stop_plan::{Gate, Plan};
 
-/// What the workers of a run go over: a board that was opened for the job, and a plan for all of
-/// the board's workers, who pass the gate before each atomic step.
-#[derive(Drop)]
-pub struct Assignment<'a, G> {
-    pub job: &'a Job,
-    pub board: &'a Board,
-    pub plan: &'a Plan,
-    pub gate: &'a G,
-    pub ghost opened: { board.now.task.job ≡ job.now },
-    pub ghost workers: { board.now.task.layout.workers ≡ plan.now.workers },
-}
-
 /// Does what `run` does, and the listener hears the answer as soon as a worker knows it: before the
 /// threads are joined, though some of them may be kept from going on. A thread that is refused is a
 /// worker that takes no part: without its help the answer is the same, and where the workers that
@@ -46,25 +34,20 @@ pub fn run_heard<R: Threads + Wait, G: Gate + Sync, H, L: Listener<Heard = H>>(
 ) -> (Seat, Result<RunAnswer, AllocError>, H)
     requires seat { seat.desk ≡ assignment.now.board.now }
     requires listener { L.can_hear listener }
-    ensures answer { IfOk result.1
-        (IsRun assignment.now.board.now.task assignment.now.plan.now result.0.record_of) }
-    ensures ran { OnOk result.1
-        (HasRunBeside assignment.now.board.now.task assignment.now.plan.now seat result.0) }
+    ensures answer { IfOk result.1 (IsRunOf assignment.now result.0.record_of) }
+    ensures ran { OnOk result.1 (HasRunOf assignment.now seat result.0) }
     ensures heard { L.hears listener result.1 result.2 }
     ensures begins { BeginsWith seat.record_of result.0.record_of }
     ensures desk { result.0.desk ≡ assignment.now.board.now }
 {
     let (job, board) = (assignment.job, assignment.board);
     let (plan, gate) = (assignment.plan, assignment.gate);
-    let bell = Bell::new();
-    let bell = &bell;
+    let bell = &Bell::new();
     thread::scope(
         thread::scope_env(),
         rt,
         |scope| -> (Seat, Result<RunAnswer, AllocError>, H)
-            requires opened { board.now.task.job ≡ job.now }
-            requires workers { board.now.task.layout.workers ≡ plan.now.workers }
-            requires seat { seat.desk ≡ board.now }
+            requires given { IsBoardFor job.now plan.now board.now seat }
             requires listener { L.can_hear listener }
             ensures answer { IfOk result.1
                 (IsRun board.entry.now.task plan.entry.now result.0.record_of) }
@@ -73,12 +56,7 @@ pub fn run_heard<R: Threads + Wait, G: Gate + Sync, H, L: Listener<Heard = H>>(
             ensures heard { L.hears listener result.1 result.2 }
             ensures goes_on { GoesOn seat result.0 }
         {
-            let crew = Crew {
-                board,
-                plan,
-                gate,
-                bell,
-            };
+            let crew = Crew::new(board, plan, gate, bell);
             let shift = Shift { alloc, job, crew };
             work_heard(scope, rt, &shift, seat, listener)
         },
@@ -140,9 +118,8 @@ pub(crate) fn await_end<R: Wait, G>(
     mut seat: Seat,
     workers: u64,
 ) -> (Seat, Result<RunAnswer, AllocError>)
-    requires seat { seat.desk ≡ shift.now.crew.board.now }
-    ensures told { IfOk result.1 (Tells shift.now.crew.board.now.task result.0.record_of) }
-    ensures looked { HasLooked seat result.0 }
+    requires { seat.desk ≡ shift.now.crew.board.now }
+    ensures { HasTold shift.now.crew.board.now.task seat result.0 result.1 }
 {
     let (board, bell) = (shift.crew.board, shift.crew.bell);
     for _ in rt.forever() {
@@ -197,10 +174,9 @@ fn last_answer<G>(
     mut seat: Seat,
     all_started: bool,
 ) -> (Seat, Result<RunAnswer, AllocError>)
-    requires seat { seat.desk ≡ shift.now.crew.board.now }
-    ensures told { IfOk result.1 (Tells shift.now.crew.board.now.task result.0.record_of) }
+    requires { seat.desk ≡ shift.now.crew.board.now }
+    ensures told { HasTold shift.now.crew.board.now.task seat result.0 result.1 }
     ensures all { IfOk result.1 (λ answer. IsUnfinished answer → IsTrue all_started) }
-    ensures looked { HasLooked seat result.0 }
 {
     let told = answer(shift.alloc, shift.job, shift.crew.board, &mut seat);
     if all_started {

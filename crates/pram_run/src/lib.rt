@@ -1,6 +1,7 @@
 //! Runs of a job under a plan: on one thread in the plan's order, and on threads.
 #![tactic(auto)]
 
+mod assignment;
 mod bell;
 mod crew;
 mod ending;
@@ -13,12 +14,14 @@ mod schedule;
 mod sight;
 #[cfg(test)]
 mod tests;
+mod tower;
 mod trace;
 mod watcher;
 
-pub use heard::{Assignment, run_heard};
+pub use assignment::{Assignment, Observation};
+pub use heard::run_heard;
 pub use listener::Listener;
-pub use observation::{Observation, Reads, print_reads, watch_heard};
+pub use observation::{Reads, print_reads, watch_heard};
 pub use print::{OutFault, print_sights, print_trace, write_trace};
 pub use runner::run;
 pub use schedule::{replay, replay_to};

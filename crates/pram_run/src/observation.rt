@@ -1,25 +1,27 @@
 //! Watches whose reads go out while they are made, and whose answer is heard before the join.
-ghost use Rattle.std.specs.Prelude.{◌≡◌, ◌⊎◌, ◌++◌, ◌+◌, ◌≤◌, ◌<◌, ◌↔◌, ℕ, List, All, OnOk};
+ghost use Rattle.std.specs.Prelude.{◌≡◌, ◌+◌, ◌≤◌, ◌<◌, ◌↔◌, ℕ, List, All};
 ghost use Rattle.std.specs.Prelude.{IfOk, IsErrOf, IsTrue, false, length, vec_len, vec_capacity};
-ghost use Rattle.std.specs.Prelude.{slice_index_or};
 ghost use Rattle.lawful_walk.specs.Seen.{BeginsWith};
 ghost use Rattle.pram_board.specs.declared.task.Task.{Task};
 ghost use Rattle.pram_board.specs.Seats.{SeatData};
-ghost use Rattle.pram_run.specs.Inner.Obeying.{GoesOn, IsToObey};
-ghost use Rattle.pram_run.specs.Inner.Reading.{PassedSights, PutAfter};
+ghost use Rattle.pram_run.specs.Inner.Obeying.{GoesOn};
+ghost use Rattle.pram_run.specs.Inner.Posted.{ArePosted};
+ghost use Rattle.pram_run.specs.Inner.Reading.{PassedSights, PutAfter, ReadsRound};
 ghost use Rattle.pram_run.specs.PutReads.{PutWatch};
-ghost use Rattle.pram_run.specs.Watching.{HasRead, HasWatchedWith, ReadsAndHears};
-ghost use Rattle.pram_run.specs.Watching.{cells_of};
-ghost use Rattle.pram_run.specs.declared.sight.Sight.{Sight};
+ghost use Rattle.pram_run.specs.Running.{IsBoardFor};
+ghost use Rattle.pram_run.specs.Watching.{HasWatchedWith, ReadsAndHears, ReadsUnlessRefused};
+ghost use Rattle.pram_run.specs.Watching.{most_waiting};
 
+use crate::assignment::{Assignment, Observation};
 use crate::bell::Bell;
 use crate::crew::Crew;
 use crate::ending::answer;
-use crate::heard::{Assignment, Shift, await_end, join_beside, tells_end};
+use crate::heard::{Shift, await_end, join_beside, tells_end};
 use crate::listener::Listener;
 use crate::print::{begin_sights, put_sights};
-use crate::runner::{Obeyed, join_all, start_all};
+use crate::runner::{join_all, start_all};
 use crate::sight::Sight;
+use crate::tower::{Posts, Tower};
 use crate::watcher::{Round, read_round};
 use pram_board::Seat;
 use pram_step::RunAnswer;
@@ -27,19 +29,8 @@ use pram_streams::{PrintFault, Sink};
 use std::alloc::{AllocError, Global};
 use std::sync::Wait;
 use std::thread;
-use std::thread::{PromisedHandle, Scope, Threads};
+use std::thread::{Scope, Threads};
 use stop_plan::{Gate, Open};
-
-/// What the workers of a watch go over, and what its reader reads: so many rounds through cells of
-/// the job. What was read goes out after a round, once so many reads wait.
-#[derive(Drop)]
-pub struct Observation<'c, 'a, G> {
-    pub assignment: Assignment<'c, G>,
-    pub cells: &'a [u32],
-    pub rounds: u32,
-    pub piece: usize,
-    pub ghost within: { All (λ c. c < assignment.board.now.task.job.cells) cells.now },
-}
 
 /// Who reads beside workers, and then hears how the run ended. A scope says nothing of a `&mut`
 /// that its closure holds: a sink is handed in within such a value, and handed back by what it
@@ -60,8 +51,7 @@ pub trait Reads: Listener {
         requires reader { can_read self }
         requires seat { seat.old.desk ≡ observation.now.assignment.board.now }
         requires empty { vec_len sights.old ≡ 0 }
-        requires room { observation.now.piece + length observation.now.cells.now
-            ≤ vec_capacity sights.old }
+        requires room { most_waiting observation.now ≤ vec_capacity sights.old }
         ensures reads { reads self observation.now.assignment.board.now.task
             observation.now.cells.now observation.now.rounds seat.old seat.new result }
         ensures goes_on { GoesOn seat.old seat.new }
@@ -81,11 +71,9 @@ pub fn watch_heard<R: Threads + Wait, G: Gate + Sync, H, P: Reads<Heard = H>>(
     requires reader { P.can_read reader }
     requires listener { P.can_hear reader }
     requires seat { seat.desk ≡ observation.now.assignment.board.now }
-    ensures watched { (OnOk result.1 ⊥ × P.hears reader result.1 result.2)
-        ⊎ HasWatchedWith observation.now.assignment.board.now.task
-        observation.now.assignment.plan.now seat result.0 (ReadsAndHears
-        (P.reads reader observation.now.assignment.board.now.task observation.now.cells.now
-        observation.now.rounds seat) P.hears result.1 result.2) result.1 }
+    ensures watched { let seen = observation.now in let task = seen.assignment.board.now.task in
+        ReadsUnlessRefused task seen.assignment.plan.now seat reader
+        (P.reads reader task seen.cells.now seen.rounds seat) P.hears result.0 result.1 result.2 }
     ensures begins { BeginsWith seat.record_of result.0.record_of }
     ensures desk { result.0.desk ≡ observation.now.assignment.board.now }
 {
@@ -93,30 +81,21 @@ pub fn watch_heard<R: Threads + Wait, G: Gate + Sync, H, P: Reads<Heard = H>>(
     let (job, board) = (assignment.job, assignment.board);
     let (plan, gate) = (assignment.plan, assignment.gate);
     let (cells, rounds, piece) = (observation.cells, observation.rounds, observation.piece);
-    let bell = Bell::new();
-    let bell = &bell;
+    let bell = &Bell::new();
     thread::scope(
         thread::scope_env(),
         rt,
         |scope| -> (Seat, Result<RunAnswer, AllocError>, H)
-            requires opened { board.now.task.job ≡ job.now }
-            requires workers { board.now.task.layout.workers ≡ plan.now.workers }
             requires within { All (λ c. c < board.now.task.job.cells) cells.now }
-            requires seat { seat.desk ≡ board.now }
+            requires given { IsBoardFor job.now plan.now board.now seat }
             requires reader { P.can_read reader }
             requires listener { P.can_hear reader }
-            ensures watched { (OnOk result.1 ⊥ × P.hears reader result.1 result.2)
-                ⊎ HasWatchedWith board.entry.now.task plan.entry.now seat result.0
-                (ReadsAndHears (P.reads reader board.entry.now.task cells.entry.now rounds seat)
-                P.hears result.1 result.2) result.1 }
+            ensures watched { ReadsUnlessRefused board.entry.now.task plan.entry.now seat reader
+                (P.reads reader board.entry.now.task cells.entry.now rounds seat)
+                P.hears result.0 result.1 result.2 }
             ensures goes_on { GoesOn seat result.0 }
         {
-            let crew = Crew {
-                board,
-                plan,
-                gate,
-                bell,
-            };
+            let crew = Crew::new(board, plan, gate, bell);
             let shift = Shift { alloc, job, crew };
             let tower = Tower {
                 shift,
@@ -127,16 +106,6 @@ pub fn watch_heard<R: Threads + Wait, G: Gate + Sync, H, P: Reads<Heard = H>>(
             watch_in(scope, rt, &tower, seat, reader)
         },
     )
-}
-
-// What a reader observes, taken apart, with the crew that is at work there.
-#[derive(Drop)]
-struct Tower<'c, 'b, 'a, G> {
-    shift: Shift<'c, 'b, G>,
-    cells: &'a [u32],
-    rounds: u32,
-    piece: usize,
-    ghost within: { All (λ c. c < shift.crew.board.now.task.job.cells) cells.now },
 }
 
 // The same in a scope.
@@ -150,11 +119,10 @@ fn watch_in<'s, E, R: Threads + Wait, G: Gate + Sync, H, P: Reads<Heard = H>>(
     requires reader { P.can_read reader }
     requires listener { P.can_hear reader }
     requires seat { seat.desk ≡ tower.now.shift.crew.board.now }
-    ensures watched { (OnOk result.1 ⊥ × P.hears reader result.1 result.2)
-        ⊎ HasWatchedWith tower.now.shift.crew.board.now.task tower.now.shift.crew.plan.now seat
-        result.0 (ReadsAndHears (P.reads reader tower.now.shift.crew.board.now.task
-        tower.now.cells.now tower.now.rounds seat)
-        P.hears result.1 result.2) result.1 }
+    ensures watched { let crew = tower.now.shift.crew in let task = crew.board.now.task in
+        ReadsUnlessRefused task crew.plan.now seat reader
+        (P.reads reader task tower.now.cells.now tower.now.rounds seat)
+        P.hears result.0 result.1 result.2 }
     ensures goes_on { GoesOn seat result.0 }
 {
     let shift = &tower.shift;
@@ -184,15 +152,6 @@ fn watch_in<'s, E, R: Threads + Wait, G: Gate + Sync, H, P: Reads<Heard = H>>(
     read_beside(rt, tower, posts, reader)
 }
 
-// The seats of the workers and of the reader, what waits of its reads, and the threads.
-#[derive(Drop)]
-struct Posts<'s> {
-    seat: Seat,
-    theirs: Seat,
-    sights: Vec<Sight>,
-    threads: Vec<PromisedHandle<Seat, Obeyed<'s>>>,
-}
-
 // An empty list with room for the reads that wait, and for a round.
 fn room_for_pieces(alloc: Global, cells: &[u32], piece: usize) -> Result<Vec<Sight>, AllocError>
     ensures empty { IfOk result (λ v. vec_len v ≡ 0) }
@@ -211,19 +170,11 @@ fn read_beside<'s, R: Threads + Wait, G: Gate + Sync, H, P: Reads<Heard = H>>(
     reader: P,
 ) -> (Seat, Result<RunAnswer, AllocError>, H)
     requires reader { P.can_read reader }
-    requires seat { posts.seat.desk ≡ tower.now.shift.crew.board.now }
-    requires theirs { posts.theirs ≡ posts.seat }
-    requires empty { vec_len posts.sights ≡ 0 }
-    requires room { tower.now.piece + length tower.now.cells.now
-        ≤ vec_capacity posts.sights }
-    requires all { vec_len posts.threads ≡ tower.now.shift.crew.plan.now.workers }
-    requires promised { (k : ℕ) (d : _) → k < vec_len posts.threads →
-        IsToObey tower.now.shift.crew.plan.now.rows k posts.seat
-        (slice_index_or posts.threads.items k d).promise }
-    ensures watched { HasWatchedWith tower.now.shift.crew.board.now.task
-        tower.now.shift.crew.plan.now posts.entry.seat result.0 (ReadsAndHears (P.reads reader
-        tower.now.shift.crew.board.now.task tower.now.cells.now
-        tower.now.rounds posts.entry.seat) P.hears result.1 result.2) result.1 }
+    requires posts { ArePosted tower.now posts }
+    ensures watched { let crew = tower.now.shift.crew in let task = crew.board.now.task in
+        let reads = P.reads reader task tower.now.cells.now tower.now.rounds posts.entry.seat in
+        HasWatchedWith task crew.plan.now posts.entry.seat result.0
+        (ReadsAndHears reads P.hears result.1 result.2) result.1 }
     ensures goes_on { GoesOn posts.entry.seat result.0 }
 {
     let shift = &tower.shift;
@@ -269,8 +220,7 @@ pub fn print_reads<G: Gate, W: Sink>(
     requires sink { W.has_failed sink.old ≡ false }
     requires seat { seat.old.desk ≡ observation.now.assignment.board.now }
     requires empty { vec_len sights.old ≡ 0 }
-    requires room { observation.now.piece + length observation.now.cells.now
-        ≤ vec_capacity sights.old }
+    requires room { most_waiting observation.now ≤ vec_capacity sights.old }
     ensures reads { PutWatch observation.now.assignment.board.now.task observation.now.cells.now
         observation.now.rounds seat.old seat.new (W.taken sink.old) (W.taken sink.new) result }
     ensures failed { IsTrue (W.has_failed sink.new) ↔ IsErrOf result PrintFault.Device }
@@ -298,11 +248,8 @@ fn read_next<G: Gate>(
     requires room { vec_len sights.old + length observation.now.cells.now
         ≤ vec_capacity sights.old }
     ensures desk { seat.new.desk ≡ observation.now.assignment.board.now }
-    ensures reads { (front : List Sight) (p : SeatData) →
-        HasRead observation.now.assignment.board.now.task p (front ++ sights.old.items) seat.old →
-        HasRead observation.now.assignment.board.now.task p (front ++ sights.new.items) seat.new }
-    ensures cells { cells_of sights.new.items ≡ cells_of sights.old.items
-        ++ observation.now.cells.now }
+    ensures reads { ReadsRound observation.now.assignment.board.now.task observation.now.cells.now
+        sights.old.items seat.old sights.new.items seat.new }
     ensures capacity { vec_capacity sights.new ≡ vec_capacity sights.old }
 {
     let assignment = &observation.assignment;

@@ -43,8 +43,7 @@ pub fn run<R: Threads + Wait, G: Gate + Sync>(
     ensures begins { BeginsWith seat.record_of result.0.record_of }
     ensures desk { result.0.desk ≡ board.now }
 {
-    let bell = Bell::new();
-    let bell = &bell;
+    let bell = &Bell::new();
     let (mut seat, worked) = thread::scope(
         thread::scope_env(),
         rt,
@@ -55,12 +54,7 @@ pub fn run<R: Threads + Wait, G: Gate + Sync>(
                 (AllWorked board.entry.now.task plan.entry.now seat result.0) }
             ensures goes_on { GoesOn seat result.0 }
         {
-            let crew = Crew {
-                board,
-                plan,
-                gate,
-                bell,
-            };
+            let crew = Crew::new(board, plan, gate, bell);
             work_in(scope, rt, alloc, &crew, seat)
         },
     );

@@ -50,8 +50,7 @@ pub fn replay_to<W: Sink>(
     requires some { 1 ≤ workers }
     requires most { workers ≤ 64 }
     requires plan { plan.now.workers ≡ workers }
-    ensures ok { IfOk result
-        (TakesReplay job.now plan.now (W.taken sink.old) (W.taken sink.new)) }
+    ensures ok { IfOk result (TakesReplay job.now plan.now (W.taken sink.old) (W.taken sink.new)) }
     ensures beginning { OnErr result
         (BeginsReplay job.now plan.now (W.taken sink.old) (W.taken sink.new)) }
     ensures failed { IsTrue (W.has_failed sink.new) ↔ IsErrOf result PrintFault.Device }

@@ -1,13 +1,12 @@
 //! A reader beside the workers of a plan.
-ghost use Rattle.std.specs.Prelude.{◌≡◌, ◌≤◌, ◌<◌, ◌+◌, ◌*◌, ◌++◌, All, IfOk, length, vec_len};
-ghost use Rattle.std.specs.Prelude.{vec_capacity, List};
+ghost use Rattle.std.specs.Prelude.{◌≡◌, ◌≤◌, ◌<◌, ◌+◌, ◌*◌, All, IfOk, length, vec_len};
+ghost use Rattle.std.specs.Prelude.{vec_capacity};
 ghost use Rattle.walkx.specs.declared.operation.Reading.TheVariants.{At};
 ghost use Rattle.lawful_walk.specs.Seen.{BeginsWith};
-ghost use Rattle.pram_board.specs.Seats.{SeatData};
 ghost use Rattle.pram_run.specs.Inner.Obeying.{AllEndOrStop, GoesOn, IsToWatch};
+ghost use Rattle.pram_run.specs.Inner.Reading.{ReadsRound};
 ghost use Rattle.pram_run.specs.Running.{IsBoardFor, IsRun};
-ghost use Rattle.pram_run.specs.Watching.{HasRead, HasWatched, IsWatch, cells_of};
-ghost use Rattle.pram_run.specs.declared.sight.Sight.{Sight};
+ghost use Rattle.pram_run.specs.Watching.{HasWatched, IsWatch};
 
 use crate::bell::Bell;
 use crate::crew::Crew;
@@ -48,19 +47,28 @@ pub fn watch<R: Threads + Wait, G: Gate + Sync>(
     ensures begins { BeginsWith seat.record_of result.0.record_of }
     ensures desk { result.0.desk ≡ board.now }
 {
-    let bell = Bell::new();
-    let crew = Crew {
-        board,
-        plan,
-        gate,
-        bell: &bell,
-    };
-    let lookout = Lookout {
-        crew,
-        cells,
-        rounds,
-    };
-    let (mut seat, watched) = watch_workers(rt, alloc, &lookout, seat);
+    let bell = &Bell::new();
+    let (mut seat, watched) = thread::scope(
+        thread::scope_env(),
+        rt,
+        |scope| -> (Seat, Result<Vec<Sight>, AllocError>)
+            requires workers { board.now.task.layout.workers ≡ plan.now.workers }
+            requires seat { seat.desk ≡ board.now }
+            requires within { All (λ c. c < board.now.task.job.cells) cells.now }
+            ensures ends { IfOk result.1 (λ sights. AllEndOrStop plan.entry.now result.0) }
+            ensures sights { IfOk result.1 (λ sights. HasWatched board.entry.now.task
+                plan.entry.now cells.entry.now rounds seat sights.items result.0) }
+            ensures goes_on { GoesOn seat result.0 }
+        {
+            let crew = Crew::new(board, plan, gate, bell);
+            let lookout = Lookout {
+                crew,
+                cells,
+                rounds,
+            };
+            watch_in(scope, rt, alloc, &lookout, seat)
+        },
+    );
     let sights = match watched {
         Ok(sights) => sights,
         Err(refused) => return (seat, Err(refused)),
@@ -78,52 +86,6 @@ struct Lookout<'c, 'a, G> {
     cells: &'a [u32],
     rounds: u32,
     ghost within: { All (λ c. c < crew.board.now.task.job.cells) cells.now },
-}
-
-// Starts the reader and the workers, and joins them all.
-fn watch_workers<R: Threads + Wait, G: Gate + Sync>(
-    rt: &R,
-    alloc: Global,
-    lookout: &Lookout<'_, '_, G>,
-    seat: Seat,
-) -> (Seat, Result<Vec<Sight>, AllocError>)
-    requires seat { seat.desk ≡ lookout.now.crew.board.now }
-    ensures ends { IfOk result.1 (λ sights. AllEndOrStop lookout.now.crew.plan.now result.0) }
-    ensures sights { IfOk result.1 (λ sights. HasWatched lookout.now.crew.board.now.task
-        lookout.now.crew.plan.now lookout.now.cells.now lookout.now.rounds seat sights.items
-        result.0) }
-    ensures goes_on { GoesOn seat result.0 }
-{
-    let crew = &lookout.crew;
-    let (board, plan) = (crew.board, crew.plan);
-    let (gate, bell) = (crew.gate, crew.bell);
-    let (cells, rounds) = (lookout.cells, lookout.rounds);
-    thread::scope(
-        thread::scope_env(),
-        rt,
-        |scope| -> (Seat, Result<Vec<Sight>, AllocError>)
-            requires workers { board.now.task.layout.workers ≡ plan.now.workers }
-            requires seat { seat.desk ≡ board.now }
-            requires within { All (λ c. c < board.now.task.job.cells) cells.now }
-            ensures ends { IfOk result.1 (λ sights. AllEndOrStop plan.entry.now result.0) }
-            ensures sights { IfOk result.1 (λ sights. HasWatched board.entry.now.task
-                plan.entry.now cells.entry.now rounds seat sights.items result.0) }
-            ensures goes_on { GoesOn seat result.0 }
-        {
-            let crew = Crew {
-                board,
-                plan,
-                gate,
-                bell,
-            };
-            let lookout = Lookout {
-                crew,
-                cells,
-                rounds,
-            };
-            watch_in(scope, rt, alloc, &lookout, seat)
-        },
-    )
 }
 
 /// What the reader's thread gives back: the seat after its reads, and what they told.
@@ -261,10 +223,8 @@ pub(crate) fn read_round<G: Gate>(
     requires seat { seat.old.desk ≡ round.now.board.now }
     requires room { vec_len sights.old + length round.now.cells.now ≤ vec_capacity sights.old }
     ensures desk { seat.new.desk ≡ round.now.board.now }
-    ensures reads { (front : List Sight) (p : SeatData) →
-        HasRead round.now.board.now.task p (front ++ sights.old.items) seat.old →
-        HasRead round.now.board.now.task p (front ++ sights.new.items) seat.new }
-    ensures cells { cells_of sights.new.items ≡ cells_of sights.old.items ++ round.now.cells.now }
+    ensures reads { ReadsRound round.now.board.now.task round.now.cells.now
+        sights.old.items seat.old sights.new.items seat.new }
     ensures len { vec_len sights.new ≡ vec_len sights.old + length round.now.cells.now }
     ensures capacity { vec_capacity sights.new ≡ vec_capacity sights.old }
 {

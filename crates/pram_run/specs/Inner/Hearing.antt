@@ -1,12 +1,13 @@
 -- How the answer of a run comes to be heard.
-use Rattle.std.specs.Prelude.{◌≡◌, ◌<◌, ℕ, Ok, Err}
+use Rattle.std.specs.Prelude.{◌≡◌, ◌<◌, ℕ, Ok, Err, IfOk}
 use Rattle.pram_step.specs.declared.answer.RunAnswer.TheVariants.{Final, Conflict, Unfinished}
 use Rattle.stop_plan.specs.Plan.{PlanData}
 use Rattle.pram_board.specs.declared.task.Task.{Task}
 use Rattle.pram_board.specs.Seats.{SeatData, unites}
 use Rattle.pram_run.specs.Heard.{Ended}
 use Rattle.pram_run.specs.Inner.Obeying.{EndsOrStops, GoesOn}
-use Rattle.pram_run.specs.Obeyed.{AllObeyed}
+use Rattle.pram_run.specs.Obeyed.{AllObeyed, HasLooked}
+use Rattle.pram_run.specs.Running.{Tells}
 
 -- the end of the job is told
 abbrev pub TellsEnd : Ended → Type 0
@@ -14,6 +15,11 @@ TellsEnd (Ok (Final cells)) = Unit {0}
 TellsEnd (Ok (Conflict fault)) = Unit {0}
 TellsEnd (Ok (Unfinished step)) = ⊥
 TellsEnd (Err refused) = ⊥
+
+-- A seat looked at the board, which told it this.
+pub record HasTold (task : Task) (before later : SeatData) (ended : Ended) : Type 0 where
+  pub told : IfOk ended (Tells task later.record_of)
+  pub looked : HasLooked before later
 
 -- So many workers obeyed the plan from the given seat, and each ended or is stopped; their seats
 -- and then the looker's were joined to it.

@@ -10,6 +10,13 @@ use Rattle.pram_run.specs.PutReads.{Printing}
 use Rattle.pram_run.specs.Watching.{HasRead, cells_of}
 use Rattle.pram_run.specs.declared.sight.Sight.{Sight}
 
+-- Whatever was read before, a round through the cells was read after it.
+pub record ReadsRound (task : Task) (round : List ℕ) (sights : List Sight) (before : SeatData)
+    (sights' : List Sight) (later : SeatData) : Type 0 where
+  pub reads : (front : List Sight) (given : SeatData) →
+      HasRead task given (front ++ sights) before → HasRead task given (front ++ sights') later
+  pub cells : cells_of sights' ≡ cells_of sights ++ round
+
 -- The lines of these sights were put, or a beginning of them; where printing had failed, nothing.
 abbrev pub PutAfter : Printing → Printing → Option (List ℕ) → Option (List ℕ) → List Sight → Type 0
 PutAfter (Ok done) later sink sink' sights = OnOk later (Appends sink sink' (sight_lines sights))

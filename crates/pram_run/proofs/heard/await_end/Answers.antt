@@ -6,11 +6,13 @@ pub loop-init : goal.loop-init
 loop-init g c = looked_same c.args.seat c.args.seat refl
 
 pub answer-told-requires-clause-seat : goal.answer-told-requires-clause-seat
-answer-told-requires-clause-seat g c = (looked_goes _ _ c.loop.invariant).desk ∙ c.requires.seat
+answer-told-requires-clause-seat g c = (looked_goes _ _ c.loop.invariant).desk ∙ c.requires
 
-pub returns-then-all_left-clause-looked : goal.returns-then-all_left-clause-looked
-returns-then-all_left-clause-looked g c =
-    looked_more _ _ _ c.loop.invariant c.answer-told.ensures.looked
+pub returns-then-all_left : goal.returns-then-all_left
+returns-then-all_left g c = record {
+  told = c.answer-told.ensures.answer;
+  looked = looked_more _ _ _ c.loop.invariant c.answer-told.ensures.looked;
+}
 
 pub loop-preserved : goal.loop-preserved
 loop-preserved g c = looked_more _ _ _ c.loop.invariant c.answer-told.ensures.looked

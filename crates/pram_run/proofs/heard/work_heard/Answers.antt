@@ -56,8 +56,8 @@ returns-clause-answer g c =
     late_run c.args.shift.now.crew.board.now.task c.args.shift.now.crew.plan.now
     c.start_all-seat.result.0 _ _ c.join_beside-seat-2.result c.last_answer-seat.result.0
     c.last_answer-seat.result.1 c.join_beside-seat-2.ensures
-    (ap (λ (d : Desk). d.task) desk) c.last_answer-seat.ensures.looked
-    c.last_answer-seat.ensures.told
+    (ap (λ (d : Desk). d.task) desk) c.last_answer-seat.ensures.told.looked
+    c.last_answer-seat.ensures.told.told
     (all_of _ c.last_answer-seat.result.1 c.is_ok.result c.start_all-seat.result.1
     c.is_ok.ensures.value c.start_all-seat.ensures.all c.last_answer-seat.ensures.all)
 
@@ -72,11 +72,11 @@ returns-clause-ran g c =
     (ran_beside c.args.shift.now.crew.board.now.task c.args.shift.now.crew.plan.now c.args.seat
     c.start_all-seat.result.0 looker _ c.join_beside-seat-2.result c.last_answer-seat.result.0
     c.join_beside-seat-2.ensures seat c.start_all-seat.ensures.most beside
-    c.last_answer-seat.ensures.looked)
+    c.last_answer-seat.ensures.told.looked)
 
 pub returns-clause-goes_on : goal.returns-clause-goes_on
 returns-clause-goes_on g c =
     goes_trans c.args.seat c.join_beside-seat-2.result c.last_answer-seat.result.0
     (subst (λ (s : SeatData). GoesOn s c.join_beside-seat-2.result)
     (c.start_all-seat.ensures.seat ∙ c.split-seat.ensures.first)
-    c.join_beside-seat-2.ensures.goes_on) (looked_goes _ _ c.last_answer-seat.ensures.looked)
+    c.join_beside-seat-2.ensures.goes_on) (looked_goes _ _ c.last_answer-seat.ensures.told.looked)

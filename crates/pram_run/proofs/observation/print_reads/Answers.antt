@@ -27,7 +27,7 @@ loop-preserved g c =
       few = passed.few;
       room = omega (arith, was.room, read.capacity, passed.capacity);
       put = put_more _ _ _ _ _ _ _ _ _ _ _ _
-          (put_round _ _ _ _ _ _ _ _ _ _ _ was.put read.reads read.cells) passed.passed;
+          (put_round _ _ _ _ _ _ _ _ _ _ _ was.put read.reads) passed.passed;
       failed = passed.failed;
     }
 

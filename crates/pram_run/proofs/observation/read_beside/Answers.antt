@@ -10,12 +10,12 @@ use Rattle.pram_run.proofs.observation.read_beside.Goals as goal
 
 pub join_beside-seat-requires-clause-looker : goal.join_beside-seat-requires-clause-looker
 join_beside-seat-requires-clause-looker g c κs within = goes_trans _ _ _
-    (subst (λ (s : SeatData). GoesOn s c.read-reader.new.seat) c.requires.theirs
+    (subst (λ (s : SeatData). GoesOn s c.read-reader.new.seat) c.requires.posts.theirs
     c.read-reader.ensures.goes_on) (looked_goes _ _ c.await_end-looker.ensures.looked)
 
 pub join_beside-seat-requires-2-clause-looker : goal.join_beside-seat-requires-2-clause-looker
 join_beside-seat-requires-2-clause-looker g c κs within = goes_trans _ _ _
-    (subst (λ (s : SeatData). GoesOn s c.read-reader.new.seat) c.requires.theirs
+    (subst (λ (s : SeatData). GoesOn s c.read-reader.new.seat) c.requires.posts.theirs
     c.read-reader.ensures.goes_on) (looked_goes _ _ c.await_end-looker.ensures.looked)
 
 pub returns-then-tells_end-clause-watched : goal.returns-then-tells_end-clause-watched
@@ -29,13 +29,13 @@ returns-then-tells_end-clause-watched g c =
     let R : Task → SeatData → Type 0 = λ t s. g.P.Reads.reads c.args.reader t
     tower.cells.now tower.rounds s c.read-reader.new.seat
     c.read-reader.result in
-    let reads : R task c.args.posts.seat = subst (λ (s : SeatData). R task s) c.requires.theirs
+    let reads : R task c.args.posts.seat = subst (λ (s : SeatData). R task s) c.requires.posts.theirs
     c.read-reader.ensures.reads in
     let told = early_run task plan _ looker _ joined early c.join_beside-seat.ensures
     (c.tells_end.ensures.0 c.if-tells_end.true) c.await_end-looker.ensures.told in
     watched_with task plan c.args.posts.seat joined _ early
     (read_with task plan c.args.posts.seat looker _ joined joined c.read-reader.new.seat _
-    c.join_beside-seat.ensures c.requires.all c.await_end-looker.ensures.looked
+    c.join_beside-seat.ensures c.requires.posts.all c.await_end-looker.ensures.looked
     (record { after = c.read-reader.result; reads = reads; hears = c.hear-heard.ensures })
     (looked_same joined joined refl))
     (some_run task plan joined early (c.tells_end.ensures.0 c.if-tells_end.true) told) told
@@ -54,22 +54,22 @@ returns-clause-watched g c =
     let R : Task → SeatData → Type 0 = λ t s. g.P.Reads.reads c.args.reader t
     tower.cells.now tower.rounds s c.read-reader.new.seat
     c.read-reader.result in
-    let reads : R task c.args.posts.seat = subst (λ (s : SeatData). R task s) c.requires.theirs
+    let reads : R task c.args.posts.seat = subst (λ (s : SeatData). R task s) c.requires.posts.theirs
     c.read-reader.ensures.reads in
-    let at : c.args.posts.seat.desk.task ≡ task = ap (λ (d : Desk). d.task) c.requires.seat in
+    let at : c.args.posts.seat.desk.task ≡ task = ap (λ (d : Desk). d.task) c.requires.posts.seat in
     let told = late_run task plan c.args.posts.seat looker _ joined later c.answer-ended.result
     c.join_beside-seat-2.ensures at c.answer-ended.ensures.looked c.answer-ended.ensures.answer
-    (any_all c.answer-ended.result IsUnfinished c.requires.all) in
+    (any_all c.answer-ended.result IsUnfinished c.requires.posts.all) in
     let some = c.answer-ended.ensures.some in
     watched_with task plan c.args.posts.seat later _ c.answer-ended.result
     (read_with task plan c.args.posts.seat looker _ joined later c.read-reader.new.seat _
-    c.join_beside-seat-2.ensures c.requires.all c.await_end-looker.ensures.looked
+    c.join_beside-seat-2.ensures c.requires.posts.all c.await_end-looker.ensures.looked
     (record { after = c.read-reader.result; reads = reads; hears = c.hear-heard-2.ensures })
     c.answer-ended.ensures.looked) (
       some.0,
       late_run task plan c.args.posts.seat looker _ joined later (Ok some.0)
           c.join_beside-seat-2.ensures at c.answer-ended.ensures.looked some.1
-          (λ un. c.requires.all),
+          (λ un. c.requires.posts.all),
     ) told
 
 pub returns-clause-goes_on : goal.returns-clause-goes_on

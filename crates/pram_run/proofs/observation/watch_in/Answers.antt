@@ -1,6 +1,4 @@
-use Rattle.std.proofs.Common.{◌≡◌, ◌∙◌, get_or, inl, inr, refl, sym, subst}
-use Rattle.pram_board.specs.Seats.{SeatData}
-use Rattle.pram_run.specs.Inner.Obeying.{GoesOn, IsToObey}
+use Rattle.std.proofs.Common.{inl}
 use Rattle.pram_run.proofs.Endings.{goes_self}
 use Rattle.pram_run.proofs.observation.watch_in.Goals as goal
 

@@ -32,8 +32,8 @@ loop-preserved g c =
     let was = c.loop.invariant in
     let now = c.read_round.ensures in record {
       desk = now.desk;
-      reads = now.reads [] c.args.seat was.reads;
-      listed = round_more c.loop.counter c.args.round.now.cells.now _ _ now.cells was.listed;
+      reads = now.reads.reads [] c.args.seat was.reads;
+      listed = round_more c.loop.counter c.args.round.now.cells.now _ _ now.reads.cells was.listed;
       len = omega (
         arith,
         count_more c.loop.counter (length c.args.round.now.cells.now),

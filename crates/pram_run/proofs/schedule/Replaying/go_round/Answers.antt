@@ -1,4 +1,4 @@
-use Rattle.std.proofs.Common.{◌++◌, refl, arith}
+use Rattle.std.proofs.Common.{refl, arith}
 use Rattle.pram_run.proofs.Advancing.{round_left, round_made, rounds_over}
 use Rattle.pram_run.proofs.Rounds.{rounds_small}
 use Rattle.pram_run.proofs.schedule.Replaying.go_round.Goals as goal

@@ -1,4 +1,4 @@
-use Rattle.std.proofs.Common.{◌≡◌, ap, sym, refl, ◌∙◌, arith}
+use Rattle.std.proofs.Common.{ap, sym, refl, ◌∙◌, arith}
 use Rattle.pram_world.specs.Worlds.{start}
 use Rattle.pram_run.specs.Traces.{trace_of}
 use Rattle.pram_run.proofs.Advancing.{starts}

@@ -1,4 +1,4 @@
-use Rattle.std.proofs.Common.{◌++◌, refl, sym, ◌∙◌, arith}
+use Rattle.std.proofs.Common.{refl, sym, ◌∙◌, arith}
 use Rattle.pram_run.proofs.After.{after_all}
 use Rattle.pram_run.proofs.Advancing.{part_made, row_over}
 use Rattle.pram_run.proofs.schedule.Replaying.obey_part.Goals as goal
