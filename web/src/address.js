@@ -1,6 +1,7 @@
 // Program, workers and schedule in the address, after `#`, so that a link carries a
 // demonstration. What comes from an address is never trusted: it is read within limits or refused.
-import { MOST_WORKERS, Schedule, readActs, writeActs } from './schedule.js';
+import { MOST_WORKERS, readActs, writeActs } from './acts.js';
+import { Schedule } from './schedule.js';
 
 const MOST_ADDRESS = 60000;
 const MOST_TEXT = 16777216;

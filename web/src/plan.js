@@ -1,5 +1,5 @@
 // A schedule as a plan for `pramx replay`.
-import { ACT, bodyOf, kindOf } from './schedule.js';
+import { ACT, bodyOf, kindOf } from './acts.js';
 
 export function hasTwins(acts) {
   return acts.some((act) => kindOf(act) === ACT.TWIN);
@@ -13,7 +13,7 @@ function addStep(rows, worker) {
 
 // A loss that is followed by a return is one row, at the return; the other losses stand at the
 // end, since a lost worker makes no step.
-function rowsOf(acts) {
+export function rowsOfPlan(acts) {
   const rows = [];
   const lost = new Set();
   for (const act of acts) {
@@ -30,8 +30,10 @@ function rowsOf(acts) {
   return rows;
 }
 
-// Acts with twins have no plan.
-export function planOf(acts) {
-  const rows = rowsOf(acts).map((row) => `${row.worker},${row.act},${row.ticks}\n`);
-  return rows.length === 0 ? '' : `worker,act,ticks\n${rows.join('')}`;
+export function textOfPlan(rows) {
+  const lines = rows.map(({ worker, act, ticks }) => `${worker},${act},${ticks}\n`);
+  return rows.length === 0 ? '' : `worker,act,ticks\n${lines.join('')}`;
 }
+
+// Acts with twins have no plan.
+export const planOf = (acts) => textOfPlan(rowsOfPlan(acts));

@@ -120,10 +120,10 @@ async function testFaults() {
   await write(`${head}pid r0\nld r1\n`);
   is('a fault is said', await text('#fault'),
     'Line 7: the instruction has too few operands, or too many. “ld” needs two registers, as in ' +
-    '“ld r1 r0”.');
+    '“ld r1 r0”, or in pram 3 of an array A “ld r1 A r0”.');
   is('its line is marked', await text('.line-number.fault'), '7');
   is('no machine', await isShown('#machine'), false);
-  is('the menu', await valueOf('#example'), 'own');
+  await has('the menu', '#example option:checked', 'your own: pram 1');
   await picture('fault');
   await write(`${head}pid r0\nld r1 r0\n`);
   is('mended', await text('#fault'), '');
@@ -171,9 +171,12 @@ async function testLongTexts() {
   const lines = `pram 1\ncells 4\nprocs 4\nsteps 3\ncode\npid r0\n${comments}st r0 r0\n`;
   await open(`#${await linkTo(lines)}`);
   await has('a text of 1 MB', '#answer', '4 cells');
-  await page.evaluate('document.getElementById("text").scrollTop = 1e9');
-  await page.until('document.querySelector("#gutter").lastElementChild.textContent === "110008"');
-  is('its last line', await text('#gutter > :last-child'), '110008');
+  await page.click('#lines input');
+  await page.selectAll();
+  await page.insert('110000');
+  await page.press('Enter', 'Enter', '\r');
+  is('its last line', await text('#gutter > :nth-child(8) .number'), '110007');
+  is('that is written in', (await valueOf('#text')).endsWith('st r0 r0\n'), true);
   await picture('long-text');
   await open(`#${await linkTo('x'.repeat(1000000))}`);
   await has('a line of 1 MB', '#fault', 'Line 1: ');
@@ -226,11 +229,13 @@ async function testPlan() {
   await page.click('#plan-part summary');
   await page.until("document.querySelector('#plan-said').textContent !== ''", 5);
   await has('the command', '#plan-said', 'pramx replay program.pram --workers 3 --plan plan.csv');
-  is('the plan', (await valueOf('#plan')).startsWith('worker,act,ticks\n1,go,1\n0,go,1\n'), true);
-  await page.click('#plan-link');
+  is('the plan', (await text('#plan')).startsWith('worker,act,ticks\n1,go,1\n0,go,1\n'), true);
+  await page.click('#save-plan');
   const saved = await downloaded('.csv');
   const file = saved && readFileSync(join(downloads, saved), 'utf8');
-  is('the plan file', file, await valueOf('#plan'));
+  const shown = await text('#plan');
+  is('the plan file', file?.startsWith(shown) && file.length > shown.length, true);
+  is('rows of it that are shown', shown.split('\n').length, 202);
 }
 
 async function testTwinsAndTime() {
