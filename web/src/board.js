@@ -1,12 +1,12 @@
 // The board at the moment of the schedule, as the core tells it, with one call a moment. Workers
 // go on by rounds, in which each that is going makes a step in turn.
 import { ACT, MOST_ACTS, actOf, bodyOf, isEvent, kindOf } from './acts.js';
-import { CODE, effectOf, isChangeAt, isStep, startOf } from './core.js';
+import { CODE } from './core.js';
+import { WIDTH, findEffect, isStep } from './effects.js';
 import { isGoing } from './worker_cards.js';
 
-const FIRST_ROUNDS = 256;
-const FIRST_SEARCH = 16;
 const MOST_STEPS = 60000;
+const NO_STEP = { count: 0, isFound: false };
 
 function joined(events, bodies) {
   const pairs = new Uint32Array(events.length + 2 * bodies.length);
@@ -15,12 +15,31 @@ function joined(events, bodies) {
   return pairs;
 }
 
-// The first of so many effects that is wanted; -1 if there is none.
-function firstWanted(effects, count, isWanted) {
-  for (let k = 0; k < count; k += 1) {
-    if (isChangeAt(effects, startOf(k)) && isWanted(effectOf(effects, k))) return k;
-  }
-  return -1;
+// The bodies that made a step, of which the effects are these, and those effects alone.
+function madeOf(bodies, effects) {
+  const made = bodies.filter((_, k) => isStep(effects, k));
+  if (made.length === bodies.length) return { made, told: effects };
+  const told = new Uint32Array(made.length * WIDTH);
+  let to = 0;
+  bodies.forEach((_, k) => {
+    if (!isStep(effects, k)) return;
+    told.set(effects.subarray(k * WIDTH, (k + 1) * WIDTH), to);
+    to += WIDTH;
+  });
+  return { made, told };
+}
+
+// The effects of acts, with zeros for those that are no events.
+function spread(acts, effects) {
+  if (effects.length === acts.length * WIDTH) return effects;
+  const told = new Uint32Array(acts.length * WIDTH);
+  let from = 0;
+  acts.forEach((act, k) => {
+    if (!isEvent(act)) return;
+    told.set(effects.subarray(from, from + WIDTH), k * WIDTH);
+    from += WIDTH;
+  });
+  return told;
 }
 
 export class Board {
@@ -32,6 +51,11 @@ export class Board {
 
   get schedule() {
     return this.app.schedule;
+  }
+
+  // The events up to the moment.
+  get events() {
+    return this.schedule.events.upTo(this.schedule.at);
   }
 
   // The scene after these events, with the effects of those from `from` on.
@@ -48,7 +72,8 @@ export class Board {
   }
 
   isShown() {
-    return this.shown?.moment.every((part, k) => part === this.moment[k]);
+    const { moment } = this;
+    return this.shown?.moment.every((part, k) => part === moment[k]);
   }
 
   keep(scene) {
@@ -58,17 +83,13 @@ export class Board {
 
   // Has the film of the whole schedule, some thousand acts a call, and tells the last scene.
   fill() {
-    const { acts, film } = this.schedule;
+    const { acts, film, events } = this.schedule;
     let scene;
     while (film.length < acts.length) {
       const end = Math.min(film.length + MOST_STEPS, acts.length);
-      const events = this.schedule.events(end);
-      scene = this.ask(events, this.schedule.events(film.length).length / 2);
+      scene = this.ask(events.upTo(end), events.countOf(film.length));
       if (scene.code !== CODE.DONE) return scene;
-      for (let row = 0; film.length < end;) {
-        if (isEvent(acts[film.length])) film.add(scene.effects, row++);
-        else film.addNothing();
-      }
+      film.add(spread(acts.slice(film.length, end), scene.effects));
     }
     return scene;
   }
@@ -78,8 +99,7 @@ export class Board {
     if (this.isShown()) return this.shown.scene;
     const filled = this.fill();
     if (filled && (this.schedule.isAtEnd || filled.code !== CODE.DONE)) return this.keep(filled);
-    const events = this.schedule.events();
-    return this.keep(this.ask(events, events.length / 2));
+    return this.keep(this.ask(this.events, this.events.length / 2));
   }
 
   // Those that are neither asleep, lost nor over.
@@ -92,32 +112,25 @@ export class Board {
   // A step of each of these, without those that the core says were none; up to the first one that
   // is wanted, if `isWanted` is given. Tells how many were made, and whether the wanted one was.
   step(bodies, mark, isWanted) {
-    const { schedule } = this;
-    this.now();
-    const events = schedule.events();
+    const { schedule, events } = this;
     const scene = this.ask(joined(events, bodies), events.length / 2);
-    if (scene.code !== CODE.DONE) return { count: 0, isFound: false };
-    const last = isWanted ? firstWanted(scene.effects, bodies.length, isWanted) : -1;
-    const made = bodies.map((_, k) => k)
-      .filter((k) => isStep(scene.effects, k) && (last < 0 || k <= last));
-    schedule.add(made.map((k) => actOf(ACT.GO, bodies[k])), mark);
-    for (const k of made) schedule.film.add(scene.effects, k);
-    if (last < 0) this.keep(scene);
-    return { count: made.length, isFound: last >= 0 };
+    if (scene.code !== CODE.DONE) return NO_STEP;
+    const found = isWanted ? findEffect(scene.effects, 0, bodies.length, isWanted) : -1;
+    const count = found < 0 ? bodies.length : found + 1;
+    const effects = scene.effects.subarray(0, count * WIDTH);
+    const { made, told } = madeOf(bodies.slice(0, count), effects);
+    schedule.add(made.map((body) => actOf(ACT.GO, body)), { mark, told });
+    if (count === bodies.length) this.keep(scene);
+    return { count: made.length, isFound: found >= 0 };
   }
 
   // So many rounds of these bodies, as many as one call makes.
   goRounds(count, mark, bodies = this.going(), isWanted = undefined) {
     const room = MOST_ACTS - this.schedule.at;
     const most = Math.min(bodies.length * count, room, MOST_STEPS);
-    if (most === 0) return { count: 0, isFound: false };
+    if (most === 0) return NO_STEP;
     const turns = Array.from({ length: most }, (_, k) => bodies[k % bodies.length]);
     return this.step(turns, mark, isWanted);
-  }
-
-  // Rounds until each worker is over, asleep or lost; all of them are one change.
-  goToEnd(mark = {}) {
-    for (let count = FIRST_ROUNDS; this.goRounds(count, mark).count > 0;) count *= 4;
   }
 
   // Those that are going, from the one after the body that made the last step.
@@ -130,19 +143,13 @@ export class Board {
     return next <= 0 ? going : [...going.slice(next), ...going.slice(0, next)];
   }
 
-  // Goes to just after the next effect that is wanted: in the schedule, or else by rounds after
-  // its end. Tells whether there is one.
-  seek(isWanted) {
+  // Goes on in the schedule to just after the next effect that is wanted, or to its end; tells
+  // whether there is one.
+  seekInSchedule(isWanted) {
     const { schedule } = this;
     this.now();
-    const known = schedule.film.find(schedule.at, schedule.length, isWanted);
-    schedule.moveTo(known < 0 ? schedule.length : known + 1);
-    const mark = {};
-    for (let count = FIRST_SEARCH; known < 0; count *= 4) {
-      const made = this.goRounds(count, mark, this.goingInTurn(), isWanted);
-      if (made.isFound) return true;
-      if (made.count === 0) return false;
-    }
-    return true;
+    const found = schedule.film.find(schedule.at, schedule.length, isWanted);
+    schedule.moveTo(found < 0 ? schedule.length : found + 1);
+    return found >= 0;
   }
 }

@@ -1,5 +1,7 @@
 // The proved core, called from JavaScript. Nothing here knows the machine: it lays out bytes and
 // reads numbers back, as crates/pram_page describes them.
+import { WIDTH, packEffect } from './effects.js';
+
 export const CODE = {
   DONE: 0,
   NO_JOB: 1,
@@ -211,6 +213,13 @@ function indexOf(memory, words, { words: count, leaves }, places) {
   return index;
 }
 
+// What each event did, in few numbers.
+function readEffects(memory, rows, count) {
+  const effects = new Uint32Array(count * WIDTH);
+  for (let k = 0; k < count; k += 1) packEffect(memory, rows + k * ROW_WORDS, effects, k * WIDTH);
+  return effects;
+}
+
 // The phases of the nodes from the root, which is number 1, on.
 function readNodes(memory, words, index) {
   return Float64Array.from(index.nodes, (k, node) =>
@@ -235,14 +244,13 @@ function sceneCalls(exports) {
     const words = wordAt(rooms.words);
     known.index ??= indexOf(memory, words, told, places);
     const wordOf = (k) => readStruct(memory, words + k * WORD_WORDS, WORD);
-    const rows = wordAt(rooms.rows);
     return {
       ...told,
       nodes: readNodes(memory, words, known.index),
       bodies: readStructs(memory, wordAt(rooms.bodies), BODY, told.bodies),
       stored: place === undefined ? [] :
         [wordOf(known.index.stored[2 * place]), wordOf(known.index.stored[2 * place + 1])],
-      effects: memory.slice(rows, rows + told.rows * ROW_WORDS),
+      effects: readEffects(memory, wordAt(rooms.rows), told.rows),
     };
   }
 
@@ -279,28 +287,6 @@ function sceneCalls(exports) {
       return { ...told, pairs: told.list };
     }),
   };
-}
-
-// Where the fields of an effect stand in its row.
-export const AT = Object.fromEntries(FIELDS.get(EFFECT).flatMap(({ name, offset, isWide }) =>
-  (isWide ? [] : [[name, offset]])));
-
-export const startOf = (k) => k * ROW_WORDS;
-export const isStep = (effects, k) => effects[startOf(k) + AT.kind] > 0;
-export const isChangeAt = (effects, at) =>
-  effects[at + AT.beforePayload] !== effects[at + AT.afterPayload] ||
-  effects[at + AT.beforeStamp] !== effects[at + AT.afterStamp];
-
-// Effect number k of these. A whole word is exact as a number where it is no stamped one: phases
-// are below 2^53.
-export function effectOf(effects, k) {
-  const at = startOf(k);
-  const row = readStruct(effects, at, EFFECT);
-  row.before = wide(effects, at + AT.beforePayload);
-  row.after = wide(effects, at + AT.afterPayload);
-  row.isChange = isChangeAt(effects, at);
-  row.stands = readStruct(effects, at + wordsOf(EFFECT), BODY);
-  return row;
 }
 
 export async function openCore(bytes) {

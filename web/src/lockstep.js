@@ -3,6 +3,7 @@ import { openArrows } from './arrows.js';
 import { openCells } from './cells.js';
 import { CODE } from './core.js';
 import { byId, onClick, setDisabled, setText } from './dom.js';
+import { Errands } from './errands.js';
 import { momentInWords } from './lockstep_words.js';
 import { boxesOf, marksOf } from './memory_boxes.js';
 import { saveMemory } from './memory_svg.js';
@@ -10,16 +11,17 @@ import { Moments } from './moments.js';
 import { grouped, numberWithin } from './numbers.js';
 import { openPlayer } from './player.js';
 import { openProcessors } from './processors.js';
-import { hasAccess, isAtLine, seek } from './seek.js';
+import { Search, hasAccess, isAtLine } from './seek.js';
 
 export class LockstepView {
   constructor(app) {
     const show = () => this.show();
     this.app = app;
-    this.moments = new Moments(app);
+    this.moments = new Moments(app, () => this.hearFar());
     this.processors = openProcessors(show);
     this.cells = openCells('plain-cells', 'Cells after this step', show);
     this.arrows = openArrows(show);
+    this.errands = new Errands();
     this.note = '';
     this.player = openPlayer(byId('plain-play'), byId('plain-speed'), (beats) => this.play(beats));
     this.listen();
@@ -55,6 +57,7 @@ export class LockstepView {
 
   pause() {
     this.player.pause();
+    this.errands.stop();
   }
 
   goTo(step, note = '') {
@@ -64,37 +67,43 @@ export class LockstepView {
     this.show();
   }
 
-  // Goes to where a search ended, and says so where nothing was found.
-  goToFound({ step, isFound, isOver }, none) {
-    if (isFound) this.goTo(step);
-    else if (isOver) this.goTo(step, none);
-    else this.goTo(step, `Searched up to step ${grouped(step)}: once more to go on. `);
+  // Goes to where a search ends; where nothing was found the next one is tried, or else it is said.
+  seek(searches, none) {
+    this.pause();
+    let [search, ...rest] = searches;
+    this.errands.start({
+      piece: () => {
+        if (search.look()) return true;
+        if (search.isFound || rest.length === 0) return false;
+        [search, ...rest] = rest;
+        return true;
+      },
+      onPause: () => setText(byId('plain-said'), `Searching: step ${grouped(search.step)}.`),
+      onEnd: () => this.goTo(search.step, search.isFound ? '' : none),
+    });
+  }
+
+  searchTo(to, isWanted) {
+    return new Search(this.moments, this.app.step, to, isWanted);
   }
 
   seekAccess(to) {
-    this.pause();
-    const { step } = this.app;
-    const where = to < step ? 'earlier' : 'later';
-    this.goToFound(seek(this.moments, step, to, hasAccess), `No ${where} memory access. `);
+    const where = to < this.app.step ? 'earlier' : 'later';
+    this.seek([this.searchTo(to, hasAccess)], `No ${where} memory access. `);
   }
 
   seekStop() {
-    this.pause();
-    const { job, step, stops } = this.app;
-    const found = seek(this.moments, step, this.moments.last, isAtLine(job.program, stops));
-    this.goToFound(found, 'No stop is reached any more. ');
+    const { job, stops } = this.app;
+    const isStop = isAtLine(job.program, stops);
+    this.seek([this.searchTo(this.moments.last, isStop)], 'No stop is reached any more. ');
   }
 
   // To the next step in which a processor comes to the line; from the start where there is none.
   seekLine(line) {
-    this.pause();
-    const { moments } = this;
-    const { job, step } = this.app;
-    const isThere = isAtLine(job.program, new Set([line]));
-    const found = seek(moments, step, moments.last, isThere);
-    const again = found.isOver ? seek(moments, -1, step, isThere) : found;
-    if (again.isFound || !again.isOver) this.goToFound(again);
-    else this.goTo(step, `No processor ever comes to line ${grouped(line)}. `);
+    const { moments, app } = this;
+    const isThere = isAtLine(app.job.program, new Set([line]));
+    this.seek([this.searchTo(moments.last, isThere), new Search(moments, -1, app.step, isThere)],
+      `No processor ever comes to line ${grouped(line)}. `);
   }
 
   // Plays on, up to a stop.
@@ -102,20 +111,34 @@ export class LockstepView {
     const { app, moments } = this;
     const to = Math.min(app.step + beats, moments.last);
     const isStop = isAtLine(app.job.program, app.stops);
-    const found = app.stops.size > 0 ? seek(moments, app.step, to, isStop) : { step: to };
+    const found = app.stops.size > 0 ? this.searchTo(to, isStop).finish() : { step: to };
     this.goTo(found.step);
     return !found.isFound && app.step < moments.last;
+  }
+
+  // Something far was told: it is shown, or it stands beside what is shown.
+  hearFar() {
+    const { app, moments } = this;
+    if (this.shown === app.step) moments.isThere(app.step);
+    else this.show();
   }
 
   show() {
     const { app, moments } = this;
     if (!app.job || app.view !== 'lockstep') return;
+    if (app.isAnswering && app.step > moments.last) return;
     app.step = Math.min(app.step, moments.last);
+    this.shown = undefined;
+    this.showButtons();
+    if (!moments.isThere(app.step)) {
+      setText(byId('plain-said'), `Making ${grouped(app.step)} steps.`);
+      return;
+    }
+    this.shown = app.step;
     const state = moments.state(app.step);
     if (state.code !== CODE.DONE) return;
     const next = moments.requests(app.step);
     const fault = next.code === CODE.CONFLICT ? next : undefined;
-    this.showButtons();
     this.say(next.list, fault);
     this.showInText(next.list, fault);
     this.processors.show(app.job, state.places, next.list);

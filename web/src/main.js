@@ -3,12 +3,13 @@ import { openCore } from './core.js';
 import { byId, ignoreDisabled, onClick, setDisabled } from './dom.js';
 import { Drafts } from './drafts.js';
 import { Editor } from './editor.js';
+import { Far } from './far.js';
 import { openGallery } from './gallery.js';
 import { listenToKeys } from './keys.js';
 import { openLink } from './link.js';
 import { LockstepView } from './lockstep.js';
 import { listenToPrinting } from './print.js';
-import { judge, showJudgement } from './program.js';
+import { answerFar, judge, showJudgement } from './program.js';
 import { Schedule } from './schedule.js';
 import { openStops } from './stops.js';
 import { openTabs } from './tabs.js';
@@ -22,8 +23,8 @@ const PAUSE = 1000;
 // What is shown: a work, which is a text with its schedule and its step, the text's job and answer,
 // and the view. The views read it, and change the schedule and the step.
 class Playground {
-  constructor(core, examples) {
-    Object.assign(this, { core, examples, view: 'lockstep', written: 0 });
+  constructor(core, far, examples) {
+    Object.assign(this, { core, far, examples, view: 'lockstep', written: 0 });
     this.works = new Works(makeWork('', new Schedule(WORKERS)));
     this.drafts = new Drafts();
     this.editor = new Editor({
@@ -98,13 +99,26 @@ class Playground {
   showNow() {
     this.pause();
     const { work, works } = this;
+    this.far.forget();
     const found = judge(this.core, work.text);
-    Object.assign(this, { job: found.job, answer: found.answer, most: found.most });
+    this.hear(found);
+    if (found.isAnswering) {
+      answerFar(this.far, work.text, found, (told) => {
+        this.hear(told);
+        this.show();
+      });
+    }
     this.gallery.show(work);
-    showJudgement(found, work.text, this.editor);
     setDisabled(byId('undo-text'), !works.canUndo);
     setDisabled(byId('redo-text'), !works.canRedo);
     this.show();
+  }
+
+  // What the core says of the text.
+  hear(found) {
+    const { job, answer, most, isAnswering } = found;
+    Object.assign(this, { job, answer, most, isAnswering });
+    showJudgement(found, this.text, this.editor);
   }
 
   // What is written without a pause is one change, unless a schedule would go with it.
@@ -186,14 +200,27 @@ function sayTrouble(why) {
 // In a frame of another page the machine stands alone.
 const isEmbedded = () => /(^|[#?&])embed=1(&|$)/.test(location.search + location.hash);
 
+// Each call once, of the least job: a browser compiles a function of the core when it is first called.
+function warm(core) {
+  const text = 'pram 1\ncells 1\nprocs 1\nsteps 1\ncode\nhalt\n';
+  const job = core.judge(text);
+  const events = new Uint32Array(2);
+  core.state(text, job, 1, 1);
+  core.requests(text, job, 0, 1);
+  core.scene(text, 1, events, { from: 0, places: job.places, place: 0 });
+  core.reads(text, job, 1, events);
+  core.outcome(text, job, 1, events);
+}
+
 async function start() {
   const bytes = Uint8Array.from(atob(byId('core').textContent), (byte) => byte.charCodeAt(0));
   document.documentElement.toggleAttribute('data-embed', isEmbedded());
   const core = await openCore(bytes);
-  const app = new Playground(core, JSON.parse(byId('examples').textContent));
+  const app = new Playground(core, new Far(bytes), JSON.parse(byId('examples').textContent));
   app.isEmbedded = isEmbedded();
   await app.link.read();
   document.documentElement.setAttribute('data-ready', '');
+  setTimeout(() => warm(core), 100);
 }
 
 window.addEventListener('error', (event) => sayTrouble(event.message));

@@ -1,6 +1,6 @@
 // The schedule as a plan file to take home. Of a long plan the page shows the first rows alone.
 import { byId, onClick, setText } from './dom.js';
-import { counted, grouped } from './numbers.js';
+import { grouped } from './numbers.js';
 import { hasTwins, rowsOfPlan, textOfPlan } from './plan.js';
 import { save } from './styled_svg.js';
 
@@ -14,8 +14,7 @@ export function openPlan(app) {
 }
 
 function commandOf(app, rows) {
-  const shown = rows.length > ROWS
-    ? ` The first ${grouped(ROWS)} of ${counted(rows.length, 'row')} are shown.` : '';
+  const shown = rows.length > ROWS ? ` Its first ${grouped(ROWS)} rows are shown.` : '';
   return 'The same steps up to this moment, and then each worker in turn to the end: ' +
     `pramx replay program.pram --workers ${app.schedule.workers} --plan plan.csv.${shown}`;
 }
@@ -23,7 +22,7 @@ function commandOf(app, rows) {
 export function showPlan(app) {
   const acts = actsOf(app);
   const isRefused = hasTwins(acts);
-  const rows = isRefused ? [] : rowsOfPlan(acts);
+  const rows = isRefused ? [] : rowsOfPlan(acts, ROWS + 1);
   for (const id of ['plan', 'plan-links']) byId(id).hidden = isRefused;
   setText(byId('plan'), textOfPlan(rows.slice(0, ROWS)));
   setText(byId('plan-said'), isRefused

@@ -1,13 +1,16 @@
 // A schedule: acts, one after the other, and the moment that is shown of them. Each change of the
 // acts can be undone.
-import { ACT, MOST_ACTS, bodyOf, isEvent, kindOf } from './acts.js';
+import { ACT, MOST_ACTS, bodyOf, kindOf } from './acts.js';
+import { Events } from './events.js';
 import { Film } from './film.js';
 
 const MOST_CHANGES = 2000;
+const NOTHING = new Uint32Array(0);
 
 export class Schedule {
   constructor(workers, acts = [], at = acts.length) {
     Object.assign(this, { workers, acts, at, past: [], future: [] });
+    this.events = new Events(this);
     this.film = new Film();
     this.revision = 0;
   }
@@ -28,22 +31,25 @@ export class Schedule {
     this.at = Math.min(Math.max(moment, 0), this.acts.length);
   }
 
-  // Has these acts from act number `from` on, and says how to have again what was there.
-  swap({ workers, from, acts, at }) {
-    const inverse = { workers: this.workers, from, acts: this.acts.slice(from), at: this.at };
+  // Has these acts from act number `from` on, of which the core told this, if it did; and says how
+  // to have again what was there.
+  swap({ workers, from, acts, at, told = NOTHING }) {
+    const inverse = {
+      workers: this.workers, from, acts: this.acts.slice(from), at: this.at,
+      told: this.film.cut(from),
+    };
     this.acts.length = from;
     for (const act of acts) this.acts.push(act);
-    this.workers = workers;
-    this.at = at;
-    this.film.cut(from);
-    this.revision += 1;
+    Object.assign(this, { workers, at, revision: this.revision + 1 });
+    this.events.cut(from);
+    if (this.film.length === from) this.film.add(told);
     return inverse;
   }
 
   // A change with the mark of the last one continues it, and is undone with it.
-  change(workers, from, acts, mark) {
+  change(workers, from, acts, { mark, told } = {}) {
     const at = from + acts.length;
-    const inverse = this.swap({ workers, from, acts, at });
+    const inverse = this.swap({ workers, from, acts, at, told });
     const last = this.past.at(-1);
     this.future = [];
     if (mark && last?.mark === mark && inverse.acts.length === 0) return;
@@ -51,10 +57,11 @@ export class Schedule {
     if (this.past.length > MOST_CHANGES) this.past.shift();
   }
 
-  // What comes next takes the place of what came after this moment.
-  add(acts, mark = undefined) {
+  // What comes next takes the place of what came after this moment. `how` has the mark, and what
+  // the core told of the acts, where it did.
+  add(acts, how) {
     const fitting = acts.slice(0, MOST_ACTS - this.at);
-    if (fitting.length > 0) this.change(this.workers, this.at, fitting, mark);
+    if (fitting.length > 0) this.change(this.workers, this.at, fitting, how);
   }
 
   // Begins again, with so many workers.
@@ -68,20 +75,6 @@ export class Schedule {
 
   redo() {
     if (this.future.length > 0) this.past.push(this.swap(this.future.pop()));
-  }
-
-  // The core's events of the first acts, as pairs: kind, body.
-  events(moment = this.at) {
-    const pairs = new Uint32Array(2 * moment);
-    let count = 0;
-    for (let k = 0; k < moment; k += 1) {
-      const act = this.acts[k];
-      if (!isEvent(act)) continue;
-      pairs[2 * count] = kindOf(act);
-      pairs[2 * count + 1] = bodyOf(act);
-      count += 1;
-    }
-    return pairs.subarray(0, 2 * count);
   }
 
   // The workers of the bodies at this moment: first the workers, then each twin's.

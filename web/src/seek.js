@@ -1,19 +1,25 @@
-// Searches for a step of the plain machine, on or back, for as long as a click may take.
+// Searches for a step of the plain machine, on or back.
 import { STATUS, TARGET } from './processors.js';
 
-const PATIENCE = 60;
-
-// The step is the first one of which the requests are wanted, or the last one that was looked at;
-// `isOver` says that there is no other one to look at.
-export function seek(moments, from, to, isWanted) {
-  const end = performance.now() + PATIENCE;
-  const direction = Math.sign(to - from);
-  for (let step = from; step !== to;) {
-    step += direction;
-    if (isWanted(moments.requests(step).list)) return { step, isFound: true, isOver: false };
-    if (performance.now() > end) return { step, isFound: false, isOver: step === to };
+// A search from one step to another; each `look` looks at one step more, and tells whether there is
+// more to do. Then `isFound` says whether the step is one of which the requests are wanted.
+export class Search {
+  constructor(moments, from, to, isWanted) {
+    Object.assign(this, { moments, to, isWanted, step: from, isFound: false });
   }
-  return { step: to, isFound: false, isOver: true };
+
+  look() {
+    if (this.step === this.to) return false;
+    this.step += Math.sign(this.to - this.step);
+    this.isFound = this.isWanted(this.moments.requests(this.step).list);
+    return !this.isFound && this.step !== this.to;
+  }
+
+  // Looks at all of them.
+  finish() {
+    while (this.look());
+    return this;
+  }
 }
 
 export const hasAccess = (requests) =>

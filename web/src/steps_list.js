@@ -48,7 +48,7 @@ export class StepsList {
     const length = Math.max(0, Math.min(MOST, newest));
     fit(byId('steps'), length, makeMoment).forEach((item, k) => {
       const act = newest - 1 - k;
-      const row = schedule.film.rowOf(act);
+      const row = schedule.film.effectOf(act);
       const words = actInWords(job, names, schedule.acts[act], row);
       showMoment(item, act + 1, words, row?.isChange ? 'changes' : '');
     });

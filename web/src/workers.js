@@ -4,7 +4,9 @@ import { Board } from './board.js';
 import { openCells } from './cells.js';
 import { CODE } from './core.js';
 import { byId, onClick, setDisabled, setHidden, setText } from './dom.js';
-import { isChange, isFinish } from './film.js';
+import { isChange } from './effects.js';
+import { Errands } from './errands.js';
+import { isFinish } from './film.js';
 import { namesOfBodies } from './meaning.js';
 import { counted, grouped } from './numbers.js';
 import { outcomeInWords } from './outcomes.js';
@@ -18,6 +20,8 @@ import { Tree } from './tree.js';
 import { actOfAction, isGoing, openCards } from './worker_cards.js';
 
 const ROUNDS = { 'all-1': 1, 'all-10': 10, 'all-100': 100 };
+const END_ROUNDS = 1024;
+const SEEK_ROUNDS = 16;
 
 export class WorkersView {
   constructor(app) {
@@ -25,6 +29,7 @@ export class WorkersView {
     const moveTo = (moment) => this.moveTo(moment);
     this.app = app;
     this.board = new Board(app);
+    this.errands = new Errands();
     this.tree = new Tree();
     this.cards = openCards((action, body) => this.act(action, body));
     this.cells = openCells('read-cells', 'Cells as a reader gets them', show);
@@ -76,6 +81,7 @@ export class WorkersView {
 
   pause() {
     this.player.pause();
+    this.errands.stop();
     this.mark = undefined;
   }
 
@@ -125,16 +131,45 @@ export class WorkersView {
     this.changed();
   }
 
-  goToEnd() {
-    this.pause();
-    this.board.goToEnd();
-    this.changed();
+  // Does a piece after the other, of more and more rounds, and shows the last one's end.
+  run(piece, rounds, onEnd = () => {}) {
+    let count = rounds;
+    this.errands.start({
+      piece: () => {
+        const isMore = piece(count);
+        count *= 4;
+        return isMore;
+      },
+      onPause: () => this.showErrand(),
+      onEnd: () => {
+        onEnd();
+        this.changed();
+      },
+    });
   }
 
+  showErrand() {
+    this.slider.show();
+    setText(byId('outcome'), 'On the way. Any other click ends it here.');
+  }
+
+  // Rounds until each worker is over, asleep or lost; all of them are undone at once.
+  goToEnd(mark = {}, onEnd = undefined) {
+    this.pause();
+    this.run((count) => this.board.goRounds(count, mark).count > 0, END_ROUNDS, onEnd);
+  }
+
+  // To just after the next effect that is wanted: in the schedule, or else by rounds after its end.
   seek(isWanted) {
     this.pause();
-    this.board.seek(isWanted);
-    this.changed();
+    const { board } = this;
+    const mark = {};
+    const goOn = (count) => {
+      const { isFound, count: made } = board.goRounds(count, mark, board.goingInTurn(), isWanted);
+      return !isFound && made > 0;
+    };
+    if (board.seekInSchedule(isWanted)) this.changed();
+    else this.run(goOn, SEEK_ROUNDS);
   }
 
   // A schedule that has a future is played as it is; after its end each worker goes in turn. What
@@ -153,8 +188,11 @@ export class WorkersView {
 
   act(action, body) {
     this.pause();
-    if (action === 'if') this.loseAndFinish(body);
-    else this.addAct(action, body);
+    if (action === 'if') {
+      this.loseAndFinish(body);
+      return;
+    }
+    this.addAct(action, body);
     this.changed();
   }
 
@@ -171,13 +209,15 @@ export class WorkersView {
     const { schedule } = this.app;
     const { at } = schedule;
     const mark = {};
-    schedule.add([actOf(ACT.LOSE, body)], mark);
-    this.board.goToEnd(mark);
-    schedule.whatIf = {
-      depth: schedule.past.length,
-      told: `What if ${this.names[body]} is lost at moment ${grouped(at)}? The others make ` +
-        `${counted(schedule.length - at - 1, 'atomic step')} more. `,
-    };
+    const name = this.names[body];
+    schedule.add([actOf(ACT.LOSE, body)], { mark });
+    this.goToEnd(mark, () => {
+      schedule.whatIf = {
+        depth: schedule.past.length,
+        told: `What if ${name} is lost at moment ${grouped(at)}? The others make ` +
+          `${counted(schedule.length - at - 1, 'atomic step')} more. `,
+      };
+    });
   }
 
   // What was there before the last what-if that is not undone.
@@ -203,7 +243,7 @@ export class WorkersView {
     this.scene = board.now();
     if (this.scene.code !== CODE.DONE) return;
     app.job.leaves = this.scene.leaves;
-    const events = app.schedule.events();
+    const { events } = board;
     this.showBodies();
     this.showCells(events);
     this.showControls(events);

@@ -25,6 +25,8 @@ const count = (selector) =>
 const picture = (name) => page.wholePicture(join(pictures, `${name}.png`));
 
 async function has(what, selector, words) {
+  await page.until(`document.querySelector(${JSON.stringify(selector)})
+    ?.textContent.includes(${JSON.stringify(words)})`, 5);
   const said = await text(selector);
   is(what, said.includes(words) || said, true);
 }

@@ -5,7 +5,8 @@ import { execFileSync } from 'node:child_process';
 import { readFileSync, readdirSync, writeFileSync } from 'node:fs';
 import { tmpdir } from 'node:os';
 import { join } from 'node:path';
-import { CODE, effectOf, openCore } from '../src/core.js';
+import { CODE, openCore } from '../src/core.js';
+import { effectOf } from '../src/effects.js';
 import { FAULT, INSTRUCTIONS, SENTENCES, wordsOfFault } from '../src/faults.js';
 import { planOf } from '../src/plan.js';
 import { ACT, actOf, readActs, writeActs } from '../src/acts.js';
@@ -90,12 +91,13 @@ function walkActs(workers, rounds) {
   return acts;
 }
 
+const eventsOf = (workers, acts) => new Schedule(workers, acts).events.upTo(acts.length);
+
 const isOver = (body) => body.doing >= 4;
 
 function walk(core, text, { places }) {
   for (let rounds = 256; rounds < 2000000; rounds *= 2) {
-    const schedule = new Schedule(3, walkActs(3, rounds));
-    const events = schedule.events();
+    const events = eventsOf(3, walkActs(3, rounds));
     const scene = core.scene(text, 3, events, { from: events.length / 2, places });
     if (scene.code !== CODE.DONE) return { code: scene.code };
     if (scene.bodies.every(isOver)) return { code: CODE.DONE, events, scene };
@@ -151,14 +153,14 @@ function testReplay(core, name, scratch) {
   const out = execFileSync(pramx, ['replay', path, '--workers', '3', '--plan', plan],
     { encoding: 'utf8', maxBuffer: 2 ** 28 });
   const traced = out.split('\n').slice(1);
-  const events = new Schedule(3, acts).events();
+  const events = eventsOf(3, acts);
   const text = readFileSync(path, 'utf8');
   const { rows: count, effects } =
     core.scene(text, 3, events, { from: 0, places: core.judge(text).places });
   const rows = Array.from({ length: count }, (_, k) => effectOf(effects, k));
   const kinds = ['', 'load', 'store', 'max', 'swap'];
   const made = rows.filter((row) => row.kind > 0).map((row, k) =>
-    `${k + 1},${row.stands.worker},${kinds[row.kind]},${row.word},${row.before},${row.after}`);
+    `${k + 1},${row.body},${kinds[row.kind]},${row.word},${row.before},${row.after}`);
   is(`${name}: a replay of the plan`, made.find((row, k) => row !== traced[k]) ?? 'alike', 'alike');
 }
 
@@ -184,7 +186,9 @@ async function testAddress() {
   const schedule = new Schedule(2, readActs(2, '0.1*9'), 7);
   const shown = { text, view: 'workers', step: 3, schedule };
   const read = await readAddress(await writeAddress(shown, []), []);
-  is('an address', JSON.stringify(read), JSON.stringify(shown));
+  const told = ({ schedule: { workers, acts, at }, ...rest }) =>
+    JSON.stringify([rest.text, rest.view, rest.step, workers, acts, at]);
+  is('an address', told(read), told(shown));
   const bomb = { ...shown, text: ' '.repeat(20000000) };
   is('a text too long for a link', await writeAddress(bomb, []), undefined);
   for (const address of ['text=%%%', 'text=AAAA', 'example=none', 'workers=9', 'workers=0',
@@ -255,7 +259,7 @@ function testSizes(core) {
 // Going to a far moment is quick.
 function testSpeed(core) {
   const text = readFileSync(join(folder, 'sort.pram'), 'utf8');
-  const events = new Schedule(4, readActs(4, '0.1.2.3*99999')).events();
+  const events = eventsOf(4, readActs(4, '0.1.2.3*99999'));
   const { places } = core.judge(text);
   core.scene(text, 4, events, { from: events.length / 2, places });
   const start = performance.now();
