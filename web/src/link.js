@@ -10,8 +10,8 @@ const TOO_LONG = 'The program or the schedule is too long for a link: save it, a
 
 // What another one needs besides the link, and how the link begins.
 function whatIsMissing() {
-  const { protocol, hostname, href } = location;
-  const page = href.split('#', 1)[0];
+  const { protocol, hostname, origin, pathname } = location;
+  const page = origin + pathname;
   if (protocol !== 'http:' && protocol !== 'https:') {
     return {
       start: 'playground.html',
@@ -24,6 +24,14 @@ function whatIsMissing() {
     ? 'The link is copied. It works for those alone who reach this computer or its network.'
     : 'The link is copied.';
   return { start: page, said };
+}
+
+// From a frame the whole page is a click away.
+function showWhole(address = '') {
+  const whole = new URL(location.href);
+  whole.search = '';
+  whole.hash = address;
+  byId('whole').firstElementChild.href = whole.href;
 }
 
 export function openLink(app, examples, onAddress) {
@@ -39,6 +47,7 @@ export function openLink(app, examples, onAddress) {
     const address = await writeAddress(app, examples);
     if (work !== app.work) return address;
     setText(byId('link-said'), address === undefined ? TOO_LONG : '');
+    showWhole(address);
     written = hashOf(address);
     history.replaceState({ work: work.number }, '', written);
     return address;
@@ -58,6 +67,7 @@ export function openLink(app, examples, onAddress) {
     onAddress(shown);
     written = location.hash;
     history.replaceState({ work: app.work.number }, '', written || location.href);
+    showWhole(await writeAddress(app, examples));
   }
 
   // A program that was shown before, with its schedule, or what its address says.

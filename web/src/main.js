@@ -198,7 +198,8 @@ function sayTrouble(why) {
 }
 
 // In a frame of another page the machine stands alone.
-const isEmbedded = () => /(^|[#?&])embed=1(&|$)/.test(location.search + location.hash);
+const isEmbedded = () => [location.search, location.hash].some((part) =>
+  new URLSearchParams(part.slice(1)).get('embed') === '1');
 
 // Each call once, of the least job: a browser compiles a function of the core when it is first called.
 function warm(core) {

@@ -1,5 +1,5 @@
 // What is in sight: sizes of windows, phones, frames, paper, pictures, and where the focus is.
-import { count, focused, has, is, isShown, open, page, picture, saved, text } from './drive.js';
+import { clicks, count, focused, has, is, isShown, open, page, picture, saved, text } from './drive.js';
 
 const SHOWN = '&step=14&acts=0.1.2.3*300';
 
@@ -139,8 +139,9 @@ export async function testManyColours() {
     area.dispatchEvent(new InputEvent('input', { bubbles: true }));
   })()`);
   await has('many processors', '#tree-summary', '2,047 nodes');
-  for (let times = 0; times < 3; times += 1) await page.click('#next-finish');
-  await has('some steps', '#outcome', 'Finished: 1 of 9');
+  await page.click('#next-finish');
+  await has('a step', '#outcome', 'Finished: 1 of 9');
+  await clicks('#all-100', 30);
   is('bars', await count('.bar-node'), 2047);
   const colours = await page.evaluate(`['pass1', 'pass2', 'pass3'].map((pass) =>
     getComputedStyle(document.querySelector('.key.' + pass)).backgroundColor).join(' ')`);
