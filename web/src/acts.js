@@ -31,14 +31,17 @@ function bestRun(acts, start) {
   return best;
 }
 
-// 0, 1, 2, 0, 1, 2, lose 1 is written 0.1.2*2~l1.
-export function writeActs(acts) {
+// 0, 1, 2, 0, 1, 2, lose 1 is written 0.1.2*2~l1. Nothing is written where it is too long.
+export function writeActs(acts, most = Infinity) {
   const runs = [];
   let single = false;
+  let length = 0;
   for (let start = 0; start < acts.length; ) {
     const { period, times } = bestRun(acts, start);
     const piece = acts.slice(start, start + period);
     const words = piece.map((act) => LETTERS[kindOf(act)] + bodyOf(act)).join('.');
+    length += words.length;
+    if (length > most) return undefined;
     if (times === 1 && single) runs[runs.length - 1] += `.${words}`;
     else runs.push(times > 1 ? `${words}*${times}` : words);
     single = times === 1;

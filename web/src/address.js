@@ -65,7 +65,9 @@ export async function writeAddress(shown, examples) {
   const text = example ? `example=${example.name}` : `text=${await packText(shown.text)}`;
   const { workers, acts, at } = shown.schedule;
   const parts = [text, `view=${shown.view}`, `step=${shown.step}`, `workers=${workers}`];
-  if (acts.length > 0) parts.push(`acts=${writeActs(acts)}`, `at=${at}`);
+  const written = writeActs(acts, MOST_ADDRESS);
+  if (written === undefined) return undefined;
+  if (acts.length > 0) parts.push(`acts=${written}`, `at=${at}`);
   const address = parts.join('&');
   return address.length > MOST_ADDRESS ? undefined : address;
 }

@@ -206,9 +206,9 @@ function indexOf(memory, words, { words: count, leaves }, places) {
   const index = { nodes: new Uint32Array(2 * leaves), stored: new Uint32Array(2 * places) };
   for (let k = 0; k < count; k += 1) {
     const at = words + k * WORD_WORDS;
-    const [form, which, part] = [memory[at + 2], memory[at + 3], memory[at + 4]];
-    if (form === FORM.NODE) index.nodes[which] = k;
-    if (form === FORM.STORED) index.stored[2 * which + part] = k;
+    const form = memory[at + 2];
+    if (form === FORM.NODE) index.nodes[memory[at + 3]] = k;
+    if (form === FORM.STORED) index.stored[2 * memory[at + 3] + memory[at + 4]] = k;
   }
   return index;
 }

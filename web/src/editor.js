@@ -164,7 +164,7 @@ export class Editor {
     const above = Math.floor(area.scrollTop / lineHeight);
     const first = sheet.first + above;
     const inSight = Math.ceil(area.clientHeight / lineHeight) + 1;
-    const count = Math.max(Math.min(inSight, sheet.lines - first + 1), 0);
+    const count = Math.max(Math.min(inSight, sheet.linesInPart - above), 0);
     const shift = `translateY(${above * lineHeight - area.scrollTop}px)`;
     drawNumbers(gutter, first, count, marks, this.stops);
     drawMarks(paper, first, count, marks);

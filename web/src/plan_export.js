@@ -10,7 +10,7 @@ const actsOf = ({ schedule }) => schedule.acts.slice(0, schedule.at);
 
 export function openPlan(app) {
   onClick('save-plan', () => save('plan.csv', 'text/plain', textOfPlan(rowsOfPlan(actsOf(app)))));
-  onClick('save-program', () => save('program.pram', 'text/plain', app.text));
+  onClick('save-text', () => save('program.pram', 'text/plain', app.text));
 }
 
 function commandOf(app, rows) {

@@ -42,6 +42,10 @@ export class Sheet {
     this.end = isWhole ? last : Math.min(last, this.start + MOST_CHARACTERS);
   }
 
+  get linesInPart() {
+    return Math.min(countLines(this.part), this.lines - this.first + 1);
+  }
+
   get part() {
     return this.text.slice(this.start, this.end);
   }

@@ -1,6 +1,6 @@
 // The list of atomic steps, the newest first, each with what it meant; one can go to each of them.
 // A window of them is shown, which begins at the moment that is shown.
-import { byId, fit, make, setAttribute, setText } from './dom.js';
+import { byId, fit, make, setAttribute, setHidden, setText } from './dom.js';
 import { actInWords } from './meaning.js';
 import { grouped } from './numbers.js';
 
@@ -53,7 +53,7 @@ export class StepsList {
       showMoment(item, act + 1, words, row?.isChange ? 'changes' : '');
     });
     byId('no-steps').hidden = schedule.at > 0;
-    byId('earlier-steps').hidden = newest <= MOST;
-    byId('later-steps').hidden = this.skipped === 0;
+    setHidden(byId('earlier-steps'), newest <= MOST);
+    setHidden(byId('later-steps'), this.skipped === 0);
   }
 }

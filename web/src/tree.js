@@ -49,7 +49,8 @@ function barsOf(leaves) {
     shape: (node) => {
       const wide = WIDTH / 2 ** depthOf(node);
       return makeSvg('rect', {
-        class: 'bar-node', x: middleOf(node) - wide / 2, y: top(node), width: wide, height: tall,
+        class: wide > 6 ? 'bar-node edged' : 'bar-node',
+        x: middleOf(node) - wide / 2, y: top(node), width: wide, height: tall,
       });
     },
   };

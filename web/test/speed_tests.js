@@ -12,6 +12,12 @@ const loop = (cells, procs, steps) => `pram 1\ncells ${cells}\nprocs ${procs}\ns
 const linkTo = async (text, view) =>
   `#${await writeAddress({ text, view, step: 0, schedule: new Schedule(4) }, [])}`;
 
+// Opens it, and waits until the browser is done with it.
+async function openQuietly(hash) {
+  await open(hash);
+  await page.until('false', 1);
+}
+
 async function timeOf(work) {
   return page.evaluate(`(async () => {
     await new Promise((done) => { requestAnimationFrame(() => setTimeout(done, 50)); });
@@ -36,7 +42,7 @@ async function clicksOn(what, selectors) {
 }
 
 export async function testSpeedOfBitonic() {
-  await open('#example=bitonic&view=workers&workers=4');
+  await openQuietly('#example=bitonic&view=workers&workers=4');
   await clicksOn('bitonic', ['#all-1', '#all-100', '#to-end']);
   await page.until('document.getElementById("outcome").textContent.startsWith("Done")');
   await clicksOn('bitonic, late', ['#moment-back', '#moment-back', '#plan-part summary',
@@ -45,20 +51,19 @@ export async function testSpeedOfBitonic() {
 }
 
 export async function testSpeedOfMany() {
-  await open(await linkTo(loop(65536, 1024, 200), 'lockstep'));
-  await page.until('false', 0.5);
+  await openQuietly(await linkTo(loop(65536, 1024, 200), 'lockstep'));
   await clicksOn('1,024 processors', ['#step-on', '#access-on', '#step-end', '#step-back',
     '#tab-workers', '#all-1', '#all-100', '#moment-back', '#next-finish']);
 }
 
 export async function testSpeedOfLongSchedules() {
-  await open(`${await linkTo(loop(4, 4, 4294967295), 'workers')}&acts=0.1.2.3*99990`);
+  await openQuietly(`${await linkTo(loop(4, 4, 4294967295), 'workers')}&acts=0.1.2.3*99990`);
   await clicksOn('400,000 acts', ['#moment-back', '#moment-on', '#all-1', '#plan-part summary',
     '#moment-start', '#moment-end']);
 }
 
 export async function testSpeedOfFarSteps() {
-  await open(await linkTo(loop(4, 4, 4294967295), 'lockstep'));
+  await openQuietly(await linkTo(loop(4, 4, 4294967295), 'lockstep'));
   await page.until('document.getElementById("answer").textContent.includes("too far")');
   await clickOn('5,000,000 steps', '#step-end');
   await page.until('document.getElementById("plain-said").textContent.startsWith("After")');
@@ -79,7 +84,7 @@ const paste = (text) => `(() => {
 })()`;
 
 export async function testSpeedOfLongTexts() {
-  await open();
+  await openQuietly();
   const lines = `'pram 1\\ncells 4\\nprocs 4\\nsteps 3\\ncode\\npid r0\\n' + '; a line\\n'.repeat(110000) +
     'st r0 r0\\n'`;
   await isQuick('1 MB is pasted', paste(lines));
