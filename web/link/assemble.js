@@ -40,7 +40,9 @@ function sentencesOf(file) {
   return [...rows].map(([, sentence]) => sentence);
 }
 
-const bundle = (table, sentences) => `\n${[...modulesOf('main')].map(enclosed).join('\n')}`
+const bundleOf = (name) => `\n${[...modulesOf(name)].map(enclosed).join('\n')}`;
+
+const bundle = (table, sentences) => bundleOf('main')
   .replace('/*INSTRUCTIONS*/[]', JSON.stringify(instructionsOf(table)))
   .replace('/*SENTENCES*/[]', JSON.stringify(sentencesOf(sentences)));
 
@@ -54,10 +56,11 @@ function examplesOf(folder) {
 
 const hash = (text) => `'sha256-${createHash('sha256').update(text).digest('base64')}'`;
 
-// No resource from outside, and no script or style but the page's own.
+// No resource from outside, and no script or style but the page's own; its thread is made of the
+// page's own text, too.
 const policyOf = (style, script) =>
   `default-src 'none'; img-src data:; style-src ${hash(style)}; ` +
-  `script-src ${hash(script)} 'wasm-unsafe-eval'; base-uri 'none'; form-action 'none'`;
+  `script-src ${hash(script)} 'wasm-unsafe-eval'; worker-src blob:; base-uri 'none'; form-action 'none'`;
 
 const [core, examples, table, sentences, out] = process.argv.slice(2);
 const style = `\n${read('style.css')}`;
@@ -66,6 +69,7 @@ const parts = {
   POLICY: policyOf(style, script),
   STYLE: style,
   EXAMPLES: JSON.stringify(examplesOf(examples)).replaceAll('<', '\\u003c'),
+  FAR: bundleOf('far_core'),
   CORE: readFileSync(core).toString('base64'),
   PAGE: script,
 };

@@ -1,6 +1,7 @@
 // Program, workers and schedule in the address, after `#`, so that a link carries a
 // demonstration. What comes from an address is never trusted: it is read within limits or refused.
-import { MOST_WORKERS, Schedule, readActs, writeActs } from './schedule.js';
+import { MOST_WORKERS, readActs, writeActs } from './acts.js';
+import { Schedule } from './schedule.js';
 
 const MOST_ADDRESS = 60000;
 const MOST_TEXT = 16777216;
@@ -64,7 +65,9 @@ export async function writeAddress(shown, examples) {
   const text = example ? `example=${example.name}` : `text=${await packText(shown.text)}`;
   const { workers, acts, at } = shown.schedule;
   const parts = [text, `view=${shown.view}`, `step=${shown.step}`, `workers=${workers}`];
-  if (acts.length > 0) parts.push(`acts=${writeActs(acts)}`, `at=${at}`);
+  const written = writeActs(acts, MOST_ADDRESS);
+  if (written === undefined) return undefined;
+  if (acts.length > 0) parts.push(`acts=${written}`, `at=${at}`);
   const address = parts.join('&');
   return address.length > MOST_ADDRESS ? undefined : address;
 }

@@ -1,5 +1,5 @@
 // Arrows between processors and cells: who reads and who writes which cell in the next step.
-import { byId, fit, make, makeSvg, setText } from './dom.js';
+import { byId, fit, make, makeSvg, setAttribute, setText } from './dom.js';
 import { STATUS, TARGET } from './processors.js';
 
 const MOST = 32;
@@ -41,9 +41,16 @@ function arrowsOf(chip, request, boxOf, frame, isClash) {
   return found;
 }
 
-export function openArrows() {
+// Draws them anew when the room for them changes: `onResize` shows the moment again.
+export function openArrows(onResize) {
   const strip = byId('strip');
   const drawing = byId('arrows');
+  let width = 0;
+  new ResizeObserver(([{ contentRect }]) => {
+    if (contentRect.width === width) return;
+    width = contentRect.width;
+    onResize();
+  }).observe(strip.parentElement);
   return {
     // `range` is the window on the cells, which stand in `list`.
     show(job, requests, list, range, fault) {
@@ -54,7 +61,7 @@ export function openArrows() {
       const chips = fit(strip, job.procs, () => make('li'));
       chips.forEach((chip, processor) => {
         setText(chip, `P${processor}`);
-        chip.className = kindOfChip(processor, requests[processor], fault);
+        setAttribute(chip, 'class', kindOfChip(processor, requests[processor], fault));
       });
       const frame = drawing.getBoundingClientRect();
       const boxOf = (cell) => list.children[cell - range.first];

@@ -1,5 +1,5 @@
-// Cells as a row of boxes, a window of them at a time.
-import { byId, fit, make, setText } from './dom.js';
+// Cells as a row of boxes of one size, a window of them at a time.
+import { byId, fit, make, setAttribute, setText } from './dom.js';
 import { openWindow } from './window.js';
 
 const IN_SIGHT = 64;
@@ -11,12 +11,14 @@ function makeBox() {
     make('span', { class: 'cell-note' }));
 }
 
+// A note is cut where the box ends; it is whole in the box's title.
 function showBox(box, cell, { value, note, kind }) {
-  box.className = `cell ${kind}`;
+  setAttribute(box, 'class', `cell ${kind}`);
   const [number, held, notes] = box.children;
   setText(number, String(cell));
   setText(held, String(value));
   setText(notes, note);
+  setAttribute(notes, 'title', note);
 }
 
 // A row of boxes in the element of this id. `boxOf(cell)` gives a cell's value, note and class.

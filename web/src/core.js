@@ -1,5 +1,7 @@
 // The proved core, called from JavaScript. Nothing here knows the machine: it lays out bytes and
 // reads numbers back, as crates/pram_page describes them.
+import { WIDTH, packEffect } from './effects.js';
+
 export const CODE = {
   DONE: 0,
   NO_JOB: 1,
@@ -35,39 +37,43 @@ const SCENE = {
   finished: 4, conflict: 4,
 };
 const READ = { step: 4, value: 4 };
+const VALUE = { value: 4 };
 
 const sizeOf = (struct) => Object.values(struct).reduce((sum, width) => sum + width, 0);
-const EVENT_SIZE = 8;
-const KIND_AT = 16;
-const FORM_AT = 24;
-const TWIN = 3;
-const ROW_SIZE = sizeOf(EFFECT) + sizeOf(BODY);
 
-function readStruct(view, at, struct) {
+// Everything is read as words of 32 bits, and so are sizes and offsets from here on.
+const wordsOf = (struct) => sizeOf(struct) / 4;
+const EVENT_SIZE = 8;
+const WORD_WORDS = wordsOf(WORD);
+const ROW_WORDS = wordsOf(EFFECT) + wordsOf(BODY);
+const TWIN = 3;
+
+// The names of a struct's fields with their offsets, and which take two words.
+function fieldsOf(struct) {
+  let offset = 0;
+  return Object.entries(struct).map(([name, width]) => {
+    const field = { name, offset, isWide: width === 8 };
+    offset += width / 4;
+    return field;
+  });
+}
+
+const FIELDS = new Map([JUDGEMENT, TOLD, REQUEST, BODY, EFFECT, WORD, SCENE, READ, VALUE]
+  .map((struct) => [struct, fieldsOf(struct)]));
+
+const wide = (memory, at) => memory[at] + memory[at + 1] * 2 ** 32;
+
+function readStruct(memory, at, struct) {
   const told = {};
-  let offset = at;
-  for (const [name, width] of Object.entries(struct)) {
-    const low = view.getUint32(offset, true);
-    told[name] = width === 4 ? low : low + view.getUint32(offset + 4, true) * 2 ** 32;
-    offset += width;
+  for (const { name, offset, isWide } of FIELDS.get(struct)) {
+    told[name] = isWide ? wide(memory, at + offset) : memory[at + offset];
   }
   return told;
 }
 
-function readStructs(view, at, struct, count) {
-  const size = sizeOf(struct);
-  return Array.from({ length: count }, (_, k) => readStruct(view, at + k * size, struct));
-}
-
-// The effect of an event and its body after it. A whole word is exact as a number where it is no
-// stamped one: phases are below 2^53.
-function readRow(view, at) {
-  const row = readStruct(view, at, EFFECT);
-  row.before = row.beforePayload + row.beforeStamp * 2 ** 32;
-  row.after = row.afterPayload + row.afterStamp * 2 ** 32;
-  row.isChange = row.beforePayload !== row.afterPayload || row.beforeStamp !== row.afterStamp;
-  row.stands = readStruct(view, at + sizeOf(EFFECT), BODY);
-  return row;
+function readStructs(memory, at, struct, count) {
+  const size = wordsOf(struct);
+  return Array.from({ length: count }, (_, k) => readStruct(memory, at + k * size, struct));
 }
 
 // Room in the core's memory for one call.
@@ -90,14 +96,17 @@ class Desk {
     return at;
   }
 
-  view() {
-    return new DataView(this.exports.memory.buffer);
+  // The memory as it stands: a call that takes room may move it.
+  memory() {
+    return new Uint32Array(this.exports.memory.buffer);
   }
 
   clear() {
     for (const at of this.taken) this.exports.page_free(at);
   }
 }
+
+const wordAt = (address) => Number(address) / 4;
 
 function atDesk(exports, work) {
   const desk = new Desk(exports);
@@ -109,10 +118,12 @@ function atDesk(exports, work) {
 }
 
 const encoder = new TextEncoder();
+let encoded = { text: '', bytes: new Uint8Array(0) };
 
+// The bytes of the text that was asked for last are kept.
 function putText(desk, text) {
-  const bytes = encoder.encode(text);
-  return [desk.put(bytes), BigInt(bytes.length)];
+  if (encoded.text !== text) encoded = { text, bytes: encoder.encode(text) };
+  return [desk.put(encoded.bytes), BigInt(encoded.bytes.length)];
 }
 
 // Events as a Uint32Array of pairs: kind, body.
@@ -124,54 +135,56 @@ function putEvents(desk, events) {
 function tell(desk, struct, call) {
   const told = desk.room(sizeOf(struct));
   call(told);
-  return readStruct(desk.view(), Number(told), struct);
+  return readStruct(desk.memory(), wordAt(told), struct);
 }
 
-// A call that fills one list, of so many elements at most.
-function tellList(desk, element, most, call) {
+const isFilled = ({ code }) => code === CODE.DONE || code === CODE.CONFLICT;
+
+// A call that fills one list, of so many elements at most, which `read` takes from the memory.
+function tellList(desk, element, most, call, read) {
   const rows = desk.room(most * sizeOf(element));
   const told = tell(desk, TOLD, (at) => call(rows, BigInt(most), at));
-  const filled = told.code === CODE.DONE || told.code === CODE.CONFLICT ? told.count : 0;
-  return { ...told, list: readStructs(desk.view(), Number(rows), element, filled) };
+  return { ...told, list: read(desk.memory(), wordAt(rows), isFilled(told) ? told.count : 0) };
 }
 
-const VALUE = { value: 4 };
-const valuesOf = (told) => told.list.map((row) => row.value);
-
-function judge(exports, text) {
-  return atDesk(exports, (desk) => tell(desk, JUDGEMENT, (told) =>
-    exports.pram_page_judge(...putText(desk, text), told)));
-}
+const readNumbers = (memory, at, count) => memory.slice(at, at + count);
+const readRequests = (memory, at, count) => readStructs(memory, at, REQUEST, count);
+const readPairs = (memory, at, count) => memory.slice(at, at + 2 * count);
 
 // `sizes` is what the text was judged to be.
 function plainCalls(exports) {
   return {
-    judge: (text) => judge(exports, text),
+    judge: (text) => atDesk(exports, (desk) => tell(desk, JUDGEMENT, (told) =>
+      exports.pram_page_judge(...putText(desk, text), told))),
 
     answer: (text, sizes, most) => atDesk(exports, (desk) => {
       const input = putText(desk, text);
       const told = tellList(desk, VALUE, sizes.cells, (...room) =>
-        exports.pram_page_answer(...input, most, ...room));
-      return { ...told, cells: valuesOf(told) };
+        exports.pram_page_answer(...input, most, ...room), readNumbers);
+      return { ...told, cells: told.list };
     }),
 
     state: (text, sizes, step, most) => atDesk(exports, (desk) => {
       const input = putText(desk, text);
       const told = tellList(desk, VALUE, sizes.places, (...room) =>
-        exports.pram_page_state(...input, step, most, ...room));
-      return { ...told, places: valuesOf(told) };
+        exports.pram_page_state(...input, step, most, ...room), readNumbers);
+      return { ...told, places: told.list };
     }),
 
     requests: (text, sizes, step, most) => atDesk(exports, (desk) => {
       const input = putText(desk, text);
       return tellList(desk, REQUEST, sizes.procs, (...room) =>
-        exports.pram_page_requests(...input, step, most, ...room));
+        exports.pram_page_requests(...input, step, most, ...room), readRequests);
     }),
   };
 }
 
 const putRun = (desk, text, workers, events) =>
   [...putText(desk, text), workers, ...putEvents(desk, events)];
+
+export const FORM = {
+  CONFLICT: 0, NODE: 1, REQUEST: 2, POSITION: 3, STORED: 4, CLAIM: 5, SPARE: 6, NONE: 7,
+};
 
 // How many words and bodies there are before any event: twins add bodies, and nothing adds words.
 function sizesOfScene(desk, exports, text, workers) {
@@ -187,100 +200,91 @@ function countTwins(events) {
   return count;
 }
 
-// The scene after the events, with the rows of those from `from` on.
-function callScene(desk, exports, text, workers, events, from) {
-  const input = [...putRun(desk, text, workers, events), BigInt(from)];
-  const asked = events.length / 2 - from;
-  const rows = desk.room(asked * ROW_SIZE);
-  const sizes = sizesOfScene(desk, exports, text, workers);
-  if (sizes.code !== CODE.NO_ROOM) return { told: sizes };
-  const count = sizes.bodies + countTwins(events);
-  const words = desk.room(sizes.words * sizeOf(WORD));
-  const bodies = desk.room(count * sizeOf(BODY));
-  const told = tell(desk, SCENE, (at) => exports.pram_page_scene(
-    ...input, rows, BigInt(asked), words, BigInt(sizes.words), bodies, BigInt(count), at));
-  return { told, rows: Number(rows), words: Number(words), bodies: Number(bodies) };
-}
-
-export const FORM = {
-  CONFLICT: 0, NODE: 1, REQUEST: 2, POSITION: 3, STORED: 4, CLAIM: 5, SPARE: 6, NONE: 7,
-};
-
-// The words of one form; of one node, place, .. where `which` is given.
-function wordsOfForm(view, made, form, which) {
-  const found = [];
-  for (let k = 0; k < made.told.words; k += 1) {
-    const start = made.words + k * sizeOf(WORD);
-    if (view.getUint32(start + 8, true) !== form) continue;
-    if (which === undefined || view.getUint32(start + 12, true) === which) {
-      found.push(readStruct(view, start, WORD));
-    }
+// The core orders the words of a board alike at every moment: where those of the nodes and of the
+// places stand is looked up once for a text and a number of workers.
+function indexOf(memory, words, { words: count, leaves }, places) {
+  const index = { nodes: new Uint32Array(2 * leaves), stored: new Uint32Array(2 * places) };
+  for (let k = 0; k < count; k += 1) {
+    const at = words + k * WORD_WORDS;
+    const form = memory[at + 2];
+    if (form === FORM.NODE) index.nodes[memory[at + 3]] = k;
+    if (form === FORM.STORED) index.stored[2 * memory[at + 3] + memory[at + 4]] = k;
   }
-  return found;
+  return index;
 }
 
-function readChanges(view, made, place) {
-  const changes = [];
-  for (let k = 0; k < made.told.rows; k += 1) {
-    const start = made.rows + k * ROW_SIZE;
-    if (view.getUint32(start + FORM_AT, true) !== FORM.STORED) continue;
-    if (view.getUint32(start + FORM_AT + 4, true) !== place) continue;
-    const row = readRow(view, start);
-    if (row.isChange) changes.push({ ...row, event: k });
-  }
-  return changes;
+// What each event did, in few numbers.
+function readEffects(memory, rows, count) {
+  const effects = new Uint32Array(count * WIDTH);
+  for (let k = 0; k < count; k += 1) packEffect(memory, rows + k * ROW_WORDS, effects, k * WIDTH);
+  return effects;
 }
 
+// The phases of the nodes from the root, which is number 1, on.
+function readNodes(memory, words, index) {
+  return Float64Array.from(index.nodes, (k, node) =>
+    (node === 0 ? 0 : wide(memory, words + k * WORD_WORDS)));
+}
+
+// A scene has the tree, the bodies, the two words of one place, and the effects of the events from
+// `from` on.
 function sceneCalls(exports) {
+  let known = {};
+
+  // The sizes of the scenes of a text and so many workers, and where their words stand.
+  function sizesOf(desk, text, workers) {
+    if (known.text !== text || known.workers !== workers) {
+      known = { text, workers, sizes: sizesOfScene(desk, exports, text, workers) };
+    }
+    return known.sizes;
+  }
+
+  function readScene(desk, told, rooms, { places, place }) {
+    const memory = desk.memory();
+    const words = wordAt(rooms.words);
+    known.index ??= indexOf(memory, words, told, places);
+    const wordOf = (k) => readStruct(memory, words + k * WORD_WORDS, WORD);
+    return {
+      ...told,
+      nodes: readNodes(memory, words, known.index),
+      bodies: readStructs(memory, wordAt(rooms.bodies), BODY, told.bodies),
+      stored: place === undefined ? [] :
+        [wordOf(known.index.stored[2 * place]), wordOf(known.index.stored[2 * place + 1])],
+      effects: readEffects(memory, wordAt(rooms.rows), told.rows),
+    };
+  }
+
   return {
-    // The tree, the bodies, and the rows of the events from `from` on.
-    scene: (text, workers, events, from) => atDesk(exports, (desk) => {
-      const made = callScene(desk, exports, text, workers, events, from);
-      if (made.told.code !== CODE.DONE) return made.told;
-      const view = desk.view();
-      const nodes = wordsOfForm(view, made, FORM.NODE);
-      return {
-        ...made.told,
-        nodes: new Map(nodes.map((word) => [word.which, word.value])),
-        bodies: readStructs(view, made.bodies, BODY, made.told.bodies),
-        rows: Array.from({ length: made.told.rows }, (_, k) =>
-          readRow(view, made.rows + k * ROW_SIZE)),
+    scene: (text, workers, events, { from, places, place }) => atDesk(exports, (desk) => {
+      const sizes = sizesOf(desk, text, workers);
+      if (sizes.code !== CODE.NO_ROOM) return sizes;
+      const asked = events.length / 2 - from;
+      const count = sizes.bodies + countTwins(events);
+      const input = [...putRun(desk, text, workers, events), BigInt(from)];
+      const rooms = {
+        rows: desk.room(asked * ROW_WORDS * 4),
+        words: desk.room(sizes.words * sizeOf(WORD)),
+        bodies: desk.room(count * sizeOf(BODY)),
       };
-    }),
-
-    // Of each event from `from` on, whether it was an atomic step.
-    areSteps: (text, workers, events, from) => atDesk(exports, (desk) => {
-      const made = callScene(desk, exports, text, workers, events, from);
-      const view = desk.view();
-      return Array.from({ length: made.told.rows }, (_, k) =>
-        view.getUint32(made.rows + k * ROW_SIZE + KIND_AT, true) > 0);
-    }),
-
-    // The two words of a place, and the events that changed one of them.
-    placeHistory: (text, workers, events, place) => atDesk(exports, (desk) => {
-      const made = callScene(desk, exports, text, workers, events, 0);
-      if (made.told.code !== CODE.DONE) return { code: made.told.code, words: [], changes: [] };
-      const view = desk.view();
-      return {
-        code: CODE.DONE,
-        words: wordsOfForm(view, made, FORM.STORED, place),
-        changes: readChanges(view, made, place),
-      };
+      const told = tell(desk, SCENE, (at) => exports.pram_page_scene(
+        ...input, rooms.rows, BigInt(asked), rooms.words, BigInt(sizes.words),
+        rooms.bodies, BigInt(count), at));
+      return told.code === CODE.DONE ? readScene(desk, told, rooms, { places, place }) : told;
     }),
 
     outcome: (text, sizes, workers, events) => atDesk(exports, (desk) => {
       const input = putRun(desk, text, workers, events);
       const told = tellList(desk, VALUE, sizes.cells, (...room) =>
-        exports.pram_page_outcome(...input, ...room));
-      return { ...told, cells: valuesOf(told) };
+        exports.pram_page_outcome(...input, ...room), readNumbers);
+      return { ...told, cells: told.list };
     }),
 
-    // Each cell as a reader gets it.
+    // Each cell as a reader gets it: step and value, one pair after the other.
     reads: (text, sizes, workers, events) => atDesk(exports, (desk) => {
       const input = putRun(desk, text, workers, events);
       const told = tellList(desk, READ, sizes.cells, (...room) =>
-        exports.pram_page_reads(...input, ...room));
-      return { ...told, cells: told.list };
+        exports.pram_page_reads(...input, ...room), readPairs);
+      return { ...told, pairs: told.list };
     }),
   };
 }

@@ -32,13 +32,40 @@ export function setAttribute(element, name, value) {
   if (element.getAttribute(name) !== String(value)) element.setAttribute(name, value);
 }
 
+// Focus that would be lost goes to the part of the page that it was in.
+export function keepFocus(element, goes) {
+  if (!goes.contains(document.activeElement)) return;
+  element.closest('[tabindex]')?.focus({ preventScroll: true });
+}
+
 // Gives the parent exactly so many children, keeping those that are there (and their focus).
 export function fit(parent, count, makeChild) {
-  while (parent.children.length > count) parent.lastElementChild.remove();
+  while (parent.children.length > count) {
+    keepFocus(parent, parent.lastElementChild);
+    parent.lastElementChild.remove();
+  }
   while (parent.children.length < count) parent.append(makeChild(parent.children.length));
   return [...parent.children];
 }
 
-export function setDisabled(element, disabled) {
-  if (element.disabled !== disabled) element.disabled = disabled;
+// A button that does nothing now keeps its focus: it is told apart, but not taken away.
+export function setDisabled(button, isDisabled) {
+  setAttribute(button, 'aria-disabled', String(isDisabled));
+}
+
+export function ignoreDisabled() {
+  document.addEventListener('click', (event) => {
+    if (!event.target.closest('[aria-disabled="true"]')) return;
+    event.preventDefault();
+    event.stopImmediatePropagation();
+  }, true);
+}
+
+export function setHidden(element, isHidden) {
+  if (isHidden && !element.hidden) keepFocus(element.parentElement, element);
+  element.hidden = isHidden;
+}
+
+export function onClick(id, work) {
+  byId(id).addEventListener('click', work);
 }

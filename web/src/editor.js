@@ -1,81 +1,188 @@
-// The editor: a plain text area, with line numbers beside it and marks behind it. Only the lines
-// in sight are drawn, so that a text of a million lines is as quick as one of ten.
-import { byId, fit, make, setText } from './dom.js';
-import { countLines } from './text_lines.js';
+// The editor: a plain text area, with line numbers beside it and marks behind it. A long text is
+// shown by a window on its lines, and of these only those in sight have a number drawn.
+import { byId, fit, make, setAttribute, setText } from './dom.js';
+import { Sheet } from './sheet.js';
+import { openWindow } from './window.js';
 
-const LARGE = 100000;
-const QUIET = { small: 30, large: 400 };
+const QUIET = 30;
+const LARGE = 20000;
+const WINDOW = 400;
 
-const makeNumber = () => make('div', { class: 'line-number' });
 const makeMark = () => make('div', { class: 'mark' }, make('span', { class: 'badge' }));
+const makeNumber = () => make('div', { class: 'line-number' },
+  make('span', { class: 'stop', title: 'Stop here, or no more' }),
+  make('span', { class: 'number', title: 'To this line' }));
 
-function drawNumbers(gutter, first, count, marks) {
+function drawNumbers(gutter, first, count, marks, stops) {
   fit(gutter, count, makeNumber).forEach((row, k) => {
-    setText(row, String(first + k));
-    row.className = `line-number ${marks.get(first + k)?.kind ?? ''}`;
+    const line = first + k;
+    setText(row.lastElementChild, String(line));
+    setAttribute(row, 'data-line', line);
+    const stop = stops.has(line) ? ' stops' : '';
+    setAttribute(row, 'class', `line-number ${marks.get(line)?.kind ?? ''}${stop}`);
   });
 }
 
 function drawMarks(paper, first, count, marks) {
   fit(paper, count, makeMark).forEach((row, k) => {
     const mark = marks.get(first + k);
-    row.className = `mark ${mark?.kind ?? ''}`;
+    setAttribute(row, 'class', `mark ${mark?.kind ?? ''}`);
     setText(row.firstElementChild, mark?.badge ?? '');
   });
 }
 
+// Where two texts differ last: the end of the difference in the second one.
+function endOfChange(before, after) {
+  let same = 0;
+  const most = Math.min(before.length, after.length);
+  while (same < most && before.at(-1 - same) === after.at(-1 - same)) same += 1;
+  return after.length - same;
+}
+
 export class Editor {
-  constructor(onInput) {
+  // `on` has what follows a change of the text, undo, redo, and clicks on a line's number or stop.
+  constructor(on) {
     this.area = byId('text');
-    this.onInput = onInput;
-    this.lines = 1;
+    this.on = on;
+    this.sheet = new Sheet();
     this.marks = new Map();
-    this.area.addEventListener('input', () => this.wait());
-    this.area.addEventListener('scroll', () => this.draw());
-    new ResizeObserver(() => this.draw()).observe(this.area);
+    this.stops = new Set();
+    this.sight = openWindow('line', WINDOW, (line) => this.moveTo(line), 1);
+    byId('lines').append(this.sight.bar);
+    this.listen();
   }
 
-  // A text is looked at once the writing pauses: a paste comes line by line in some browsers.
-  wait() {
+  listen() {
     const { area } = this;
-    clearTimeout(this.timer);
-    area.classList.add('waits');
-    const quiet = area.textLength < LARGE ? QUIET.small : QUIET.large;
-    this.timer = setTimeout(() => {
-      this.look();
-      this.onInput(area.value);
-    }, quiet);
+    area.addEventListener('input', () => this.wait());
+    area.addEventListener('scroll', () => this.draw());
+    area.addEventListener('keydown', (event) => this.onKey(event));
+    area.addEventListener('beforeinput', (event) => this.onInput(event));
+    area.addEventListener('paste', (event) => this.onPaste(event, event.clipboardData));
+    area.addEventListener('drop', (event) => this.onPaste(event, event.dataTransfer));
+    byId('gutter').addEventListener('click', (event) => this.onClick(event.target));
+    new ResizeObserver(() => this.draw()).observe(area);
   }
 
-  look() {
+  // The page has its own undo: a text area forgets its own once a text is set.
+  onKey(event) {
+    const key = event.key.toLowerCase();
+    if (!(event.ctrlKey || event.metaKey) || event.altKey || (key !== 'z' && key !== 'y')) return;
+    event.preventDefault();
+    event.stopPropagation();
+    this.look();
+    if (key === 'y' || event.shiftKey) this.on.redo();
+    else this.on.undo();
+  }
+
+  onInput(event) {
+    if (event.inputType === 'historyUndo') this.on.undo();
+    else if (event.inputType === 'historyRedo') this.on.redo();
+    else if ((event.data?.length ?? 0) > LARGE) this.insert(event.data);
+    else return;
+    event.preventDefault();
+  }
+
+  onPaste(event, data) {
+    const text = data?.getData('text/plain') ?? '';
+    if (text.length <= LARGE) return;
+    event.preventDefault();
+    this.insert(text);
+  }
+
+  // A long text is put into the sheet, and not into the text area, which would take minutes.
+  insert(text) {
+    const { area, sheet } = this;
+    const lines = text.replaceAll('\r\n', '\n').replaceAll('\r', '\n');
+    this.showSheet(sheet.insert(lines, area.selectionStart, area.selectionEnd));
+    this.on.change(sheet.text);
+  }
+
+  onClick(target) {
+    const line = Number(target.closest('.line-number')?.dataset.line);
+    if (!(line > 0)) return;
+    if (target.classList.contains('stop')) this.on.stop(line);
+    else this.on.toLine(line);
+  }
+
+  // A text is looked at once the writing pauses.
+  wait() {
     clearTimeout(this.timer);
-    this.area.classList.remove('waits');
-    this.lines = countLines(this.area.value);
-    this.draw();
+    this.area.classList.add('waits');
+    this.timer = setTimeout(() => this.look(), QUIET);
+  }
+
+  // Takes what was written, if anything was.
+  look() {
+    const { area, sheet } = this;
+    if (!area.classList.contains('waits')) return;
+    clearTimeout(this.timer);
+    area.classList.remove('waits');
+    sheet.write(area.value);
+    if (sheet.isOver) this.showSheet(sheet.start + area.selectionEnd);
+    this.drawAll();
+    this.on.change(sheet.text);
+  }
+
+  // The line that the cursor is in.
+  get line() {
+    const { area, sheet } = this;
+    return sheet.first - 1 + area.value.slice(0, area.selectionEnd).split('\n').length;
   }
 
   get lineHeight() {
     return parseFloat(getComputedStyle(this.area).lineHeight);
   }
 
+  moveTo(line) {
+    this.look();
+    this.sheet.moveTo(line);
+    this.area.value = this.sheet.part;
+    this.area.scrollTop = 0;
+    this.drawAll();
+  }
+
+  // Shows the sheet with the cursor at this place of the text.
+  showSheet(offset) {
+    const { area, sheet } = this;
+    const at = sheet.reveal(offset);
+    const top = area.scrollTop;
+    area.value = sheet.part;
+    area.setSelectionRange(at, at);
+    area.scrollTop = top;
+    this.drawAll();
+  }
+
+  drawAll() {
+    this.sight.range(this.sheet.lines, this.sheet.first, this.sheet.isWhole);
+    this.draw();
+  }
+
   draw() {
-    const { area, lines, marks, lineHeight } = this;
+    const { area, sheet, marks, lineHeight } = this;
     const [gutter, paper] = [byId('gutter'), byId('marks')];
-    const first = Math.floor(area.scrollTop / lineHeight) + 1;
+    const above = Math.floor(area.scrollTop / lineHeight);
+    const first = sheet.first + above;
     const inSight = Math.ceil(area.clientHeight / lineHeight) + 1;
-    const count = Math.max(Math.min(inSight, lines - first + 1), 0);
-    const shift = `translateY(${(first - 1) * lineHeight - area.scrollTop}px)`;
-    drawNumbers(gutter, first, count, marks);
+    const count = Math.max(Math.min(inSight, sheet.linesInPart - above), 0);
+    const shift = `translateY(${above * lineHeight - area.scrollTop}px)`;
+    drawNumbers(gutter, first, count, marks, this.stops);
     drawMarks(paper, first, count, marks);
     gutter.style.transform = shift;
     paper.style.transform = shift;
-    gutter.parentElement.style.width = `${Math.max(String(lines).length, 2) + 1.5}ch`;
+    gutter.parentElement.style.width = `${Math.max(String(sheet.lines).length, 2) + 3}ch`;
   }
 
-  set(text) {
-    this.area.value = text;
-    this.area.scrollTop = 0;
-    this.look();
+  // Has this text. Where it is another version of what stands there the cursor goes to the change.
+  set(text, isVersion = false) {
+    const { area, sheet } = this;
+    clearTimeout(this.timer);
+    area.classList.remove('waits');
+    const at = isVersion ? endOfChange(sheet.text, text) : 0;
+    sheet.set(text, isVersion ? sheet.first : 1);
+    this.showSheet(at);
+    if (isVersion) this.show(sheet.lineAt(at));
+    else area.scrollTop = 0;
   }
 
   // Marks by line: a kind, which is a class, and a badge.
@@ -85,16 +192,23 @@ export class Editor {
   }
 
   setFault(isFault) {
-    this.area.setAttribute('aria-invalid', String(isFault));
+    setAttribute(this.area, 'aria-invalid', String(isFault));
   }
 
-  // Brings a line into sight where it is not, unless someone is writing.
-  reveal(line) {
-    const { area, lineHeight } = this;
-    if (document.activeElement === area) return;
-    const top = (line - 1) * lineHeight;
+  // Brings a line into sight where it is not.
+  show(line) {
+    const { area, sheet, lineHeight } = this;
+    if (!sheet.isWhole && (line < sheet.first || line >= sheet.first + WINDOW)) {
+      this.moveTo(line - WINDOW / 2);
+    }
+    const top = (line - sheet.first) * lineHeight;
     const bottom = top + lineHeight - area.clientHeight;
     if (top < area.scrollTop) area.scrollTop = top;
     else if (bottom > area.scrollTop) area.scrollTop = bottom + 4 * lineHeight;
+  }
+
+  // The same, unless someone is writing.
+  reveal(line) {
+    if (document.activeElement !== this.area) this.show(line);
   }
 }

@@ -1,28 +1,67 @@
-// The programs of examples/ in a menu.
+// The programs in a menu: one's own, and those of examples/.
 import { byId, make } from './dom.js';
 import { shortened } from './numbers.js';
 
-const OWN = 'own';
+const NEW = 'new';
+const LINKED = 'linked';
+const SAMPLE = `; my program
+pram 1
+cells 4
+procs 4
+steps 10
+code
+        pid r0          ; each processor writes its number
+        st r0 r0        ; into the cell of this number
+        halt
+`;
 
-// Its name, and what its first line says.
-function titleOf(example) {
-  const [, says] = /^;\s*(.*)/.exec(example.text) ?? [];
-  return says === undefined ? example.name : `${example.name}: ${shortened(says, 80)}`;
+// What its first line that is a comment says.
+function sayingOf(text) {
+  return /^[ \t]*;\s*(.*)/.exec(text.slice(0, 400))?.[1] ?? '';
 }
 
-export function openGallery(examples, onChoice) {
+function titleOf(example) {
+  const says = sayingOf(example.text);
+  return says === '' ? example.name : `${example.name}: ${shortened(says, 80)}`;
+}
+
+function titleOfDraft(draft) {
+  const [line] = draft.text.trimStart().split('\n', 1);
+  return `your own: ${shortened(sayingOf(draft.text) || line.trim() || 'empty', 60)}`;
+}
+
+const valueOf = (draft) => `own ${draft.number}`;
+const optionOf = (value, title) => make('option', { value }, title);
+
+// `choose` hears a text, and of an own program the number of its draft.
+export function openGallery(examples, drafts, choose) {
   const menu = byId('example');
-  for (const example of examples) {
-    menu.append(make('option', { value: example.name }, titleOf(example)));
-  }
+  const own = make('optgroup', { label: 'Your own' });
+  const all = examples.map((example) => optionOf(example.name, titleOf(example)));
+  menu.replaceChildren(own, make('optgroup', { label: 'Gallery' }, ...all));
   menu.addEventListener('change', () => {
     const example = examples.find((candidate) => candidate.name === menu.value);
-    if (example) onChoice(example.text);
+    const draft = drafts.list.find((candidate) => valueOf(candidate) === menu.value);
+    if (example) choose(example.text);
+    else if (draft) choose(draft.text, draft.number);
+    else if (menu.value === NEW) choose(SAMPLE);
   });
+
+  function valueNow({ text, draft }) {
+    const example = examples.find((candidate) => candidate.text === text);
+    if (drafts.textOf(draft) !== undefined) return valueOf({ number: draft });
+    return example?.name ?? (text === SAMPLE ? NEW : LINKED);
+  }
+
   return {
     // The menu names the program that stands in the editor.
-    show(text) {
-      menu.value = examples.find((candidate) => candidate.text === text)?.name ?? OWN;
+    show(work) {
+      const value = valueNow(work);
+      const linked = value === LINKED ? [optionOf(LINKED, 'the program of this link')] : [];
+      own.replaceChildren(...linked,
+        ...drafts.list.map((draft) => optionOf(valueOf(draft), titleOfDraft(draft))),
+        optionOf(NEW, 'a new program'));
+      menu.value = value;
     },
   };
 }

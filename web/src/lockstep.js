@@ -2,112 +2,44 @@
 import { openArrows } from './arrows.js';
 import { openCells } from './cells.js';
 import { CODE } from './core.js';
-import { byId, setDisabled, setText } from './dom.js';
-import { counted, grouped, numberWithin, ranges, shortened } from './numbers.js';
+import { byId, onClick, setDisabled, setText } from './dom.js';
+import { Errands } from './errands.js';
+import { momentInWords } from './lockstep_words.js';
+import { boxesOf, marksOf } from './memory_boxes.js';
+import { saveMemory } from './memory_svg.js';
+import { Moments } from './moments.js';
+import { grouped, numberWithin } from './numbers.js';
 import { openPlayer } from './player.js';
-import { STATUS, TARGET, instructionInWords, openProcessors } from './processors.js';
-import { RULES } from './program.js';
-
-// The last step whose state there is.
-function lastStep(app) {
-  const { code, step } = app.answer;
-  if (code === CODE.DONE) return step;
-  return code === CODE.CONFLICT ? step - 1 : app.most;
-}
-
-function byCell(requests, cellOf) {
-  const found = new Map();
-  requests.forEach((request, processor) => {
-    const cell = cellOf(request);
-    if (cell < 0) return;
-    if (!found.has(cell)) found.set(cell, []);
-    found.get(cell).push(processor);
-  });
-  return found;
-}
-
-const cellRead = (request) => request.reads - 1;
-const cellWritten = (request) => (request.target === TARGET.CELL ? request.number : -1);
-
-const named = (processors) => `P${shortened(ranges(processors), 12)}`;
-
-// What the boxes show: who reads and who writes each cell in the next step.
-function boxesOf(places, requests, before, disputed) {
-  const readers = byCell(requests, cellRead);
-  const writers = byCell(requests, cellWritten);
-  const written = byCell(before, cellWritten);
-  return (cell) => {
-    const read = readers.get(cell);
-    const wrote = writers.get(cell);
-    const kinds = [read && 'is-read', wrote && 'is-written', written.has(cell) && 'is-new',
-      cell === disputed && 'is-disputed'];
-    const notes = [read && `read by ${named(read)}`, wrote && `written by ${named(wrote)}`];
-    return {
-      value: places[cell],
-      note: notes.filter(Boolean).join(', '),
-      kind: kinds.filter(Boolean).join(' '),
-    };
-  };
-}
-
-// The lines in the editor: at which instruction each processor is.
-function marksOf(program, requests, fault) {
-  const standing = byCell(requests, (request) =>
-    request.status === STATUS.RUNS ? program[request.counter]?.line ?? -1 : -1);
-  const marks = new Map();
-  for (const [line, processors] of standing) {
-    const clashes = fault && processors.some((one) => one === fault.first || one === fault.second);
-    marks.set(line, { kind: clashes ? 'clash' : 'current', badge: named(processors) });
-  }
-  return marks;
-}
-
-function conflictInWords(app, requests, fault) {
-  const asks = [fault.first, fault.second].map((processor) => {
-    const request = requests[processor];
-    const instruction = instructionInWords(app.job.program, request);
-    return `Processor ${processor} writes ${request.value} (line ${instruction}).`;
-  });
-  return `Conflict: step ${grouped(fault.step)} is against the rule ${RULES[app.job.rule]}, at ` +
-    `cell ${fault.cell}. ${asks.join(' ')} The machine ends before this step.`;
-}
-
-function sayMoment(app, requests, fault) {
-  if (fault) return conflictInWords(app, requests, fault);
-  if (app.answer.code === CODE.DONE && app.step === app.answer.step) {
-    return `Done: the job ends after ${counted(app.step, 'step')}.`;
-  }
-  const running = requests.filter((request) => request.status === STATUS.RUNS).length;
-  const next = running === 0 ? 'All processors have stopped.' :
-    `${counted(running, 'processor')} of ${grouped(requests.length)} ${
-      running === 1 ? 'has' : 'have'} an instruction to do.`;
-  return `After step ${grouped(app.step)} of ${grouped(app.job.steps)}. ${next}`;
-}
+import { openProcessors } from './processors.js';
+import { Search, hasAccess, isAtLine } from './seek.js';
 
 export class LockstepView {
   constructor(app) {
     const show = () => this.show();
     this.app = app;
+    this.moments = new Moments(app, () => this.hearFar());
     this.processors = openProcessors(show);
     this.cells = openCells('plain-cells', 'Cells after this step', show);
-    this.arrows = openArrows();
-    this.player = openPlayer(byId('plain-play'), byId('plain-speed'), (beats) => {
-      this.goTo(app.step + beats);
-      return app.step < lastStep(app);
-    });
+    this.arrows = openArrows(show);
+    this.errands = new Errands();
+    this.note = '';
+    this.player = openPlayer(byId('plain-play'), byId('plain-speed'), (beats) => this.play(beats));
     this.listen();
   }
 
   listen() {
     const { app } = this;
     const chosen = byId('step');
-    byId('step-start').addEventListener('click', () => this.goTo(0));
-    byId('step-back').addEventListener('click', () => this.goTo(app.step - 1));
-    byId('step-on').addEventListener('click', () => this.goTo(app.step + 1));
-    byId('step-end').addEventListener('click', () => this.goTo(lastStep(app)));
+    onClick('step-start', () => this.goTo(0));
+    onClick('step-back', () => this.goTo(app.step - 1));
+    onClick('step-on', () => this.goTo(app.step + 1));
+    onClick('step-end', () => this.goTo(this.moments.last));
+    onClick('access-back', () => this.seekAccess(0));
+    onClick('access-on', () => this.seekAccess(this.moments.last));
+    onClick('to-stop', () => this.seekStop());
+    onClick('save-memory', () => saveMemory(byId('plain-said').textContent));
     chosen.addEventListener('change', () =>
-      this.goTo(numberWithin(chosen.value, 0, lastStep(app), app.step)));
-    window.addEventListener('resize', () => this.show());
+      this.goTo(numberWithin(chosen.value, 0, this.moments.last, app.step)));
   }
 
   get keys() {
@@ -115,60 +47,123 @@ export class LockstepView {
       ArrowLeft: () => this.goTo(this.app.step - 1),
       ArrowRight: () => this.goTo(this.app.step + 1),
       Home: () => this.goTo(0),
-      End: () => this.goTo(lastStep(this.app)),
+      End: () => this.goTo(this.moments.last),
+      n: () => this.seekAccess(this.moments.last),
+      p: () => this.seekAccess(0),
+      s: () => this.seekStop(),
       ' ': () => this.player.toggle(),
     };
   }
 
   pause() {
     this.player.pause();
+    this.errands.stop();
   }
 
-  goTo(step) {
-    this.app.step = Math.max(0, Math.min(step, lastStep(this.app)));
+  goTo(step, note = '') {
+    this.app.step = Math.max(0, Math.min(step, this.moments.last));
+    this.note = note;
     this.app.saved();
     this.show();
   }
 
-  // What the processors ask for after so many steps; nothing after the last one.
-  requestsBehind(step) {
-    const { app } = this;
-    if (step < 0 || step >= app.job.steps) return { list: [], code: CODE.DONE };
-    return app.core.requests(app.text, app.job, step, app.most);
+  // Goes to where a search ends; where nothing was found the next one is tried, or else it is said.
+  seek(searches, none) {
+    this.pause();
+    let [search, ...rest] = searches;
+    this.errands.start({
+      piece: () => {
+        if (search.look()) return true;
+        if (search.isFound || rest.length === 0) return false;
+        [search, ...rest] = rest;
+        return true;
+      },
+      onPause: () => setText(byId('plain-said'), `Searching: step ${grouped(search.step)}.`),
+      onEnd: () => this.goTo(search.step, search.isFound ? '' : none),
+    });
+  }
+
+  searchTo(to, isWanted) {
+    return new Search(this.moments, this.app.step, to, isWanted);
+  }
+
+  seekAccess(to) {
+    const where = to < this.app.step ? 'earlier' : 'later';
+    this.seek([this.searchTo(to, hasAccess)], `No ${where} memory access. `);
+  }
+
+  seekStop() {
+    const { job, stops } = this.app;
+    const isStop = isAtLine(job.program, stops);
+    this.seek([this.searchTo(this.moments.last, isStop)], 'No stop is reached any more. ');
+  }
+
+  // To the next step in which a processor comes to the line; from the start where there is none.
+  seekLine(line) {
+    const { moments, app } = this;
+    const isThere = isAtLine(app.job.program, new Set([line]));
+    this.seek([this.searchTo(moments.last, isThere), new Search(moments, -1, app.step, isThere)],
+      `No processor ever comes to line ${grouped(line)}. `);
+  }
+
+  // Plays on, up to a stop.
+  play(beats) {
+    const { app, moments } = this;
+    const to = Math.min(app.step + beats, moments.last);
+    const isStop = isAtLine(app.job.program, app.stops);
+    const found = app.stops.size > 0 ? this.searchTo(to, isStop).finish() : { step: to };
+    this.goTo(found.step);
+    return !found.isFound && app.step < moments.last;
+  }
+
+  // Something far was told: it is shown, or it stands beside what is shown.
+  hearFar() {
+    const { app, moments } = this;
+    if (this.shown === app.step) moments.isThere(app.step);
+    else this.show();
   }
 
   show() {
-    const { app } = this;
+    const { app, moments } = this;
     if (!app.job || app.view !== 'lockstep') return;
-    app.step = Math.min(app.step, lastStep(app));
-    const state = app.core.state(app.text, app.job, app.step, app.most);
-    if (state.code !== CODE.DONE) return;
-    const next = this.requestsBehind(app.step);
-    const fault = next.code === CODE.CONFLICT ? next : undefined;
+    if (app.isAnswering && app.step > moments.last) return;
+    app.step = Math.min(app.step, moments.last);
+    this.shown = undefined;
     this.showButtons();
+    if (!moments.isThere(app.step)) {
+      setText(byId('plain-said'), `Making ${grouped(app.step)} steps.`);
+      return;
+    }
+    this.shown = app.step;
+    const state = moments.state(app.step);
+    if (state.code !== CODE.DONE) return;
+    const next = moments.requests(app.step);
+    const fault = next.code === CODE.CONFLICT ? next : undefined;
     this.say(next.list, fault);
+    this.showInText(next.list, fault);
     this.processors.show(app.job, state.places, next.list);
     this.showCells(state.places, next.list, fault);
-    this.showInText(next.list, fault);
   }
 
   showButtons() {
-    const { step } = this.app;
-    const last = lastStep(this.app);
+    const { step, stops } = this.app;
+    const { last } = this.moments;
     byId('step').value = step;
     byId('step').max = last;
-    for (const id of ['step-start', 'step-back']) setDisabled(byId(id), step === 0);
-    for (const id of ['step-on', 'step-end']) setDisabled(byId(id), step >= last);
+    for (const id of ['step-start', 'step-back', 'access-back']) setDisabled(byId(id), step === 0);
+    for (const id of ['step-on', 'step-end', 'access-on']) setDisabled(byId(id), step >= last);
+    setDisabled(byId('plain-play'), step >= last);
+    setDisabled(byId('to-stop'), stops.size === 0 || step >= last);
   }
 
   say(requests, fault) {
-    setText(byId('plain-said'), sayMoment(this.app, requests, fault));
+    setText(byId('plain-said'), this.note + momentInWords(this.app, requests, fault));
     byId('plain-said').className = fault ? 'said bad' : 'said';
   }
 
   showCells(places, requests, fault) {
     const { job, step } = this.app;
-    const before = this.requestsBehind(step - 1).list;
+    const before = this.moments.requests(step - 1).list;
     const boxOf = boxesOf(places, requests, before, fault?.cell);
     const range = this.cells.show(job.cells, boxOf);
     this.arrows.show(job, requests, this.cells.list, range, fault);

@@ -1,31 +1,80 @@
 // The page: what it shows, and who is told when that changes.
 import { openCore } from './core.js';
-import { byId } from './dom.js';
+import { byId, ignoreDisabled, onClick, setDisabled } from './dom.js';
+import { Drafts } from './drafts.js';
 import { Editor } from './editor.js';
+import { Far } from './far.js';
 import { openGallery } from './gallery.js';
 import { listenToKeys } from './keys.js';
 import { openLink } from './link.js';
 import { LockstepView } from './lockstep.js';
-import { judge, showJudgement } from './program.js';
+import { listenToPrinting } from './print.js';
+import { answerFar, judge, showJudgement } from './program.js';
 import { Schedule } from './schedule.js';
+import { openStops } from './stops.js';
 import { openTabs } from './tabs.js';
 import { WorkersView } from './workers.js';
+import { Works, makeWork } from './works.js';
 
 const FIRST_EXAMPLE = 'maximum';
 const WORKERS = 4;
+const PAUSE = 1000;
 
-// What is shown: the text with its job and answer, the view, the step of the plain machine, and
-// the schedule of the workers. The views read it, and change the last two.
+// What is shown: a work, which is a text with its schedule and its step, the text's job and answer,
+// and the view. The views read it, and change the schedule and the step.
 class Playground {
-  constructor(core, examples) {
-    Object.assign(this, { core, examples, text: '', view: 'lockstep', step: 0 });
-    this.schedule = new Schedule(WORKERS);
-    this.editor = new Editor((text) => this.changeText(text));
-    this.gallery = openGallery(examples, (text) => this.choose(text));
+  constructor(core, far, examples) {
+    Object.assign(this, { core, far, examples, view: 'lockstep', written: 0 });
+    this.works = new Works(makeWork('', new Schedule(WORKERS)));
+    this.drafts = new Drafts();
+    this.editor = new Editor({
+      change: (text) => this.changeText(text),
+      undo: () => this.undoText(-1),
+      redo: () => this.undoText(1),
+      toLine: (line) => this.toLine(line),
+      stop: (line) => this.stopping.toggle(line),
+    });
+    this.gallery = openGallery(examples, this.drafts, (text, draft) => this.choose(text, draft));
     this.views = { lockstep: new LockstepView(this), workers: new WorkersView(this) };
+    this.stopping = openStops(this.editor, {
+      onChange: () => this.show(), toLine: (line) => this.toLine(line),
+    });
     this.tabs = openTabs((view) => this.turnTo(view));
     this.link = openLink(this, examples, (shown) => this.showAddress(shown));
-    listenToKeys(byId('machine'), () => this.views[this.view].keys);
+    this.listen();
+  }
+
+  listen() {
+    onClick('undo-text', () => this.undoText(-1));
+    onClick('redo-text', () => this.undoText(1));
+    ignoreDisabled();
+    listenToPrinting(this);
+    const ofText = { undo: () => this.undoText(-1), redo: () => this.undoText(1) };
+    listenToKeys(() => (this.job ? { ...ofText, ...this.views[this.view].keys } : ofText));
+  }
+
+  get work() {
+    return this.works.now;
+  }
+
+  get text() {
+    return this.work.text;
+  }
+
+  get schedule() {
+    return this.work.schedule;
+  }
+
+  get step() {
+    return this.work.step;
+  }
+
+  set step(step) {
+    this.work.step = step;
+  }
+
+  get stops() {
+    return this.editor.stops;
   }
 
   // A view says that it changed what is shown.
@@ -38,32 +87,81 @@ class Playground {
   }
 
   show() {
+    const isLost = this.job === undefined && byId('machine').contains(document.activeElement);
     byId('machine').hidden = this.job === undefined;
     byId('no-machine').hidden = this.job !== undefined;
+    if (isLost) this.editor.area.focus();
     this.tabs.show(this.view);
     this.views[this.view].show();
   }
 
-  setText(text) {
+  // Shows the work of now, whose text stands in the editor.
+  showNow() {
     this.pause();
-    this.text = text;
-    const found = judge(this.core, text);
-    Object.assign(this, { job: found.job, answer: found.answer, most: found.most });
-    this.gallery.show(text);
-    showJudgement(found, text, this.editor);
-  }
-
-  changeText(text) {
-    this.step = 0;
-    this.schedule = new Schedule(this.schedule.workers);
-    this.setText(text);
-    this.saved();
+    const { work, works } = this;
+    this.far.forget();
+    const found = judge(this.core, work.text);
+    this.hear(found);
+    if (found.isAnswering) {
+      answerFar(this.far, work.text, found, (told) => {
+        this.hear(told);
+        this.show();
+      });
+    }
+    this.gallery.show(work);
+    setDisabled(byId('undo-text'), !works.canUndo);
+    setDisabled(byId('redo-text'), !works.canRedo);
     this.show();
   }
 
-  choose(text) {
+  // What the core says of the text.
+  hear(found) {
+    const { job, answer, most, isAnswering } = found;
+    Object.assign(this, { job, answer, most, isAnswering });
+    showJudgement(found, this.text, this.editor);
+  }
+
+  // What is written without a pause is one change, unless a schedule would go with it.
+  changeText(text) {
+    const { work, works } = this;
+    const now = performance.now();
+    const isNew = now - this.written > PAUSE || work.draft === undefined || works.canRedo ||
+      work.schedule.past.length > 0 || work.schedule.length > 0;
+    this.written = now;
+    const draft = text === '' ? work.draft : this.drafts.keep(text, work.draft);
+    if (isNew) works.add(makeWork(text, new Schedule(work.schedule.workers), { draft }));
+    else Object.assign(work, { text, step: 0 });
+    this.saved();
+    this.showNow();
+  }
+
+  undoText(count) {
+    this.editor.look();
+    this.written = 0;
+    this.works.moveBy(count);
+    this.editor.set(this.text, true);
+    this.saved();
+    this.showNow();
+  }
+
+  // A chosen program; the one before it stays, to be undone or gone back to.
+  choose(text, draft) {
+    this.editor.look();
+    this.written = 0;
+    this.works.add(makeWork(text, new Schedule(this.schedule.workers), { draft }));
+    this.editor.stops.clear();
     this.editor.set(text);
-    this.changeText(text);
+    this.link.push();
+    this.showNow();
+  }
+
+  // Shows a work of this number again, if it is still there.
+  showWork(number) {
+    this.editor.look();
+    if (!this.works.show(number)) return false;
+    this.editor.set(this.text);
+    this.showNow();
+    return true;
   }
 
   turnTo(view) {
@@ -73,16 +171,24 @@ class Playground {
     this.show();
   }
 
+  toLine(line) {
+    this.editor.look();
+    if (!this.job) return;
+    if (this.view !== 'lockstep') this.turnTo('lockstep');
+    this.views.lockstep.seekLine(line);
+  }
+
   // Shows what an address says, and the first example where it says nothing.
   showAddress(shown) {
     const first = this.examples.find((example) => example.name === FIRST_EXAMPLE);
     const text = shown?.text ?? (first ?? this.examples[0]).text;
+    const work = makeWork(text, shown?.schedule ?? new Schedule(WORKERS),
+      { step: shown?.step ?? 0, draft: this.drafts.numberOf(text) });
+    if (this.text === '' && !this.works.canUndo) this.works = new Works(work);
+    else this.works.add(work);
     this.view = shown?.view ?? this.view;
-    this.step = shown?.step ?? 0;
-    this.schedule = shown?.schedule ?? new Schedule(WORKERS);
     this.editor.set(text);
-    this.setText(text);
-    this.show();
+    this.showNow();
   }
 }
 
@@ -91,11 +197,31 @@ function sayTrouble(why) {
   byId('trouble').textContent = `Something went wrong in this page: ${why}`;
 }
 
+// In a frame of another page the machine stands alone.
+const isEmbedded = () => [location.search, location.hash].some((part) =>
+  new URLSearchParams(part.slice(1)).get('embed') === '1');
+
+// Each call once, of the least job: a browser compiles a function of the core when it is first called.
+function warm(core) {
+  const text = 'pram 1\ncells 1\nprocs 1\nsteps 1\ncode\nhalt\n';
+  const job = core.judge(text);
+  const events = new Uint32Array(2);
+  core.state(text, job, 1, 1);
+  core.requests(text, job, 0, 1);
+  core.scene(text, 1, events, { from: 0, places: job.places, place: 0 });
+  core.reads(text, job, 1, events);
+  core.outcome(text, job, 1, events);
+}
+
 async function start() {
   const bytes = Uint8Array.from(atob(byId('core').textContent), (byte) => byte.charCodeAt(0));
+  document.documentElement.toggleAttribute('data-embed', isEmbedded());
   const core = await openCore(bytes);
-  await new Playground(core, JSON.parse(byId('examples').textContent)).link.read();
+  const app = new Playground(core, new Far(bytes), JSON.parse(byId('examples').textContent));
+  app.isEmbedded = isEmbedded();
+  await app.link.read();
   document.documentElement.setAttribute('data-ready', '');
+  setTimeout(() => warm(core), 100);
 }
 
 window.addEventListener('error', (event) => sayTrouble(event.message));

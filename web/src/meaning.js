@@ -1,19 +1,12 @@
 // What an atomic step meant, and what a worker is about, in words. The rows are the core's.
+import { ACT, bodyOf, kindOf } from './acts.js';
 import { FORM } from './core.js';
 import { grouped } from './numbers.js';
+import { passNames, passOfPhase, stepOfPhase } from './phases.js';
 import { nameOfPlace } from './places.js';
-import { ACT, bodyOf, kindOf } from './schedule.js';
 
 const OP = { NONE: 0, LOAD: 1, STORE: 2, MAX: 3, SWAP: 4 };
 export const DOING = { LOST: 0, COMES_BACK: 1, BEGINS: 2, TURN: 3, DONE: 4, CONFLICT: 5 };
-const PRIORITY = 1;
-
-export const passNames = (rule) =>
-  rule === PRIORITY ? ['', 'compute', 'claim', 'apply'] : ['', 'compute', 'apply', 'verify'];
-
-// Phases are numbered through the steps, three for each: compute first.
-export const passOfPhase = (phase) => (phase === 0 ? 0 : ((phase - 1) % 3) + 1);
-
 
 // The workers, of which there are so many, and their twins, which are told apart by their number.
 export function namesOfBodies(workers, count) {
@@ -46,7 +39,7 @@ function nameOfWord(job, row) {
 function phaseInWords(job, phase) {
   if (phase === 0) return 'nothing finished';
   const pass = passNames(job.rule)[passOfPhase(phase)];
-  return `finished up to step ${grouped(Math.ceil(phase / 3))}, ${pass}`;
+  return `finished up to step ${grouped(stepOfPhase(phase))}, ${pass}`;
 }
 
 function requestInWords(job, row, stamp, payload) {

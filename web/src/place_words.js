@@ -1,25 +1,27 @@
 // The two words of a chosen place over time.
-import { byId, fit, make, makeSvg, setText } from './dom.js';
+import { byId, fit, makeSvg, setAttribute, setText } from './dom.js';
 import { counted, numberWithin } from './numbers.js';
 import { counterPlace, nameOfPlace, registerPlace } from './places.js';
+import { listenToMoments, makeMoment, showMoment } from './steps_list.js';
 
+const WIDTH = 800;
 const LANE = 30;
 const LEFT = 84;
 const ROWS = 12;
+const MOST_STRETCHES = 300;
 const ORDER = ['first', 'second'];
 
 // How long each word held what: from one change to the next.
-function stretchesOf(history, moments, part, end) {
-  const changes = history.changes.flatMap((change, k) =>
-    change.part === part ? [{ ...change, moment: moments[k] }] : []);
-  const [first] = changes;
-  const word = history.words[part];
+function stretchesOf(stored, changes, part, end) {
+  const own = changes.filter((change) => change.part === part);
+  const [first] = own;
   const start = first
-    ? { stamp: first.beforeStamp, payload: first.beforePayload }
-    : { stamp: word.stamp, payload: word.payload };
-  const values = [{ ...start, from: 0 }, ...changes.map((change) => (
+    ? { stamp: first.beforeStamp, payload: first.beforePayload, from: 0 }
+    : { stamp: stored[part].stamp, payload: stored[part].payload, from: 0 };
+  const values = [start, ...own.map((change) => (
     { stamp: change.afterStamp, payload: change.afterPayload, from: change.moment }))];
-  return values.map((value, k) => ({ ...value, to: values[k + 1]?.from ?? end }));
+  return values.map((value, k) => ({ ...value, to: values[k + 1]?.from ?? end }))
+    .slice(-MOST_STRETCHES);
 }
 
 const wordInWords = (value) => `${value.payload} of step ${value.stamp}`;
@@ -39,21 +41,19 @@ function drawStretch(stretch, part, scale, isNewer) {
   return group;
 }
 
-function drawLane(history, moments, part, end, width) {
-  const scale = (width - LEFT - 2) / Math.max(end, 1);
-  const stretches = stretchesOf(history, moments, part, end);
-  const isNewer = history.words[part].newer === 1;
-  const name = `${ORDER[part]} word`;
+function drawLane(stored, changes, part, end) {
+  const scale = (WIDTH - LEFT - 2) / Math.max(end, 1);
+  const stretches = stretchesOf(stored, changes, part, end);
+  const isNewer = stored[part].newer === 1;
   const at = { x: 0, y: part * (LANE + 6) + LANE / 2 + 2, class: 'lane' };
-  return [makeSvg('text', at, name), ...stretches.map((stretch, k) =>
+  return [makeSvg('text', at, `${ORDER[part]} word`), ...stretches.map((stretch, k) =>
     drawStretch(stretch, part, scale, isNewer && k === stretches.length - 1))];
 }
 
-function changeInWords(change, moment, names) {
+function changeInWords(change, names) {
   const before = `${change.beforePayload} of step ${change.beforeStamp}`;
   const after = `${change.afterPayload} of step ${change.afterStamp}`;
-  return `${moment}: ${names[change.body]} swaps the ${ORDER[change.part]} word: ` +
-    `${before} becomes ${after}`;
+  return `${names[change.body]} swaps the ${ORDER[change.part]} word: ${before} becomes ${after}`;
 }
 
 function chosenPlace(job) {
@@ -67,39 +67,42 @@ function chosenPlace(job) {
   return registerPlace(job, number, Number(byId('place-register').value));
 }
 
-function showList(history, moments, names) {
-  const shown = history.changes.map((change, k) => changeInWords(change, moments[k], names));
-  const last = shown.slice(-ROWS).reverse();
-  fit(byId('place-changes'), last.length, () => make('li')).forEach((item, k) =>
-    setText(item, last[k]));
+function showList(changes, names) {
+  const last = changes.slice(-ROWS).reverse();
+  fit(byId('place-changes'), last.length, makeMoment).forEach((item, k) =>
+    showMoment(item, last[k].moment, changeInWords(last[k], names), ''));
 }
 
-export function openPlaceWords(app, onChange) {
-  const kind = byId('place-kind');
-  for (const id of ['place-kind', 'place-number', 'place-register']) {
-    byId(id).addEventListener('input', onChange);
+export class PlaceWords {
+  constructor(app, onChange, moveTo) {
+    this.app = app;
+    for (const id of ['place-kind', 'place-number', 'place-register']) {
+      byId(id).addEventListener('input', onChange);
+    }
+    listenToMoments(byId('place-changes'), moveTo);
   }
-  return {
-    choose(cell) {
-      kind.value = 'cell';
-      byId('place-number').value = cell;
-    },
-    show(events, names) {
-      byId('place-register-label').hidden = kind.value !== 'register';
-      const place = chosenPlace(app.job);
-      const { workers, at } = app.schedule;
-      const history = app.core.placeHistory(app.text, workers, events, place);
-      if (history.words.length < 2) return;
-      const moments = app.schedule.momentsOf(history.changes.map((change) => change.event));
-      const drawing = byId('place-drawing');
-      const width = drawing.clientWidth;
-      drawing.replaceChildren(...drawLane(history, moments, 0, at, width),
-        ...drawLane(history, moments, 1, at, width));
-      const said = `${nameOfPlace(app.job, place)}: the first word says ` +
-        `${wordInWords(history.words[0])}, the second ${wordInWords(history.words[1])}; ` +
-        `${counted(history.changes.length, 'change')} so far.`;
-      setText(byId('place-said'), said);
-      showList(history, moments, names);
-    },
-  };
+
+  choose(cell) {
+    byId('place-kind').value = 'cell';
+    byId('place-number').value = cell;
+  }
+
+  get place() {
+    return chosenPlace(this.app.job);
+  }
+
+  // `stored` are its two words as they are now.
+  show(stored, names) {
+    const { job, schedule } = this.app;
+    const { place } = this;
+    const changes = schedule.film.changesOf(place, schedule.at);
+    byId('place-register-label').hidden = byId('place-kind').value !== 'register';
+    setAttribute(byId('place-drawing'), 'viewBox', `0 0 ${WIDTH} ${2 * LANE + 12}`);
+    byId('place-drawing').replaceChildren(...drawLane(stored, changes, 0, schedule.at),
+      ...drawLane(stored, changes, 1, schedule.at));
+    setText(byId('place-said'), `${nameOfPlace(job, place)}: the first word says ` +
+      `${wordInWords(stored[0])}, the second ${wordInWords(stored[1])}; ` +
+      `${counted(changes.length, 'change')} so far.`);
+    showList(changes, names);
+  }
 }

@@ -1,37 +1,44 @@
 // A schedule as a plan for `pramx replay`.
-import { ACT, bodyOf, kindOf } from './schedule.js';
+import { ACT, bodyOf, kindOf } from './acts.js';
+
+const HEAD = 'worker,act,ticks';
 
 export function hasTwins(acts) {
   return acts.some((act) => kindOf(act) === ACT.TWIN);
 }
 
-function addStep(rows, worker) {
-  const last = rows.at(-1);
-  if (last?.worker === worker && last.act === 'go') last.ticks += 1;
-  else rows.push({ worker, act: 'go', ticks: 1 });
-}
+const rowOf = ({ worker, ticks }) => `${worker},go,${ticks}`;
 
-// A loss that is followed by a return is one row, at the return; the other losses stand at the
-// end, since a lost worker makes no step.
-function rowsOf(acts) {
+// The rows of a plan, as many as asked for. A loss that is followed by a return is one row, at the
+// return; the other losses stand at the end, since a lost worker makes no step.
+export function rowsOfPlan(acts, most = Infinity) {
   const rows = [];
   const lost = new Set();
-  for (const act of acts) {
-    const worker = bodyOf(act);
-    const kind = kindOf(act);
-    if (kind === ACT.GO && !lost.has(worker)) addStep(rows, worker);
+  let run = { worker: -1, ticks: 0 };
+  const end = () => {
+    if (run.ticks > 0) rows.push(rowOf(run));
+    run = { worker: -1, ticks: 0 };
+  };
+  for (let k = 0; k < acts.length && rows.length < most; k += 1) {
+    const worker = bodyOf(acts[k]);
+    const kind = kindOf(acts[k]);
+    if (kind === ACT.GO && !lost.has(worker)) {
+      if (run.worker !== worker) end();
+      run = { worker, ticks: run.ticks + 1 };
+    }
     if (kind === ACT.LOSE) lost.add(worker);
     if (kind === ACT.BACK) {
+      end();
       lost.delete(worker);
-      rows.push({ worker, act: 'back', ticks: 0 });
+      rows.push(`${worker},back,0`);
     }
   }
-  for (const worker of lost) rows.push({ worker, act: 'stop', ticks: 0 });
-  return rows;
+  end();
+  for (const worker of lost) rows.push(`${worker},stop,0`);
+  return rows.slice(0, most);
 }
 
+export const textOfPlan = (rows) => (rows.length === 0 ? '' : `${HEAD}\n${rows.join('\n')}\n`);
+
 // Acts with twins have no plan.
-export function planOf(acts) {
-  const rows = rowsOf(acts).map((row) => `${row.worker},${row.act},${row.ticks}\n`);
-  return rows.length === 0 ? '' : `worker,act,ticks\n${rows.join('')}`;
-}
+export const planOf = (acts) => textOfPlan(rowsOfPlan(acts));

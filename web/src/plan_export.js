@@ -1,26 +1,30 @@
-// The schedule as a plan file to take home.
-import { byId, setText } from './dom.js';
-import { hasTwins, planOf } from './plan.js';
+// The schedule as a plan file to take home. Of a long plan the page shows the first rows alone.
+import { byId, onClick, setText } from './dom.js';
+import { grouped } from './numbers.js';
+import { hasTwins, rowsOfPlan, textOfPlan } from './plan.js';
+import { save } from './styled_svg.js';
 
-function offer(id, name, text) {
-  const address = URL.createObjectURL(new Blob([text], { type: 'text/plain' }));
-  const anchor = byId(id);
-  if (anchor.href.startsWith('blob:')) URL.revokeObjectURL(anchor.href);
-  anchor.href = address;
-  anchor.download = name;
+const ROWS = 200;
+
+const actsOf = ({ schedule }) => schedule.acts.slice(0, schedule.at);
+
+export function openPlan(app) {
+  onClick('save-plan', () => save('plan.csv', 'text/plain', textOfPlan(rowsOfPlan(actsOf(app)))));
+  onClick('save-text', () => save('program.pram', 'text/plain', app.text));
+}
+
+function commandOf(app, rows) {
+  const shown = rows.length > ROWS ? ` Its first ${grouped(ROWS)} rows are shown.` : '';
+  return 'The same steps up to this moment, and then each worker in turn to the end: ' +
+    `pramx replay program.pram --workers ${app.schedule.workers} --plan plan.csv.${shown}`;
 }
 
 export function showPlan(app) {
-  const acts = app.schedule.acts.slice(0, app.schedule.at);
+  const acts = actsOf(app);
   const isRefused = hasTwins(acts);
-  const plan = isRefused ? '' : planOf(acts);
-  byId('plan').value = plan;
+  const rows = isRefused ? [] : rowsOfPlan(acts, ROWS + 1);
   for (const id of ['plan', 'plan-links']) byId(id).hidden = isRefused;
+  setText(byId('plan'), textOfPlan(rows.slice(0, ROWS)));
   setText(byId('plan-said'), isRefused
-    ? 'A plan has no twins: go back to a moment before the first one.'
-    : 'The same steps up to this moment, and then each worker in turn to the end: ' +
-      `pramx replay program.pram --workers ${app.schedule.workers} --plan plan.csv`);
-  if (isRefused) return;
-  offer('plan-link', 'plan.csv', plan);
-  offer('program-link', 'program.pram', app.text);
+    ? 'A plan has no twins: go back to a moment before the first one.' : commandOf(app, rows));
 }

@@ -1,4 +1,6 @@
 // Playing: so many beats a second, until it is paused or `beat` says that nothing is left.
+import { setAttribute, setText } from './dom.js';
+
 export function openPlayer(button, speed, beat) {
   let playing = false;
   let last = 0;
@@ -6,8 +8,8 @@ export function openPlayer(button, speed, beat) {
 
   function set(now) {
     playing = now;
-    button.setAttribute('aria-pressed', String(now));
-    button.textContent = now ? '❚❚ Pause' : '▶ Play';
+    setAttribute(button, 'aria-pressed', String(now));
+    setText(button, now ? '❚❚ Pause' : '▶ Play');
   }
 
   function frame(time) {

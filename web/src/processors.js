@@ -1,5 +1,5 @@
 // The processors as a table: counter, registers, and what each asks for in the next step.
-import { byId, fit, make, setText } from './dom.js';
+import { byId, fit, make, setAttribute, setText } from './dom.js';
 import { counterPlace, registersOf } from './places.js';
 import { openWindow } from './window.js';
 
@@ -68,7 +68,7 @@ export function openProcessors(onMove) {
         const request = { processor, ...requests[processor] };
         const texts = [`P${processor}`, ...cellsOfRow(job, places, request)];
         [...row.children].forEach((cell, column) => setText(cell, String(texts[column])));
-        row.className = request.status > STATUS.RUNS ? 'stopped' : '';
+        setAttribute(row, 'class', request.status > STATUS.RUNS ? 'stopped' : '');
       });
     },
   };

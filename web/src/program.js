@@ -5,20 +5,30 @@ import { wordsOfFault } from './faults.js';
 import { counted, grouped } from './numbers.js';
 import { instructionsOf, lineOf } from './text_lines.js';
 
-// The page makes so many steps of processors at most, so that it never hangs.
+// The page makes so many steps of processors at most, and so many while one waits.
 const MOST_STEPS = 20000000;
+const NEAR_STEPS = 500000;
 export const RULES = ['common', 'priority', 'crew'];
 
 export function judge(core, text) {
   const judged = core.judge(text);
   if (judged.code !== CODE.DONE) return { judged };
-  const most = Math.floor(MOST_STEPS / judged.procs);
+  const most = Math.floor(NEAR_STEPS / judged.procs);
+  const answer = core.answer(text, judged, most);
   return {
     judged,
     most,
     job: { ...judged, program: instructionsOf(text), leaves: 1 },
-    answer: core.answer(text, judged, most),
+    answer,
+    isAnswering: answer.code === CODE.TOO_FAR,
   };
+}
+
+// Makes a far answer in the other thread; `onTold` hears it.
+export function answerFar(far, text, found, onTold) {
+  const most = Math.floor(MOST_STEPS / found.judged.procs);
+  far.ask('answer', [text, found.judged, most], (answer) =>
+    onTold({ ...found, most, answer, isAnswering: false }));
 }
 
 function answerInWords(job, answer, most) {
@@ -34,9 +44,11 @@ function answerInWords(job, answer, most) {
   }
 }
 
-function jobInWords({ job, answer, most }) {
+function jobInWords({ job, answer, most, isAnswering }) {
+  const told = isAnswering ? `Its answer is more than ${grouped(most)} steps away, and is being made.`
+    : answerInWords(job, answer, most);
   return `${counted(job.cells, 'cell')}, ${counted(job.procs, 'processor')}, ` +
-    `${counted(job.steps, 'step')}, rule ${RULES[job.rule]}. ${answerInWords(job, answer, most)}`;
+    `${counted(job.steps, 'step')}, rule ${RULES[job.rule]}. ${told}`;
 }
 
 function refusalInWords(judged, text) {

@@ -1,23 +1,18 @@
-// A schedule: what happens to which worker, one act after the other. The core gets its events;
-// sleep and waking are the page's own, since a sleeping worker is one that makes no step.
-export const ACT = { GO: 0, LOSE: 1, BACK: 2, TWIN: 3, SLEEP: 4, WAKE: 5 };
+// A schedule: acts, one after the other, and the moment that is shown of them. Each change of the
+// acts can be undone.
+import { ACT, MOST_ACTS, bodyOf, kindOf } from './acts.js';
+import { Events } from './events.js';
+import { Film } from './film.js';
 
-export const MOST_WORKERS = 8;
-export const MOST_BODIES = 16;
-export const MOST_ACTS = 400000;
-
-const LETTERS = ['', 'l', 'b', 't', 's', 'w'];
-
-// An act is one number: its kind, and the body (of a twin: the worker).
-export const actOf = (kind, body) => kind * 32 + body;
-export const kindOf = (act) => act >> 5;
-export const bodyOf = (act) => act & 31;
+const MOST_CHANGES = 2000;
+const NOTHING = new Uint32Array(0);
 
 export class Schedule {
   constructor(workers, acts = [], at = acts.length) {
-    this.workers = workers;
-    this.acts = acts;
-    this.at = at;
+    Object.assign(this, { workers, acts, at, past: [], future: [] });
+    this.events = new Events(this);
+    this.film = new Film();
+    this.revision = 0;
   }
 
   get length() {
@@ -36,41 +31,50 @@ export class Schedule {
     this.at = Math.min(Math.max(moment, 0), this.acts.length);
   }
 
-  // What comes next takes the place of what came after this moment.
-  add(acts) {
-    this.acts.length = this.at;
-    for (const act of acts) if (!this.isFull) this.acts.push(act);
-    this.at = this.acts.length;
+  // Has these acts from act number `from` on, of which the core told this, if it did; and says how
+  // to have again what was there.
+  swap({ workers, from, acts, at, told = NOTHING }) {
+    const inverse = {
+      workers: this.workers, from, acts: this.acts.slice(from), at: this.at,
+      told: this.film.cut(from),
+    };
+    this.acts.length = from;
+    for (const act of acts) this.acts.push(act);
+    Object.assign(this, { workers, at, revision: this.revision + 1 });
+    this.events.cut(from);
+    if (this.film.length === from) this.film.add(told);
+    return inverse;
   }
 
-  copy() {
-    return new Schedule(this.workers, this.acts.slice(), this.at);
+  // A change with the mark of the last one continues it, and is undone with it.
+  change(workers, from, acts, { mark, told } = {}) {
+    const at = from + acts.length;
+    const inverse = this.swap({ workers, from, acts, at, told });
+    const last = this.past.at(-1);
+    this.future = [];
+    if (mark && last?.mark === mark && inverse.acts.length === 0) return;
+    this.past.push({ ...inverse, mark });
+    if (this.past.length > MOST_CHANGES) this.past.shift();
   }
 
-  // The core's events of the first acts, as pairs: kind, body.
-  events(moment = this.at) {
-    const pairs = new Uint32Array(2 * moment);
-    let count = 0;
-    for (let k = 0; k < moment; k += 1) {
-      const kind = kindOf(this.acts[k]);
-      if (kind > ACT.TWIN) continue;
-      pairs[2 * count] = kind;
-      pairs[2 * count + 1] = bodyOf(this.acts[k]);
-      count += 1;
-    }
-    return pairs.subarray(0, 2 * count);
+  // What comes next takes the place of what came after this moment. `how` has the mark, and what
+  // the core told of the acts, where it did.
+  add(acts, how) {
+    const fitting = acts.slice(0, MOST_ACTS - this.at);
+    if (fitting.length > 0) this.change(this.workers, this.at, fitting, how);
   }
 
-  // The moments of these events, which are numbers in rising order.
-  momentsOf(numbers) {
-    const moments = [];
-    let event = 0;
-    for (let k = 0; k < this.at && moments.length < numbers.length; k += 1) {
-      if (kindOf(this.acts[k]) > ACT.TWIN) continue;
-      if (event === numbers[moments.length]) moments.push(k + 1);
-      event += 1;
-    }
-    return moments;
+  // Begins again, with so many workers.
+  restart(workers) {
+    if (this.length > 0 || workers !== this.workers) this.change(workers, 0, []);
+  }
+
+  undo() {
+    if (this.past.length > 0) this.future.push(this.swap(this.past.pop()));
+  }
+
+  redo() {
+    if (this.future.length > 0) this.past.push(this.swap(this.future.pop()));
   }
 
   // The workers of the bodies at this moment: first the workers, then each twin's.
@@ -92,69 +96,4 @@ export class Schedule {
     }
     return asleep;
   }
-}
-
-function isRepeated(acts, start, period, at) {
-  return at < acts.length && acts[at] === acts[start + ((at - start) % period)];
-}
-
-// The piece of acts from `start` on that is best said as a repetition.
-function bestRun(acts, start) {
-  let best = { period: 1, times: 1 };
-  for (let period = 1; period <= MOST_BODIES; period += 1) {
-    let end = start + period;
-    if (end > acts.length) break;
-    while (isRepeated(acts, start, period, end)) end += 1;
-    const times = Math.floor((end - start) / period);
-    if (times > 1 && times * period > best.times * best.period) best = { period, times };
-  }
-  return best;
-}
-
-// 0, 1, 2, 0, 1, 2, lose 1 is written 0.1.2*2~l1.
-export function writeActs(acts) {
-  const runs = [];
-  let single = false;
-  for (let start = 0; start < acts.length; ) {
-    const { period, times } = bestRun(acts, start);
-    const piece = acts.slice(start, start + period);
-    const words = piece.map((act) => LETTERS[kindOf(act)] + bodyOf(act)).join('.');
-    if (times === 1 && single) runs[runs.length - 1] += `.${words}`;
-    else runs.push(times > 1 ? `${words}*${times}` : words);
-    single = times === 1;
-    start += period * times;
-  }
-  return runs.join('~');
-}
-
-function readAct(word) {
-  const [, letter, digits] = /^([lbtsw]?)(\d{1,2})$/.exec(word) ?? [];
-  if (digits === undefined) throw new RangeError('an act of a schedule is unknown');
-  return actOf(LETTERS.indexOf(letter), Number(digits));
-}
-
-// Each act must be about a body that there is.
-function checkActs(workers, acts) {
-  let bodies = workers;
-  for (const act of acts) {
-    const isTwin = kindOf(act) === ACT.TWIN;
-    if (bodyOf(act) >= (isTwin ? workers : bodies)) throw new RangeError('no such worker');
-    if (isTwin) bodies += 1;
-    if (bodies > MOST_BODIES) throw new RangeError('too many twins');
-  }
-}
-
-// Reads what writeActs wrote. Throws a RangeError at anything else.
-export function readActs(workers, text) {
-  const acts = [];
-  for (const run of text === '' ? [] : text.split('~')) {
-    const [, words, times] = /^([^*]+)(?:\*(\d{1,6}))?$/.exec(run) ?? [];
-    if (words === undefined) throw new RangeError('a schedule is not written so');
-    const piece = words.split('.').map(readAct);
-    const count = Number(times ?? 1);
-    if (acts.length + piece.length * count > MOST_ACTS) throw new RangeError('too many acts');
-    for (let k = 0; k < count; k += 1) for (const act of piece) acts.push(act);
-  }
-  checkActs(workers, acts);
-  return acts;
 }

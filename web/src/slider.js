@@ -1,5 +1,5 @@
 // The time slider of a schedule.
-import { byId, setDisabled, setText } from './dom.js';
+import { byId, setAttribute, setDisabled, setText } from './dom.js';
 import { grouped } from './numbers.js';
 
 export function openSlider(schedule, onMove) {
@@ -23,7 +23,7 @@ export function openSlider(schedule, onMove) {
       const { at, length } = schedule();
       slider.max = length;
       slider.value = at;
-      slider.setAttribute('aria-valuetext', `moment ${at} of ${length}`);
+      setAttribute(slider, 'aria-valuetext', `moment ${at} of ${length}`);
       setText(byId('moment-said'), `${grouped(at)} of ${grouped(length)}`);
       for (const id of ['moment-start', 'moment-back']) setDisabled(byId(id), at === 0);
       for (const id of ['moment-on', 'moment-end']) setDisabled(byId(id), at === length);

@@ -1,36 +1,59 @@
-// The list of atomic steps, the newest first, each with what it meant.
-import { byId, fit, make, setText } from './dom.js';
+// The list of atomic steps, the newest first, each with what it meant; one can go to each of them.
+// A window of them is shown, which begins at the moment that is shown.
+import { byId, fit, make, setAttribute, setHidden, setText } from './dom.js';
 import { actInWords } from './meaning.js';
-import { ACT, kindOf } from './schedule.js';
+import { grouped } from './numbers.js';
 
-const MOST = 100;
+const MOST = 50;
 
-export const rowsWanted = (events) => Math.max(0, events.length / 2 - MOST);
+// An item of a list of moments: a button that goes to its moment.
+export const makeMoment = () => make('li', {},
+  make('button', { type: 'button', class: 'to-moment' },
+    make('span', { class: 'moment' }), make('span', { class: 'meaning' })));
 
-// The last acts up to the moment, each with the core's row of its event.
-function lastActs(schedule, rows) {
-  const found = [];
-  let row = rows.length;
-  for (let k = schedule.at - 1; k >= 0 && found.length < MOST; k -= 1) {
-    const act = schedule.acts[k];
-    const isEvent = kindOf(act) <= ACT.TWIN;
-    if (isEvent) row -= 1;
-    found.push({ moment: k + 1, act, row: isEvent ? rows[row] : undefined });
-  }
-  return found;
+export function showMoment(item, moment, words, kind) {
+  const button = item.firstElementChild;
+  setAttribute(button, 'data-moment', moment);
+  setText(button.firstElementChild, grouped(moment));
+  setText(button.lastElementChild, words);
+  setAttribute(item, 'class', kind);
 }
 
-const makeItem = () =>
-  make('li', {}, make('span', { class: 'moment' }), make('span', { class: 'meaning' }));
-
-export function showSteps(job, schedule, rows, names) {
-  const acts = lastActs(schedule, rows);
-  fit(byId('steps'), acts.length, makeItem).forEach((item, k) => {
-    const { moment, act, row } = acts[k];
-    const [number, meaning] = item.children;
-    setText(number, String(moment));
-    setText(meaning, actInWords(job, names, act, row));
-    item.className = row?.isChange ? 'changes' : '';
+// Clicks on the items of a list of moments.
+export function listenToMoments(list, moveTo) {
+  list.addEventListener('click', (event) => {
+    const button = event.target.closest('[data-moment]');
+    if (button) moveTo(Number(button.dataset.moment));
   });
-  byId('no-steps').hidden = acts.length > 0;
+}
+
+export class StepsList {
+  constructor(onMove, moveTo) {
+    this.onMove = onMove;
+    this.skipped = 0;
+    byId('earlier-steps').addEventListener('click', () => this.skip(MOST));
+    byId('later-steps').addEventListener('click', () => this.skip(-MOST));
+    listenToMoments(byId('steps'), (moment) => moveTo(moment));
+  }
+
+  skip(count) {
+    this.skipped = Math.max(0, this.skipped + count);
+    this.onMove();
+  }
+
+  show(job, schedule, names) {
+    if (this.moment !== schedule.at) this.skipped = 0;
+    this.moment = schedule.at;
+    const newest = schedule.at - this.skipped;
+    const length = Math.max(0, Math.min(MOST, newest));
+    fit(byId('steps'), length, makeMoment).forEach((item, k) => {
+      const act = newest - 1 - k;
+      const row = schedule.film.effectOf(act);
+      const words = actInWords(job, names, schedule.acts[act], row);
+      showMoment(item, act + 1, words, row?.isChange ? 'changes' : '');
+    });
+    byId('no-steps').hidden = schedule.at > 0;
+    setHidden(byId('earlier-steps'), newest <= MOST);
+    setHidden(byId('later-steps'), this.skipped === 0);
+  }
 }

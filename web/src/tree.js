@@ -1,79 +1,94 @@
 // The progress tree: its nodes in the colour of the pass that is finished below them, and the
-// workers at the nodes where they stand.
-import { byId, makeSvg } from './dom.js';
-import { grouped } from './numbers.js';
-import { DOING, nodeInWords, passNames, passOfPhase } from './meaning.js';
+// workers at the nodes where they stand. What is drawn stays, and only changes are drawn anew.
+import { byId, makeSvg, setAttribute, setText } from './dom.js';
+import { DOING, nodeInWords } from './meaning.js';
+import { counted, grouped } from './numbers.js';
+import { passNames, passOfPhase, stepOfPhase } from './phases.js';
+import { pictureOf, saveSvg, withStyles } from './styled_svg.js';
 
 const WIDTH = 800;
 const HEIGHT = 300;
 const TOP = 34;
 const BOTTOM = 34;
+const MOST_CIRCLES = 64;
+const LEAST_NAMED = 9;
 
 const depthOf = (node) => 31 - Math.clz32(node);
+const middleOf = (node) => (node - 2 ** depthOf(node) + 0.5) * (WIDTH / 2 ** depthOf(node));
 
-// Where a node lies in the drawing.
-function layoutOf(leaves) {
+// Nodes as circles with edges.
+function circlesOf(leaves) {
   const height = depthOf(leaves);
-  const gap = WIDTH / leaves;
+  const radius = Math.max(1.5, Math.min(17, (WIDTH / leaves) * 0.4));
+  const y = (node) =>
+    TOP + (height === 0 ? 0.5 : depthOf(node) / height) * (HEIGHT - TOP - BOTTOM);
+  const edge = (node) => `M${middleOf(node)} ${y(node)}L${middleOf(node >> 1)} ${y(node >> 1)}`;
   return {
-    x: (node) => (node - 2 ** depthOf(node) + 0.5) * (WIDTH / 2 ** depthOf(node)),
-    y: (node) => TOP + (height === 0 ? 0.5 : depthOf(node) / height) * (HEIGHT - TOP - BOTTOM),
-    radius: Math.max(1.5, Math.min(17, gap * 0.4)),
+    x: middleOf,
+    y,
+    top: (node) => y(node) - radius,
+    bottom: (node) => y(node) + radius,
+    isNamed: radius >= LEAST_NAMED,
+    edges: Array.from({ length: 2 * leaves - 2 }, (_, k) => edge(k + 2)).join(''),
+    shape: (node) => makeSvg('circle', { cx: middleOf(node), cy: y(node), r: radius }),
   };
 }
 
-function drawEdges(layout, leaves) {
-  const group = makeSvg('g', { class: 'edges' });
-  for (let node = 2; node < 2 * leaves; node += 1) {
-    group.append(makeSvg('line', {
-      x1: layout.x(node), y1: layout.y(node), x2: layout.x(node >> 1), y2: layout.y(node >> 1),
-    }));
-  }
+// Many nodes as bars that lie on each other, so that even narrow ones show their colour.
+function barsOf(leaves) {
+  const height = depthOf(leaves);
+  const tall = (HEIGHT - TOP) / (height + 1);
+  const top = (node) => TOP + depthOf(node) * tall;
+  return {
+    x: middleOf,
+    y: (node) => top(node) + tall / 2,
+    top,
+    bottom: (node) => top(node) + tall,
+    isNamed: false,
+    edges: '',
+    shape: (node) => {
+      const wide = WIDTH / 2 ** depthOf(node);
+      return makeSvg('rect', {
+        class: wide > 6 ? 'bar-node edged' : 'bar-node',
+        x: middleOf(node) - wide / 2, y: top(node), width: wide, height: tall,
+      });
+    },
+  };
+}
+
+const layoutOf = (leaves) => (leaves > MOST_CIRCLES ? barsOf(leaves) : circlesOf(leaves));
+
+function makeNode(layout, node) {
+  const group = makeSvg('g', { 'data-node': node }, layout.shape(node));
+  if (layout.isNamed) group.append(makeSvg('text', { x: layout.x(node), y: layout.y(node) }));
   return group;
 }
 
-function drawNode(job, layout, node, phase, isSpare) {
-  const pass = passOfPhase(phase);
-  const group = makeSvg('g', { class: `node pass${pass}${isSpare ? ' spare' : ''}` });
-  const title = makeSvg('title', {}, nodeInWords(job, node, phase));
-  const at = { cx: layout.x(node), cy: layout.y(node) };
-  group.append(title, makeSvg('circle', { ...at, r: layout.radius }));
-  if (layout.radius >= 9) {
-    group.append(makeSvg('text', { x: at.cx, y: at.cy }, String(phase)));
-  }
-  return group;
-}
-
-function drawLeafNames(job, layout) {
+function makeLeafNames(job, layout) {
   const group = makeSvg('g', { class: 'leaf-names' });
-  if (layout.radius < 9) return group;
-  for (let processor = 0; processor < job.procs; processor += 1) {
+  for (let processor = 0; layout.isNamed && processor < job.procs; processor += 1) {
     const node = job.leaves + processor;
-    const at = { x: layout.x(node), y: layout.y(node) + layout.radius + 10 };
+    const at = { x: layout.x(node), y: layout.bottom(node) + 10 };
     group.append(makeSvg('text', at, `P${processor}`));
   }
   return group;
 }
 
 // Bodies at one node stand side by side above it.
-function drawBodies(layout, scene, workers) {
-  const group = makeSvg('g', { class: 'bodies' });
+function makeBodies(layout, scene, workers) {
   const standing = new Map();
   scene.bodies.forEach((body, number) => {
     if (body.doing === DOING.LOST || body.node === 0) return;
     standing.set(body.node, [...(standing.get(body.node) ?? []), number]);
   });
-  for (const [node, numbers] of standing) {
-    numbers.forEach((number, k) => {
-      const x = layout.x(node) + (k - (numbers.length - 1) / 2) * 15;
-      const at = { x: Math.min(Math.max(x, 9), WIDTH - 9), y: layout.y(node) - layout.radius - 8 };
-      group.append(drawBody(at, workers[number], number >= scene.workers));
-    });
-  }
-  return group;
+  return [...standing].flatMap(([node, numbers]) => numbers.map((number, k) => {
+    const x = layout.x(node) + (k - (numbers.length - 1) / 2) * 15;
+    const at = { x: Math.min(Math.max(x, 9), WIDTH - 9), y: layout.top(node) - 8 };
+    return makeBody(at, workers[number], number >= scene.workers);
+  }));
 }
 
-function drawBody(at, worker, isTwin) {
+function makeBody(at, worker, isTwin) {
   return makeSvg('g', { class: `body worker${worker}${isTwin ? ' twin' : ''}` },
     makeSvg('circle', { cx: at.x, cy: at.y, r: 8 }),
     makeSvg('text', { x: at.x, y: at.y }, String(worker)));
@@ -81,25 +96,70 @@ function drawBody(at, worker, isTwin) {
 
 function summary(job, scene) {
   const phase = scene.root + 1;
-  const nodes = [...scene.nodes.values()];
-  const finished = nodes.filter((value) => value >= phase).length;
+  const finished = scene.nodes.reduce((sum, value) => sum + (value >= phase ? 1 : 0), 0);
   if (scene.finished === job.steps) return 'All steps are finished.';
   if (scene.conflict > 0) return `Step ${grouped(scene.conflict)} is against the rule.`;
   const pass = passNames(job.rule)[passOfPhase(phase)];
-  return `Phase ${grouped(phase)} (step ${grouped(Math.ceil(phase / 3))}, ${pass}): ` +
-    `${grouped(finished)} of ${grouped(nodes.length)} nodes are finished.`;
+  return `Phase ${grouped(phase)} (step ${grouped(stepOfPhase(phase))}, ${pass}): ` +
+    `${grouped(finished)} of ${counted(scene.nodes.length - 1, 'node')} are finished.`;
 }
 
-export function drawTree(job, scene, workers) {
-  const layout = layoutOf(job.leaves);
-  const drawing = byId('tree');
-  const nodes = makeSvg('g', { class: 'nodes' });
-  for (const [node, phase] of scene.nodes) {
-    nodes.append(drawNode(job, layout, node, phase, node - job.leaves >= job.procs));
+export class Tree {
+  constructor() {
+    this.drawing = byId('tree');
+    this.size = '';
+    this.drawing.addEventListener('pointerover', (event) => this.name(event.target));
   }
-  drawing.setAttribute('viewBox', `0 0 ${WIDTH} ${HEIGHT}`);
-  drawing.setAttribute('aria-label', `The progress tree. ${summary(job, scene)}`);
-  drawing.replaceChildren(drawEdges(layout, job.leaves), nodes, drawLeafNames(job, layout),
-    drawBodies(layout, scene, workers));
-  byId('tree-summary').textContent = summary(job, scene);
+
+  // A node's words are made when someone points at it.
+  name(target) {
+    const group = target.closest('[data-node]');
+    if (!group) return;
+    const node = Number(group.dataset.node);
+    const title = group.querySelector('title') ?? group.appendChild(makeSvg('title'));
+    setText(title, nodeInWords(this.job, node, this.phases[node]));
+  }
+
+  // Makes the nodes of a tree of another size.
+  make(job) {
+    const layout = layoutOf(job.leaves);
+    const all = Array.from({ length: 2 * job.leaves - 1 }, (_, k) => makeNode(layout, k + 1));
+    this.nodes = [undefined, ...all];
+    this.layout = layout;
+    this.phases = new Float64Array(2 * job.leaves).fill(-1);
+    this.bodies = makeSvg('g', { class: 'bodies' });
+    this.drawing.setAttribute('viewBox', `0 0 ${WIDTH} ${HEIGHT}`);
+    this.drawing.replaceChildren(
+      makeSvg('path', { class: 'edges', d: layout.edges }),
+      makeSvg('g', { class: 'nodes' }, ...all), makeLeafNames(job, layout), this.bodies);
+  }
+
+  showNode(job, node, phase) {
+    const group = this.nodes[node];
+    const isSpare = node - job.leaves >= job.procs;
+    setAttribute(group, 'class', `node pass${passOfPhase(phase)}${isSpare ? ' spare' : ''}`);
+    if (this.layout.isNamed) setText(group.children[1], String(phase));
+  }
+
+  show(job, scene, workers) {
+    const size = `${job.leaves} ${job.procs}`;
+    this.job = job;
+    if (this.size !== size) this.make(job);
+    this.size = size;
+    for (let node = 1; node < scene.nodes.length; node += 1) {
+      if (this.phases[node] !== scene.nodes[node]) this.showNode(job, node, scene.nodes[node]);
+    }
+    this.phases = scene.nodes;
+    this.bodies.replaceChildren(...makeBodies(this.layout, scene, workers));
+    this.summary = summary(job, scene);
+    setAttribute(this.drawing, 'aria-label', `The progress tree. ${this.summary}`);
+    setText(byId('tree-summary'), this.summary);
+  }
+
+  save() {
+    const copy = withStyles(this.drawing, this.drawing.cloneNode(true));
+    copy.setAttribute('width', WIDTH);
+    copy.setAttribute('height', HEIGHT);
+    saveSvg('tree.svg', pictureOf(WIDTH, HEIGHT, [copy], this.summary));
+  }
 }

@@ -2,11 +2,12 @@
 import { make, setDisabled, setText } from './dom.js';
 import { grouped, numberWithin } from './numbers.js';
 
-// `one` is the word for an element, such as `cell`.
-export function openWindow(one, size, onMove) {
-  let first = 0;
-  let count = 0;
-  const from = make('input', { type: 'number', min: 0, value: 0 });
+// `one` is the word for an element, such as `cell`; the first one has the number `least`. `onMove`
+// hears which element is the first in sight.
+export function openWindow(one, size, onMove, least = 0) {
+  let first = least;
+  let end = least;
+  const from = make('input', { type: 'number', min: least, value: least });
   const earlier = make('button', { type: 'button', click: () => moveTo(first - size) }, '◀');
   const later = make('button', { type: 'button', click: () => moveTo(first + size) }, '▶');
   const said = make('span');
@@ -14,27 +15,32 @@ export function openWindow(one, size, onMove) {
     make('label', {}, `from ${one} `, from), said);
   earlier.setAttribute('aria-label', `earlier ${one}s`);
   later.setAttribute('aria-label', `later ${one}s`);
-  from.addEventListener('change', () => moveTo(numberWithin(from.value, 0, count - 1, first)));
+  from.addEventListener('change', () => moveTo(numberWithin(from.value, least, end - 1, first)));
 
   function moveTo(element) {
-    first = Math.max(0, Math.min(element, count - 1));
-    onMove();
+    first = Math.max(least, Math.min(element, end - 1));
+    onMove(first);
   }
 
   return {
     bar,
-    // The part in sight of a list of so many elements.
-    range(length) {
-      count = length;
-      first = Math.min(first, Math.max(count - 1, 0));
-      const end = Math.min(first + size, count);
-      bar.hidden = count <= size;
+    // The part in sight of a list of so many elements, from `start` on if it is given.
+    range(count, start = first, isWhole = count <= size) {
+      end = count + least;
+      first = isWhole ? least : Math.min(start, Math.max(end - 1, least));
+      const last = isWhole ? end : Math.min(first + size, end);
+      bar.hidden = isWhole;
+      if (isWhole) return { first, length: last - first };
       from.value = first;
-      from.max = count - 1;
-      setText(said, `to ${grouped(end - 1)} of ${grouped(count)}`);
-      setDisabled(earlier, first === 0);
-      setDisabled(later, end === count);
-      return { first, length: end - first };
+      from.max = end - 1;
+      setText(said, `to ${grouped(last - 1)} of ${grouped(count)}`);
+      setDisabled(earlier, first === least);
+      setDisabled(later, last === end);
+      return { first, length: last - first };
+    },
+    // Shows this element.
+    reveal(element) {
+      if (element < first || element >= first + size) first = Math.max(element, least);
     },
   };
 }

@@ -1,7 +1,7 @@
 // A card for each worker and each twin: where it stands, and what may be done to it.
 import { byId, fit, make, setAttribute, setDisabled, setText } from './dom.js';
 import { DOING, bodyInWords } from './meaning.js';
-import { ACT, MOST_BODIES } from './schedule.js';
+import { ACT, MOST_BODIES } from './acts.js';
 
 const ACTIONS = ['step', 'sleep', 'lose', 'twin', 'if'];
 
@@ -25,16 +25,16 @@ function stateInWords(row, isAsleep) {
   return isAsleep ? 'asleep' : 'awake';
 }
 
-// What the buttons of a card say, and whether they do anything now.
+// What the buttons of a card say, more words of it, and whether they do anything now.
 function buttonsOf(row, isAsleep, isFull) {
   const going = isGoing(row);
   const lost = row.doing === DOING.LOST;
   return {
-    step: ['Step', going && !isAsleep],
-    sleep: [isAsleep ? 'Wake' : 'Sleep', going],
-    lose: [lost ? 'Bring back' : 'Lose', true],
-    twin: ['Twin', !isFull],
-    if: ['What if lost here?', going],
+    step: ['Step', '', going && !isAsleep],
+    sleep: [isAsleep ? 'Wake' : 'Sleep', '', going],
+    lose: [lost ? 'Return' : 'Lose', '', true],
+    twin: ['Twin', '', !isFull],
+    if: ['If lost?', ' What if it is lost here, and the others go on to the end?', going],
   };
 }
 
@@ -45,11 +45,13 @@ function showCard(card, name, job, row, isAsleep, isFull) {
   setText(heading.firstElementChild, String(row.worker));
   setText(heading.lastElementChild, `${name}, ${state}`);
   setText(standing, bodyInWords(job, row));
+  setAttribute(standing, 'title', standing.textContent);
   const texts = buttonsOf(row, isAsleep, isFull);
   for (const button of bar.children) {
-    const [text, isEnabled] = texts[button.dataset.action];
+    const [text, more, isEnabled] = texts[button.dataset.action];
     setText(button, text);
-    setAttribute(button, 'aria-label', `${text}: ${name}`);
+    setAttribute(button, 'aria-label', `${text}: ${name}.${more}`);
+    setAttribute(button, 'title', more);
     setDisabled(button, !isEnabled);
   }
 }

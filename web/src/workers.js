@@ -1,55 +1,75 @@
 // The job by workers: an adversary's schedule, one atomic step at a time.
+import { ACT, MOST_WORKERS, actOf } from './acts.js';
+import { Board } from './board.js';
 import { openCells } from './cells.js';
 import { CODE } from './core.js';
-import { byId, setDisabled, setText } from './dom.js';
-import { Driver } from './driver.js';
-import { namesOfBodies, passNames } from './meaning.js';
+import { byId, onClick, setDisabled, setHidden, setText } from './dom.js';
+import { isChange } from './effects.js';
+import { Errands } from './errands.js';
+import { isFinish } from './film.js';
+import { namesOfBodies } from './meaning.js';
 import { counted, grouped } from './numbers.js';
 import { outcomeInWords } from './outcomes.js';
-import { openPlaceWords } from './place_words.js';
-import { showPlan } from './plan_export.js';
+import { passNames } from './phases.js';
+import { PlaceWords } from './place_words.js';
+import { openPlan, showPlan } from './plan_export.js';
 import { openPlayer } from './player.js';
-import { ACT, MOST_WORKERS, Schedule, actOf } from './schedule.js';
 import { openSlider } from './slider.js';
-import { rowsWanted, showSteps } from './steps_list.js';
-import { drawTree } from './tree.js';
-import { actOfAction, openCards } from './worker_cards.js';
+import { StepsList } from './steps_list.js';
+import { Tree } from './tree.js';
+import { actOfAction, isGoing, openCards } from './worker_cards.js';
 
 const ROUNDS = { 'all-1': 1, 'all-10': 10, 'all-100': 100 };
+const END_ROUNDS = 1024;
+const SEEK_ROUNDS = 16;
 
 export class WorkersView {
   constructor(app) {
     const show = () => this.show();
+    const moveTo = (moment) => this.moveTo(moment);
     this.app = app;
-    this.driver = new Driver(app);
+    this.board = new Board(app);
+    this.errands = new Errands();
+    this.tree = new Tree();
     this.cards = openCards((action, body) => this.act(action, body));
     this.cells = openCells('read-cells', 'Cells as a reader gets them', show);
     this.slider = openSlider(() => app.schedule, () => this.changed());
-    this.placeWords = openPlaceWords(app, show);
+    this.placeWords = new PlaceWords(app, show, moveTo);
+    this.steps = new StepsList(show, moveTo);
     this.player = openPlayer(byId('play'), byId('speed'), (beats) => this.play(beats));
+    openPlan(app);
     this.listen();
   }
 
   listen() {
-    for (const [id, count] of Object.entries(ROUNDS)) {
-      byId(id).addEventListener('click', () => this.goRounds(count));
-    }
-    byId('to-end').addEventListener('click', () => this.goToEnd());
-    byId('reset').addEventListener('click', () => this.start(this.app.schedule.workers));
-    byId('before').addEventListener('click', () => this.goBack());
+    const { schedule } = this.app;
+    for (const [id, count] of Object.entries(ROUNDS)) onClick(id, () => this.goRounds(count));
+    onClick('to-end', () => this.goToEnd());
+    onClick('next-change', () => this.seek(isChange));
+    onClick('next-finish', () => this.seek(isFinish));
+    onClick('undo-acts', () => this.undo());
+    onClick('redo-acts', () => this.redo());
+    onClick('reset', () => this.restart(this.app.schedule.workers));
+    onClick('before', () => this.goBack());
+    onClick('save-tree', () => this.tree.save());
     byId('plan-part').addEventListener('toggle', () => this.show());
+    byId('worker-count').value = schedule.workers;
     byId('worker-count').addEventListener('change', (event) =>
-      this.start(Number(event.target.value)));
+      this.restart(Number(event.target.value)));
     this.cells.list.addEventListener('click', (event) => this.choosePlace(event.target));
   }
 
   get keys() {
     const keys = {
       ArrowLeft: () => this.slider.moveBy(-1),
-      ArrowRight: () => this.slider.moveBy(1),
+      ArrowRight: () => this.goOn(),
       Home: () => this.slider.moveTo(0),
       End: () => this.slider.moveTo(this.app.schedule.length),
       a: () => this.goRounds(1),
+      n: () => this.seek(isChange),
+      f: () => this.seek(isFinish),
+      undo: () => this.undo(),
+      redo: () => this.redo(),
       ' ': () => this.player.toggle(),
     };
     for (let body = 0; body < MOST_WORKERS; body += 1) {
@@ -61,6 +81,8 @@ export class WorkersView {
 
   pause() {
     this.player.pause();
+    this.errands.stop();
+    this.mark = undefined;
   }
 
   changed() {
@@ -68,38 +90,109 @@ export class WorkersView {
     this.show();
   }
 
-  start(workers) {
+  moveTo(moment) {
     this.pause();
-    this.before = undefined;
-    this.app.schedule = new Schedule(workers);
+    this.slider.moveTo(moment);
+  }
+
+  restart(workers) {
+    this.pause();
+    this.app.schedule.restart(workers);
+    this.changed();
+  }
+
+  undo() {
+    this.pause();
+    this.app.schedule.undo();
+    this.changed();
+  }
+
+  redo() {
+    this.pause();
+    this.app.schedule.redo();
     this.changed();
   }
 
   goRounds(count) {
-    this.driver.addRounds(count);
+    this.pause();
+    this.board.goRounds(count);
     this.changed();
   }
 
-  goToEnd() {
-    this.driver.addAllRounds();
+  // One moment on; at the end of the schedule the worker whose turn it is makes a step.
+  goOn() {
+    const { schedule } = this.app;
+    if (!schedule.isAtEnd) {
+      this.slider.moveBy(1);
+      return;
+    }
+    this.pause();
+    this.board.step(this.board.goingInTurn().slice(0, 1));
     this.changed();
   }
 
-  // A schedule that has a future is played as it is; after its end each worker goes in turn.
+  // Does a piece after the other, of more and more rounds, and shows the last one's end.
+  run(piece, rounds, onEnd = () => {}) {
+    let count = rounds;
+    this.errands.start({
+      piece: () => {
+        const isMore = piece(count);
+        count *= 4;
+        return isMore;
+      },
+      onPause: () => this.showErrand(),
+      onEnd: () => {
+        onEnd();
+        this.changed();
+      },
+    });
+  }
+
+  showErrand() {
+    this.slider.show();
+    setText(byId('outcome'), 'On the way. Any other click ends it here.');
+  }
+
+  // Rounds until each worker is over, asleep or lost; all of them are undone at once.
+  goToEnd(mark = {}, onEnd = undefined) {
+    this.pause();
+    this.run((count) => this.board.goRounds(count, mark).count > 0, END_ROUNDS, onEnd);
+  }
+
+  // To just after the next effect that is wanted: in the schedule, or else by rounds after its end.
+  seek(isWanted) {
+    this.pause();
+    const { board } = this;
+    const mark = {};
+    const goOn = (count) => {
+      const { isFound, count: made } = board.goRounds(count, mark, board.goingInTurn(), isWanted);
+      return !isFound && made > 0;
+    };
+    if (board.seekInSchedule(isWanted)) this.changed();
+    else this.run(goOn, SEEK_ROUNDS);
+  }
+
+  // A schedule that has a future is played as it is; after its end each worker goes in turn. What
+  // was played at a time is undone at once.
   play(beats) {
     const { schedule } = this.app;
     if (!schedule.isAtEnd) {
       this.slider.moveBy(beats * schedule.workers);
       return true;
     }
-    this.goRounds(beats);
-    return !schedule.isFull && this.driver.goingOf(this.scene.bodies).length > 0;
+    this.mark ??= {};
+    const { count } = this.board.goRounds(beats, this.mark);
+    this.changed();
+    return count > 0;
   }
 
   act(action, body) {
     this.pause();
-    if (action === 'if') this.loseAndFinish(body);
-    else this.addAct(action, body);
+    if (action === 'if') {
+      this.loseAndFinish(body);
+      return;
+    }
+    this.addAct(action, body);
     this.changed();
   }
 
@@ -107,25 +200,32 @@ export class WorkersView {
     const { schedule } = this.app;
     const row = this.scene.bodies[body];
     const kind = actOfAction(action, row, schedule.sleepers().has(body));
-    schedule.add([actOf(kind, kind === ACT.TWIN ? row.worker : body)]);
+    if (kind === ACT.GO) this.board.step([body]);
+    else schedule.add([actOf(kind, kind === ACT.TWIN ? row.worker : body)]);
   }
 
-  // What if this body is lost at this moment? The schedule as it was is kept.
+  // What if this body is lost at this moment, and the others go on to their end?
   loseAndFinish(body) {
-    const kept = this.app.schedule;
-    this.app.schedule = kept.copy();
-    const { name, steps } = this.driver.loseAndFinish(body);
-    this.before = {
-      text: this.app.text,
-      schedule: kept,
-      told: `What if ${name} is lost at moment ${grouped(kept.at)}? The others make ` +
-        `${counted(steps, 'atomic step')} more. `,
-    };
+    const { schedule } = this.app;
+    const { at } = schedule;
+    const mark = {};
+    const name = this.names[body];
+    schedule.add([actOf(ACT.LOSE, body)], { mark });
+    this.goToEnd(mark, () => {
+      schedule.whatIf = {
+        depth: schedule.past.length,
+        told: `What if ${name} is lost at moment ${grouped(at)}? The others make ` +
+          `${counted(schedule.length - at - 1, 'atomic step')} more. `,
+      };
+    });
   }
 
+  // What was there before the last what-if that is not undone.
   goBack() {
-    this.app.schedule = this.before.schedule;
-    this.before = undefined;
+    this.pause();
+    const { schedule } = this.app;
+    const { depth } = schedule.whatIf;
+    while (schedule.past.length >= depth) schedule.undo();
     this.changed();
   }
 
@@ -137,13 +237,13 @@ export class WorkersView {
   }
 
   show() {
-    const { app } = this;
+    const { app, board } = this;
     if (!app.job || app.view !== 'workers') return;
-    if (this.before?.text !== app.text) this.before = undefined;
-    const events = app.schedule.events();
-    this.scene = this.driver.sceneAfter(events, rowsWanted(events));
+    board.place = this.placeWords.place;
+    this.scene = board.now();
     if (this.scene.code !== CODE.DONE) return;
     app.job.leaves = this.scene.leaves;
+    const { events } = board;
     this.showBodies();
     this.showCells(events);
     this.showControls(events);
@@ -152,48 +252,58 @@ export class WorkersView {
 
   showBodies() {
     const { app, scene } = this;
-    const workers = app.schedule.bodies();
-    const names = namesOfBodies(workers, app.schedule.workers);
-    this.names = names;
-    this.cards.show(app.job, scene.bodies, names, app.schedule.sleepers());
-    drawTree(app.job, { ...scene, workers: app.schedule.workers }, workers);
-    showSteps(app.job, app.schedule, scene.rows, names);
-    const passes = passNames(app.job.rule);
+    const { schedule, job } = app;
+    const workers = schedule.bodies();
+    this.names = namesOfBodies(workers, schedule.workers);
+    this.cards.show(job, scene.bodies, this.names, schedule.sleepers());
+    this.tree.show(job, { ...scene, workers: schedule.workers }, workers);
+    this.steps.show(job, schedule, this.names);
+    this.placeWords.show(scene.stored, this.names);
+    const passes = passNames(job.rule);
     for (const pass of [1, 2, 3]) setText(byId(`pass-name-${pass}`), passes[pass]);
   }
 
   showCells(events) {
     const { app } = this;
-    const reads = app.core.reads(app.text, app.job, app.schedule.workers, events);
-    this.cells.show(app.job.cells, (cell) => {
-      const { value, step } = reads.cells[cell];
-      return { value, note: `step ${grouped(step)}`, kind: '' };
-    });
-    this.placeWords.show(events, this.names);
+    const { pairs } = app.core.reads(app.text, app.job, app.schedule.workers, events);
+    this.cells.show(app.job.cells, (cell) => (
+      { value: pairs[2 * cell + 1], note: `step ${grouped(pairs[2 * cell])}`, kind: '' }));
   }
 
   showControls(events) {
     const { schedule } = this.app;
-    const going = this.driver.goingOf(this.scene.bodies);
-    const isIdle = going.length === 0 || (schedule.isAtEnd && schedule.isFull);
+    const sleepers = schedule.sleepers();
+    const isOver = !this.scene.bodies.some((row, body) => isGoing(row) && !sleepers.has(body));
+    const isIdle = isOver || (schedule.isAtEnd && schedule.isFull);
     byId('worker-count').value = schedule.workers;
-    for (const id of [...Object.keys(ROUNDS), 'to-end']) setDisabled(byId(id), isIdle);
-    setDisabled(byId('play'), isIdle && schedule.isAtEnd);
-    byId('full').hidden = !schedule.isFull;
+    for (const id of [...Object.keys(ROUNDS), 'to-end', 'next-change', 'next-finish', 'play']) {
+      setDisabled(byId(id), isIdle && (schedule.isAtEnd || !/^(next|play)/.test(id)));
+    }
+    setDisabled(byId('undo-acts'), schedule.past.length === 0);
+    setDisabled(byId('redo-acts'), schedule.future.length === 0);
+    setDisabled(byId('reset'), schedule.length === 0);
+    setHidden(byId('full'), !schedule.isFull);
     this.slider.show();
-    this.showOutcome(going.length === 0, events);
+    this.showOutcome(isOver, events);
     if (byId('plan-part').open) showPlan(this.app);
   }
 
-  showOutcome(isIdle, events) {
-    const { app, scene } = this;
-    const isAnswered = isIdle || scene.conflict > 0 || scene.finished === app.job.steps;
+  // What the what-if told, as long as it is not undone.
+  get whatIf() {
+    const { schedule } = this.app;
+    if (schedule.whatIf?.depth > schedule.past.length) schedule.whatIf = undefined;
+    return schedule.whatIf;
+  }
+
+  showOutcome(isOver, events) {
+    const { app, scene, whatIf } = this;
+    const isAnswered = isOver || scene.conflict > 0 || scene.finished === app.job.steps;
     const told = isAnswered
       ? outcomeInWords(this.outcomeAfter(events), app.answer)
       : `Finished: ${grouped(scene.finished)} of ${counted(app.job.steps, 'step')}.`;
-    setText(byId('outcome'), (this.before?.told ?? '') + told);
+    setText(byId('outcome'), (whatIf?.told ?? '') + told);
     byId('outcome').className = scene.conflict > 0 ? 'said bad' : 'said';
-    byId('before').hidden = this.before === undefined;
+    setHidden(byId('before'), whatIf === undefined);
   }
 
   outcomeAfter(events) {

@@ -119,6 +119,14 @@ class Page {
     await this.call('Input.dispatchKeyEvent', { type: 'keyUp', ...event });
   }
 
+  // A key with Control.
+  async chord(key, more = 0) {
+    const windowsVirtualKeyCode = key.toUpperCase().charCodeAt(0);
+    const event = { key, code: `Key${key.toUpperCase()}`, windowsVirtualKeyCode, modifiers: 2 | more };
+    await this.call('Input.dispatchKeyEvent', { type: 'rawKeyDown', ...event });
+    await this.call('Input.dispatchKeyEvent', { type: 'keyUp', ...event });
+  }
+
   // Puts a text where the cursor stands, as a paste does.
   insert(text) {
     return this.call('Input.insertText', { text });
@@ -140,6 +148,12 @@ class Page {
       menu.dispatchEvent(new Event('input', { bubbles: true }));
       menu.dispatchEvent(new Event('change', { bubbles: true }));
     })()`);
+  }
+
+  // What is in sight, in the folder that was set for pictures.
+  async sightPicture(name) {
+    const { data } = await this.call('Page.captureScreenshot', { format: 'png' });
+    writeFileSync(join(this.pictures, `${name}.png`), Buffer.from(data, 'base64'));
   }
 
   // The whole page: the window is made as high as the page for a moment.

@@ -6,46 +6,15 @@ import { deflateRawSync } from 'node:zlib';
 import { writeAddress } from '../src/address.js';
 import { Schedule } from '../src/schedule.js';
 import { withPage } from './browser.js';
-import { report } from './report.js';
+import { clicks, count, drive, end, has, is, isShown, open, page, picture, saved, text,
+  valueOf, write } from './drive.js';
+import * as layout from './layout_tests.js';
+import * as links from './link_tests.js';
+import * as speed from './speed_tests.js';
+import * as steps from './steps_tests.js';
+import * as works from './works_tests.js';
 
-const [pagePath, folder, pictures] = process.argv.slice(2);
-const address = `file://${resolve(pagePath)}`;
-const { is, end } = report();
-let page;
-let downloads;
-
-const text = (selector) =>
-  page.evaluate(`document.querySelector(${JSON.stringify(selector)}).textContent`);
-const valueOf = (selector) =>
-  page.evaluate(`document.querySelector(${JSON.stringify(selector)}).value`);
-const isShown = (selector) =>
-  page.evaluate(`document.querySelector(${JSON.stringify(selector)}).checkVisibility()`);
-const count = (selector) =>
-  page.evaluate(`document.querySelectorAll(${JSON.stringify(selector)}).length`);
-const picture = (name) => page.wholePicture(join(pictures, `${name}.png`));
-
-async function has(what, selector, words) {
-  const said = await text(selector);
-  is(what, said.includes(words) || said, true);
-}
-
-async function clicks(selector, times) {
-  for (let k = 0; k < times; k += 1) await page.click(selector);
-}
-
-// Writes a text into the editor, and waits until it was looked at.
-async function write(content) {
-  await page.click('#text');
-  await page.selectAll();
-  if (content === '') await page.press('Delete');
-  else await page.insert(content);
-  await page.until('!document.getElementById("text").classList.contains("waits")');
-}
-
-// An address with nothing else of the last one: the page is loaded anew.
-async function open(hash = '') {
-  is(`opens ${hash.slice(0, 60)}`, await page.open(address + hash), true);
-}
+const [pagePath, examples, pictures] = process.argv.slice(2);
 
 async function testLockstep() {
   await open();
@@ -101,11 +70,11 @@ async function testConflict() {
 }
 
 async function testGallery() {
-  const files = readdirSync(folder).filter((name) => name.endsWith('.pram'));
+  const files = readdirSync(examples).filter((name) => name.endsWith('.pram'));
   is('programs in the menu', await count('#example option'), files.length + 1);
   for (const file of files) {
     await page.choose('#example', file.replace('.pram', ''));
-    const out = readFileSync(join(folder, file.replace('.pram', '.out')), 'utf8');
+    const out = readFileSync(join(examples, file.replace('.pram', '.out')), 'utf8');
     const [, steps] = /^done steps=(\d+)/.exec(out) ?? [];
     await has(file, '#answer', steps ? `done after ${steps} steps` : 'a conflict in step');
     await page.click('#tab-workers');
@@ -120,10 +89,10 @@ async function testFaults() {
   await write(`${head}pid r0\nld r1\n`);
   is('a fault is said', await text('#fault'),
     'Line 7: the instruction has too few operands, or too many. “ld” needs two registers, as in ' +
-    '“ld r1 r0”.');
+    '“ld r1 r0”, or in pram 3 of an array A “ld r1 A r0”.');
   is('its line is marked', await text('.line-number.fault'), '7');
   is('no machine', await isShown('#machine'), false);
-  is('the menu', await valueOf('#example'), 'own');
+  await has('the menu', '#example option:checked', 'your own: pram 1');
   await picture('fault');
   await write(`${head}pid r0\nld r1 r0\n`);
   is('mended', await text('#fault'), '');
@@ -171,9 +140,12 @@ async function testLongTexts() {
   const lines = `pram 1\ncells 4\nprocs 4\nsteps 3\ncode\npid r0\n${comments}st r0 r0\n`;
   await open(`#${await linkTo(lines)}`);
   await has('a text of 1 MB', '#answer', '4 cells');
-  await page.evaluate('document.getElementById("text").scrollTop = 1e9');
-  await page.until('document.querySelector("#gutter").lastElementChild.textContent === "110008"');
-  is('its last line', await text('#gutter > :last-child'), '110008');
+  await page.click('#lines input');
+  await page.selectAll();
+  await page.insert('110000');
+  await page.press('Enter', 'Enter', '\r');
+  is('its last line', await text('#gutter > :nth-child(8) .number'), '110007');
+  is('that is written in', (await valueOf('#text')).endsWith('st r0 r0\n'), true);
   await picture('long-text');
   await open(`#${await linkTo('x'.repeat(1000000))}`);
   await has('a line of 1 MB', '#fault', 'Line 1: ');
@@ -212,25 +184,15 @@ async function testWorkers() {
   await has('reads its position', '#steps li', 'worker 1 reads the position of worker 1');
 }
 
-// The name of a saved file with this ending, once it is there.
-async function downloaded(ending) {
-  for (let polls = 0; polls < 50; polls += 1) {
-    const found = readdirSync(downloads).find((name) => name.endsWith(ending));
-    if (found) return found;
-    await page.until('false', 0.1);
-  }
-  return undefined;
-}
-
 async function testPlan() {
   await page.click('#plan-part summary');
   await page.until("document.querySelector('#plan-said').textContent !== ''", 5);
   await has('the command', '#plan-said', 'pramx replay program.pram --workers 3 --plan plan.csv');
-  is('the plan', (await valueOf('#plan')).startsWith('worker,act,ticks\n1,go,1\n0,go,1\n'), true);
-  await page.click('#plan-link');
-  const saved = await downloaded('.csv');
-  const file = saved && readFileSync(join(downloads, saved), 'utf8');
-  is('the plan file', file, await valueOf('#plan'));
+  is('the plan', (await text('#plan')).startsWith('worker,act,ticks\n1,go,1\n0,go,1\n'), true);
+  const file = await saved('#save-plan', 'plan.csv');
+  const shown = await text('#plan');
+  is('the plan file', file.startsWith(shown) && file.length > shown.length, true);
+  is('rows of it that are shown', shown.split('\n').length, 202);
 }
 
 async function testTwinsAndTime() {
@@ -245,11 +207,11 @@ async function testTwinsAndTime() {
   const before = await text('#moment-said');
   await page.click('#moment-back');
   await page.click('#moment-start');
-  has('time goes back', '#moment-said', '0 of ');
+  await has('time goes back', '#moment-said', '0 of ');
   is('no twin yet', await count('#cards > li'), 3);
   await page.evaluate('document.getElementById("moment").focus()');
   await page.press('ArrowRight');
-  has('the slider by key', '#moment-said', '1 of ');
+  await has('the slider by key', '#moment-said', '1 of ');
   await page.click('#moment-on');
   await page.click('#moment-end');
   is('and forward', await text('#moment-said'), before);
@@ -365,14 +327,22 @@ async function testWidths() {
   await page.setScheme('light');
 }
 
+const OWN = [testLockstep, testLockstepKeys, testConflict, testGallery, testFaults, testHostile,
+  testLongTexts, testWorkers, testPlan, testTwinsAndTime, testEnds, testWorkersKeys, testLink,
+  testReading, testWidths];
+const MODULES = [works, layout, steps, links, speed];
+const TESTS = [...OWN, ...MODULES.flatMap((module) => Object.values(module))];
+
+// With names after the folders only the tests of these names are made.
+const names = process.argv.slice(5);
+
 await withPage(async (opened, scratch) => {
-  page = opened;
-  downloads = scratch;
+  drive(opened, { address: `file://${resolve(pagePath)}`, pictures, downloads: scratch });
+  page.pictures = pictures;
   await page.resize(1280, 900);
   await page.call('Browser.setDownloadBehavior', { behavior: 'allow', downloadPath: scratch });
-  for (const test of [testLockstep, testLockstepKeys, testConflict, testGallery, testFaults,
-    testHostile, testLongTexts, testWorkers, testPlan, testTwinsAndTime, testEnds, testWorkersKeys,
-    testLink, testReading, testWidths]) {
+  for (const test of TESTS) {
+    if (names.length > 0 && !names.includes(test.name)) continue;
     console.log(test.name);
     await test();
   }

@@ -6,10 +6,12 @@ import { readFileSync, readdirSync, writeFileSync } from 'node:fs';
 import { tmpdir } from 'node:os';
 import { join } from 'node:path';
 import { CODE, openCore } from '../src/core.js';
+import { effectOf } from '../src/effects.js';
 import { FAULT, INSTRUCTIONS, SENTENCES, wordsOfFault } from '../src/faults.js';
 import { planOf } from '../src/plan.js';
-import { ACT, actOf, readActs, Schedule, writeActs } from '../src/schedule.js';
+import { ACT, actOf, readActs, writeActs } from '../src/acts.js';
 import { readAddress, writeAddress } from '../src/address.js';
+import { Schedule } from '../src/schedule.js';
 import { report } from './report.js';
 
 const MOST = 4294967295;
@@ -36,7 +38,7 @@ function sentencesOfPage() {
 
 function printed(answer) {
   if (answer.code === CODE.DONE) {
-    const cells = answer.cells.map((value, cell) => `${cell}: ${value}\n`).join('');
+    const cells = [...answer.cells].map((value, cell) => `${cell}: ${value}\n`).join('');
     return `done steps=${answer.step}\n${cells}`;
   }
   if (answer.code === CODE.CONFLICT) {
@@ -89,13 +91,14 @@ function walkActs(workers, rounds) {
   return acts;
 }
 
+const eventsOf = (workers, acts) => new Schedule(workers, acts).events.upTo(acts.length);
+
 const isOver = (body) => body.doing >= 4;
 
-function walk(core, text) {
+function walk(core, text, { places }) {
   for (let rounds = 256; rounds < 2000000; rounds *= 2) {
-    const schedule = new Schedule(3, walkActs(3, rounds));
-    const events = schedule.events();
-    const scene = core.scene(text, 3, events, events.length / 2);
+    const events = eventsOf(3, walkActs(3, rounds));
+    const scene = core.scene(text, 3, events, { from: events.length / 2, places });
     if (scene.code !== CODE.DONE) return { code: scene.code };
     if (scene.bodies.every(isOver)) return { code: CODE.DONE, events, scene };
   }
@@ -107,9 +110,10 @@ function readsAgree(core, text, job, events) {
   const count = events.length / 2;
   for (let k = 0; k <= 20; k += 1) {
     const part = events.subarray(0, 2 * Math.floor((count * k) / 20));
-    const { cells } = core.reads(text, job, 3, part);
+    const { pairs } = core.reads(text, job, 3, part);
     const states = new Map();
-    for (const [cell, { step, value }] of cells.entries()) {
+    for (let cell = 0; cell < job.cells; cell += 1) {
+      const [step, value] = pairs.subarray(2 * cell);
       if (!states.has(step)) states.set(step, core.state(text, job, step, MOST).places);
       if (states.get(step)[cell] !== value) return `cell ${cell} at ${k} of 20`;
     }
@@ -126,7 +130,7 @@ function testProgram(core, name) {
   is(`${name}: answer`, printed(answer), wanted);
   if (pramx) is(`${name}: pramx plain`, printed(answer), plainOf(path));
   is(`${name}: requests make the states`, stepsAgree(core, text, job, answer), 'agree');
-  const walked = walk(core, text);
+  const walked = walk(core, text, job);
   is(`${name}: a walk ends`, walked.code, CODE.DONE);
   if (walked.code !== CODE.DONE) return;
   is(`${name}: its outcome`, printed(core.outcome(text, job, 3, walked.events)), wanted);
@@ -149,11 +153,14 @@ function testReplay(core, name, scratch) {
   const out = execFileSync(pramx, ['replay', path, '--workers', '3', '--plan', plan],
     { encoding: 'utf8', maxBuffer: 2 ** 28 });
   const traced = out.split('\n').slice(1);
-  const events = new Schedule(3, acts).events();
-  const { rows } = core.scene(readFileSync(path, 'utf8'), 3, events, 0);
+  const events = eventsOf(3, acts);
+  const text = readFileSync(path, 'utf8');
+  const { rows: count, effects } =
+    core.scene(text, 3, events, { from: 0, places: core.judge(text).places });
+  const rows = Array.from({ length: count }, (_, k) => effectOf(effects, k));
   const kinds = ['', 'load', 'store', 'max', 'swap'];
   const made = rows.filter((row) => row.kind > 0).map((row, k) =>
-    `${k + 1},${row.stands.worker},${kinds[row.kind]},${row.word},${row.before},${row.after}`);
+    `${k + 1},${row.body},${kinds[row.kind]},${row.word},${row.before},${row.after}`);
   is(`${name}: a replay of the plan`, made.find((row, k) => row !== traced[k]) ?? 'alike', 'alike');
 }
 
@@ -179,7 +186,9 @@ async function testAddress() {
   const schedule = new Schedule(2, readActs(2, '0.1*9'), 7);
   const shown = { text, view: 'workers', step: 3, schedule };
   const read = await readAddress(await writeAddress(shown, []), []);
-  is('an address', JSON.stringify(read), JSON.stringify(shown));
+  const told = ({ schedule: { workers, acts, at }, ...rest }) =>
+    JSON.stringify([rest.text, rest.view, rest.step, workers, acts, at]);
+  is('an address', told(read), told(shown));
   const bomb = { ...shown, text: ' '.repeat(20000000) };
   is('a text too long for a link', await writeAddress(bomb, []), undefined);
   for (const address of ['text=%%%', 'text=AAAA', 'example=none', 'workers=9', 'workers=0',
@@ -238,10 +247,11 @@ function testSizes(core) {
   const text = 'pram 1\ncells 1\nprocs 1\nsteps 4294967295\ncode\n'
     + 'set r1 1\nagain: add r0 r0 r1\njmp again\n';
   is('an endless job', core.answer(text, core.judge(text), 1000).code, CODE.TOO_FAR);
-  const bad = core.scene(text, 65, new Uint32Array(0), 0);
+  const all = { from: 0, places: 6 };
+  const bad = core.scene(text, 65, new Uint32Array(0), all);
   is('too many workers', bad.code, CODE.BAD_WORKERS);
-  is('an unknown body', core.scene(text, 2, Uint32Array.of(0, 2), 0).code, CODE.BAD_EVENT);
-  is('an unknown event', core.scene(text, 2, Uint32Array.of(7, 0), 0).code, CODE.BAD_EVENT);
+  is('an unknown body', core.scene(text, 2, Uint32Array.of(0, 2), all).code, CODE.BAD_EVENT);
+  is('an unknown event', core.scene(text, 2, Uint32Array.of(7, 0), all).code, CODE.BAD_EVENT);
   is('a step past the end', core.state('pram 1\ncells 1\nprocs 1\nsteps 1\ncode\nhalt\n',
     { places: 6 }, 2, 10).code, CODE.NO_STEP);
 }
@@ -249,10 +259,11 @@ function testSizes(core) {
 // Going to a far moment is quick.
 function testSpeed(core) {
   const text = readFileSync(join(folder, 'sort.pram'), 'utf8');
-  const events = new Schedule(4, readActs(4, '0.1.2.3*99999')).events();
-  core.scene(text, 4, events, events.length / 2);
+  const events = eventsOf(4, readActs(4, '0.1.2.3*99999'));
+  const { places } = core.judge(text);
+  core.scene(text, 4, events, { from: events.length / 2, places });
   const start = performance.now();
-  core.scene(text, 4, events, events.length / 2 - 100);
+  core.scene(text, 4, events, { from: events.length / 2 - 100, places });
   const took = performance.now() - start;
   console.log(`399,996 events: ${took.toFixed(0)} ms`);
   is('399,996 events in a second', took < 1000 || took, true);

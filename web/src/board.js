@@ -1,0 +1,155 @@
+// The board at the moment of the schedule, as the core tells it, with one call a moment. Workers
+// go on by rounds, in which each that is going makes a step in turn.
+import { ACT, MOST_ACTS, actOf, bodyOf, isEvent, kindOf } from './acts.js';
+import { CODE } from './core.js';
+import { WIDTH, findEffect, isStep } from './effects.js';
+import { isGoing } from './worker_cards.js';
+
+const MOST_STEPS = 60000;
+const NO_STEP = { count: 0, isFound: false };
+
+function joined(events, bodies) {
+  const pairs = new Uint32Array(events.length + 2 * bodies.length);
+  pairs.set(events);
+  bodies.forEach((body, k) => { pairs[events.length + 2 * k + 1] = body; });
+  return pairs;
+}
+
+// The bodies that made a step, of which the effects are these, and those effects alone.
+function madeOf(bodies, effects) {
+  const made = bodies.filter((_, k) => isStep(effects, k));
+  if (made.length === bodies.length) return { made, told: effects };
+  const told = new Uint32Array(made.length * WIDTH);
+  let to = 0;
+  bodies.forEach((_, k) => {
+    if (!isStep(effects, k)) return;
+    told.set(effects.subarray(k * WIDTH, (k + 1) * WIDTH), to);
+    to += WIDTH;
+  });
+  return { made, told };
+}
+
+// The effects of acts, with zeros for those that are no events.
+function spread(acts, effects) {
+  if (effects.length === acts.length * WIDTH) return effects;
+  const told = new Uint32Array(acts.length * WIDTH);
+  let from = 0;
+  acts.forEach((act, k) => {
+    if (!isEvent(act)) return;
+    told.set(effects.subarray(from, from + WIDTH), k * WIDTH);
+    from += WIDTH;
+  });
+  return told;
+}
+
+export class Board {
+  constructor(app) {
+    this.app = app;
+    this.place = 0;
+    this.shown = undefined;
+  }
+
+  get schedule() {
+    return this.app.schedule;
+  }
+
+  // The events up to the moment.
+  get events() {
+    return this.schedule.events.upTo(this.schedule.at);
+  }
+
+  // The scene after these events, with the effects of those from `from` on.
+  ask(events, from) {
+    const { core, text, job } = this.app;
+    const wanted = { from, places: job.places, place: this.place };
+    return core.scene(text, this.schedule.workers, events, wanted);
+  }
+
+  // What a scene depends on.
+  get moment() {
+    const { schedule, place } = this;
+    return [this.app.text, schedule, schedule.revision, schedule.at, place];
+  }
+
+  isShown() {
+    const { moment } = this;
+    return this.shown?.moment.every((part, k) => part === moment[k]);
+  }
+
+  keep(scene) {
+    this.shown = { scene, moment: this.moment };
+    return scene;
+  }
+
+  // Has the film of the whole schedule, some thousand acts a call, and tells the last scene.
+  fill() {
+    const { acts, film, events } = this.schedule;
+    let scene;
+    while (film.length < acts.length) {
+      const end = Math.min(film.length + MOST_STEPS, acts.length);
+      scene = this.ask(events.upTo(end), events.countOf(film.length));
+      if (scene.code !== CODE.DONE) return scene;
+      film.add(spread(acts.slice(film.length, end), scene.effects));
+    }
+    return scene;
+  }
+
+  // The scene at the moment of the schedule.
+  now() {
+    if (this.isShown()) return this.shown.scene;
+    const filled = this.fill();
+    if (filled && (this.schedule.isAtEnd || filled.code !== CODE.DONE)) return this.keep(filled);
+    return this.keep(this.ask(this.events, this.events.length / 2));
+  }
+
+  // Those that are neither asleep, lost nor over.
+  going() {
+    const sleepers = this.schedule.sleepers();
+    return this.now().bodies.flatMap((row, body) =>
+      (isGoing(row) && !sleepers.has(body) ? [body] : []));
+  }
+
+  // A step of each of these, without those that the core says were none; up to the first one that
+  // is wanted, if `isWanted` is given. Tells how many were made, and whether the wanted one was.
+  step(bodies, mark, isWanted) {
+    const { schedule, events } = this;
+    const scene = this.ask(joined(events, bodies), events.length / 2);
+    if (scene.code !== CODE.DONE) return NO_STEP;
+    const found = isWanted ? findEffect(scene.effects, 0, bodies.length, isWanted) : -1;
+    const count = found < 0 ? bodies.length : found + 1;
+    const effects = scene.effects.subarray(0, count * WIDTH);
+    const { made, told } = madeOf(bodies.slice(0, count), effects);
+    schedule.add(made.map((body) => actOf(ACT.GO, body)), { mark, told });
+    if (count === bodies.length) this.keep(scene);
+    return { count: made.length, isFound: found >= 0 };
+  }
+
+  // So many rounds of these bodies, as many as one call makes.
+  goRounds(count, mark, bodies = this.going(), isWanted = undefined) {
+    const room = MOST_ACTS - this.schedule.at;
+    const most = Math.min(bodies.length * count, room, MOST_STEPS);
+    if (most === 0) return NO_STEP;
+    const turns = Array.from({ length: most }, (_, k) => bodies[k % bodies.length]);
+    return this.step(turns, mark, isWanted);
+  }
+
+  // Those that are going, from the one after the body that made the last step.
+  goingInTurn() {
+    const { acts, at } = this.schedule;
+    let last = at - 1;
+    while (last >= 0 && kindOf(acts[last]) !== ACT.GO) last -= 1;
+    const going = this.going();
+    const next = last < 0 ? 0 : going.findIndex((body) => body > bodyOf(acts[last]));
+    return next <= 0 ? going : [...going.slice(next), ...going.slice(0, next)];
+  }
+
+  // Goes on in the schedule to just after the next effect that is wanted, or to its end; tells
+  // whether there is one.
+  seekInSchedule(isWanted) {
+    const { schedule } = this;
+    this.now();
+    const found = schedule.film.find(schedule.at, schedule.length, isWanted);
+    schedule.moveTo(found < 0 ? schedule.length : found + 1);
+    return found >= 0;
+  }
+}

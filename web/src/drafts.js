@@ -1,0 +1,59 @@
+// One's own programs, the newest first. They are kept in the browser, where it lets the page.
+const KEY = 'kaolinsilk drafts';
+const MOST = 20;
+const MOST_CHARACTERS = 2000000;
+const QUIET = 300;
+
+const isDraft = (draft) => Number.isInteger(draft?.number) && typeof draft.text === 'string';
+
+function read() {
+  try {
+    const found = JSON.parse(localStorage.getItem(KEY) ?? '[]');
+    return Array.isArray(found) ? found.filter(isDraft).slice(0, MOST) : [];
+  } catch {
+    return [];
+  }
+}
+
+// Another page may have kept some meanwhile: they stay.
+function write(list) {
+  const others = read().filter(({ number }) => !list.some((draft) => draft.number === number));
+  let room = MOST_CHARACTERS;
+  const fitting = [...list, ...others].slice(0, MOST).filter(({ text }) => (room -= text.length) > 0);
+  try {
+    localStorage.setItem(KEY, JSON.stringify(fitting));
+  } catch {
+    // Without room, or in a frame that may keep nothing, they last as long as the page.
+  }
+}
+
+export class Drafts {
+  constructor() {
+    this.list = read();
+    this.isWritten = true;
+    window.addEventListener('pagehide', () => this.write());
+  }
+
+  textOf(number) {
+    return this.list.find((draft) => draft.number === number)?.text;
+  }
+
+  numberOf(text) {
+    return this.list.find((draft) => draft.text === text)?.number;
+  }
+
+  // Keeps a text as the draft of this number, or as a new one; tells its number.
+  keep(text, number = Date.now()) {
+    const others = this.list.filter((draft) => draft.number !== number);
+    this.list = [{ number, text }, ...others].slice(0, MOST);
+    this.isWritten = false;
+    clearTimeout(this.timer);
+    this.timer = setTimeout(() => this.write(), QUIET);
+    return number;
+  }
+
+  write() {
+    if (!this.isWritten) write(this.list);
+    this.isWritten = true;
+  }
+}

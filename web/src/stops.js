@@ -1,0 +1,37 @@
+// Lines at which playing stops, and the buttons for the line that the cursor is in.
+import { byId, onClick, setDisabled, setText } from './dom.js';
+import { grouped } from './numbers.js';
+
+export function openStops(editor, { onChange, toLine }) {
+  const hear = () => {
+    if (document.activeElement === editor.area) show();
+  };
+
+  function toggle(line) {
+    if (!editor.stops.delete(line)) editor.stops.add(line);
+    editor.draw();
+    show();
+    onChange();
+  }
+
+  function show() {
+    const { line } = editor;
+    setText(byId('to-line'), `To line ${grouped(line)}`);
+    setText(byId('stop-line'), editor.stops.has(line)
+      ? `No stop at line ${grouped(line)}` : `Stop at line ${grouped(line)}`);
+    setDisabled(byId('no-stops'), editor.stops.size === 0);
+  }
+
+  document.addEventListener('selectionchange', hear);
+  editor.area.addEventListener('keyup', hear);
+  onClick('to-line', () => toLine(editor.line));
+  onClick('stop-line', () => toggle(editor.line));
+  onClick('no-stops', () => {
+    editor.stops.clear();
+    editor.draw();
+    show();
+    onChange();
+  });
+  show();
+  return { toggle, show };
+}

@@ -1,0 +1,48 @@
+// A drawing as a file by itself: its colours as the page has them now, and its words below it.
+import { makeSvg } from './dom.js';
+
+const PROPERTIES = ['fill', 'stroke', 'stroke-width', 'stroke-dasharray', 'opacity', 'font-size',
+  'font-weight', 'font-family', 'text-anchor', 'dominant-baseline'];
+const LETTER = 7;
+const LINE = 18;
+
+// Writes the styles that the page gives these elements into the elements of a copy.
+export function withStyles(original, copy) {
+  const styles = getComputedStyle(original);
+  for (const name of PROPERTIES) copy.setAttribute(name, styles.getPropertyValue(name));
+  copy.removeAttribute('class');
+  [...copy.children].forEach((child, k) => withStyles(original.children[k], child));
+  return copy;
+}
+
+function linesOf(words, most) {
+  const lines = [''];
+  for (const word of words.split(' ')) {
+    if (lines.at(-1).length + word.length >= most) lines.push('');
+    lines.push(`${lines.pop()} ${word}`.trim());
+  }
+  return lines;
+}
+
+// A picture of this size with these parts, on the page's ground, and its words below.
+export function pictureOf(width, height, parts, words) {
+  const { color, backgroundColor, fontFamily } = getComputedStyle(document.body);
+  const lines = linesOf(words, Math.floor(width / LETTER));
+  const whole = height + LINE * (lines.length + 1);
+  const said = lines.map((line, k) => makeSvg('text',
+    { x: 8, y: height + LINE * (k + 1), fill: color, 'font-size': 13, 'font-family': fontFamily }, line));
+  return makeSvg('svg', { viewBox: `0 0 ${width} ${whole}`, width, height: whole },
+    makeSvg('rect', { width, height: whole, fill: backgroundColor }), ...parts, ...said);
+}
+
+export function save(name, type, text) {
+  const address = URL.createObjectURL(new Blob([text], { type }));
+  const anchor = document.createElement('a');
+  anchor.href = address;
+  anchor.download = name;
+  anchor.click();
+  setTimeout(() => URL.revokeObjectURL(address), 10000);
+}
+
+export const saveSvg = (name, drawing) =>
+  save(name, 'image/svg+xml', new XMLSerializer().serializeToString(drawing));

@@ -1,0 +1,150 @@
+// What is in sight: sizes of windows, phones, frames, paper, pictures, and where the focus is.
+import { clicks, count, focused, has, is, isShown, open, page, picture, saved, text } from './drive.js';
+
+const SHOWN = '&step=14&acts=0.1.2.3*300';
+
+// Where an element ends, from the top of the page.
+const bottomOf = (selector) => page.evaluate(`scrollY +
+  document.querySelector(${JSON.stringify(selector)}).getBoundingClientRect().bottom`);
+
+const LECTURES = [
+  [1024, 768, 4], [1280, 768, 4], [1366, 768, 4], [1280, 1080, 8], [1920, 1080, 8],
+];
+
+export async function testLectures() {
+  for (const [width, height, workers] of LECTURES) {
+    await page.resize(width, height);
+    await open(`#example=maximum&view=workers&workers=${workers}${SHOWN}`);
+    const bottom = await bottomOf('#cards');
+    is(`tree and workers within ${width} x ${height}`, bottom <= height || bottom, true);
+    is(`the tree first at ${width}`, await bottomOf('#tree') < bottom, true);
+    const header = await bottomOf('header');
+    is(`one line of header at ${width}`, header < 45 || header, true);
+    await page.sightPicture(`lecture-${width}x${height}-${workers}`);
+    await page.click('#tab-lockstep');
+    const memory = await bottomOf('#lockstep .picture');
+    is(`the memory within ${width} x ${height}`, memory <= height || memory, true);
+    await page.sightPicture(`lecture-${width}x${height}-lockstep`);
+  }
+  await page.resize(1280, 900);
+}
+
+const BOXES = `[...document.querySelectorAll('#lockstep .cell, #strip li')].map((box) => {
+  const { left, top, width, height } = box.getBoundingClientRect();
+  return [left, top + scrollY, width, height].map(Math.round).join();
+}).join(' ')`;
+
+export async function testBoxes() {
+  await open('#example=maximum');
+  const first = await page.evaluate(BOXES);
+  for (let step = 1; step <= 20; step += 1) {
+    await page.press('ArrowRight');
+    const now = await page.evaluate(BOXES);
+    is(`boxes stand still in step ${step}`, now === first, true);
+  }
+  is('arrows are in front', await page.evaluate(`(() => {
+    const arrows = document.getElementById('arrows');
+    const after = arrows.compareDocumentPosition(document.querySelector('#plain-cells')) & 2;
+    return after > 0 && getComputedStyle(arrows).zIndex !== '-1';
+  })()`), true);
+}
+
+export async function testFrame() {
+  await page.resize(960, 540);
+  for (const [view, last] of [['lockstep', '#lockstep .picture'], ['workers', '#cards']]) {
+    await open(`#embed=1&example=maximum&view=${view}&workers=4${SHOWN}`);
+    const bottom = await bottomOf(last);
+    is(`${view} within a frame of 960 x 540`, bottom <= 540 || bottom, true);
+    is('without the editor', await isShown('#text'), false);
+    const wide = await page.evaluate('document.documentElement.scrollWidth');
+    is('as wide as the frame', wide <= 960 || wide, true);
+    await page.sightPicture(`frame-${view}`);
+  }
+  await page.resize(1280, 900);
+}
+
+export async function testPaper() {
+  await open(`#example=maximum&view=workers&workers=4${SHOWN}`);
+  await page.call('Emulation.setEmulatedMedia', { media: 'print' });
+  await page.evaluate('dispatchEvent(new Event("beforeprint"))');
+  is('the whole text is printed', await text('#printed'),
+    await page.evaluate('document.getElementById("text").value'));
+  is('in sight', await isShown('#printed'), true);
+  is('without controls', await isShown('#all-1'), false);
+  is('with the tree', await isShown('#tree'), true);
+  await picture('paper');
+  await page.call('Emulation.setEmulatedMedia', { media: '' });
+  await page.setScheme('light');
+}
+
+const PARSED = (file) => `new DOMParser().parseFromString(${JSON.stringify(file)}, 'image/svg+xml')
+  .querySelectorAll('parsererror, script').length`;
+
+export async function testSavedPictures() {
+  await open('#example=conflict');
+  await page.click('#step-end');
+  const memory = await saved('#save-memory', 'memory.svg');
+  is('a picture of the conflict', memory.includes('Conflict: step 4'), true);
+  is('with arrows', memory.includes('marker-end'), true);
+  is('that is sound', await page.evaluate(PARSED(memory)), 0);
+  await open(`#example=maximum&view=workers&workers=4${SHOWN}`);
+  const tree = await saved('#save-tree', 'tree.svg');
+  is('a picture of the tree', tree.includes('nodes are finished'), true);
+  is('that is sound', await page.evaluate(PARSED(tree)), 0);
+}
+
+const SMALL = `[...document.querySelectorAll('button, select, summary, input')]
+  .filter((one) => one.checkVisibility() && one.getBoundingClientRect().height < 44)
+  .map((one) => one.id || one.textContent).join()`;
+
+export async function testPhone() {
+  await page.resize(390, 844);
+  for (const view of ['lockstep', 'workers']) {
+    await open(`#example=maximum&view=${view}&workers=4${SHOWN}`);
+    is(`${view}: controls of 44 pixels`, await page.evaluate(SMALL), '');
+    const wide = await page.evaluate('document.documentElement.scrollWidth');
+    is(`${view} fits a phone`, wide <= 390 || wide, true);
+  }
+  await page.resize(1280, 900);
+}
+
+export async function testFocus() {
+  await open('#example=maximum');
+  await page.click('#step-end');
+  is('at the end', await focused(), 'step-end');
+  await page.click('#step-back');
+  await page.click('#step-start');
+  is('at the start', await focused(), 'step-start');
+  await page.press('ArrowRight');
+  is('keys go on', await page.evaluate('document.getElementById("step").value'), '1');
+  await open(`#example=maximum&view=workers&workers=2&acts=0.1*9`);
+  await page.click('#cards li:nth-child(1) [data-action=twin]');
+  await page.click('#cards li:nth-child(3) [data-action=step]');
+  await page.press('Home');
+  is('a card that goes', await focused(), 'workers');
+  await page.press('End');
+  await page.click('#cards li:nth-child(2) [data-action=if]');
+  await has('what if', '#outcome', 'What if');
+  await page.click('#before');
+  is('a button that goes', await focused(), 'workers');
+}
+
+// Of a board of 1,024 processors each of the three passes has a colour of its own, and bars in it.
+export async function testManyColours() {
+  const head = 'pram 1\\ncells 4\\nprocs 1024\\nsteps 9\\ncode\\npid r0\\nhalt\\n';
+  await open('#example=maximum&view=workers&workers=4');
+  await page.evaluate(`(() => {
+    const area = document.getElementById('text');
+    area.value = '${head}';
+    area.dispatchEvent(new InputEvent('input', { bubbles: true }));
+  })()`);
+  await has('many processors', '#tree-summary', '2,047 nodes');
+  await page.click('#next-finish');
+  await has('a step', '#outcome', 'Finished: 1 of 9');
+  await clicks('#all-100', 30);
+  is('bars', await count('.bar-node'), 2047);
+  const colours = await page.evaluate(`['pass1', 'pass2', 'pass3'].map((pass) =>
+    getComputedStyle(document.querySelector('.key.' + pass)).backgroundColor).join(' ')`);
+  is('colours', new Set(colours.match(/rgb[^)]*/g)).size, 3);
+  await page.sightPicture('many');
+}

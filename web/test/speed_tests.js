@@ -1,0 +1,95 @@
+// How long a click takes, until the page is laid out anew: with a bar.
+import { writeAddress } from '../src/address.js';
+import { Schedule } from '../src/schedule.js';
+import { is, open, page } from './drive.js';
+
+// A click is to take 100 ms. Beside other work everything takes up to three times as long.
+const BAR = 300;
+
+const loop = (cells, procs, steps) => `pram 1\ncells ${cells}\nprocs ${procs}\nsteps ${steps}\ncode\n` +
+  'pid r0\nset r1 1\nagain: add r0 r0 r1\nst r1 r0\njmp again\n'.replace('st r1 r0', 'ld r2 r1');
+
+const linkTo = async (text, view) =>
+  `#${await writeAddress({ text, view, step: 0, schedule: new Schedule(4) }, [])}`;
+
+// Opens it, and waits until the browser is done with it.
+async function openQuietly(hash) {
+  await open(hash);
+  await page.until('false', 1);
+}
+
+async function timeOf(work) {
+  return page.evaluate(`(async () => {
+    await new Promise((done) => { requestAnimationFrame(() => setTimeout(done, 50)); });
+    const start = performance.now();
+    ${work};
+    document.body.offsetHeight;
+    return performance.now() - start;
+  })()`);
+}
+
+async function isQuick(what, work) {
+  const took = await timeOf(work);
+  console.log(`  ${what}: ${took.toFixed(0)} ms`);
+  is(`${what} is quick`, took < BAR || took, true);
+}
+
+const clickOn = (what, selector) =>
+  isQuick(`${what} ${selector}`, `document.querySelector(${JSON.stringify(selector)}).click()`);
+
+async function clicksOn(what, selectors) {
+  for (const selector of selectors) await clickOn(what, selector);
+}
+
+export async function testSpeedOfBitonic() {
+  await openQuietly('#example=bitonic&view=workers&workers=4');
+  await clicksOn('bitonic', ['#all-1', '#all-100', '#to-end']);
+  await page.until('document.getElementById("outcome").textContent.startsWith("Done")');
+  await clicksOn('bitonic, late', ['#moment-back', '#moment-back', '#plan-part summary',
+    '#moment-back', '#cards li:nth-child(2) [data-action=lose]', '#undo-acts', '#moment-start',
+    '#next-change', '#reset', '#undo-acts', '#tab-lockstep', '#access-on', '#step-end']);
+}
+
+export async function testSpeedOfMany() {
+  await openQuietly(await linkTo(loop(65536, 1024, 200), 'lockstep'));
+  await clicksOn('1,024 processors', ['#step-on', '#access-on', '#step-end', '#step-back',
+    '#tab-workers', '#all-1', '#all-100', '#moment-back', '#next-finish']);
+}
+
+export async function testSpeedOfLongSchedules() {
+  await openQuietly(`${await linkTo(loop(4, 4, 4294967295), 'workers')}&acts=0.1.2.3*99990`);
+  await clicksOn('400,000 acts', ['#moment-back', '#moment-on', '#all-1', '#plan-part summary',
+    '#moment-start', '#moment-end']);
+}
+
+export async function testSpeedOfFarSteps() {
+  await openQuietly(await linkTo(loop(4, 4, 4294967295), 'lockstep'));
+  await page.until('document.getElementById("answer").textContent.includes("too far")');
+  await clickOn('5,000,000 steps', '#step-end');
+  await page.until('document.getElementById("plain-said").textContent.startsWith("After")');
+  is('far steps are shown', await page.evaluate('document.getElementById("step").value'), '5000000');
+  await clickOn('5,000,000 steps', '#step-back');
+  await page.until('document.getElementById("plain-said").textContent.includes("4,999,999")');
+}
+
+// Pastes a text in the place of all there is, as the keys for it do.
+const paste = (text) => `(() => {
+  const data = new DataTransfer();
+  data.setData('text/plain', ${text});
+  const area = document.getElementById('text');
+  area.focus();
+  area.select();
+  const how = { clipboardData: data, bubbles: true, cancelable: true };
+  area.dispatchEvent(new ClipboardEvent('paste', how));
+})()`;
+
+export async function testSpeedOfLongTexts() {
+  await openQuietly();
+  const lines = `'pram 1\\ncells 4\\nprocs 4\\nsteps 3\\ncode\\npid r0\\n' + '; a line\\n'.repeat(110000) +
+    'st r0 r0\\n'`;
+  await isQuick('1 MB is pasted', paste(lines));
+  is('and is a program', await page.evaluate(
+    'document.getElementById("answer").textContent.startsWith("4 cells")'), true);
+  await clicksOn('1 MB', ['#step-on', '#step-on', '#undo-text', '#redo-text']);
+  await isQuick('a line of 1 MB is pasted', paste('"x".repeat(1000000)'));
+}

@@ -1,0 +1,79 @@
+// Steps that matter: memory accesses, lines, stops, changes of words, finished steps.
+import { clicks, has, is, open, page, text, valueOf } from './drive.js';
+
+export async function testAccesses() {
+  await open('#example=maximum');
+  await page.click('#access-on');
+  is('the first access', await valueOf('#step'), '3');
+  is('arrows', await page.evaluate('document.querySelectorAll(".arrow").length'), 16);
+  await page.press('n', 'KeyN', 'n');
+  is('the next one by key', await valueOf('#step'), '8');
+  await page.click('#access-back');
+  is('and back', await valueOf('#step'), '3');
+  await clicks('#access-on', 8);
+  await has('no other one', '#plain-said', 'No later memory access.');
+}
+
+export async function testLinesAndStops() {
+  await open('#example=maximum');
+  const line = (number, part) => `#gutter [data-line="${number}"] .${part}`;
+  await page.click(line(32, 'number'));
+  is('to a line', await valueOf('#step'), '14');
+  await page.click(line(26, 'number'));
+  is('to an earlier line', await valueOf('#step'), '8');
+  await page.click(line(11, 'number'));
+  await has('to no instruction', '#plain-said', 'No processor ever comes to line 11.');
+  await page.click(line(32, 'stop'));
+  await page.click('#to-stop');
+  is('to a stop', await valueOf('#step'), '14');
+  await page.click('#step-start');
+  await page.choose('#plain-speed', '1000');
+  await page.click('#plain-play');
+  await page.until('document.getElementById("plain-play").ariaPressed === "false"', 5);
+  is('playing ends at a stop', await valueOf('#step'), '14');
+  await page.click('#no-stops');
+  await page.click('#plain-play');
+  is('and without stops at the end',
+    await page.until('document.getElementById("step").value == 20', 5), true);
+  await page.evaluate('document.getElementById("text").setSelectionRange(0, 0)');
+  await page.click('#text');
+  await page.evaluate('document.getElementById("text").setSelectionRange(0, 0)');
+  await page.until('document.getElementById("to-line").textContent === "To line 1"', 5);
+  await has('the line of the cursor', '#to-line', 'To line 1');
+}
+
+export async function testSeeking() {
+  await open('#example=prefix&view=workers&workers=3');
+  await page.click('#next-change');
+  await has('the next change', '#steps li.changes', 'worker');
+  is('it is the newest', await page.evaluate(
+    'document.querySelector("#steps li").className'), 'changes');
+  const first = await text('#moment-said');
+  await page.press('n', 'KeyN', 'n');
+  is('the next one by key', await text('#moment-said') === first, false);
+  await page.click('#next-finish');
+  await has('a finished step', '#outcome', 'Finished: 1 of 32 steps.');
+  await page.press('f', 'KeyF', 'f');
+  await has('the next one by key', '#outcome', 'Finished: 2 of 32 steps.');
+  await page.click('#steps li:nth-child(5) button');
+  const [now, all] = (await text('#moment-said')).split(' of ').map((part) => part.replace(',', ''));
+  is('a click on the list', Number(now), Number(all) - 4);
+  await page.click('#next-finish');
+  await has('forward in the schedule', '#moment-said', `${Number(all).toLocaleString('en')} of`);
+  await page.click('#read-cells li:nth-child(6)');
+  await page.click('#to-end');
+  await page.click('#place-changes li:last-child button');
+  await has('a click on a change', '#steps li', 'swaps the');
+}
+
+export async function testFreshKeys() {
+  await open();
+  await page.press('ArrowRight');
+  is('→ on a fresh page', await valueOf('#step'), '1');
+  await page.press(' ', 'Space', ' ');
+  is('Space plays', await page.until('document.getElementById("step").value > 1', 5), true);
+  await page.press(' ', 'Space', ' ');
+  await open('#example=prefix&view=workers&workers=3');
+  await page.press('ArrowRight');
+  await has('→ by workers', '#moment-said', '1 of 1');
+}

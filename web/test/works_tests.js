@@ -1,0 +1,97 @@
+// No work is lost: drafts, undo, and the browser's history.
+import { clicks, count, has, is, open, page, text, valueOf, write } from './drive.js';
+
+const HEAD = 'pram 1\ncells 2\nprocs 2\nsteps 2\ncode\n';
+const OWN = `; mine\n${HEAD}pid r0\nhalt\n`;
+
+const chosen = () => text('#example option:checked');
+
+async function chooseOwn(title) {
+  const value = await page.evaluate(`[...document.querySelectorAll('#example option')]
+    .find((option) => option.textContent === ${JSON.stringify(title)})?.value`);
+  await page.choose('#example', value ?? '');
+}
+
+export async function testDrafts() {
+  await open();
+  await write(OWN);
+  is('an own text is one’s own', await chosen(), 'your own: mine');
+  await page.choose('#example', 'sum');
+  is('the gallery', await valueOf('#text') === OWN, false);
+  await chooseOwn('your own: mine');
+  is('the own text again', await valueOf('#text'), OWN);
+  await page.choose('#example', 'sum');
+  await page.click('#text');
+  await page.insert('; changed\n');
+  await page.until('!document.getElementById("text").classList.contains("waits")');
+  is('a changed program is an own one', (await chosen()).startsWith('your own: '), true);
+  await chooseOwn('your own: mine');
+  is('the first own one stays', await valueOf('#text'), OWN);
+  await page.until('false', 0.5);
+  await open();
+  await chooseOwn('your own: mine');
+  is('it is there when the page is opened anew', await valueOf('#text'), OWN);
+  await page.choose('#example', 'new');
+  await has('a new program', '#answer', 'done after');
+}
+
+export async function testUndoOfText() {
+  await open('#example=prefix&view=workers&workers=3&acts=0.1.2*20');
+  const before = await valueOf('#text');
+  await write(OWN);
+  await has('the schedule goes with the text', '#moment-said', '0 of 0');
+  await page.chord('z');
+  is('undo by key', await valueOf('#text'), before);
+  await has('with the schedule', '#moment-said', '60 of 60');
+  await page.chord('y');
+  is('redo by key', await valueOf('#text'), OWN);
+  await page.click('#undo-text');
+  is('undo by click', await valueOf('#text'), before);
+  await page.click('#redo-text');
+  await page.choose('#example', 'sum');
+  await page.click('#undo-text');
+  is('a choice is undone', await valueOf('#text'), OWN);
+}
+
+export async function testUndoOfSchedule() {
+  await open('#example=prefix&view=workers&workers=3');
+  await clicks('#all-10', 2);
+  await page.choose('#worker-count', '5');
+  is('other workers', await count('#cards > li'), 5);
+  await has('begin anew', '#moment-said', '0 of 0');
+  await page.click('#undo-acts');
+  is('undone', await count('#cards > li'), 3);
+  await has('with its acts', '#moment-said', '60 of 60');
+  await page.click('#reset');
+  await has('again', '#moment-said', '0 of 0');
+  await page.chord('z');
+  await has('undo by key', '#moment-said', '60 of 60');
+  await page.chord('z');
+  await has('once more', '#moment-said', '30 of 30');
+  await page.chord('z', 8);
+  await has('redo by key', '#moment-said', '60 of 60');
+  await page.click('#moment-start');
+  await page.click('#all-1');
+  await page.click('#undo-acts');
+  await has('what came after is there again', '#moment-said', '0 of 60');
+}
+
+// With a click on each: a browser forgets pages first on which nobody ever clicked.
+export async function testHistory() {
+  await open('#example=prefix&view=workers&workers=3&acts=0.1.2*20');
+  await page.click('h1');
+  for (const example of ['sum', 'sort']) {
+    await page.choose('#example', example);
+    await page.until(`location.hash.includes("example=${example}")`);
+    await page.click('h1');
+  }
+  const isShown = (example) =>
+    page.until(`document.getElementById("example").value === "${example}"`, 5);
+  await page.evaluate('history.back()');
+  is('back', await isShown('sum'), true);
+  await page.evaluate('history.back()');
+  is('back once more', await isShown('prefix'), true);
+  await has('with its schedule', '#moment-said', '60 of 60');
+  await page.evaluate('history.forward()');
+  is('forward', await isShown('sum'), true);
+}
