@@ -1,7 +1,7 @@
 // How long a click takes, until the page is laid out anew and painted: with a bar.
 import { writeAddress } from '../src/address.js';
 import { Schedule } from '../src/schedule.js';
-import { is, open, page } from './drive.js';
+import { is, open, page, valueOf } from './drive.js';
 
 // Bars are on the processor time of the page's thread, in milliseconds: what the clock says depends
 // on what else the machine does. A click is to take 100 ms; beside other work on all processors even
@@ -10,8 +10,10 @@ import { is, open, page } from './drive.js';
 const BAR = 200;
 const HIGH_BAR = 400;
 
-const loop = (cells, procs, steps) => `pram 1\ncells ${cells}\nprocs ${procs}\nsteps ${steps}\ncode\n` +
-  'pid r0\nset r1 1\nagain: add r0 r0 r1\nld r2 r1\njmp again\n';
+const CODE = 'code\npid r0\nset r1 1\nagain: add r0 r0 r1\nld r2 r1\njmp again\n';
+
+const loop = (cells, procs, steps) =>
+  `pram 1\ncells ${cells}\nprocs ${procs}\nsteps ${steps}\n${CODE}`;
 
 const linkTo = async (text, view) =>
   `#${await writeAddress({ text, view, step: 0, schedule: new Schedule(4) }, [])}`;
@@ -85,7 +87,7 @@ export async function testSpeedOfFarSteps() {
   await page.until('document.getElementById("answer").textContent.includes("too far")');
   await clickOn('5,000,000 steps', '#step-end');
   await page.until('document.getElementById("plain-said").textContent.startsWith("After")');
-  is('far steps are shown', await page.evaluate('document.getElementById("step").value'), '5000000');
+  is('far steps are shown', await valueOf('#step'), '5000000');
   await clickOn('5,000,000 steps', '#step-back');
   await page.until('document.getElementById("plain-said").textContent.includes("4,999,999")');
 }
@@ -103,8 +105,8 @@ const paste = (text) => `(() => {
 
 export async function testSpeedOfLongTexts() {
   await openQuietly();
-  const lines = `'pram 1\\ncells 4\\nprocs 4\\nsteps 3\\ncode\\npid r0\\n' + '; a line\\n'.repeat(110000) +
-    'st r0 r0\\n'`;
+  const lines = `'pram 1\\ncells 4\\nprocs 4\\nsteps 3\\ncode\\npid r0\\n' +
+    '; a line\\n'.repeat(110000) + 'st r0 r0\\n'`;
   await isQuick('1 MB is pasted', paste(lines), HIGH_BAR);
   is('and is a program', await page.evaluate(
     'document.getElementById("answer").textContent.startsWith("4 cells")'), true);
