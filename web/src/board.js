@@ -116,7 +116,7 @@ export class Board {
   // Those that are neither asleep, lost nor over.
   going() {
     const sleepers = this.schedule.sleepers();
-    return this.now().bodies.flatMap((row, body) =>
+    return (this.now().bodies ?? []).flatMap((row, body) =>
       (isGoing(row) && !sleepers.has(body) ? [body] : []));
   }
 

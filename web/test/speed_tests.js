@@ -90,6 +90,9 @@ export async function testSpeedOfFarSteps() {
   is('far steps are shown', await valueOf('#step'), '5000000');
   await clickOn('5,000,000 steps', '#step-back');
   await page.until('document.getElementById("plain-said").textContent.includes("4,999,999")');
+  await clickOn('5,000,000 steps', '#access-back');
+  is('far steps are searched',
+    await page.until('document.getElementById("step").value === "4999998"', 20), true);
 }
 
 // Pastes a text in the place of all there is, as the keys for it do.
