@@ -6,6 +6,7 @@ import { WIDTH, findEffect, isStep } from './effects.js';
 import { isGoing } from './worker_cards.js';
 
 const MOST_STEPS = 60000;
+const isSame = (some, others) => some.every((part, k) => part === others[k]);
 const NO_STEP = { count: 0, isFound: false };
 
 function joined(events, bodies) {
@@ -65,19 +66,18 @@ export class Board {
     return core.scene(text, this.schedule.workers, events, wanted);
   }
 
-  // What a scene depends on.
+  // What is told of a moment depends on this; the words of a place on the place, too.
   get moment() {
-    const { schedule, place } = this;
-    return [this.app.text, schedule, schedule.revision, schedule.at, place];
+    const { schedule } = this;
+    return [this.app.text, schedule, schedule.revision, schedule.at];
   }
 
   isShown() {
-    const { moment } = this;
-    return this.shown?.moment.every((part, k) => part === moment[k]);
+    return this.shown !== undefined && isSame(this.shown.moment, [...this.moment, this.place]);
   }
 
   keep(scene) {
-    this.shown = { scene, moment: this.moment };
+    this.shown = { scene, moment: [...this.moment, this.place] };
     return scene;
   }
 
@@ -102,10 +102,21 @@ export class Board {
     return this.keep(this.ask(this.events, this.events.length / 2));
   }
 
+  // Each cell as a reader gets it at the moment: step and value, one pair after the other.
+  reads() {
+    const { moment } = this;
+    if (this.read === undefined || !isSame(this.read.moment, moment)) {
+      const { core, text, job } = this.app;
+      const { pairs } = core.reads(text, job, this.schedule.workers, this.events);
+      this.read = { moment, pairs };
+    }
+    return this.read.pairs;
+  }
+
   // Those that are neither asleep, lost nor over.
   going() {
     const sleepers = this.schedule.sleepers();
-    return this.now().bodies.flatMap((row, body) =>
+    return (this.now().bodies ?? []).flatMap((row, body) =>
       (isGoing(row) && !sleepers.has(body) ? [body] : []));
   }
 

@@ -220,57 +220,68 @@ function readEffects(memory, rows, count) {
   return effects;
 }
 
-// The phases of the nodes from the root, which is number 1, on.
-function readNodes(memory, words, index) {
-  return Float64Array.from(index.nodes, (k, node) =>
-    (node === 0 ? 0 : wide(memory, words + k * WORD_WORDS)));
+// The phases of the nodes from the root, which is number 1, on; their words have these numbers.
+function readNodes(memory, words, numbers) {
+  const phases = new Float64Array(numbers.length);
+  for (let node = 1; node < numbers.length; node += 1) {
+    phases[node] = wide(memory, words + numbers[node] * WORD_WORDS);
+  }
+  return phases;
 }
 
-// A scene has the tree, the bodies, the two words of one place, and the effects of the events from
+// Scenes: the tree, the bodies, the two words of one place, and the effects of the events from
 // `from` on.
-function sceneCalls(exports) {
-  let known = {};
-
-  // The sizes of the scenes of a text and so many workers, and where their words stand.
-  function sizesOf(desk, text, workers) {
-    if (known.text !== text || known.workers !== workers) {
-      known = { text, workers, sizes: sizesOfScene(desk, exports, text, workers) };
-    }
-    return known.sizes;
+class Scenes {
+  constructor(exports) {
+    this.exports = exports;
+    this.known = {};
   }
 
-  function readScene(desk, told, rooms, { places, place }) {
-    const memory = desk.memory();
-    const words = wordAt(rooms.words);
-    known.index ??= indexOf(memory, words, told, places);
+  // The sizes of the scenes of a text and so many workers.
+  sizesOf(desk, text, workers) {
+    const { known, exports } = this;
+    if (known.text !== text || known.workers !== workers) {
+      this.known = { text, workers, sizes: sizesOfScene(desk, exports, text, workers) };
+    }
+    return this.known.sizes;
+  }
+
+  tell(text, workers, events, wanted) {
+    return atDesk(this.exports, (desk) => {
+      const sizes = this.sizesOf(desk, text, workers);
+      if (sizes.code !== CODE.NO_ROOM) return sizes;
+      const asked = events.length / 2 - wanted.from;
+      const count = sizes.bodies + countTwins(events);
+      const input = [...putRun(desk, text, workers, events), BigInt(wanted.from)];
+      const rows = desk.room(asked * ROW_WORDS * 4);
+      const words = desk.room(sizes.words * sizeOf(WORD));
+      const bodies = desk.room(count * sizeOf(BODY));
+      const told = tell(desk, SCENE, (at) => this.exports.pram_page_scene(
+        ...input, rows, BigInt(asked), words, BigInt(sizes.words), bodies, BigInt(count), at));
+      const rooms = { rows: wordAt(rows), words: wordAt(words), bodies: wordAt(bodies) };
+      return told.code === CODE.DONE ? this.read(desk.memory(), told, rooms, wanted) : told;
+    });
+  }
+
+  read(memory, told, { rows, words, bodies }, { places, place }) {
+    this.known.index ??= indexOf(memory, words, told, places);
+    const { nodes, stored } = this.known.index;
     const wordOf = (k) => readStruct(memory, words + k * WORD_WORDS, WORD);
     return {
       ...told,
-      nodes: readNodes(memory, words, known.index),
-      bodies: readStructs(memory, wordAt(rooms.bodies), BODY, told.bodies),
-      stored: place === undefined ? [] :
-        [wordOf(known.index.stored[2 * place]), wordOf(known.index.stored[2 * place + 1])],
-      effects: readEffects(memory, wordAt(rooms.rows), told.rows),
+      nodes: readNodes(memory, words, nodes),
+      bodies: readStructs(memory, bodies, BODY, told.bodies),
+      stored: place === undefined ? []
+        : [wordOf(stored[2 * place]), wordOf(stored[2 * place + 1])],
+      effects: readEffects(memory, rows, told.rows),
     };
   }
+}
 
+function boardCalls(exports) {
+  const scenes = new Scenes(exports);
   return {
-    scene: (text, workers, events, { from, places, place }) => atDesk(exports, (desk) => {
-      const sizes = sizesOf(desk, text, workers);
-      if (sizes.code !== CODE.NO_ROOM) return sizes;
-      const asked = events.length / 2 - from;
-      const count = sizes.bodies + countTwins(events);
-      const input = [...putRun(desk, text, workers, events), BigInt(from)];
-      const rooms = {
-        rows: desk.room(asked * ROW_WORDS * 4),
-        words: desk.room(sizes.words * sizeOf(WORD)),
-        bodies: desk.room(count * sizeOf(BODY)),
-      };
-      const told = tell(desk, SCENE, (at) => exports.pram_page_scene(
-        ...input, rooms.rows, BigInt(asked), rooms.words, BigInt(sizes.words),
-        rooms.bodies, BigInt(count), at));
-      return told.code === CODE.DONE ? readScene(desk, told, rooms, { places, place }) : told;
-    }),
+    scene: (...asked) => scenes.tell(...asked),
 
     outcome: (text, sizes, workers, events) => atDesk(exports, (desk) => {
       const input = putRun(desk, text, workers, events);
@@ -291,5 +302,5 @@ function sceneCalls(exports) {
 
 export async function openCore(bytes) {
   const { instance } = await WebAssembly.instantiate(bytes, {});
-  return { ...plainCalls(instance.exports), ...sceneCalls(instance.exports) };
+  return { ...plainCalls(instance.exports), ...boardCalls(instance.exports) };
 }

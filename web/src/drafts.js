@@ -19,7 +19,8 @@ function read() {
 function write(list) {
   const others = read().filter(({ number }) => !list.some((draft) => draft.number === number));
   let room = MOST_CHARACTERS;
-  const fitting = [...list, ...others].slice(0, MOST).filter(({ text }) => (room -= text.length) > 0);
+  const fitting = [...list, ...others].slice(0, MOST)
+    .filter(({ text }) => (room -= text.length) > 0);
   try {
     localStorage.setItem(KEY, JSON.stringify(fitting));
   } catch {

@@ -35,7 +35,8 @@ function drawMarks(paper, first, count, marks) {
 function endOfChange(before, after) {
   let same = 0;
   const most = Math.min(before.length, after.length);
-  while (same < most && before.at(-1 - same) === after.at(-1 - same)) same += 1;
+  const [last, end] = [before.length - 1, after.length - 1];
+  while (same < most && before.charCodeAt(last - same) === after.charCodeAt(end - same)) same += 1;
   return after.length - same;
 }
 
@@ -61,7 +62,8 @@ export class Editor {
     area.addEventListener('paste', (event) => this.onPaste(event, event.clipboardData));
     area.addEventListener('drop', (event) => this.onPaste(event, event.dataTransfer));
     byId('gutter').addEventListener('click', (event) => this.onClick(event.target));
-    new ResizeObserver(() => this.draw()).observe(area);
+    new ResizeObserver(() => this.measure()).observe(area);
+    this.measure();
   }
 
   // The page has its own undo: a text area forgets its own once a text is set.
@@ -130,8 +132,11 @@ export class Editor {
     return sheet.first - 1 + area.value.slice(0, area.selectionEnd).split('\n').length;
   }
 
-  get lineHeight() {
-    return parseFloat(getComputedStyle(this.area).lineHeight);
+  // How high a line and the text area are: asked for once, since an answer takes a layout.
+  measure() {
+    this.lineHeight = parseFloat(getComputedStyle(this.area).lineHeight);
+    this.height = this.area.clientHeight;
+    this.draw();
   }
 
   moveTo(line) {
@@ -163,7 +168,7 @@ export class Editor {
     const [gutter, paper] = [byId('gutter'), byId('marks')];
     const above = Math.floor(area.scrollTop / lineHeight);
     const first = sheet.first + above;
-    const inSight = Math.ceil(area.clientHeight / lineHeight) + 1;
+    const inSight = Math.ceil(this.height / lineHeight) + 1;
     const count = Math.max(Math.min(inSight, sheet.linesInPart - above), 0);
     const shift = `translateY(${above * lineHeight - area.scrollTop}px)`;
     drawNumbers(gutter, first, count, marks, this.stops);
@@ -187,6 +192,7 @@ export class Editor {
 
   // Marks by line: a kind, which is a class, and a badge.
   mark(byLine) {
+    if (byLine.size === 0 && this.marks.size === 0) return;
     this.marks = byLine;
     this.draw();
   }
@@ -202,7 +208,7 @@ export class Editor {
       this.moveTo(line - WINDOW / 2);
     }
     const top = (line - sheet.first) * lineHeight;
-    const bottom = top + lineHeight - area.clientHeight;
+    const bottom = top + lineHeight - this.height;
     if (top < area.scrollTop) area.scrollTop = top;
     else if (bottom > area.scrollTop) area.scrollTop = bottom + 4 * lineHeight;
   }

@@ -4,26 +4,35 @@ const PATIENCE = 40;
 
 export class Errands {
   constructor() {
-    this.timer = undefined;
+    this.count = 0;
   }
 
-  // `piece` tells whether there is more to do; `onPause` is called between pieces that take long,
-  // and `onEnd` after the last one.
+  // `piece` tells whether there is more to do, at once or with a promise; `onPause` is called
+  // between pieces that take long, and `onEnd` after the last one.
   start({ piece, onPause, onEnd }) {
     this.stop();
+    const number = this.count;
     const go = () => {
       const end = performance.now() + PATIENCE;
       let isMore = true;
-      while (isMore && performance.now() < end) isMore = piece();
-      this.timer = isMore ? setTimeout(go) : undefined;
-      if (isMore) onPause();
-      else onEnd();
+      while (isMore === true && performance.now() < end) isMore = piece();
+      if (isMore === false) {
+        onEnd();
+        return;
+      }
+      onPause();
+      this.timer = setTimeout(async () => {
+        const goesOn = await isMore;
+        if (number !== this.count) return;
+        if (goesOn) go();
+        else onEnd();
+      });
     };
     go();
   }
 
   stop() {
+    this.count += 1;
     clearTimeout(this.timer);
-    this.timer = undefined;
   }
 }

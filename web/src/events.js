@@ -1,5 +1,5 @@
 // The core's events of a schedule, as pairs: kind, body. Those of the first acts are kept.
-import { bodyOf, isEvent, kindOf } from './acts.js';
+import { ACT, bodyOf, isEvent, kindOf } from './acts.js';
 
 export class Events {
   constructor(schedule) {
@@ -7,10 +7,12 @@ export class Events {
     this.pairs = new Uint32Array(0);
     this.counts = new Uint32Array(1);
     this.known = 0;
+    this.others = [];
   }
 
   cut(acts) {
     this.known = Math.min(this.known, acts);
+    while (this.others.at(-1) >= acts) this.others.pop();
   }
 
   grow(acts) {
@@ -27,6 +29,7 @@ export class Events {
     this.grow(moment);
     for (; this.known < moment; this.known += 1) {
       const act = acts[this.known];
+      if (kindOf(act) !== ACT.GO) this.others.push(this.known);
       const count = this.counts[this.known];
       if (isEvent(act)) {
         this.pairs[2 * count] = kindOf(act);
@@ -35,6 +38,13 @@ export class Events {
       this.counts[this.known + 1] = count + (isEvent(act) ? 1 : 0);
     }
     return this.counts[moment];
+  }
+
+  // Those of the first acts that are no steps of a body.
+  othersUpTo(moment) {
+    this.countOf(moment);
+    const { acts } = this.schedule;
+    return this.others.filter((k) => k < moment).map((k) => acts[k]);
   }
 
   // Those of the first acts.

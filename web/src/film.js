@@ -17,12 +17,14 @@ export class Film {
   constructor() {
     this.store = new Uint32Array(WIDTH * FIRST_ROOM);
     this.length = 0;
+    this.changes = { place: -1, known: 0, found: [] };
   }
 
   // Forgets the acts from this one on, and gives what was told of them.
   cut(length) {
     const told = this.store.slice(length * WIDTH, this.length * WIDTH);
     this.length = Math.min(this.length, length);
+    this.changes.place = -1;
     return told;
   }
 
@@ -48,12 +50,14 @@ export class Film {
 
   // The acts before `end` that changed a word of this place, with their effects.
   changesOf(place, end) {
+    if (this.changes.place !== place) this.changes = { place, known: 0, found: [] };
+    const { known, found } = this.changes;
     const isWanted = isChangeOf(FORM.STORED, place);
-    const found = [];
-    for (let act = this.find(0, end, isWanted); act >= 0;) {
+    for (let act = this.find(known, this.length, isWanted); act >= 0;) {
       found.push({ ...this.effectOf(act), moment: act + 1 });
-      act = this.find(act + 1, end, isWanted);
+      act = this.find(act + 1, this.length, isWanted);
     }
-    return found;
+    this.changes.known = this.length;
+    return found.filter(({ moment }) => moment <= end);
   }
 }

@@ -26,7 +26,7 @@ function titleOf(example) {
 }
 
 function titleOfDraft(draft) {
-  const [line] = draft.text.trimStart().split('\n', 1);
+  const [line] = draft.text.slice(0, 400).trimStart().split('\n', 1);
   return `your own: ${shortened(sayingOf(draft.text) || line.trim() || 'empty', 60)}`;
 }
 

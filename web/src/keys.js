@@ -2,18 +2,20 @@
 const takesKeys = (target) => target.closest('input, select, textarea') !== null;
 const takesSpace = (target) => target.closest('button, summary, a') !== null;
 
-function isUndo(event) {
-  return (event.ctrlKey || event.metaKey) && !event.altKey && /^[zy]$/i.test(event.key);
+// The key, and what Control and z or y are for; nothing of other keys with Control and the like.
+function nameOf({ key, shiftKey, ctrlKey, metaKey, altKey }) {
+  if (!ctrlKey && !metaKey && !altKey) return key;
+  if (altKey || !/^[zy]$/i.test(key)) return '';
+  return shiftKey || /y/i.test(key) ? 'redo' : 'undo';
 }
 
 // `keysInUse` gives what each key does, and under `undo` and `redo` what Control and z or y do.
 export function listenToKeys(keysInUse) {
   document.addEventListener('keydown', (event) => {
     if (event.defaultPrevented || takesKeys(event.target)) return;
-    const keys = keysInUse();
-    const name = isUndo(event) ? (/y/i.test(event.key) || event.shiftKey ? 'redo' : 'undo') : event.key;
-    if (name === event.key && (event.ctrlKey || event.altKey || event.metaKey)) return;
     if (event.key === ' ' && takesSpace(event.target)) return;
+    const keys = keysInUse();
+    const name = nameOf(event);
     if (!Object.hasOwn(keys, name)) return;
     event.preventDefault();
     keys[name]();

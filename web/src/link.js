@@ -6,6 +6,7 @@ import { byId, onClick, setText } from './dom.js';
 const QUIET = 400;
 const LOCAL = /^(localhost|127\.|\[::1\]|192\.168\.|10\.)/;
 
+const COPIED = 'The link is copied.';
 const TOO_LONG = 'The program or the schedule is too long for a link: save it, and send the file.';
 
 // What another one needs besides the link, and how the link begins.
@@ -21,8 +22,7 @@ function whatIsMissing() {
   }
   const isLocal = LOCAL.test(hostname) || hostname.endsWith('.local');
   const said = isLocal
-    ? 'The link is copied. It works for those alone who reach this computer or its network.'
-    : 'The link is copied.';
+    ? `${COPIED} It works for those alone who reach this computer or its network.` : COPIED;
   return { start: page, said };
 }
 
@@ -34,75 +34,80 @@ function showWhole(address = '') {
   byId('whole').firstElementChild.href = whole.href;
 }
 
-export function openLink(app, examples, onAddress) {
-  let timer;
-  let written = '';
-  let isOpen = false;
+export class Link {
+  constructor(app, examples, onAddress) {
+    Object.assign(this, { app, examples, onAddress, written: '', isOpen: false });
+    onClick('copy-link', () => this.copy());
+    window.addEventListener('popstate', (event) => this.goBack(event.state));
+    window.addEventListener('hashchange', () => this.read());
+  }
 
-  const hashOf = (address) => `#${[app.isEmbedded && 'embed=1', address].filter(Boolean).join('&')}`;
+  address() {
+    return writeAddress(this.app, this.examples);
+  }
+
+  // Puts the address, and which work it shows, into the browser's history.
+  enter(hash) {
+    this.written = hash;
+    history.replaceState({ work: this.app.work.number }, '', hash || location.href);
+  }
 
   // The address follows what is shown, a moment after the last change.
-  async function write() {
-    const { work } = app;
-    const address = await writeAddress(app, examples);
-    if (work !== app.work) return address;
+  async write() {
+    const { work } = this.app;
+    const address = await this.address();
+    if (work !== this.app.work) return address;
     setText(byId('link-said'), address === undefined ? TOO_LONG : '');
     showWhole(address);
-    written = hashOf(address);
-    history.replaceState({ work: work.number }, '', written);
+    const embed = this.app.isEmbedded ? 'embed=1' : undefined;
+    this.enter(`#${[embed, address].filter(Boolean).join('&')}`);
     return address;
   }
 
+  later() {
+    clearTimeout(this.timer);
+    this.timer = setTimeout(() => this.write(), QUIET);
+  }
+
+  // A chosen program is a page of its own in the browser's history.
+  push() {
+    clearTimeout(this.timer);
+    history.pushState({ work: this.app.work.number }, '', location.href);
+    return this.write();
+  }
+
   // Shows what the address says. One that can't be read changes nothing that is shown.
-  async function read() {
-    if (location.hash === written && written !== '') return;
+  async read() {
+    if (location.hash === this.written && this.written !== '') return;
     let shown;
     try {
-      shown = await readAddress(location.hash.slice(1), examples);
+      shown = await readAddress(location.hash.slice(1), this.examples);
     } catch (why) {
       setText(byId('link-said'), `The address can't be read: ${why.message}.`);
-      if (isOpen) return;
+      if (this.isOpen) return;
     }
-    isOpen = true;
-    onAddress(shown);
-    written = location.hash;
-    history.replaceState({ work: app.work.number }, '', written || location.href);
-    showWhole(await writeAddress(app, examples));
+    this.isOpen = true;
+    this.onAddress(shown);
+    this.enter(location.hash);
+    showWhole(await this.address());
   }
 
-  // A program that was shown before, with its schedule, or what its address says.
-  function goBack({ state }) {
-    if (state === null || !app.showWork(state.work)) return;
-    written = location.hash;
+  // Back to a program that was shown before, with its schedule.
+  goBack(state) {
+    if (state !== null && this.app.showWork(state.work)) this.written = location.hash;
   }
 
-  async function copy() {
-    const address = await write();
+  async copy() {
+    const address = await this.write();
     if (address === undefined) return;
     const { start, said } = whatIsMissing();
     const field = byId('link');
     field.value = `${start}#${address}`;
     field.hidden = false;
     field.select();
-    const isCopied = await navigator.clipboard?.writeText(field.value).then(() => true, () => false);
-    setText(byId('link-said'), isCopied ? said
-      : `${said.replace('The link is copied.', '')} Copy it from the field.`.trim());
+    const isCopied =
+      await navigator.clipboard?.writeText(field.value).then(() => true, () => false);
+    const unsaid = `${said.replace(COPIED, '')} Copy it from the field.`.trim();
+    setText(byId('link-said'), isCopied ? said : unsaid);
   }
-
-  onClick('copy-link', copy);
-  window.addEventListener('popstate', goBack);
-  window.addEventListener('hashchange', read);
-  return {
-    read,
-    later() {
-      clearTimeout(timer);
-      timer = setTimeout(write, QUIET);
-    },
-    // A chosen program is a page of its own in the browser's history.
-    push() {
-      clearTimeout(timer);
-      history.pushState({ work: app.work.number }, '', location.href);
-      return write();
-    },
-  };
 }

@@ -71,12 +71,15 @@ export class LockstepView {
   seek(searches, none) {
     this.pause();
     let [search, ...rest] = searches;
+    const goOn = (isMore) => {
+      if (isMore || search.isFound || rest.length === 0) return isMore;
+      [search, ...rest] = rest;
+      return true;
+    };
     this.errands.start({
       piece: () => {
-        if (search.look()) return true;
-        if (search.isFound || rest.length === 0) return false;
-        [search, ...rest] = rest;
-        return true;
+        const isMore = search.look();
+        return typeof isMore === 'boolean' ? goOn(isMore) : isMore.then(goOn);
       },
       onPause: () => setText(byId('plain-said'), `Searching: step ${grouped(search.step)}.`),
       onEnd: () => this.goTo(search.step, search.isFound ? '' : none),
@@ -106,10 +109,14 @@ export class LockstepView {
       `No processor ever comes to line ${grouped(line)}. `);
   }
 
-  // Plays on, up to a stop.
+  // Plays on, up to a stop, which is searched for where steps are far.
   play(beats) {
     const { app, moments } = this;
     const to = Math.min(app.step + beats, moments.last);
+    if (app.stops.size > 0 && !moments.isNear(to)) {
+      this.seekStop();
+      return false;
+    }
     const isStop = isAtLine(app.job.program, app.stops);
     const found = app.stops.size > 0 ? this.searchTo(to, isStop).finish() : { step: to };
     this.goTo(found.step);

@@ -6,7 +6,7 @@ import { Editor } from './editor.js';
 import { Far } from './far.js';
 import { openGallery } from './gallery.js';
 import { listenToKeys } from './keys.js';
-import { openLink } from './link.js';
+import { Link } from './link.js';
 import { LockstepView } from './lockstep.js';
 import { listenToPrinting } from './print.js';
 import { answerFar, judge, showJudgement } from './program.js';
@@ -40,7 +40,7 @@ class Playground {
       onChange: () => this.show(), toLine: (line) => this.toLine(line),
     });
     this.tabs = openTabs((view) => this.turnTo(view));
-    this.link = openLink(this, examples, (shown) => this.showAddress(shown));
+    this.link = new Link(this, examples, (shown) => this.showAddress(shown));
     this.listen();
   }
 
@@ -201,7 +201,8 @@ function sayTrouble(why) {
 const isEmbedded = () => [location.search, location.hash].some((part) =>
   new URLSearchParams(part.slice(1)).get('embed') === '1');
 
-// Each call once, of the least job: a browser compiles a function of the core when it is first called.
+// Each call once, of the least job: a browser compiles a function of the core when it is first
+// called.
 function warm(core) {
   const text = 'pram 1\ncells 1\nprocs 1\nsteps 1\ncode\nhalt\n';
   const job = core.judge(text);

@@ -43,5 +43,6 @@ export function saveMemory(words) {
     withStyles(arrows, arrows.cloneNode(true)),
   ];
   const group = makeSvg('g', { transform: `translate(${MARGIN} ${MARGIN})` }, ...parts);
-  saveSvg('memory.svg', pictureOf(frame.width + 2 * MARGIN, frame.height + 2 * MARGIN, [group], words));
+  const [width, height] = [frame.width + 2 * MARGIN, frame.height + 2 * MARGIN];
+  saveSvg('memory.svg', pictureOf(width, height, [group], words));
 }

@@ -46,6 +46,11 @@ export class Moments {
     return code === CODE.CONFLICT ? step - 1 : this.app.most;
   }
 
+  hasKept(name, step) {
+    this.check();
+    return this.kept.has(`${name} ${step}`);
+  }
+
   state(step) {
     return this.ask('state', step);
   }
@@ -57,6 +62,16 @@ export class Moments {
   // What the processors ask for after so many steps; nothing after the last one.
   requests(step) {
     return this.hasRequests(step) ? this.ask('requests', step) : { list: [], code: CODE.DONE };
+  }
+
+  // The same of a far step, as a promise; what is asked for meanwhile is forgotten.
+  farRequests(step) {
+    if (!this.hasRequests(step)) return Promise.resolve(this.requests(step));
+    this.app.far.forget();
+    return new Promise((done) => {
+      this.app.far.ask('requests', this.wantedFor(step), (told) =>
+        done(this.keep(`requests ${step}`, told)));
+    });
   }
 
   isNear(step) {

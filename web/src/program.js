@@ -45,7 +45,8 @@ function answerInWords(job, answer, most) {
 }
 
 function jobInWords({ job, answer, most, isAnswering }) {
-  const told = isAnswering ? `Its answer is more than ${grouped(most)} steps away, and is being made.`
+  const told = isAnswering
+    ? `Its answer is more than ${grouped(most)} steps away, and is being made.`
     : answerInWords(job, answer, most);
   return `${counted(job.cells, 'cell')}, ${counted(job.procs, 'processor')}, ` +
     `${counted(job.steps, 'step')}, rule ${RULES[job.rule]}. ${told}`;

@@ -80,8 +80,8 @@ export class Schedule {
   // The workers of the bodies at this moment: first the workers, then each twin's.
   bodies() {
     const workers = Array.from({ length: this.workers }, (_, worker) => worker);
-    for (let k = 0; k < this.at; k += 1) {
-      if (kindOf(this.acts[k]) === ACT.TWIN) workers.push(bodyOf(this.acts[k]));
+    for (const act of this.events.othersUpTo(this.at)) {
+      if (kindOf(act) === ACT.TWIN) workers.push(bodyOf(act));
     }
     return workers;
   }
@@ -89,10 +89,9 @@ export class Schedule {
   // The bodies that sleep at this moment.
   sleepers() {
     const asleep = new Set();
-    for (let k = 0; k < this.at; k += 1) {
-      const kind = kindOf(this.acts[k]);
-      if (kind === ACT.SLEEP) asleep.add(bodyOf(this.acts[k]));
-      if (kind === ACT.WAKE) asleep.delete(bodyOf(this.acts[k]));
+    for (const act of this.events.othersUpTo(this.at)) {
+      if (kindOf(act) === ACT.SLEEP) asleep.add(bodyOf(act));
+      if (kindOf(act) === ACT.WAKE) asleep.delete(bodyOf(act));
     }
     return asleep;
   }

@@ -2,7 +2,8 @@
 import { STATUS, TARGET } from './processors.js';
 
 // A search from one step to another; each `look` looks at one step more, and tells whether there is
-// more to do. Then `isFound` says whether the step is one of which the requests are wanted.
+// more to do, of a far step with a promise. Then `isFound` says whether the step is one of which
+// the requests are wanted.
 export class Search {
   constructor(moments, from, to, isWanted) {
     Object.assign(this, { moments, to, isWanted, step: from, isFound: false });
@@ -10,14 +11,19 @@ export class Search {
 
   look() {
     if (this.step === this.to) return false;
-    this.step += Math.sign(this.to - this.step);
-    this.isFound = this.isWanted(this.moments.requests(this.step).list);
-    return !this.isFound && this.step !== this.to;
+    const next = this.step + Math.sign(this.to - this.step);
+    const judge = ({ list }) => {
+      this.step = next;
+      this.isFound = this.isWanted(list);
+      return !this.isFound && next !== this.to;
+    };
+    return this.moments.hasKept('requests', next) || this.moments.isNear(next)
+      ? judge(this.moments.requests(next)) : this.moments.farRequests(next).then(judge);
   }
 
-  // Looks at all of them.
+  // Looks at all of them that are near.
   finish() {
-    while (this.look());
+    while (this.look() === true);
     return this;
   }
 }

@@ -40,10 +40,7 @@ export class Sheet {
     const end = isWhole ? text.length : startOfLine(text, this.start, LINES);
     const last = isWhole || this.first + LINES > lines ? text.length : end;
     this.end = isWhole ? last : Math.min(last, this.start + MOST_CHARACTERS);
-  }
-
-  get linesInPart() {
-    return Math.min(countLines(this.part), this.lines - this.first + 1);
+    this.linesInPart = isWhole ? lines : Math.min(countLines(this.part), lines - this.first + 1);
   }
 
   get part() {
@@ -54,6 +51,7 @@ export class Sheet {
   write(part) {
     this.text = this.text.slice(0, this.start) + part + this.text.slice(this.end);
     this.end = this.start + part.length;
+    this.linesInPart = countLines(part);
     this.lines = countLines(this.text);
   }
 

@@ -29,8 +29,9 @@ export function pictureOf(width, height, parts, words) {
   const { color, backgroundColor, fontFamily } = getComputedStyle(document.body);
   const lines = linesOf(words, Math.floor(width / LETTER));
   const whole = height + LINE * (lines.length + 1);
-  const said = lines.map((line, k) => makeSvg('text',
-    { x: 8, y: height + LINE * (k + 1), fill: color, 'font-size': 13, 'font-family': fontFamily }, line));
+  const style = { fill: color, 'font-size': 13, 'font-family': fontFamily };
+  const said = lines.map((line, k) =>
+    makeSvg('text', { x: 8, y: height + LINE * (k + 1), ...style }, line));
   return makeSvg('svg', { viewBox: `0 0 ${width} ${whole}`, width, height: whole },
     makeSvg('rect', { width, height: whole, fill: backgroundColor }), ...parts, ...said);
 }

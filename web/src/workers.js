@@ -245,7 +245,7 @@ export class WorkersView {
     app.job.leaves = this.scene.leaves;
     const { events } = board;
     this.showBodies();
-    this.showCells(events);
+    this.showCells();
     this.showControls(events);
     app.editor.mark(new Map());
   }
@@ -263,10 +263,9 @@ export class WorkersView {
     for (const pass of [1, 2, 3]) setText(byId(`pass-name-${pass}`), passes[pass]);
   }
 
-  showCells(events) {
-    const { app } = this;
-    const { pairs } = app.core.reads(app.text, app.job, app.schedule.workers, events);
-    this.cells.show(app.job.cells, (cell) => (
+  showCells() {
+    const pairs = this.board.reads();
+    this.cells.show(this.app.job.cells, (cell) => (
       { value: pairs[2 * cell + 1], note: `step ${grouped(pairs[2 * cell])}`, kind: '' }));
   }
 

@@ -122,7 +122,8 @@ class Page {
   // A key with Control.
   async chord(key, more = 0) {
     const windowsVirtualKeyCode = key.toUpperCase().charCodeAt(0);
-    const event = { key, code: `Key${key.toUpperCase()}`, windowsVirtualKeyCode, modifiers: 2 | more };
+    const code = `Key${key.toUpperCase()}`;
+    const event = { key, code, windowsVirtualKeyCode, modifiers: 2 | more };
     await this.call('Input.dispatchKeyEvent', { type: 'rawKeyDown', ...event });
     await this.call('Input.dispatchKeyEvent', { type: 'keyUp', ...event });
   }

@@ -146,6 +146,12 @@ async function testLongTexts() {
   await page.press('Enter', 'Enter', '\r');
   is('its last line', await text('#gutter > :nth-child(8) .number'), '110007');
   is('that is written in', (await valueOf('#text')).endsWith('st r0 r0\n'), true);
+  await page.evaluate('document.getElementById("text").focus()');
+  await page.evaluate('document.getElementById("text").setSelectionRange(0, 0)');
+  await page.insert('oops\n');
+  await has('what is written there', '#fault', 'Line 110,000: ');
+  await page.chord('z');
+  await has('and undone', '#answer', '4 cells');
   await picture('long-text');
   await open(`#${await linkTo('x'.repeat(1000000))}`);
   await has('a line of 1 MB', '#fault', 'Line 1: ');

@@ -1,4 +1,4 @@
-// What the tests of the page share: the page that is driven, what is seen in it, and what is wanted.
+// What the tests of the page share: the page that is driven, what is seen in it, what is wanted.
 import { readFileSync, readdirSync, rmSync } from 'node:fs';
 import { join } from 'node:path';
 import { report } from './report.js';

@@ -1,5 +1,6 @@
 // What is in sight: sizes of windows, phones, frames, paper, pictures, and where the focus is.
-import { clicks, count, focused, has, is, isShown, open, page, picture, saved, text } from './drive.js';
+import { clicks, count, focused, has, is, isShown, open, page, picture, saved, text }
+  from './drive.js';
 
 const SHOWN = '&step=14&acts=0.1.2.3*300';
 

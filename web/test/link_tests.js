@@ -2,7 +2,7 @@
 import { readFileSync } from 'node:fs';
 import { createServer } from 'node:http';
 import { fileURLToPath } from 'node:url';
-import { folders, has, is, isShown, open, page, valueOf } from './drive.js';
+import { folders, has, is, isShown, open, page, text, valueOf } from './drive.js';
 
 export async function testCopiedLink() {
   await open('#example=sum&view=workers&workers=2&acts=0.1*9');
@@ -30,6 +30,7 @@ export async function testCopiedLink() {
 
 export async function testForm() {
   await open('#example=sum&view=workers');
-  await has('the form', '#workers', 'compact form of the board');
-  await has('and that of run', '#workers', 'pramx run and watch use the wide form');
+  const said = (await text('#form')).replace(/\s+/g, ' ');
+  is('the form', said.startsWith('This is the compact form of the board'), true);
+  is('and that of run', said.includes('pramx run and watch use the wide form'), true);
 }

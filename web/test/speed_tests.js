@@ -1,13 +1,19 @@
-// How long a click takes, until the page is laid out anew: with a bar.
+// How long a click takes, until the page is laid out anew and painted: with a bar.
 import { writeAddress } from '../src/address.js';
 import { Schedule } from '../src/schedule.js';
-import { is, open, page } from './drive.js';
+import { is, open, page, valueOf } from './drive.js';
 
-// A click is to take 100 ms. Beside other work everything takes up to three times as long.
-const BAR = 300;
+// Bars are on the processor time of the page's thread, in milliseconds: what the clock says depends
+// on what else the machine does. A click is to take 100 ms; beside other work on all processors even
+// the thread's own time is up to twice as long, so that is the bar. A text of 1 MB that is new, and
+// the first look at the largest board, have a higher one.
+const BAR = 200;
+const HIGH_BAR = 400;
 
-const loop = (cells, procs, steps) => `pram 1\ncells ${cells}\nprocs ${procs}\nsteps ${steps}\ncode\n` +
-  'pid r0\nset r1 1\nagain: add r0 r0 r1\nst r1 r0\njmp again\n'.replace('st r1 r0', 'ld r2 r1');
+const CODE = 'code\npid r0\nset r1 1\nagain: add r0 r0 r1\nld r2 r1\njmp again\n';
+
+const loop = (cells, procs, steps) =>
+  `pram 1\ncells ${cells}\nprocs ${procs}\nsteps ${steps}\n${CODE}`;
 
 const linkTo = async (text, view) =>
   `#${await writeAddress({ text, view, step: 0, schedule: new Schedule(4) }, [])}`;
@@ -18,24 +24,37 @@ async function openQuietly(hash) {
   await page.until('false', 1);
 }
 
-async function timeOf(work) {
-  return page.evaluate(`(async () => {
-    await new Promise((done) => { requestAnimationFrame(() => setTimeout(done, 50)); });
+async function threadTime() {
+  const { metrics } = await page.call('Performance.getMetrics');
+  return 1000 * metrics.find(({ name }) => name === 'TaskDuration').value;
+}
+
+const FRAME = 'await new Promise((done) => { requestAnimationFrame(() => setTimeout(done)); });';
+
+// By the thread's time and by the clock.
+async function timesOf(work) {
+  await page.call('Performance.enable', { timeDomain: 'threadTicks' });
+  await page.evaluate(`(async () => { ${FRAME} })()`);
+  const before = await threadTime();
+  const clock = await page.evaluate(`(async () => {
     const start = performance.now();
     ${work};
     document.body.offsetHeight;
-    return performance.now() - start;
+    const took = performance.now() - start;
+    ${FRAME}
+    return took;
   })()`);
+  return { thread: await threadTime() - before, clock };
 }
 
-async function isQuick(what, work) {
-  const took = await timeOf(work);
-  console.log(`  ${what}: ${took.toFixed(0)} ms`);
-  is(`${what} is quick`, took < BAR || took, true);
+async function isQuick(what, work, bar = BAR) {
+  const { thread, clock } = await timesOf(work);
+  console.log(`  ${what}: ${thread.toFixed(0)} ms, by the clock ${clock.toFixed(0)} ms`);
+  is(`${what} is quick`, thread < bar || thread, true);
 }
 
-const clickOn = (what, selector) =>
-  isQuick(`${what} ${selector}`, `document.querySelector(${JSON.stringify(selector)}).click()`);
+const clickOn = (what, selector, bar) => isQuick(`${what} ${selector}`,
+  `document.querySelector(${JSON.stringify(selector)}).click()`, bar);
 
 async function clicksOn(what, selectors) {
   for (const selector of selectors) await clickOn(what, selector);
@@ -52,8 +71,9 @@ export async function testSpeedOfBitonic() {
 
 export async function testSpeedOfMany() {
   await openQuietly(await linkTo(loop(65536, 1024, 200), 'lockstep'));
-  await clicksOn('1,024 processors', ['#step-on', '#access-on', '#step-end', '#step-back',
-    '#tab-workers', '#all-1', '#all-100', '#moment-back', '#next-finish']);
+  await clicksOn('1,024 processors', ['#step-on', '#access-on', '#step-end', '#step-back']);
+  await clickOn('1,024 processors', '#tab-workers', HIGH_BAR);
+  await clicksOn('1,024 processors', ['#all-1', '#all-100', '#moment-back', '#next-finish']);
 }
 
 export async function testSpeedOfLongSchedules() {
@@ -67,9 +87,12 @@ export async function testSpeedOfFarSteps() {
   await page.until('document.getElementById("answer").textContent.includes("too far")');
   await clickOn('5,000,000 steps', '#step-end');
   await page.until('document.getElementById("plain-said").textContent.startsWith("After")');
-  is('far steps are shown', await page.evaluate('document.getElementById("step").value'), '5000000');
+  is('far steps are shown', await valueOf('#step'), '5000000');
   await clickOn('5,000,000 steps', '#step-back');
   await page.until('document.getElementById("plain-said").textContent.includes("4,999,999")');
+  await clickOn('5,000,000 steps', '#access-back');
+  is('far steps are searched',
+    await page.until('document.getElementById("step").value === "4999998"', 20), true);
 }
 
 // Pastes a text in the place of all there is, as the keys for it do.
@@ -85,11 +108,12 @@ const paste = (text) => `(() => {
 
 export async function testSpeedOfLongTexts() {
   await openQuietly();
-  const lines = `'pram 1\\ncells 4\\nprocs 4\\nsteps 3\\ncode\\npid r0\\n' + '; a line\\n'.repeat(110000) +
-    'st r0 r0\\n'`;
-  await isQuick('1 MB is pasted', paste(lines));
+  const lines = `'pram 1\\ncells 4\\nprocs 4\\nsteps 3\\ncode\\npid r0\\n' +
+    '; a line\\n'.repeat(110000) + 'st r0 r0\\n'`;
+  await isQuick('1 MB is pasted', paste(lines), HIGH_BAR);
   is('and is a program', await page.evaluate(
     'document.getElementById("answer").textContent.startsWith("4 cells")'), true);
-  await clicksOn('1 MB', ['#step-on', '#step-on', '#undo-text', '#redo-text']);
-  await isQuick('a line of 1 MB is pasted', paste('"x".repeat(1000000)'));
+  await clicksOn('1 MB', ['#step-on', '#step-on', '#undo-text']);
+  await clickOn('1 MB', '#redo-text', HIGH_BAR);
+  await isQuick('a line of 1 MB is pasted', paste('"x".repeat(1000000)'), HIGH_BAR);
 }

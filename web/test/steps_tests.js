@@ -56,7 +56,7 @@ export async function testSeeking() {
   await page.press('f', 'KeyF', 'f');
   await has('the next one by key', '#outcome', 'Finished: 2 of 32 steps.');
   await page.click('#steps li:nth-child(5) button');
-  const [now, all] = (await text('#moment-said')).split(' of ').map((part) => part.replace(',', ''));
+  const [now, all] = (await text('#moment-said')).replaceAll(',', '').split(' of ');
   is('a click on the list', Number(now), Number(all) - 4);
   await page.click('#next-finish');
   await has('forward in the schedule', '#moment-said', `${Number(all).toLocaleString('en')} of`);
