@@ -1,0 +1,5 @@
+pub mod Postfix
+pub mod Digits
+pub mod Runs
+pub mod Turns
+pub mod Left

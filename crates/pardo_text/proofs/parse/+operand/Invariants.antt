@@ -1,0 +1,27 @@
+use Rattle.std.proofs.Common.{ℕ, ◌+◌, ◌*◌, ◌-◌}
+use Rattle.pardo_text.proofs.parse.+operand.Given as goal
+
+-- Each bracket that may still be opened counts more than all that happens within one.
+abbrev pub decreases-within : goal.decreases-within
+decreases-within l = 20 * l.around.brackets
+
+abbrev pub decreases-bracketed : goal.decreases-bracketed
+decreases-bracketed l = 20 * l.around.brackets + 1
+
+abbrev pub decreases-pair : goal.decreases-pair
+decreases-pair l = 20 * l.around.brackets + 1
+
+abbrev pub decreases-logarithm : goal.decreases-logarithm
+decreases-logarithm l = 20 * l.around.brackets + 1
+
+abbrev pub decreases-used : goal.decreases-used
+decreases-used l = 20 * l.around.brackets + 1
+
+abbrev pub decreases-operand : goal.decreases-operand
+decreases-operand l = 20 * l.around.brackets + 2
+
+abbrev pub decreases-leveled : goal.decreases-leveled
+decreases-leveled l = 20 * l.around.brackets + 4 + 2 * l.level
+
+abbrev pub decreases-chain : goal.decreases-chain
+decreases-chain l = 20 * l.around.brackets + 3 + 2 * l.level

@@ -1,0 +1,14 @@
+pub mod Lines
+pub mod Operations
+pub mod Expression
+pub mod Reads
+pub mod Tokens
+pub mod Names
+pub mod Expressions
+pub mod Values
+pub mod Program
+pub mod Drafts
+pub mod Header
+pub mod Code
+pub mod Reading
+pub mod Inner

@@ -1,0 +1,140 @@
+//! Header lines.
+use crate::cursor::Cursor;
+use crate::draft::{Draft, Stage};
+use crate::expression::Expr;
+use crate::fault::PardoKind;
+use crate::limits::{MAX_CELLS, MAX_PROCS};
+use crate::names::{Named, Names, Scope};
+use crate::parse::{expression, fixed};
+use crate::part::{after_close_index, after_equals, after_less, ended, indexed, new_name};
+use crate::program::Rule;
+use crate::symbol::Symbol;
+use crate::token::Token;
+use crate::value::{start_values, values_for};
+use std::alloc::Global;
+
+impl<'t> Draft<'t> {
+    /// Reads `pardo 1`.
+    pub(crate) fn take_version(&mut self, tokens: &mut Cursor<'_, 't>) -> Result<(), PardoKind> {
+        match (tokens.next(), tokens.next(), tokens.next()) {
+            (Some(Token::Symbol(Symbol::Pardo)), Some(Token::Number(1)), None) => {
+                self.stage = Stage::Rule;
+                Ok(())
+            }
+            _ => Err(PardoKind::BadHeader),
+        }
+    }
+
+    /// Reads `rule NAME`.
+    pub(crate) fn take_rule(&mut self, tokens: &mut Cursor<'_, 't>) -> Result<(), PardoKind> {
+        match (tokens.next(), tokens.next(), tokens.next()) {
+            (Some(Token::Symbol(Symbol::Rule)), Some(Token::Name(name)), None) => {
+                self.rule = rule_named(name)?;
+                self.stage = Stage::Header;
+                Ok(())
+            }
+            _ => Err(PardoKind::BadHeader),
+        }
+    }
+
+    /// Reads a header line after these two.
+    pub(crate) fn take_header(&mut self, tokens: &mut Cursor<'_, 't>) -> Result<(), PardoKind> {
+        match tokens.next() {
+            Some(Token::Symbol(Symbol::Const)) => self.take_const(tokens),
+            Some(Token::Symbol(Symbol::Procs)) => self.take_procs(tokens),
+            Some(Token::Symbol(Symbol::Shared)) => self.take_shared(tokens),
+            Some(Token::Symbol(Symbol::Private)) => self.take_private(tokens),
+            Some(Token::Symbol(Symbol::Code)) => self.begin_code(tokens),
+            _ => Err(PardoKind::BadHeader),
+        }
+    }
+
+    // Reads what follows `const`.
+    fn take_const(&mut self, tokens: &mut Cursor<'_, 't>) -> Result<(), PardoKind> {
+        let name = new_name(&self.names, tokens)?;
+        after_equals(tokens)?;
+        let value = fixed(self.alloc, &self.names, 0, u32::MAX, tokens)?;
+        ended(tokens)?;
+        self.add_name(name, Named::Constant(value))
+    }
+
+    // Reads what follows `procs`, which stands once.
+    fn take_procs(&mut self, tokens: &mut Cursor<'_, 't>) -> Result<(), PardoKind> {
+        if self.procs != 0 {
+            return Err(PardoKind::BadHeader);
+        }
+        let name = new_name(&self.names, tokens)?;
+        after_less(tokens)?;
+        let procs = fixed(self.alloc, &self.names, 1, MAX_PROCS, tokens)?;
+        ended(tokens)?;
+        self.add_name(name, Named::Own)?;
+        self.procs = procs;
+        Ok(())
+    }
+
+    // Reads what follows `shared`.
+    fn take_shared(&mut self, tokens: &mut Cursor<'_, 't>) -> Result<(), PardoKind> {
+        let name = new_name(&self.names, tokens)?;
+        let places = places_of(self.alloc, &self.names, tokens)?;
+        let start = start_values(self.alloc, &self.names, places.unwrap_or(1), tokens)?;
+        self.add_array(name, places.is_none(), start)
+    }
+
+    // Reads what follows `private`, after the line `procs`.
+    fn take_private(&mut self, tokens: &mut Cursor<'_, 't>) -> Result<(), PardoKind> {
+        if self.procs == 0 {
+            return Err(PardoKind::BadHeader);
+        }
+        let name = new_name(&self.names, tokens)?;
+        let expr = private_start(self.alloc, &self.names, tokens)?;
+        let start = values_for(self.alloc, self.procs, &expr)?;
+        self.add_private(name, start)
+    }
+
+    // Reads what follows `code`, after the line `procs`.
+    fn begin_code(&mut self, tokens: &mut Cursor<'_, 't>) -> Result<(), PardoKind> {
+        if self.procs == 0 || tokens.len() != 0 {
+            return Err(PardoKind::BadHeader);
+        }
+        self.stage = Stage::Code;
+        Ok(())
+    }
+}
+
+fn rule_named(name: &[u8]) -> Result<Rule, PardoKind> {
+    match name {
+        b"common" => Ok(Rule::Common),
+        b"priority" => Ok(Rule::Priority),
+        b"crew" => Ok(Rule::Crew),
+        _ => Err(PardoKind::BadHeader),
+    }
+}
+
+// How many places an array has; a scalar has no brackets.
+fn places_of(
+    alloc: Global,
+    names: &Names<'_>,
+    tokens: &mut Cursor<'_, '_>,
+) -> Result<Option<u32>, PardoKind> {
+    if !indexed(tokens) {
+        return Ok(None);
+    }
+    let places = fixed(alloc, names, 1, MAX_CELLS, tokens)?;
+    after_close_index(tokens)?;
+    Ok(Some(places))
+}
+
+// The start value of a private variable, to the end of the line.
+fn private_start(
+    alloc: Global,
+    names: &Names<'_>,
+    tokens: &mut Cursor<'_, '_>,
+) -> Result<Expr, PardoKind> {
+    if tokens.len() == 0 {
+        return Ok(Expr::number(alloc, 0)?);
+    }
+    after_equals(tokens)?;
+    let expr = expression(alloc, names, Scope::Start, tokens)?;
+    ended(tokens)?;
+    Ok(expr)
+}

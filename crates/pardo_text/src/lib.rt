@@ -1,0 +1,30 @@
+//! Programs of the language `pardo`, and the text that spells them.
+#![tactic(auto)]
+
+mod code;
+mod cursor;
+mod draft;
+mod expression;
+mod fault;
+mod header;
+pub mod limits;
+mod names;
+mod operation;
+mod parse;
+mod part;
+mod program;
+mod reader;
+mod statement;
+mod symbol;
+mod token;
+mod value;
+
+pub use expression::{Expr, Node};
+pub use fault::{PardoFault, PardoKind};
+pub use operation::Op;
+pub use program::{Array, Private, Program, Rule};
+pub use reader::read_program;
+pub use statement::{Line, Statement, Target};
+
+#[cfg(test)]
+mod tests;
