@@ -3,3 +3,4 @@ pub mod Digits
 pub mod Runs
 pub mod Turns
 pub mod Left
+pub mod Chains

@@ -190,7 +190,7 @@ turns_at level tokens = if level == comparisons then 1 else length tokens
 
 -- An expression of a level is a chain of expressions of the level below, and one of level 0 is an
 -- operand.
-abbrev pub level_at : Inner → ℕ → Inner
+unfoldable pub level_at : Inner → ℕ → Inner
 level_at operand zero scope tokens = operand scope tokens
 level_at operand (suc level) scope tokens = do
   first ← level_at operand level scope tokens

@@ -47,7 +47,11 @@ impl<'a, 't> Cursor<'a, 't> {
           | Some token ↦ (rest : _) × (self.now ≡ plain token ∷ rest)
         ] }
     {
-        self.tokens.get(self.at).copied()
+        if self.at < self.tokens.len() {
+            Some(self.tokens[self.at])
+        } else {
+            None
+        }
     }
 
     /// Reads the next token.

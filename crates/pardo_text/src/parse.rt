@@ -5,7 +5,7 @@ ghost use Rattle.pardo_text.specs.Expressions.{place_at, used_at, named_at, oper
 ghost use Rattle.pardo_text.specs.Expressions.{operator_at, chained, turns_at, level_at};
 ghost use Rattle.pardo_text.specs.Expressions.{within_at, expression_at, fixed_at, log_of};
 ghost use Rattle.pardo_text.specs.Operations.{level_of};
-ghost use Rattle.pardo_text.specs.Tokens.{Token};
+ghost use Rattle.pardo_text.specs.Tokens.{Token as Part};
 ghost use Rattle.pardo_text.specs.Inner.Tokens.{Gives};
 ghost use Rattle.pardo_text.specs.Inner.Names.{names_in};
 
@@ -30,19 +30,13 @@ pub(crate) struct Around<'n, 't> {
     pub(crate) brackets: usize,
 }
 
-impl<'n, 't> Around<'n, 't> {
-    // The same in another scope.
-    fn in_scope(self, scope: Scope) -> Self {
-        Around { scope, ..self }
-    }
-}
-
 // The level of comparisons, which take two operands alone, and that of whole expressions.
 const COMPARISONS: u8 = 3;
 
 const LOOSEST: u8 = 5;
 
 /// Reads a whole expression.
+#[tactic(auto, unfolding(crate::specs::Expressions::expression_at))]
 pub(crate) fn expression(
     alloc: Global,
     names: &Names<'_>,
@@ -62,6 +56,7 @@ pub(crate) fn expression(
 }
 
 /// Reads a number that is known at once, within limits.
+#[tactic(auto, unfolding(crate::specs::Expressions::fixed_at))]
 pub(crate) fn fixed(
     alloc: Global,
     names: &Names<'_>,
@@ -127,13 +122,8 @@ fn chain(
         around.entry.scope)
         around.entry.scope level (turns_at level tokens.old) first tokens.old) }
 {
-    let turns = if level == COMPARISONS {
-        1
-    } else {
-        tokens.len()
-    };
     let mut expr = first;
-    for _ in 0..turns {
+    for _turn in 0..turns(level, tokens) {
         let Some(op) = operator(level, tokens) else {
             return Ok(expr);
         };
@@ -141,6 +131,17 @@ fn chain(
         expr = join(around, op, expr, second)?;
     }
     Ok(expr)
+}
+
+// How many operations of a level may follow.
+fn turns(level: u8, tokens: &Cursor<'_, '_>) -> usize
+    ensures { result ≡ turns_at level tokens.now }
+{
+    if level == COMPARISONS {
+        1
+    } else {
+        tokens.len()
+    }
 }
 
 // Reads the operation of this level that comes next, if one does.
@@ -178,6 +179,7 @@ fn join(around: Around<'_, '_>, op: Op, first: Expr, second: Expr) -> Result<Exp
 
 // Reads an operand.
 #[cycle(operand)]
+#[tactic(auto, unfolding(crate::specs::Expressions::operand_at))]
 fn operand(around: Around<'_, '_>, tokens: &mut Cursor<'_, '_>) -> Result<Expr, PardoKind>
     ensures { Gives (λ expr. (expr, tokens.new)) result
         (operand_at (names_in around.entry.names.now)
@@ -196,7 +198,7 @@ fn operand(around: Around<'_, '_>, tokens: &mut Cursor<'_, '_>) -> Result<Expr, 
 
 // A number.
 fn literal(alloc: Global, value: u64) -> Result<Expr, PardoKind>
-    ensures { (rest : List Token) → Gives (λ expr. (expr, rest)) result (literal_at value rest) }
+    ensures { (rest : List Part) → Gives (λ expr. (expr, rest)) result (literal_at value rest) }
 {
     if value <= u64::from(u32::MAX) {
         Ok(Expr::number(alloc, value as u32)?)
@@ -239,8 +241,12 @@ fn logarithm(around: Around<'_, '_>, tokens: &mut Cursor<'_, '_>) -> Result<Expr
     ensures { Gives (λ expr. (expr, tokens.new)) result
         (log_at (within_at (names_in around.entry.names.now) around.entry.brackets) tokens.old) }
 {
+    let fixed = Around {
+        scope: Scope::Fixed,
+        ..around
+    };
     after_open(tokens)?;
-    let expr = within(around.in_scope(Scope::Fixed), tokens)?;
+    let expr = within(fixed, tokens)?;
     after_close(tokens)?;
     let value = log_of(expr.constant().unwrap_or(0));
     Ok(Expr::number(around.alloc, value)?)
