@@ -4,3 +4,6 @@ pub mod Runs
 pub mod Turns
 pub mod Left
 pub mod Chains
+pub mod Depths
+pub mod Known
+pub mod Finished

@@ -38,15 +38,19 @@ with_text_line number draft line =
       tokens ← tokens_of (said_in line)
       with_tokens number draft tokens)
 
--- the program of a draft whose lines were all read, or what it lacks
-abbrev pub finished : Stage → List Block → List Line → Draft → Result ProgramData PardoKind
-finished stage.Code [] (first ∷ lines) draft = Ok (record {
+-- what a draft says of the program
+abbrev pub said_so_far : Draft → ProgramData
+said_so_far draft = record {
   rule = draft.rule;
   procs = draft.procs;
   arrays = draft.arrays;
   privates = draft.privates;
   lines = draft.lines;
-})
+}
+
+-- the program of a draft whose lines were all read, or what it lacks
+abbrev pub finished : Stage → List Block → List Line → Draft → Result ProgramData PardoKind
+finished stage.Code [] (first ∷ lines) draft = Ok (said_so_far draft)
 finished stage.Code [] [] draft = Err NoCode
 finished stage.Code (block ∷ blocks) lines draft = Err OpenBlock
 finished _ blocks lines draft = Err BadHeader

@@ -189,20 +189,21 @@ impl<'t> Draft<'t> {
     pub(crate) fn finish(self) -> Result<Program, PardoKind>
         ensures { result ≡ program_in (draft_of self.entry) }
     {
-        if !matches!(self.stage, Stage::Code) {
-            Err(PardoKind::BadHeader)
-        } else if !self.blocks.is_empty() {
-            Err(PardoKind::OpenBlock)
-        } else if self.lines.is_empty() {
-            Err(PardoKind::NoCode)
-        } else {
-            Ok(Program::new(
-                self.rule,
-                self.procs,
-                self.arrays.into_items(),
-                self.privates,
-                self.lines,
-            ))
+        let Stage::Code = self.stage else {
+            return Err(PardoKind::BadHeader);
+        };
+        if !self.blocks.is_empty() {
+            return Err(PardoKind::OpenBlock);
         }
+        if self.lines.is_empty() {
+            return Err(PardoKind::NoCode);
+        }
+        Ok(Program::new(
+            self.rule,
+            self.procs,
+            self.arrays.into_items(),
+            self.privates,
+            self.lines,
+        ))
     }
 }

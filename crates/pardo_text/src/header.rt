@@ -15,7 +15,7 @@ use crate::parse::{expression, fixed};
 use crate::part::{after_close_index, after_equals, after_less, ended, indexed, new_name};
 use crate::program::Rule;
 use crate::symbol::Symbol;
-use crate::token::Token;
+use crate::token::{Token, is_word};
 use crate::value::{start_values, values_for};
 use std::alloc::Global;
 
@@ -147,11 +147,14 @@ impl<'t> Draft<'t> {
 fn rule_named(name: &[u8]) -> Result<Rule, PardoKind>
     ensures { result ≡ rule_named name.now }
 {
-    match name {
-        b"common" => Ok(Rule::Common),
-        b"priority" => Ok(Rule::Priority),
-        b"crew" => Ok(Rule::Crew),
-        _ => Err(PardoKind::BadHeader),
+    if is_word(name, "common") {
+        Ok(Rule::Common)
+    } else if is_word(name, "priority") {
+        Ok(Rule::Priority)
+    } else if is_word(name, "crew") {
+        Ok(Rule::Crew)
+    } else {
+        Err(PardoKind::BadHeader)
     }
 }
 

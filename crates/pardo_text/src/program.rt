@@ -135,6 +135,11 @@ impl Model for Program {
 
     ghost Value = { ProgramData };
 
+    ghost use Rattle.std.specs.Coded.{codes};
+    ghost use Rattle.pardo_text.specs.contracts.statement.Line as line;
+
+    ghost coded = { Prim.hlevel (codes, line.the_row.coded) };
+
     ghost view = { λ p. record {
       rule = p.rule;
       procs = p.procs;

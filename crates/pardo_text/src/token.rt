@@ -70,8 +70,8 @@ fn number_of(digits: &[u8]) -> u64
     value
 }
 
-// Whether the word is this one.
-fn is_word(word: &[u8], name: &str) -> bool
+/// Whether the word is this one.
+pub(crate) fn is_word(word: &[u8], name: &str) -> bool
     ensures { result ≡ bytes_eq word.now name.now }
 {
     word == name.as_bytes()
