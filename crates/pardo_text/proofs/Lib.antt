@@ -7,3 +7,5 @@ pub mod Chains
 pub mod Depths
 pub mod Known
 pub mod Finished
+pub mod Splitting
+pub mod Judged

@@ -1,5 +1,5 @@
 -- Reading: the program of a text, or its first bad line and what is wrong with it.
-use Rattle.std.specs.Prelude.{◌≡◌, ℕ, ◌+◌, Bool, true, false, not, if◌then◌else◌, List, [], ◌∷◌}
+use Rattle.std.specs.Prelude.{◌≡◌, ◌≢◌, ℕ, ◌+◌, Bool, true, false, not, if◌then◌else◌, List, [], ◌∷◌}
 use Rattle.std.specs.Prelude.{Result, Ok, Err}
 use Rattle.std.specs.List.{list_all}
 use Rattle.pardo_text.specs.declared.fault.PardoFault.{PardoFault}
@@ -82,7 +82,5 @@ program_of text = program_after empty 0 (lines_of text)
 
 -- A refusal names the fault of the text. Out of memory it says nothing of it, and names line 0.
 abbrev pub IsRefusal : List ℕ → PardoFault → Type 0
-IsRefusal text fault = elim fault.kind [
-  | Memory ↦ fault.line ≡ 0
-  | _ ↦ program_of text ≡ Err fault
-]
+IsRefusal text fault =
+    (fault.kind ≢ Memory → program_of text ≡ Err fault) × (fault.kind ≡ Memory → fault.line ≡ 0)
