@@ -4,3 +4,5 @@ pub mod Runs
 pub mod Turns
 pub mod Left
 pub mod Chains
+pub mod Stacks
+pub mod Starts
