@@ -27,15 +27,15 @@ pub rest_from : {A : Type 0} → (o : Option A) (d x : A) → is_some o ≡ fals
 rest_from (Some y) d x e f = absurd (let other : true ≡ false = e in cc)
 rest_from None d x e f = f
 
-ended-ok : {A : Type 0} → (value : A) (tokens : List Token) → Ok tt ≡ ended tt tokens →
+ended-ok : {A : Type 0} → (value : A) (tokens : List Token) → Ok (tt {0}) ≡ ended (tt {0}) tokens →
     ended value tokens ≡ Ok value
 ended-ok value [] e = refl
-ended-ok value (token ∷ tokens) e = absurd (let other : Ok tt ≡ Err BadLine = e in cc)
+ended-ok value (token ∷ tokens) e = absurd (let other : Ok (tt {0}) ≡ Err BadLine = e in cc)
 
 ended-err : {A : Type 0} → (value : A) (tokens : List Token) (kind : PardoKind) →
-    Err kind ≡ ended tt tokens → ended value tokens ≡ Err kind
-ended-err value [] kind e = absurd (let other : Err kind ≡ Ok tt = e in cc)
-ended-err value (token ∷ tokens) kind e = let same : Err kind ≡ Err BadLine = e in cc
+    Err kind ≡ ended (tt {0}) tokens → ended value tokens ≡ Err kind
+ended-err value [] kind e = absurd (let other : Err kind ≡ Ok (tt {0}) = e in cc)
+ended-err value (token ∷ tokens) kind e = let same : kind ≡ BadLine = cc in ap Err (sym same)
 
 -- ---- one value
 
@@ -86,21 +86,21 @@ take_comma names n i value front tokens rest kind lt e f g =
 pub take_end : (names : Names) (n i value : ℕ) (front new : List ℕ)
     (tokens rest after end : List Token) → i < n →
     fixed_at names 0 most tokens ≡ Ok (value, rest) → 0 < length rest →
-    after_comma rest ≡ Ok after → after_dots after ≡ Some end → Ok tt ≡ ended tt end →
+    after_comma rest ≡ Ok after → after_dots after ≡ Some end → Ok (tt {0}) ≡ ended (tt {0}) end →
     new ≡ front ++ value ∷ [] →
     after_values front (values_in names (n - i) tokens) ≡ Ok (new, true)
 take_end names n i value front new tokens rest after end lt e f g h k new_is =
     rw (value_first names n i tokens lt, e, value_comma _ value rest f, g)
-    (rw (h) (rw (ended-ok (value ∷ [], true) end k) (ap (λ all. Ok (all, true)) (sym new_is))))
+    (rw (h) (rw (ended-ok {A = List ℕ × Bool} (value ∷ [], true) end k) (ap (λ all. Ok (all, true)) (sym new_is))))
 
 pub take_left : (names : Names) (n i value : ℕ) (front : List ℕ)
     (tokens rest after end : List Token) (kind : PardoKind) → i < n →
     fixed_at names 0 most tokens ≡ Ok (value, rest) → 0 < length rest →
-    after_comma rest ≡ Ok after → after_dots after ≡ Some end → Err kind ≡ ended tt end →
+    after_comma rest ≡ Ok after → after_dots after ≡ Some end → Err kind ≡ ended (tt {0}) end →
     after_values front (values_in names (n - i) tokens) ≡ Err kind
 take_left names n i value front tokens rest after end kind lt e f g h k =
     rw (value_first names n i tokens lt, e, value_comma _ value rest f, g)
-    (rw (h) (rw (ended-err (value ∷ [], true) end kind k) refl))
+    (rw (h) (rw (ended-err {A = List ℕ × Bool} (value ∷ [], true) end kind k) refl))
 
 after_values-onto : (front new : List ℕ) (value : ℕ) (read : Result (List ℕ × Bool) PardoKind) →
     new ≡ front ++ value ∷ [] →
