@@ -8,19 +8,20 @@ use Rattle.pardo_text.specs.declared.names.Named.{Named}
 use Rattle.pardo_text.specs.declared.names.Named.TheVariants as thing
 use Rattle.pardo_text.specs.declared.names.Scope.{Scope}
 use Rattle.pardo_text.specs.declared.names.Scope.TheVariants.{Bound, Uniform, Any}
-use Rattle.pardo_text.specs.declared.draft.Block.{Block}
-use Rattle.pardo_text.specs.declared.draft.Block.TheVariants as block
+use Rattle.pardo_text.specs.declared.block.Block.{Block}
+use Rattle.pardo_text.specs.declared.block.Block.TheVariants as block
 use Rattle.pardo_text.specs.declared.statement.Statement.{Statement}
 use Rattle.pardo_text.specs.declared.statement.Statement.TheVariants as statement
 use Rattle.pardo_text.specs.declared.statement.Target.{Target}
 use Rattle.pardo_text.specs.declared.statement.Target.TheVariants as target
 use Rattle.pardo_text.specs.declared.symbol.Symbol.TheVariants as the
-use Rattle.pardo_text.specs.Drafts.{Draft, fitting, with_line, with_block, with_loop, ended_at}
+use Rattle.pardo_text.specs.Drafts.{Draft, fitting, with_line, with_block, with_loop, without}
+use Rattle.pardo_text.specs.Drafts.{with_end}
 use Rattle.pardo_text.specs.Expression.{Tree, number as constant}
 use Rattle.pardo_text.specs.Expressions.{Read, after_assign, after_close_index, after_equals}
 use Rattle.pardo_text.specs.Expressions.{indexed, ended, new_name, expression_at}
 use Rattle.pardo_text.specs.Lines.{Word}
-use Rattle.pardo_text.specs.Names.{Names, unnamed}
+use Rattle.pardo_text.specs.Names.{Names}
 use Rattle.pardo_text.specs.Reads.{◌>>=◌}
 use Rattle.pardo_text.specs.Tokens.{Token, name, symbol}
 
@@ -101,19 +102,15 @@ else_of number draft (block.If ∷ blocks) =
 else_of number draft _ = Err BadBlock
 
 -- an `end` belongs to the innermost block
-abbrev pub end_of : ℕ → Draft → List Block → List Word → Result Draft PardoKind
-end_of number draft [] loops = Err BadBlock
-end_of number draft (block.While begin ∷ blocks) loops =
+abbrev pub end_of : ℕ → Draft → List Block → Result Draft PardoKind
+end_of number draft [] = Err BadBlock
+end_of number draft (block.While begin ∷ blocks) =
     Ok (with_line number (statement.EndWhile begin)
-    (record draft { blocks = blocks; lines = ended_at begin draft.lines }))
-end_of number draft (block.For begin ∷ blocks) (word ∷ loops) =
-    Ok (with_line number (statement.EndFor begin) (record draft {
-      names = unnamed word draft.names;
-      blocks = blocks;
-      loops = loops;
-      lines = ended_at begin draft.lines;
-    }))
-end_of number draft (other ∷ blocks) loops =
+    (with_end begin (record draft { blocks = blocks })))
+end_of number draft (block.For begin ∷ blocks) =
+    Ok (with_line number (statement.EndFor begin)
+    (with_end begin (without draft.loops (record draft { blocks = blocks }))))
+end_of number draft (choice ∷ blocks) =
     Ok (with_line number statement.EndIf (record draft { blocks = blocks }))
 
 -- ---- any line
@@ -124,7 +121,7 @@ statement_line number draft (symbol the.If ∷ tokens) = if_line number draft to
 statement_line number draft (symbol the.While ∷ tokens) = while_line number draft tokens
 statement_line number draft (symbol the.For ∷ tokens) = for_line number draft tokens
 statement_line number draft (symbol the.Else ∷ []) = else_of number draft draft.blocks
-statement_line number draft (symbol the.End ∷ []) = end_of number draft draft.blocks draft.loops
+statement_line number draft (symbol the.End ∷ []) = end_of number draft draft.blocks
 statement_line number draft (name word ∷ tokens) = do
   said ← assignment_at draft.names word tokens
   Ok (with_line number said draft)

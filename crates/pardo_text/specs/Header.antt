@@ -1,23 +1,22 @@
 -- Header lines.
-use Rattle.std.specs.Prelude.{ℕ, Bool, true, false, ◌==◌, if◌then◌else◌, List, [], ◌∷◌, ◌++◌}
-use Rattle.std.specs.Prelude.{codes, is_none, unwrap_or, Option, Some, None, Result, Ok, Err, length}
+use Rattle.std.specs.Prelude.{ℕ, ◌==◌, if◌then◌else◌, List, [], ◌∷◌}
+use Rattle.std.specs.Prelude.{codes, is_none, unwrap_or, Option, Some, None, Result, Ok, Err}
 use Rattle.std.specs.Str.{bytes_eq}
 use Rattle.pardo_text.specs.declared.fault.PardoKind.{PardoKind}
 use Rattle.pardo_text.specs.declared.fault.PardoKind.TheVariants.{BadHeader}
 use Rattle.pardo_text.specs.declared.limits.TheConstants.{MAX_CELLS, MAX_PROCS}
-use Rattle.pardo_text.specs.declared.names.Named.{Named}
 use Rattle.pardo_text.specs.declared.names.Named.TheVariants as thing
 use Rattle.pardo_text.specs.declared.names.Scope.TheVariants.{Start}
 use Rattle.pardo_text.specs.declared.program.Rule.{Rule}
 use Rattle.pardo_text.specs.declared.program.Rule.TheVariants.{Common, Priority, Crew}
 use Rattle.pardo_text.specs.declared.draft.Stage.TheVariants as stage
 use Rattle.pardo_text.specs.declared.symbol.Symbol.TheVariants as the
-use Rattle.pardo_text.specs.Drafts.{Draft, shared_cells, fitting}
+use Rattle.pardo_text.specs.Drafts.{Draft, with_name, with_array, with_private, fitting}
 use Rattle.pardo_text.specs.Expression.{Tree, number}
 use Rattle.pardo_text.specs.Expressions.{Read, after_close_index, after_equals, after_less}
 use Rattle.pardo_text.specs.Expressions.{indexed, ended, new_name, expression_at, fixed_at}
 use Rattle.pardo_text.specs.Lines.{Word}
-use Rattle.pardo_text.specs.Names.{Names, named}
+use Rattle.pardo_text.specs.Names.{Names}
 use Rattle.pardo_text.specs.Reads.{◌>>=◌}
 use Rattle.pardo_text.specs.Tokens.{Token, name, number as literal, symbol}
 use Rattle.pardo_text.specs.Values.{most, values_for, start_at}
@@ -47,7 +46,7 @@ const_line draft tokens = do
   word ← new_name draft.names tokens
   after ← after_equals word.1
   value ← fixed_at draft.names 0 most after
-  ended (record draft { names = named word.0 (thing.Constant value.0) draft.names }) value.1
+  ended (with_name word.0 (thing.Constant value.0) draft) value.1
 
 -- what follows `procs`, which stands once
 unfoldable pub procs_line : Draft → List Token → Result Draft PardoKind
@@ -57,7 +56,7 @@ procs_line draft tokens =
       word ← new_name draft.names tokens
       after ← after_less word.1
       procs ← fixed_at draft.names 1 MAX_PROCS after
-      ended (record draft { procs = procs.0; names = named word.0 thing.Own draft.names }) procs.1)
+      ended (with_name word.0 thing.Own (record draft { procs = procs.0 })) procs.1)
     else Err BadHeader
 
 -- how many places an array has; a scalar has no brackets
@@ -68,30 +67,13 @@ length_at names tokens (Some inside) = do
   rest ← after_close_index places.1
   Ok (Some places.0, rest)
 
-abbrev pub thing_of : Option ℕ → ℕ → Named
-thing_of None array = thing.Scalar array
-thing_of (Some places) array = thing.Array array
-
--- one array more
-abbrev pub with_array : Word → Option ℕ → List ℕ → Draft → Draft
-with_array word places start draft = record draft {
-  names = named word (thing_of places (length draft.arrays)) draft.names;
-  arrays = draft.arrays
-      ++ record {
-        name = word;
-        is_scalar = is_none places;
-        base = shared_cells draft.arrays;
-        start = start;
-      } ∷ [];
-}
-
 -- what follows `shared`
 unfoldable pub shared_line : Draft → List Token → Result Draft PardoKind
 shared_line draft tokens = do
   word ← new_name draft.names tokens
   places ← length_at draft.names word.1 (indexed word.1)
   start ← start_at draft.names (unwrap_or places.0 1) places.1
-  fitting (with_array word.0 places.0 start draft)
+  fitting (with_array word.0 (is_none places.0) start draft)
 
 -- the start value of a private variable, to the end of the line
 unfoldable pub private_start : Names → List Token → Result Tree PardoKind
@@ -100,13 +82,6 @@ private_start names (token ∷ tokens) = do
   after ← after_equals (token ∷ tokens)
   tree ← expression_at names Start after
   ended tree.0 tree.1
-
--- one private variable more
-abbrev pub with_private : Word → List ℕ → Draft → Draft
-with_private word start draft = record draft {
-  names = named word (thing.Private (length draft.privates)) draft.names;
-  privates = draft.privates ++ record { name = word; start = start } ∷ [];
-}
 
 -- what follows `private`, after the line `procs`
 unfoldable pub private_line : Draft → List Token → Result Draft PardoKind

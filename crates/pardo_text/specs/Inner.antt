@@ -4,3 +4,4 @@ pub mod Names
 pub mod Nodes
 pub mod LinesAfter
 pub mod Values
+pub mod Drafts

@@ -7,6 +7,7 @@ pub mod Names
 pub mod Expressions
 pub mod Values
 pub mod Program
+pub mod Blocks
 pub mod Drafts
 pub mod Header
 pub mod Code

@@ -6,7 +6,7 @@ use Rattle.pardo_text.specs.declared.fault.PardoFault.{PardoFault}
 use Rattle.pardo_text.specs.declared.fault.PardoKind.{PardoKind}
 use Rattle.pardo_text.specs.declared.fault.PardoKind.TheVariants.{NotAscii, BadHeader, OpenBlock}
 use Rattle.pardo_text.specs.declared.fault.PardoKind.TheVariants.{NoCode, Memory}
-use Rattle.pardo_text.specs.declared.draft.Block.{Block}
+use Rattle.pardo_text.specs.declared.block.Block.{Block}
 use Rattle.pardo_text.specs.declared.draft.Stage.{Stage}
 use Rattle.pardo_text.specs.declared.draft.Stage.TheVariants as stage
 use Rattle.pardo_text.specs.declared.statement.Line.{Line}

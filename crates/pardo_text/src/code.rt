@@ -1,6 +1,12 @@
 //! Lines of code.
+ghost use Rattle.std.specs.Prelude.{◌≡◌};
+ghost use Rattle.pardo_text.specs.Code.{whole_at, way_at, target_of, assignment_at};
+ghost use Rattle.pardo_text.specs.Inner.Names.{names_in};
+ghost use Rattle.pardo_text.specs.Inner.Tokens.{Gives};
+
+use crate::block::Block;
 use crate::cursor::Cursor;
-use crate::draft::{Block, Draft};
+use crate::draft::Draft;
 use crate::expression::Expr;
 use crate::fault::PardoKind;
 use crate::names::{Named, Names, Scope};
@@ -12,12 +18,20 @@ use crate::token::Token;
 use std::alloc::Global;
 
 impl<'t> Draft<'t> {
+    ghost use Rattle.pardo_text.specs.Code.{statement_line, if_line, while_line, for_line};
+    ghost use Rattle.pardo_text.specs.Code.{else_of, end_of};
+    ghost use Rattle.pardo_text.specs.Inner.Drafts.{draft_of};
+
+    #[tactic(auto, unfolding(crate::specs::Code::statement_line))]
     /// Reads a line of code of this number.
     pub(crate) fn take_code(
         &mut self,
         number: u64,
         tokens: &mut Cursor<'_, 't>,
-    ) -> Result<(), PardoKind> {
+    ) -> Result<(), PardoKind>
+        ensures { Gives (λ _. draft_of self.new) result
+            (statement_line number (draft_of self.old) tokens.old) }
+    {
         match tokens.next() {
             Some(Token::Symbol(Symbol::If)) => self.take_if(number, tokens),
             Some(Token::Symbol(Symbol::While)) => self.take_while(number, tokens),
@@ -32,31 +46,44 @@ impl<'t> Draft<'t> {
             }
             Some(Token::Name(name)) => {
                 let statement = assignment(self.alloc, &self.names, name, tokens)?;
-                self.add_line(number, statement)
+                self.add_line(number, statement)?;
+                Ok(())
             }
             _ => Err(PardoKind::BadLine),
         }
     }
 
+    #[tactic(auto, unfolding(crate::specs::Code::if_line))]
     // Reads what follows `if`.
-    fn take_if(&mut self, number: u64, tokens: &mut Cursor<'_, 't>) -> Result<(), PardoKind> {
+    fn take_if(&mut self, number: u64, tokens: &mut Cursor<'_, 't>) -> Result<(), PardoKind>
+        ensures { Gives (λ _. draft_of self.new) result
+            (if_line number (draft_of self.old) tokens.old) }
+    {
         let condition = whole(self.alloc, &self.names, Scope::Any, tokens)?;
         self.add_line(number, Statement::If(condition))?;
-        self.open_choice(Block::If)?;
+        self.open(Block::If)?;
         self.fit()
     }
 
+    #[tactic(auto, unfolding(crate::specs::Code::while_line))]
     // Reads what follows `while`.
-    fn take_while(&mut self, number: u64, tokens: &mut Cursor<'_, 't>) -> Result<(), PardoKind> {
+    fn take_while(&mut self, number: u64, tokens: &mut Cursor<'_, 't>) -> Result<(), PardoKind>
+        ensures { Gives (λ _. draft_of self.new) result
+            (while_line number (draft_of self.old) tokens.old) }
+    {
         let condition = whole(self.alloc, &self.names, Scope::Uniform, tokens)?;
         let begin = self.lines.len();
         self.add_line(number, Statement::While(condition, 0))?;
-        self.blocks.push(Block::While(begin))?;
+        self.open(Block::While(begin))?;
         Ok(())
     }
 
+    #[tactic(auto, unfolding(crate::specs::Code::for_line))]
     // Reads what follows `for`.
-    fn take_for(&mut self, number: u64, tokens: &mut Cursor<'_, 't>) -> Result<(), PardoKind> {
+    fn take_for(&mut self, number: u64, tokens: &mut Cursor<'_, 't>) -> Result<(), PardoKind>
+        ensures { Gives (λ _. draft_of self.new) result
+            (for_line number (draft_of self.old) tokens.old) }
+    {
         let name = new_name(&self.names, tokens)?;
         after_equals(tokens)?;
         let first = expression(self.alloc, &self.names, Scope::Bound, tokens)?;
@@ -65,59 +92,68 @@ impl<'t> Draft<'t> {
         let begin = self.lines.len();
         let nest = self.loops.len();
         self.add_line(number, Statement::For(nest, first, last, up, 0))?;
-        self.open_loop(name, begin)?;
+        self.open(Block::For(begin))?;
+        self.open_loop(name)?;
         self.fit()
     }
 
     // Reads `else`.
-    fn take_else(&mut self, number: u64) -> Result<(), PardoKind> {
+    fn take_else(&mut self, number: u64) -> Result<(), PardoKind>
+        ensures { Gives (λ _. draft_of self.new) result
+            (else_of number (draft_of self.old) (draft_of self.old).blocks) }
+    {
         match self.blocks.pop() {
             Some(Block::If) => {
-                self.depth -= 1;
                 self.add_line(number, Statement::Else)?;
-                self.open_choice(Block::Else)
+                self.open(Block::Else)?;
+                Ok(())
             }
             _ => Err(PardoKind::BadBlock),
         }
     }
 
     // Reads `end`.
-    fn take_end(&mut self, number: u64) -> Result<(), PardoKind> {
-        match self.blocks.pop() {
-            Some(Block::If | Block::Else) => {
-                self.depth -= 1;
-                self.add_line(number, Statement::EndIf)
-            }
+    fn take_end(&mut self, number: u64) -> Result<(), PardoKind>
+        ensures { Gives (λ _. draft_of self.new) result
+            (end_of number (draft_of self.old) (draft_of self.old).blocks) }
+    {
+        let statement = match self.blocks.pop() {
+            None => return Err(PardoKind::BadBlock),
+            Some(Block::If | Block::Else) => Statement::EndIf,
             Some(Block::While(begin)) => {
                 self.end_at(begin);
-                self.add_line(number, Statement::EndWhile(begin))
+                Statement::EndWhile(begin)
             }
             Some(Block::For(begin)) => {
-                if let Some(name) = self.loops.pop() {
-                    self.names.remove(name);
-                }
+                self.close_loop();
                 self.end_at(begin);
-                self.add_line(number, Statement::EndFor(begin))
+                Statement::EndFor(begin)
             }
-            None => Err(PardoKind::BadBlock),
-        }
+        };
+        self.add_line(number, statement)?;
+        Ok(())
     }
 }
 
+#[tactic(auto, unfolding(crate::specs::Code::whole_at))]
 // Reads an expression to the end of the line.
 fn whole(
     alloc: Global,
     names: &Names<'_>,
     scope: Scope,
     tokens: &mut Cursor<'_, '_>,
-) -> Result<Expr, PardoKind> {
+) -> Result<Expr, PardoKind>
+    ensures { Gives (λ expr. expr) result (whole_at (names_in names.now) scope tokens.old) }
+{
     let expr = expression(alloc, names, scope, tokens)?;
     ended(tokens)?;
     Ok(expr)
 }
 
 // Reads whether a loop counts up.
-fn way(tokens: &mut Cursor<'_, '_>) -> Result<bool, PardoKind> {
+fn way(tokens: &mut Cursor<'_, '_>) -> Result<bool, PardoKind>
+    ensures { Gives (λ up. (up, tokens.new)) result (way_at tokens.old) }
+{
     match tokens.next() {
         Some(Token::Symbol(Symbol::To)) => Ok(true),
         Some(Token::Symbol(Symbol::Downto)) => Ok(false),
@@ -125,13 +161,17 @@ fn way(tokens: &mut Cursor<'_, '_>) -> Result<bool, PardoKind> {
     }
 }
 
+#[tactic(auto, unfolding(crate::specs::Code::assignment_at))]
 // Reads what follows the name of the target of an assignment.
 fn assignment(
     alloc: Global,
     names: &Names<'_>,
     name: &[u8],
     tokens: &mut Cursor<'_, '_>,
-) -> Result<Statement, PardoKind> {
+) -> Result<Statement, PardoKind>
+    ensures { Gives (λ said. said) result
+        (assignment_at (names_in names.now) name.now tokens.old) }
+{
     let target = target(alloc, names, name, tokens)?;
     after_assign(tokens)?;
     let value = whole(alloc, names, Scope::Any, tokens)?;
@@ -144,7 +184,10 @@ fn target(
     names: &Names<'_>,
     name: &[u8],
     tokens: &mut Cursor<'_, '_>,
-) -> Result<Target, PardoKind> {
+) -> Result<Target, PardoKind>
+    ensures { Gives (λ place. (place, tokens.new)) result
+        (target_of (names_in names.now) (names_in names.now name.now) tokens.old) }
+{
     let Some(thing) = names.get(name) else {
         return Err(PardoKind::UnknownName);
     };

@@ -1,10 +1,14 @@
 //! What the lines of a text so far say.
+ghost use Rattle.std.specs.Prelude.{◌≡◌, IfOk, Ok};
+
+use crate::arrays::Arrays;
+use crate::block::{Block, Blocks};
 use crate::fault::PardoKind;
 use crate::limits::MAX_CELLS;
 use crate::names::{Named, Names};
-use crate::program::{Array, Private, Program, Rule};
+use crate::program::{Private, Program, Rule};
 use crate::statement::{Line, Statement};
-use std::alloc::Global;
+use std::alloc::{AllocError, Global};
 use std::collections::BTreeMap;
 
 /// What the next line has to say.
@@ -20,15 +24,6 @@ pub(crate) enum Stage {
     Code,
 }
 
-/// An open block; of a loop the place of its first line.
-#[derive(Clone, Copy)]
-pub(crate) enum Block {
-    If,
-    Else,
-    While(usize),
-    For(usize),
-}
-
 /// The program so far.
 #[derive(Drop)]
 pub(crate) struct Draft<'t> {
@@ -38,14 +33,9 @@ pub(crate) struct Draft<'t> {
     /// How many processors there are; none before the line `procs`.
     pub(crate) procs: u32,
     pub(crate) names: Names<'t>,
-    pub(crate) arrays: Vec<Array>,
+    pub(crate) arrays: Arrays,
     pub(crate) privates: Vec<Private>,
-    /// How many cells the arrays have.
-    pub(crate) shared_cells: usize,
-    /// The open blocks, the innermost last.
-    pub(crate) blocks: Vec<Block>,
-    /// How many of them are those of an `if`.
-    pub(crate) depth: usize,
+    pub(crate) blocks: Blocks,
     /// The variables of the open loops, the innermost last.
     pub(crate) loops: Vec<&'t [u8]>,
     /// How many loops, and how many `if`s, were open at once.
@@ -55,19 +45,26 @@ pub(crate) struct Draft<'t> {
 }
 
 impl<'t> Draft<'t> {
+    ghost use Rattle.pardo_text.specs.Drafts.{empty, fitting, with_name, with_array};
+    ghost use Rattle.pardo_text.specs.Drafts.{with_private, with_line, with_block, with_loop};
+    ghost use Rattle.pardo_text.specs.Drafts.{without, with_end};
+    ghost use Rattle.pardo_text.specs.Inner.Drafts.{draft_of};
+    ghost use Rattle.pardo_text.specs.Inner.Tokens.{Gives};
+    ghost use Rattle.pardo_text.specs.Reading.{program_in};
+
     /// What no line says.
-    pub(crate) fn new(alloc: Global) -> Self {
+    pub(crate) fn new(alloc: Global) -> Self
+        ensures { draft_of result ≡ empty }
+    {
         Draft {
             alloc,
             stage: Stage::Version,
             rule: Rule::Common,
             procs: 0,
             names: BTreeMap::new(alloc),
-            arrays: Vec::new(alloc),
+            arrays: Arrays::new(alloc),
             privates: Vec::new(alloc),
-            shared_cells: 0,
-            blocks: Vec::new(alloc),
-            depth: 0,
+            blocks: Blocks::new(alloc),
             loops: Vec::new(alloc),
             most_loops: 0,
             most_choices: 0,
@@ -76,18 +73,23 @@ impl<'t> Draft<'t> {
     }
 
     /// One name more.
-    pub(crate) fn add_name(&mut self, name: &'t [u8], thing: Named) -> Result<(), PardoKind> {
+    pub(crate) fn add_name(&mut self, name: &'t [u8], thing: Named) -> Result<(), AllocError>
+        ensures { IfOk result (λ _. draft_of self.new ≡ with_name name.now thing (draft_of self.old)) }
+    {
         self.names.insert(name, thing)?;
         Ok(())
     }
 
-    /// One array more.
+    /// One array more, if its cells are within their limit.
     pub(crate) fn add_array(
         &mut self,
         name: &'t [u8],
         is_scalar: bool,
         start: Vec<u32>,
-    ) -> Result<(), PardoKind> {
+    ) -> Result<(), PardoKind>
+        ensures { Gives (λ _. draft_of self.new) result
+            (fitting (with_array name.now is_scalar start.items (draft_of self.old))) }
+    {
         let index = self.arrays.len();
         let thing = if is_scalar {
             Named::Scalar(index)
@@ -95,15 +97,16 @@ impl<'t> Draft<'t> {
             Named::Array(index)
         };
         self.add_name(name, thing)?;
-        let base = self.shared_cells;
-        self.shared_cells += start.len();
         let name = Vec::from_slice(self.alloc, name)?;
-        self.arrays.push(Array::new(name, is_scalar, base, start))?;
+        self.arrays.push(name, is_scalar, start)?;
         self.fit()
     }
 
-    /// One private variable more.
-    pub(crate) fn add_private(&mut self, name: &'t [u8], start: Vec<u32>) -> Result<(), PardoKind> {
+    /// One private variable more, if its cells are within their limit.
+    pub(crate) fn add_private(&mut self, name: &'t [u8], start: Vec<u32>) -> Result<(), PardoKind>
+        ensures { Gives (λ _. draft_of self.new) result
+            (fitting (with_private name.now start.items (draft_of self.old))) }
+    {
         let index = self.privates.len();
         self.add_name(name, Named::Private(index))?;
         let name = Vec::from_slice(self.alloc, name)?;
@@ -112,14 +115,16 @@ impl<'t> Draft<'t> {
     }
 
     /// Whether the cells are within their limit.
-    pub(crate) fn fit(&self) -> Result<(), PardoKind> {
+    pub(crate) fn fit(&self) -> Result<(), PardoKind>
+        ensures { Gives (λ _. draft_of self.now) result (fitting (draft_of self.now)) }
+    {
         let of_each = self
             .privates
             .len()
             .saturating_add(self.most_loops)
             .saturating_add(self.most_choices);
-        let own = of_each.saturating_mul(self.procs as usize);
-        if self.shared_cells.saturating_add(own) <= MAX_CELLS as usize {
+        let own = (self.procs as usize).saturating_mul(of_each);
+        if self.arrays.cells().saturating_add(own) <= MAX_CELLS as usize {
             Ok(())
         } else {
             Err(PardoKind::TooManyCells)
@@ -127,47 +132,63 @@ impl<'t> Draft<'t> {
     }
 
     /// One line of code more.
-    pub(crate) fn add_line(&mut self, number: u64, statement: Statement) -> Result<(), PardoKind> {
+    pub(crate) fn add_line(&mut self, number: u64, statement: Statement) -> Result<(), AllocError>
+        ensures { IfOk result (λ _. draft_of self.new
+            ≡ with_line number statement (draft_of self.old)) }
+    {
+        let depth = self.blocks.depth();
         self.lines.push(Line {
             statement,
-            depth: self.depth,
+            depth,
             number,
         })?;
         Ok(())
     }
 
-    /// One open block of an `if` more.
-    pub(crate) fn open_choice(&mut self, block: Block) -> Result<(), PardoKind> {
+    /// One open block more.
+    pub(crate) fn open(&mut self, block: Block) -> Result<(), AllocError>
+        ensures { IfOk result (λ _. draft_of self.new ≡ with_block block (draft_of self.old)) }
+    {
         self.blocks.push(block)?;
-        self.depth += 1;
-        self.most_choices = self.most_choices.max(self.depth);
+        let depth = self.blocks.depth();
+        self.most_choices = self.most_choices.max(depth);
         Ok(())
     }
 
-    /// One open loop `for` more, whose first line is the last one.
-    pub(crate) fn open_loop(&mut self, name: &'t [u8], begin: usize) -> Result<(), PardoKind> {
+    /// One open loop more.
+    pub(crate) fn open_loop(&mut self, name: &'t [u8]) -> Result<(), AllocError>
+        ensures { IfOk result (λ _. draft_of self.new ≡ with_loop name.now (draft_of self.old)) }
+    {
         let nest = self.loops.len();
         self.add_name(name, Named::Loop(nest))?;
-        self.blocks.push(Block::For(begin))?;
         self.loops.push(name)?;
         self.most_loops = self.most_loops.max(self.loops.len());
         Ok(())
     }
 
-    /// The first line of a loop learns that the next one is its end.
-    pub(crate) fn end_at(&mut self, begin: usize) {
+    /// One open loop less, if one is open.
+    pub(crate) fn close_loop(&mut self)
+        ensures { draft_of self.new ≡ without (draft_of self.old).loops (draft_of self.old) }
+    {
+        if let Some(name) = self.loops.pop() {
+            self.names.remove(name);
+        }
+    }
+
+    /// The loop whose first line stands here ends at the next line.
+    pub(crate) fn end_at(&mut self, begin: usize)
+        ensures { draft_of self.new ≡ with_end begin (draft_of self.old) }
+    {
         let here = self.lines.len();
         if begin < here {
-            match &mut self.lines[begin].statement {
-                Statement::While(_, end) => *end = here,
-                Statement::For(_, _, _, _, end) => *end = here,
-                _ => (),
-            }
+            self.lines[begin].statement.set_end(here);
         }
     }
 
     /// The program, where all lines were read.
-    pub(crate) fn finish(self) -> Result<Program, PardoKind> {
+    pub(crate) fn finish(self) -> Result<Program, PardoKind>
+        ensures { result ≡ program_in (draft_of self.entry) }
+    {
         if !matches!(self.stage, Stage::Code) {
             Err(PardoKind::BadHeader)
         } else if !self.blocks.is_empty() {
@@ -178,7 +199,7 @@ impl<'t> Draft<'t> {
             Ok(Program::new(
                 self.rule,
                 self.procs,
-                self.arrays,
+                self.arrays.into_items(),
                 self.privates,
                 self.lines,
             ))

@@ -1,4 +1,10 @@
 //! Header lines.
+ghost use Rattle.std.specs.Prelude.{◌≡◌};
+ghost use Rattle.pardo_text.specs.Expressions.{indexed};
+ghost use Rattle.pardo_text.specs.Header.{rule_named, length_at, private_start};
+ghost use Rattle.pardo_text.specs.Inner.Names.{names_in};
+ghost use Rattle.pardo_text.specs.Inner.Tokens.{Gives};
+
 use crate::cursor::Cursor;
 use crate::draft::{Draft, Stage};
 use crate::expression::Expr;
@@ -14,8 +20,16 @@ use crate::value::{start_values, values_for};
 use std::alloc::Global;
 
 impl<'t> Draft<'t> {
+    ghost use Rattle.pardo_text.specs.Header.{version_line, rule_line, const_line, procs_line};
+    ghost use Rattle.pardo_text.specs.Header.{shared_line, private_line, code_line, header_line};
+    ghost use Rattle.pardo_text.specs.Inner.Drafts.{draft_of};
+
+    #[tactic(auto, unfolding(crate::specs::Header::version_line))]
     /// Reads `pardo 1`.
-    pub(crate) fn take_version(&mut self, tokens: &mut Cursor<'_, 't>) -> Result<(), PardoKind> {
+    pub(crate) fn take_version(&mut self, tokens: &mut Cursor<'_, 't>) -> Result<(), PardoKind>
+        ensures { Gives (λ _. draft_of self.new) result
+            (version_line (draft_of self.old) tokens.old) }
+    {
         match (tokens.next(), tokens.next(), tokens.next()) {
             (Some(Token::Symbol(Symbol::Pardo)), Some(Token::Number(1)), None) => {
                 self.stage = Stage::Rule;
@@ -25,8 +39,12 @@ impl<'t> Draft<'t> {
         }
     }
 
+    #[tactic(auto, unfolding(crate::specs::Header::rule_line))]
     /// Reads `rule NAME`.
-    pub(crate) fn take_rule(&mut self, tokens: &mut Cursor<'_, 't>) -> Result<(), PardoKind> {
+    pub(crate) fn take_rule(&mut self, tokens: &mut Cursor<'_, 't>) -> Result<(), PardoKind>
+        ensures { Gives (λ _. draft_of self.new) result
+            (rule_line (draft_of self.old) tokens.old) }
+    {
         match (tokens.next(), tokens.next(), tokens.next()) {
             (Some(Token::Symbol(Symbol::Rule)), Some(Token::Name(name)), None) => {
                 self.rule = rule_named(name)?;
@@ -37,8 +55,12 @@ impl<'t> Draft<'t> {
         }
     }
 
+    #[tactic(auto, unfolding(crate::specs::Header::header_line))]
     /// Reads a header line after these two.
-    pub(crate) fn take_header(&mut self, tokens: &mut Cursor<'_, 't>) -> Result<(), PardoKind> {
+    pub(crate) fn take_header(&mut self, tokens: &mut Cursor<'_, 't>) -> Result<(), PardoKind>
+        ensures { Gives (λ _. draft_of self.new) result
+            (header_line (draft_of self.old) tokens.old) }
+    {
         match tokens.next() {
             Some(Token::Symbol(Symbol::Const)) => self.take_const(tokens),
             Some(Token::Symbol(Symbol::Procs)) => self.take_procs(tokens),
@@ -49,17 +71,26 @@ impl<'t> Draft<'t> {
         }
     }
 
+    #[tactic(auto, unfolding(crate::specs::Header::const_line))]
     // Reads what follows `const`.
-    fn take_const(&mut self, tokens: &mut Cursor<'_, 't>) -> Result<(), PardoKind> {
+    fn take_const(&mut self, tokens: &mut Cursor<'_, 't>) -> Result<(), PardoKind>
+        ensures { Gives (λ _. draft_of self.new) result
+            (const_line (draft_of self.old) tokens.old) }
+    {
         let name = new_name(&self.names, tokens)?;
         after_equals(tokens)?;
         let value = fixed(self.alloc, &self.names, 0, u32::MAX, tokens)?;
         ended(tokens)?;
-        self.add_name(name, Named::Constant(value))
+        self.add_name(name, Named::Constant(value))?;
+        Ok(())
     }
 
+    #[tactic(auto, unfolding(crate::specs::Header::procs_line))]
     // Reads what follows `procs`, which stands once.
-    fn take_procs(&mut self, tokens: &mut Cursor<'_, 't>) -> Result<(), PardoKind> {
+    fn take_procs(&mut self, tokens: &mut Cursor<'_, 't>) -> Result<(), PardoKind>
+        ensures { Gives (λ _. draft_of self.new) result
+            (procs_line (draft_of self.old) tokens.old) }
+    {
         if self.procs != 0 {
             return Err(PardoKind::BadHeader);
         }
@@ -72,16 +103,24 @@ impl<'t> Draft<'t> {
         Ok(())
     }
 
+    #[tactic(auto, unfolding(crate::specs::Header::shared_line))]
     // Reads what follows `shared`.
-    fn take_shared(&mut self, tokens: &mut Cursor<'_, 't>) -> Result<(), PardoKind> {
+    fn take_shared(&mut self, tokens: &mut Cursor<'_, 't>) -> Result<(), PardoKind>
+        ensures { Gives (λ _. draft_of self.new) result
+            (shared_line (draft_of self.old) tokens.old) }
+    {
         let name = new_name(&self.names, tokens)?;
         let places = places_of(self.alloc, &self.names, tokens)?;
         let start = start_values(self.alloc, &self.names, places.unwrap_or(1), tokens)?;
         self.add_array(name, places.is_none(), start)
     }
 
+    #[tactic(auto, unfolding(crate::specs::Header::private_line))]
     // Reads what follows `private`, after the line `procs`.
-    fn take_private(&mut self, tokens: &mut Cursor<'_, 't>) -> Result<(), PardoKind> {
+    fn take_private(&mut self, tokens: &mut Cursor<'_, 't>) -> Result<(), PardoKind>
+        ensures { Gives (λ _. draft_of self.new) result
+            (private_line (draft_of self.old) tokens.old) }
+    {
         if self.procs == 0 {
             return Err(PardoKind::BadHeader);
         }
@@ -91,8 +130,12 @@ impl<'t> Draft<'t> {
         self.add_private(name, start)
     }
 
+    #[tactic(auto, unfolding(crate::specs::Header::code_line))]
     // Reads what follows `code`, after the line `procs`.
-    fn begin_code(&mut self, tokens: &mut Cursor<'_, 't>) -> Result<(), PardoKind> {
+    fn begin_code(&mut self, tokens: &mut Cursor<'_, 't>) -> Result<(), PardoKind>
+        ensures { Gives (λ _. draft_of self.new) result
+            (code_line (draft_of self.old) tokens.old) }
+    {
         if self.procs == 0 || tokens.len() != 0 {
             return Err(PardoKind::BadHeader);
         }
@@ -101,7 +144,9 @@ impl<'t> Draft<'t> {
     }
 }
 
-fn rule_named(name: &[u8]) -> Result<Rule, PardoKind> {
+fn rule_named(name: &[u8]) -> Result<Rule, PardoKind>
+    ensures { result ≡ rule_named name.now }
+{
     match name {
         b"common" => Ok(Rule::Common),
         b"priority" => Ok(Rule::Priority),
@@ -115,7 +160,10 @@ fn places_of(
     alloc: Global,
     names: &Names<'_>,
     tokens: &mut Cursor<'_, '_>,
-) -> Result<Option<u32>, PardoKind> {
+) -> Result<Option<u32>, PardoKind>
+    ensures { Gives (λ places. (places, tokens.new)) result
+        (length_at (names_in names.now) tokens.old (indexed tokens.old)) }
+{
     if !indexed(tokens) {
         return Ok(None);
     }
@@ -124,12 +172,15 @@ fn places_of(
     Ok(Some(places))
 }
 
+#[tactic(auto, unfolding(crate::specs::Header::private_start))]
 // The start value of a private variable, to the end of the line.
 fn private_start(
     alloc: Global,
     names: &Names<'_>,
     tokens: &mut Cursor<'_, '_>,
-) -> Result<Expr, PardoKind> {
+) -> Result<Expr, PardoKind>
+    ensures { Gives (λ expr. expr) result (private_start (names_in names.now) tokens.old) }
+{
     if tokens.len() == 0 {
         return Ok(Expr::number(alloc, 0)?);
     }

@@ -1,6 +1,8 @@
 //! Programs of the language `pardo`, and the text that spells them.
 #![tactic(auto)]
 
+mod arrays;
+mod block;
 mod code;
 mod cursor;
 mod draft;

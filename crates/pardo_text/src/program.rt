@@ -130,6 +130,20 @@ pub struct Program {
     lines: Vec<Line>,
 }
 
+impl Model for Program {
+    ghost use Rattle.pardo_text.specs.Program.{ProgramData};
+
+    ghost Value = { ProgramData };
+
+    ghost view = { λ p. record {
+      rule = p.rule;
+      procs = p.procs;
+      arrays = p.arrays.items;
+      privates = p.privates.items;
+      lines = p.lines.items;
+    } };
+}
+
 impl Program {
     pub(crate) fn new(
         rule: Rule,
@@ -137,7 +151,15 @@ impl Program {
         arrays: Vec<Array>,
         privates: Vec<Private>,
         lines: Vec<Line>,
-    ) -> Self {
+    ) -> Self
+        ensures { result ≡ record {
+          rule = rule;
+          procs = procs;
+          arrays = arrays.items;
+          privates = privates.items;
+          lines = lines.items;
+        } }
+    {
         Program {
             rule,
             procs,
@@ -148,27 +170,37 @@ impl Program {
     }
 
     /// The rule of writing.
-    pub fn rule(&self) -> Rule {
+    pub fn rule(&self) -> Rule
+        ensures { result ≡ self.now.rule }
+    {
         self.rule
     }
 
     /// How many processors there are.
-    pub fn procs(&self) -> u32 {
+    pub fn procs(&self) -> u32
+        ensures { result ≡ self.now.procs }
+    {
         self.procs
     }
 
     /// The shared arrays, in their order.
-    pub fn arrays(&self) -> &[Array] {
+    pub fn arrays(&self) -> &[Array]
+        ensures { result.now ≡ self.now.arrays }
+    {
         self.arrays.as_slice()
     }
 
     /// The private variables, in their order.
-    pub fn privates(&self) -> &[Private] {
+    pub fn privates(&self) -> &[Private]
+        ensures { result.now ≡ self.now.privates }
+    {
         self.privates.as_slice()
     }
 
     /// The lines of code.
-    pub fn lines(&self) -> &[Line] {
+    pub fn lines(&self) -> &[Line]
+        ensures { result.now ≡ self.now.lines }
+    {
         self.lines.as_slice()
     }
 }

@@ -1,8 +1,10 @@
 //! Reads a text line by line.
-ghost use Rattle.std.specs.Prelude.{◌≡◌, ◌≢◌, ◌<◌, ◌∷◌, IfErr, IfSome, length};
+ghost use Rattle.std.specs.Prelude.{◌≡◌, ◌≢◌, ◌<◌, ◌∷◌, Ok, IfOk, IfErr, IfSome, length};
 ghost use Rattle.pardo_text.specs.Inner.LinesAfter.{lines_after};
 ghost use Rattle.pardo_text.specs.Lines.{lines_of};
-ghost use Rattle.pardo_text.specs.Reading.{IsRefusal};
+ghost use Rattle.pardo_text.specs.Inner.Drafts.{draft_of};
+ghost use Rattle.pardo_text.specs.Inner.Tokens.{Gives};
+ghost use Rattle.pardo_text.specs.Reading.{IsRefusal, program_of, with_text_line};
 
 use crate::cursor::Cursor;
 use crate::draft::{Draft, Stage};
@@ -17,6 +19,7 @@ use std::alloc::Global;
 /// The time is linear in the text and in the number of start values; each name adds a search
 /// among those that are known.
 pub fn read_program(alloc: Global, text: &[u8]) -> Result<Program, PardoFault>
+    ensures program { IfOk result (λ program. program_of text.now ≡ Ok program) }
     ensures refused { IfErr result (IsRefusal text.now) }
 {
     let mut draft = Draft::new(alloc);
@@ -61,13 +64,17 @@ fn refusal(line: u64, kind: PardoKind) -> PardoFault
     PardoFault { line, kind }
 }
 
+#[tactic(auto, unfolding(crate::specs::Reading::with_text_line))]
 // Reads one line more, by room for its tokens.
 fn take_line<'t>(
     draft: &mut Draft<'t>,
     tokens: &mut Vec<Token<'t>>,
     number: u64,
     line: &'t [u8],
-) -> Result<(), PardoKind> {
+) -> Result<(), PardoKind>
+    ensures { Gives (λ _. draft_of draft.new) result
+        (with_text_line number (draft_of draft.old) line.now) }
+{
     if !is_lawful(line) {
         return Err(PardoKind::NotAscii);
     }

@@ -1,4 +1,7 @@
 //! Lines of code.
+ghost use Rattle.std.specs.Prelude.{◌≡◌};
+ghost use Rattle.pardo_text.specs.Drafts.{ending};
+
 use crate::expression::Expr;
 
 /// What an assignment goes to. Arrays and private variables are counted from 0.
@@ -30,6 +33,19 @@ pub enum Statement {
     For(usize, Expr, Expr, bool, usize),
     /// The `end` of a `for`, and the place of that.
     EndFor(usize),
+}
+
+impl Statement {
+    /// The first line of a loop learns the place of its end.
+    pub(crate) fn set_end(&mut self, place: usize)
+        ensures { self.new ≡ ending place self.old }
+    {
+        match self {
+            Statement::While(_, end) => *end = place,
+            Statement::For(_, _, _, _, end) => *end = place,
+            _ => (),
+        }
+    }
 }
 
 /// A line of code, and where it stands.
