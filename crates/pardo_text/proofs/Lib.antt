@@ -6,3 +6,8 @@ pub mod Left
 pub mod Chains
 pub mod Stacks
 pub mod Starts
+pub mod Ifs
+pub mod LawConstants
+pub mod LawReading
+pub mod LawLg
+pub mod LawSaying
