@@ -32,9 +32,11 @@ Knows inner = (tokens : List Token) → IfOk (inner tokens) Known
 
 applied_number : (op : Op) (first second : Tree) → IsNumber first → IsNumber second →
     IsNumber (applied op first second)
-applied_number op first second a b =
-    (value_of op a.0 b.0, ap (λ tree. applied op tree second) a.1
-    ∙ ap (λ tree. applied op (number a.0) tree) b.1)
+applied_number op first second a b = (
+  value_of op a.0 b.0,
+  ap (λ tree. applied op tree second) a.1
+      ∙ ap (λ tree. applied op (number a.0) tree) b.1,
+)
 
 joined_number : (op : Op) (first second : Tree) → IsNumber first → IsNumber second →
     IfOk (joined Fixed op first second) IsNumber

@@ -22,7 +22,10 @@ lg_is_least value fits =
     let bits = leading_length 32 (value - 1) some in
     let log : 32 - leading_zeros w32 (value - 1) ≡ bits.0 = omega (arith, bits.1) in
     let enough : value ≤ 2 ^ bits.0 = omega (arith, bits.2) in
-    rw log (enough, λ k few.
-    let some : 0 < 2 ^ k = pow_pos k in
-    let double : 2 ^ suc k ≡ 2 ^ k * 2 = pow-suc 2 k in
-    least bits.0 k (nat_lt k bits.0) refl (omega (arith, bits.3)))
+    rw log (
+      enough,
+      λ k few.
+          let some : 0 < 2 ^ k = pow_pos k in
+          let double : 2 ^ suc k ≡ 2 ^ k * 2 = pow-suc 2 k in
+          least bits.0 k (nat_lt k bits.0) refl (omega (arith, bits.3)),
+    )

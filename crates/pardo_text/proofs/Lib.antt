@@ -11,3 +11,4 @@ pub mod LawConstants
 pub mod LawReading
 pub mod LawLg
 pub mod LawSaying
+pub mod LawLongest
