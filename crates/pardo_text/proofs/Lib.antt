@@ -9,3 +9,11 @@ pub mod Known
 pub mod Finished
 pub mod Splitting
 pub mod Judged
+pub mod Stacks
+pub mod Starts
+pub mod Ifs
+pub mod LawConstants
+pub mod LawReading
+pub mod LawLg
+pub mod LawSaying
+pub mod LawLongest

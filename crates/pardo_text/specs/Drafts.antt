@@ -123,7 +123,7 @@ abbrev pub ended_at : ℕ → List Line → List Line
 ended_at begin lines = elim (slice_get lines begin) [
   | None ↦ lines
   | Some line ↦
-    slice_set lines begin (record line { statement = ending (length lines) line.statement })
+      slice_set lines begin (record line { statement = ending (length lines) line.statement })
 ]
 
 -- the loop whose first line stands here ends at the next line

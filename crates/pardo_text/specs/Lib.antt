@@ -12,4 +12,5 @@ pub mod Drafts
 pub mod Header
 pub mod Code
 pub mod Reading
+pub mod Laws
 pub mod Inner

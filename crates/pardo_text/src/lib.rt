@@ -9,6 +9,7 @@ mod draft;
 mod expression;
 mod fault;
 mod header;
+pub mod laws;
 pub mod limits;
 mod names;
 mod operation;

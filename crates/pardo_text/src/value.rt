@@ -1,10 +1,10 @@
 //! Start values.
-ghost use Rattle.std.specs.Prelude.{◌≡◌, ◌<◌, [], length, is_some, unwrap_or};
+ghost use Rattle.std.specs.Prelude.{◌≡◌, ◌<◌, [], length, is_some, unwrap_or, reverse, drop};
 ghost use Rattle.pardo_text.specs.Values.{quotient_of, value_for, values_for, filled, start_at};
 ghost use Rattle.pardo_text.specs.Values.{values_in, after_dots};
 ghost use Rattle.pardo_text.specs.Inner.Names.{names_in};
 ghost use Rattle.pardo_text.specs.Inner.Tokens.{Gives};
-ghost use Rattle.pardo_text.specs.Inner.Values.{after_values};
+ghost use Rattle.pardo_text.specs.Inner.Values.{after_values, stepped, top_of};
 
 use crate::cursor::Cursor;
 use crate::expression::{Expr, Node};
@@ -36,19 +36,36 @@ fn value_for(i: u32, expr: &Expr, stack: &mut Vec<u32>) -> Result<u32, PardoKind
     ensures { Gives (λ value. value) result (value_for i expr.now) }
 {
     for node in expr.nodes() {
-        match node {
-            Node::Number(value) => stack.push(*value)?,
-            Node::Own => stack.push(i)?,
-            Node::Loop(_) | Node::Private(_) => stack.push(0)?,
-            Node::Place(_) => (),
-            Node::Apply(op) => {
-                let b = stack.pop().unwrap_or(0);
-                let a = stack.pop().unwrap_or(0);
-                stack.push(quotient(*op, a, b)?)?;
-            }
+        step(i, *node, stack)?;
+    }
+    Ok(top(stack))
+}
+
+// The values on a stack after one node more.
+fn step(i: u32, node: Node, stack: &mut Vec<u32>) -> Result<(), PardoKind>
+    ensures { Gives (λ _. reverse stack.new.items) result
+        (stepped i node (reverse stack.old.items)) }
+{
+    match node {
+        Node::Number(value) => stack.push(value)?,
+        Node::Own => stack.push(i)?,
+        Node::Loop(_) | Node::Private(_) => stack.push(0)?,
+        Node::Place(_) => (),
+        Node::Apply(op) => {
+            let b = top(stack);
+            let a = top(stack);
+            stack.push(quotient(op, a, b)?)?;
         }
     }
-    Ok(stack.pop().unwrap_or(0))
+    Ok(())
+}
+
+// Takes the value on top of a stack, and 0 where there is none.
+fn top(stack: &mut Vec<u32>) -> u32
+    ensures value { result ≡ top_of (reverse stack.old.items) }
+    ensures rest { reverse stack.new.items ≡ drop 1 (reverse stack.old.items) }
+{
+    stack.pop().unwrap_or(0)
 }
 
 // The value of an operation, unless it divides by 0.
@@ -92,7 +109,7 @@ fn take_values(
     ensures { Gives (λ fills. (values.new.items, fills)) result (after_values values.old.items
         (values_in (names_in names.now) (length tokens.old) tokens.old)) }
 {
-    for _ in 0..tokens.len() {
+    for _turn in 0..tokens.len() {
         let value = fixed(*values.allocator(), names, 0, u32::MAX, tokens)?;
         values.push(value)?;
         if tokens.len() == 0 {
