@@ -17,3 +17,6 @@ pub mod LawReading
 pub mod LawLg
 pub mod LawSaying
 pub mod LawLongest
+pub mod LawTrees
+pub mod LawValues
+pub mod LawLawful
