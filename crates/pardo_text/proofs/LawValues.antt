@@ -2,7 +2,7 @@
 use Rattle.std.proofs.Common.{◌≡◌, ℕ, ◌+◌, ◌-◌, ◌*◌, ◌/◌, ◌%◌, ◌^◌, ◌<◌, ◌≤◌, Bool, true, false}
 use Rattle.std.proofs.Common.{if◌then◌else◌, bit_and, bit_or, bit_xor, nat_lt, arith, ◌==◌, ◌&&◌, ◌||◌}
 use Rattle.std.proofs.Common.{not, nat_le, min, max}
-use Rattle.std.proofs.lemmas.Nat.{or_lt, xor_lt}
+use Rattle.std.proofs.lemmas.Nat.{or_lt, xor_lt, and_le_l}
 use Rattle.std.proofs.lemmas.Grind.{common_steps}
 use Rattle.pardo_text.specs.declared.operation.Op.{Op}
 use Rattle.pardo_text.specs.declared.operation.Op.TheVariants.{Add, Sub, Mul, Div, Rem, Shl, Shr}
@@ -28,7 +28,7 @@ small_remainder : (a b : ℕ) → a < 2 ^ 32 → a % b < 2 ^ 32
 small_remainder a b p = grind (arith, common_steps)
 
 small_and : (a b : ℕ) → a < 2 ^ 32 → bit_and a b < 2 ^ 32
-small_and a b p = grind (arith, common_steps)
+small_and a b p = omega (arith, and_le_l a b)
 
 pub value_small : (op : Op) (a b : ℕ) → a < 2 ^ 32 → b < 2 ^ 32 → value_of op a b < 2 ^ 32
 unfolding value_of

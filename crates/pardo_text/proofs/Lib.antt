@@ -20,3 +20,8 @@ pub mod LawLongest
 pub mod LawTrees
 pub mod LawValues
 pub mod LawLawful
+pub mod LawBounds
+pub mod LawStarts
+pub mod LawDrafts
+pub mod LawHeader
+pub mod LawCode

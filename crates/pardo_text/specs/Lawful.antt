@@ -35,7 +35,7 @@ IsTarget b (target.Array array index) = (array < b.arrays) × IsTree b index
 
 -- and the other line of a loop is there
 abbrev pub IsStatement : Bounds → Statement → Type 0
-IsStatement b (statement.Assign place value) = IsTarget b place × IsTree b value
+IsStatement b (statement.Assign to value) = IsTarget b to × IsTree b value
 IsStatement b (statement.If condition) = IsTree b condition
 IsStatement b statement.Else = Unit {0}
 IsStatement b statement.EndIf = Unit {0}
