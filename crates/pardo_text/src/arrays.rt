@@ -1,12 +1,79 @@
-//! The shared arrays so far.
+//! Shared arrays.
 ghost use Rattle.std.specs.Prelude.{◌≡◌, ◌≢◌, ◌+◌, ◌<◌, [], ◌∷◌, ◌++◌, length, IfOk, IfErr};
 ghost use Rattle.pardo_text.specs.Program.{shared_cells, array_after};
 
 use crate::fault::PardoKind;
 use crate::limits::MAX_CELLS;
-use crate::program::Array;
 use std::alloc::Global;
 use std::marker::Model;
+
+/// A shared array, or a scalar, which is an array of one place.
+#[derive(Drop)]
+pub struct Array {
+    name: Vec<u8>,
+    is_scalar: bool,
+    base: usize,
+    start: Vec<u32>,
+}
+
+impl Model for Array {
+    ghost use Rattle.pardo_text.specs.Program.{ArrayData};
+
+    ghost Value = { ArrayData };
+
+    ghost view = { λ a. record {
+      name = a.name.items;
+      is_scalar = a.is_scalar;
+      base = a.base;
+      start = a.start.items;
+    } };
+}
+
+impl Array {
+    pub(crate) fn new(name: Vec<u8>, is_scalar: bool, base: usize, start: Vec<u32>) -> Self
+        ensures { result ≡ record {
+          name = name.items;
+          is_scalar = is_scalar;
+          base = base;
+          start = start.items;
+        } }
+    {
+        Array {
+            name,
+            is_scalar,
+            base,
+            start,
+        }
+    }
+
+    /// The name.
+    pub fn name(&self) -> &[u8]
+        ensures { result.now ≡ self.now.name }
+    {
+        self.name.as_slice()
+    }
+
+    /// Whether it was declared without brackets.
+    pub fn is_scalar(&self) -> bool
+        ensures { result ≡ self.now.is_scalar }
+    {
+        self.is_scalar
+    }
+
+    /// How many shared places stand before it.
+    pub fn base(&self) -> usize
+        ensures { result ≡ self.now.base }
+    {
+        self.base
+    }
+
+    /// The value that each of its places starts with.
+    pub fn start(&self) -> &[u32]
+        ensures { result.now ≡ self.now.start }
+    {
+        self.start.as_slice()
+    }
+}
 
 /// The shared arrays so far.
 #[derive(Drop)]

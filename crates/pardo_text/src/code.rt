@@ -22,8 +22,8 @@ impl<'t> Draft<'t> {
     ghost use Rattle.pardo_text.specs.Code.{else_of, end_of};
     ghost use Rattle.pardo_text.specs.Inner.Drafts.{draft_of};
 
-    #[tactic(auto, unfolding(crate::specs::Code::statement_line))]
     /// Reads a line of code of this number.
+    #[tactic(auto, unfolding(crate::specs::Code::statement_line))]
     pub(crate) fn take_code(
         &mut self,
         number: u64,
@@ -53,8 +53,8 @@ impl<'t> Draft<'t> {
         }
     }
 
-    #[tactic(auto, unfolding(crate::specs::Code::if_line))]
     // Reads what follows `if`.
+    #[tactic(auto, unfolding(crate::specs::Code::if_line))]
     fn take_if(&mut self, number: u64, tokens: &mut Cursor<'_, 't>) -> Result<(), PardoKind>
         ensures { Gives (λ _. draft_of self.new) result
             (if_line number (draft_of self.old) tokens.old) }
@@ -65,8 +65,8 @@ impl<'t> Draft<'t> {
         self.fit()
     }
 
-    #[tactic(auto, unfolding(crate::specs::Code::while_line))]
     // Reads what follows `while`.
+    #[tactic(auto, unfolding(crate::specs::Code::while_line))]
     fn take_while(&mut self, number: u64, tokens: &mut Cursor<'_, 't>) -> Result<(), PardoKind>
         ensures { Gives (λ _. draft_of self.new) result
             (while_line number (draft_of self.old) tokens.old) }
@@ -78,8 +78,8 @@ impl<'t> Draft<'t> {
         Ok(())
     }
 
-    #[tactic(auto, unfolding(crate::specs::Code::for_line))]
     // Reads what follows `for`.
+    #[tactic(auto, unfolding(crate::specs::Code::for_line))]
     fn take_for(&mut self, number: u64, tokens: &mut Cursor<'_, 't>) -> Result<(), PardoKind>
         ensures { Gives (λ _. draft_of self.new) result
             (for_line number (draft_of self.old) tokens.old) }
@@ -135,8 +135,8 @@ impl<'t> Draft<'t> {
     }
 }
 
-#[tactic(auto, unfolding(crate::specs::Code::whole_at))]
 // Reads an expression to the end of the line.
+#[tactic(auto, unfolding(crate::specs::Code::whole_at))]
 fn whole(
     alloc: Global,
     names: &Names<'_>,
@@ -161,8 +161,8 @@ fn way(tokens: &mut Cursor<'_, '_>) -> Result<bool, PardoKind>
     }
 }
 
-#[tactic(auto, unfolding(crate::specs::Code::assignment_at))]
 // Reads what follows the name of the target of an assignment.
+#[tactic(auto, unfolding(crate::specs::Code::assignment_at))]
 fn assignment(
     alloc: Global,
     names: &Names<'_>,

@@ -24,8 +24,8 @@ impl<'t> Draft<'t> {
     ghost use Rattle.pardo_text.specs.Header.{shared_line, private_line, code_line, header_line};
     ghost use Rattle.pardo_text.specs.Inner.Drafts.{draft_of};
 
-    #[tactic(auto, unfolding(crate::specs::Header::version_line))]
     /// Reads `pardo 1`.
+    #[tactic(auto, unfolding(crate::specs::Header::version_line))]
     pub(crate) fn take_version(&mut self, tokens: &mut Cursor<'_, 't>) -> Result<(), PardoKind>
         ensures { Gives (λ _. draft_of self.new) result
             (version_line (draft_of self.old) tokens.old) }
@@ -39,8 +39,8 @@ impl<'t> Draft<'t> {
         }
     }
 
-    #[tactic(auto, unfolding(crate::specs::Header::rule_line))]
     /// Reads `rule NAME`.
+    #[tactic(auto, unfolding(crate::specs::Header::rule_line))]
     pub(crate) fn take_rule(&mut self, tokens: &mut Cursor<'_, 't>) -> Result<(), PardoKind>
         ensures { Gives (λ _. draft_of self.new) result
             (rule_line (draft_of self.old) tokens.old) }
@@ -55,8 +55,8 @@ impl<'t> Draft<'t> {
         }
     }
 
-    #[tactic(auto, unfolding(crate::specs::Header::header_line))]
     /// Reads a header line after these two.
+    #[tactic(auto, unfolding(crate::specs::Header::header_line))]
     pub(crate) fn take_header(&mut self, tokens: &mut Cursor<'_, 't>) -> Result<(), PardoKind>
         ensures { Gives (λ _. draft_of self.new) result
             (header_line (draft_of self.old) tokens.old) }
@@ -71,8 +71,8 @@ impl<'t> Draft<'t> {
         }
     }
 
-    #[tactic(auto, unfolding(crate::specs::Header::const_line))]
     // Reads what follows `const`.
+    #[tactic(auto, unfolding(crate::specs::Header::const_line))]
     fn take_const(&mut self, tokens: &mut Cursor<'_, 't>) -> Result<(), PardoKind>
         ensures { Gives (λ _. draft_of self.new) result
             (const_line (draft_of self.old) tokens.old) }
@@ -85,8 +85,8 @@ impl<'t> Draft<'t> {
         Ok(())
     }
 
-    #[tactic(auto, unfolding(crate::specs::Header::procs_line))]
     // Reads what follows `procs`, which stands once.
+    #[tactic(auto, unfolding(crate::specs::Header::procs_line))]
     fn take_procs(&mut self, tokens: &mut Cursor<'_, 't>) -> Result<(), PardoKind>
         ensures { Gives (λ _. draft_of self.new) result
             (procs_line (draft_of self.old) tokens.old) }
@@ -103,8 +103,8 @@ impl<'t> Draft<'t> {
         Ok(())
     }
 
-    #[tactic(auto, unfolding(crate::specs::Header::shared_line))]
     // Reads what follows `shared`.
+    #[tactic(auto, unfolding(crate::specs::Header::shared_line))]
     fn take_shared(&mut self, tokens: &mut Cursor<'_, 't>) -> Result<(), PardoKind>
         ensures { Gives (λ _. draft_of self.new) result
             (shared_line (draft_of self.old) tokens.old) }
@@ -115,8 +115,8 @@ impl<'t> Draft<'t> {
         self.add_array(name, places.is_none(), start)
     }
 
-    #[tactic(auto, unfolding(crate::specs::Header::private_line))]
     // Reads what follows `private`, after the line `procs`.
+    #[tactic(auto, unfolding(crate::specs::Header::private_line))]
     fn take_private(&mut self, tokens: &mut Cursor<'_, 't>) -> Result<(), PardoKind>
         ensures { Gives (λ _. draft_of self.new) result
             (private_line (draft_of self.old) tokens.old) }
@@ -130,8 +130,8 @@ impl<'t> Draft<'t> {
         self.add_private(name, start)
     }
 
-    #[tactic(auto, unfolding(crate::specs::Header::code_line))]
     // Reads what follows `code`, after the line `procs`.
+    #[tactic(auto, unfolding(crate::specs::Header::code_line))]
     fn begin_code(&mut self, tokens: &mut Cursor<'_, 't>) -> Result<(), PardoKind>
         ensures { Gives (λ _. draft_of self.new) result
             (code_line (draft_of self.old) tokens.old) }
@@ -175,8 +175,8 @@ fn places_of(
     Ok(Some(places))
 }
 
-#[tactic(auto, unfolding(crate::specs::Header::private_start))]
 // The start value of a private variable, to the end of the line.
+#[tactic(auto, unfolding(crate::specs::Header::private_start))]
 fn private_start(
     alloc: Global,
     names: &Names<'_>,

@@ -22,10 +22,11 @@ mod symbol;
 mod token;
 mod value;
 
+pub use arrays::Array;
 pub use expression::{Expr, Node};
 pub use fault::{PardoFault, PardoKind};
 pub use operation::Op;
-pub use program::{Array, Private, Program, Rule};
+pub use program::{Private, Program, Rule};
 pub use reader::read_program;
 pub use statement::{Line, Statement, Target};
 

@@ -64,8 +64,8 @@ fn refusal(line: u64, kind: PardoKind) -> PardoFault
     PardoFault { line, kind }
 }
 
-#[tactic(auto, unfolding(crate::specs::Reading::with_text_line))]
 // Reads one line more, by room for its tokens.
+#[tactic(auto, unfolding(crate::specs::Reading::with_text_line))]
 fn take_line<'t>(
     draft: &mut Draft<'t>,
     tokens: &mut Vec<Token<'t>>,
