@@ -17,3 +17,11 @@ pub mod LawReading
 pub mod LawLg
 pub mod LawSaying
 pub mod LawLongest
+pub mod LawTrees
+pub mod LawValues
+pub mod LawLawful
+pub mod LawBounds
+pub mod LawStarts
+pub mod LawDrafts
+pub mod LawHeader
+pub mod LawCode

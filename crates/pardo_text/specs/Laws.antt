@@ -9,6 +9,7 @@ use Rattle.pardo_text.specs.declared.names.Scope.TheVariants.{Fixed}
 use Rattle.pardo_text.specs.Drafts.{Draft, empty}
 use Rattle.pardo_text.specs.Expression.{number}
 use Rattle.pardo_text.specs.Expressions.{expression_at, log_of}
+use Rattle.pardo_text.specs.Lawful.{IsProgram}
 use Rattle.pardo_text.specs.Lines.{lines_of, is_allowed, is_blank, said_in}
 use Rattle.pardo_text.specs.Names.{Names}
 use Rattle.pardo_text.specs.Program.{ProgramData}
@@ -121,3 +122,6 @@ abbrev pub AllLinesAreTaken : Type 0
 AllLinesAreTaken = (text : List ℕ) (program : ProgramData) → program_of text ≡ Ok program →
     (draft : Draft) × (drafted empty 0 (lines_of text) ≡ Ok draft)
     × (program_in draft ≡ Ok program)
+
+abbrev pub ProgramsAreLawful : Type 0
+ProgramsAreLawful = (text : List ℕ) → IfOk (program_of text) IsProgram

@@ -12,5 +12,6 @@ pub mod Drafts
 pub mod Header
 pub mod Code
 pub mod Reading
+pub mod Lawful
 pub mod Laws
 pub mod Inner

@@ -4,7 +4,7 @@ ghost use Rattle.pardo_text.specs.Laws.{LimitsAre, LinesAreJoined, LinesAreCount
 ghost use Rattle.pardo_text.specs.Laws.{TokensAreLongest, LgIsLeast, ConstantsAreNumbers};
 ghost use Rattle.pardo_text.specs.Laws.{CommentsSayNothing, IndentationSaysNothing};
 ghost use Rattle.pardo_text.specs.Laws.{EmptyLinesSayNothing, LinesAreWhatTheySay};
-ghost use Rattle.pardo_text.specs.Laws.{FirstBadLine, AllLinesAreTaken};
+ghost use Rattle.pardo_text.specs.Laws.{FirstBadLine, AllLinesAreTaken, ProgramsAreLawful};
 
 /// The limits by their numbers.
 pub fn limits_are()
@@ -61,4 +61,9 @@ pub fn first_bad_line()
 /// A program is what all lines of its text say.
 pub fn all_lines_are_taken()
     ensures { AllLinesAreTaken }
+{}
+
+/// A program that a text spells names what is there, and keeps the limits.
+pub fn programs_are_lawful()
+    ensures { ProgramsAreLawful }
 {}
