@@ -66,12 +66,12 @@ program_kept d is = finished_kept d.stage d.blocks d.lines d refl refl is
 
 -- ---- lines one after another
 
-on_line_kept : {A : Type 0} → (P : A → Type 0) (n : ℕ) (read : Result A PardoKind) → IfOk read P →
+pub on_line_kept : {A : Type 0} → (P : A → Type 0) (n : ℕ) (read : Result A PardoKind) → IfOk read P →
     IfOk (on_line n read) P
 on_line_kept P n (Ok x) is = is
 on_line_kept P n (Err kind) is = tt
 
-and_then_kept : {A B : Type 0} → (P : A → Type 0) (Q : B → Type 0) (read : Result A PardoFault)
+pub and_then_kept : {A B : Type 0} → (P : A → Type 0) (Q : B → Type 0) (read : Result A PardoFault)
     (next : A → Result B PardoFault) → IfOk read P → ((x : A) → P x → IfOk (next x) Q) →
     IfOk (and_then read next) Q
 and_then_kept P Q (Ok x) next is more = more x is

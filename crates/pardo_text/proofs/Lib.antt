@@ -25,3 +25,6 @@ pub mod LawStarts
 pub mod LawDrafts
 pub mod LawHeader
 pub mod LawCode
+pub mod LawTied
+pub mod LawOpen
+pub mod LawNesting

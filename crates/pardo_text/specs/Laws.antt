@@ -12,6 +12,7 @@ use Rattle.pardo_text.specs.Expressions.{expression_at, log_of}
 use Rattle.pardo_text.specs.Lawful.{IsProgram}
 use Rattle.pardo_text.specs.Lines.{lines_of, is_allowed, is_blank, said_in}
 use Rattle.pardo_text.specs.Names.{Names}
+use Rattle.pardo_text.specs.Nested.{IsNested}
 use Rattle.pardo_text.specs.Program.{ProgramData}
 use Rattle.pardo_text.specs.Reading.{with_text_line, program_in, program_of}
 use Rattle.pardo_text.specs.Reads.{◌>>=◌}
@@ -125,3 +126,7 @@ AllLinesAreTaken = (text : List ℕ) (program : ProgramData) → program_of text
 
 abbrev pub ProgramsAreLawful : Type 0
 ProgramsAreLawful = (text : List ℕ) → IfOk (program_of text) IsProgram
+
+-- each block is closed by its own `end`
+abbrev pub ProgramsAreNested : Type 0
+ProgramsAreNested = (text : List ℕ) → IfOk (program_of text) (λ program. IsNested program.lines)

@@ -13,5 +13,6 @@ pub mod Header
 pub mod Code
 pub mod Reading
 pub mod Lawful
+pub mod Nested
 pub mod Laws
 pub mod Inner

@@ -4,7 +4,7 @@ ghost use Rattle.pardo_text.specs.Laws.{LimitsAre, LinesAreJoined, LinesAreCount
 ghost use Rattle.pardo_text.specs.Laws.{TokensAreLongest, LgIsLeast, ConstantsAreNumbers};
 ghost use Rattle.pardo_text.specs.Laws.{CommentsSayNothing, IndentationSaysNothing};
 ghost use Rattle.pardo_text.specs.Laws.{EmptyLinesSayNothing, LinesAreWhatTheySay};
-ghost use Rattle.pardo_text.specs.Laws.{FirstBadLine, AllLinesAreTaken, ProgramsAreLawful};
+ghost use Rattle.pardo_text.specs.Laws.{ProgramsAreNested, FirstBadLine, AllLinesAreTaken, ProgramsAreLawful};
 
 /// The limits by their numbers.
 pub fn limits_are()
@@ -66,4 +66,9 @@ pub fn all_lines_are_taken()
 /// A program that a text spells names what is there, and keeps the limits.
 pub fn programs_are_lawful()
     ensures { ProgramsAreLawful }
+{}
+
+/// Each block of a program is closed by its own `end`, and each loop and its end know each other.
+pub fn programs_are_nested()
+    ensures { ProgramsAreNested }
 {}
