@@ -1,6 +1,6 @@
 -- The blocks of programs are nested.
 use Rattle.std.proofs.Common.{◌≡◌, ℕ, ◌+◌, ◌<◌, ◌≤◌, ◌==◌, not, nat_le, Bool, true, false, List, [], ◌∷◌, ◌++◌}
-use Rattle.std.proofs.Common.{length, Option, Some, None, Result, Ok, Err, IfOk, refl, sym, ap}
+use Rattle.std.proofs.Common.{◌⊎◌, inl, inr, length, Option, Some, None, Result, Ok, Err, IfOk, refl, sym, ap}
 use Rattle.std.proofs.Common.{subst, ◌∙◌, arith, if◌then◌else◌, is_some, is_none, unwrap_or}
 use Rattle.std.specs.List.{list_all}
 use Rattle.std.proofs.lemmas.List.{length-append}
@@ -32,7 +32,8 @@ use Rattle.pardo_text.specs.Header.{header_line}
 use Rattle.pardo_text.specs.Laws.{ProgramsAreNested}
 use Rattle.pardo_text.specs.Lines.{Word, lines_of, is_allowed, said_in}
 use Rattle.pardo_text.specs.Names.{Names}
-use Rattle.pardo_text.specs.Nested.{IsNested, Stands, opened_by, around, loop_begin, loops_of, AreTied, Leads}
+use Rattle.pardo_text.specs.Nested.{IsNested, Stands, opened_by, around, loop_begin, loop_end}
+use Rattle.pardo_text.specs.Nested.{loops_of, EndsAreTied, Leads}
 use Rattle.pardo_text.specs.Program.{ProgramData}
 use Rattle.pardo_text.specs.Reading.{line_at, with_tokens, with_text_line, finished, program_in}
 use Rattle.pardo_text.specs.Reading.{on_line, program_after, program_of}
@@ -43,7 +44,7 @@ use Rattle.pardo_text.proofs.Ifs.{ok_bind, ok_after, ok_if}
 use Rattle.pardo_text.proofs.LawHeader.{ended_kept}
 use Rattle.pardo_text.proofs.LawLawful.{on_line_kept, and_then_kept}
 use Rattle.pardo_text.proofs.LawOpen.{IsCode, IsLeft, AreOpen, no_code, open_push, open_more, loop_left}
-use Rattle.pardo_text.proofs.LawTied.{end_at, leads_last, tied_push}
+use Rattle.pardo_text.proofs.LawTied.{end_at, leads_last, tied_push, Among, begins_push, begins_last}
 
 -- what a draft says of its code
 abbrev Code : Draft → Type 0
@@ -118,10 +119,10 @@ header_code d _ is = tt
 
 -- a line that ends no loop
 pushed : (lines : List Line) (blocks : List Block) (line : Line) → Leads 0 [] lines blocks →
-    AreTied lines → Stands blocks line → loop_begin line.statement ≡ None →
+    EndsAreTied lines → Stands blocks line → loop_begin line.statement ≡ None →
     Leads 0 [] (lines ++ line ∷ [])
     (opened_by (length lines) line.statement ++ around line.statement blocks)
-    × AreTied (lines ++ line ∷ [])
+    × EndsAreTied (lines ++ line ∷ [])
 pushed lines blocks line leads tied stands none = (
   leads_last lines blocks line leads stands,
   tied_push lines line tied
@@ -164,6 +165,7 @@ assigned n d to value is =
     let more = pushed d.lines d.blocks line is.leads is.tied (tt, refl) refl in record {
       leads = more.0;
       tied = more.1;
+      begun = begins_push d.lines line d.blocks d.blocks (λ k among. among) (λ end e. absurd (let none : None ≡ Some end = e in cc)) is.begun;
       opened = still_open d.lines line d.blocks is.opened;
       loops = is.loops;
     }
@@ -177,6 +179,7 @@ if_code n d tokens is =
     fitting_code (with_block block.If (with_line n (statement.If condition) d)) (record {
       leads = more.0;
       tied = more.1;
+      begun = begins_push d.lines line d.blocks (block.If ∷ d.blocks) (λ k among. among) (λ end e. absurd (let none : None ≡ Some end = e in cc)) is.begun;
       opened = still_open d.lines line d.blocks is.opened;
       loops = is.loops;
     }))
@@ -189,6 +192,8 @@ while_code n d tokens is =
     let more = pushed d.lines d.blocks line is.leads is.tied (tt, refl) refl in record {
       leads = more.0;
       tied = more.1;
+      begun = begins_push d.lines line d.blocks (block.While (length d.lines) ∷ d.blocks)
+          (λ k among. inr among) (λ end e. inl refl) is.begun;
       opened = (
         longer d.lines line,
         end_last d.lines line,
@@ -211,6 +216,8 @@ for_code n d tokens is =
     fitting_code (with_loop word.0 (with_block (block.For (length d.lines)) (with_line n said d))) (record {
       leads = more.0;
       tied = more.1;
+      begun = begins_push d.lines line d.blocks (block.For (length d.lines) ∷ d.blocks)
+          (λ k among. inr among) (λ end e. inl refl) is.begun;
       opened = (
         longer d.lines line,
         end_last d.lines line,
@@ -232,6 +239,8 @@ else_code n d (block.If ∷ blocks) e is =
     let more = pushed d.lines (block.If ∷ blocks) line now.leads now.tied ((blocks, refl), refl) refl in record {
       leads = more.0;
       tied = more.1;
+      begun = begins_push d.lines line (block.If ∷ blocks) (block.Else ∷ blocks) (λ k among. among)
+          (λ end e. absurd (let none : None ≡ Some end = e in cc)) now.begun;
       opened = still_open d.lines line blocks now.opened;
       loops = now.loops;
     }
@@ -241,23 +250,25 @@ choice_code : (n : ℕ) (d : Draft) (choice : Block) (blocks : List Block) →
     IsCode d.lines (choice ∷ blocks) (length d.loops) → Stands (choice ∷ blocks)
     (record { statement = statement.EndIf; depth = depth_of blocks; number = n }) →
     AreOpen d.lines (length d.lines) blocks → length d.loops ≡ loops_of blocks →
+    ((k : ℕ) → Among k (choice ∷ blocks) → Among k blocks) →
     Code (with_line n statement.EndIf (record d { blocks = blocks }))
-choice_code n d choice blocks is stands opened loops =
+choice_code n d choice blocks is stands opened loops same =
     let line : Line = record { statement = statement.EndIf; depth = depth_of blocks; number = n } in
     let more = pushed d.lines (choice ∷ blocks) line is.leads is.tied stands refl in record {
       leads = more.0;
       tied = more.1;
+      begun = begins_push d.lines line (choice ∷ blocks) blocks same (λ end e. absurd (let none : None ≡ Some end = e in cc)) is.begun;
       opened = still_open d.lines line blocks opened;
       loops = loops;
     }
 
 -- the end of a loop
 loop_code : (lines : List Line) (begin : ℕ) (closed : Block) (blocks : List Block) (line : Line)
-    (end loops : ℕ) → IsLeft lines closed blocks end → end_at lines begin ≡ Some end → begin < end →
+    (end loops : ℕ) → IsLeft lines begin closed blocks end → end_at lines begin ≡ Some end → begin < end →
     Stands (closed ∷ blocks) line → loop_begin line.statement ≡ Some begin →
-    opened_by (length lines) line.statement ++ around line.statement (closed ∷ blocks) ≡ blocks →
+    loop_end line.statement ≡ None → opened_by (length lines) line.statement ++ around line.statement (closed ∷ blocks) ≡ blocks →
     loops ≡ loops_of blocks → IsCode (lines ++ line ∷ []) blocks loops
-loop_code lines begin closed blocks line end loops is told few stands ends after same = record {
+loop_code lines begin closed blocks line end loops is told few stands ends plain after same = record {
   leads = subst (Leads 0 [] (lines ++ line ∷ [])) after
       (leads_last lines (closed ∷ blocks) line is.leads stands);
   tied = tied_push lines line is.tied (λ other e.
@@ -265,6 +276,7 @@ loop_code lines begin closed blocks line end loops is told few stands ends after
         omega (arith, one, is.many, few),
         ap (end_at lines) (sym one) ∙ told ∙ ap Some (sym is.many),
       ));
+  begun = begins_last lines line begin end blocks is.begun is.many ends plain;
   opened = still_open lines line blocks is.opened;
   loops = same;
 }
@@ -278,10 +290,10 @@ for_end_code n begin d [] blocks e is =
 for_end_code n begin d (word ∷ loops) blocks e is =
     let line : Line = record { statement = statement.EndFor begin; depth = depth_of blocks; number = n } in
     let left = loop_left d.lines begin (block.For begin) blocks is.opened.0 is.opened.1 is.opened.2
-    is.leads is.tied in
+    is.leads is.tied is.begun in
     let many : length d.loops ≡ length (word ∷ loops) = ap length e in
     loop_code _ begin (block.For begin) blocks line (length d.lines) (length loops) left.0 left.1
-    is.opened.0 ((blocks, refl), refl) refl refl (omega (arith, many, is.loops))
+    is.opened.0 ((blocks, refl), refl) refl refl refl (omega (arith, many, is.loops))
 
 end_code : (n : ℕ) (d : Draft) (blocks : List Block) → d.blocks ≡ blocks → Code d →
     IfOk (end_of n d blocks) Code
@@ -289,19 +301,19 @@ end_code n d [] e is = tt
 end_code n d (block.If ∷ blocks) e is =
     let now : IsCode d.lines (block.If ∷ blocks) (length d.loops) =
     subst (λ (opening : List Block). IsCode d.lines opening (length d.loops)) e is in
-    choice_code n d block.If blocks now ((block.If, blocks, refl, refl), refl) now.opened now.loops
+    choice_code n d block.If blocks now ((block.If, blocks, refl, refl), refl) now.opened now.loops (λ k among. among)
 end_code n d (block.Else ∷ blocks) e is =
     let now : IsCode d.lines (block.Else ∷ blocks) (length d.loops) =
     subst (λ (opening : List Block). IsCode d.lines opening (length d.loops)) e is in
-    choice_code n d block.Else blocks now ((block.Else, blocks, refl, refl), refl) now.opened now.loops
+    choice_code n d block.Else blocks now ((block.Else, blocks, refl, refl), refl) now.opened now.loops (λ k among. among)
 end_code n d (block.While begin ∷ blocks) e is =
     let now : IsCode d.lines (block.While begin ∷ blocks) (length d.loops) =
     subst (λ (opening : List Block). IsCode d.lines opening (length d.loops)) e is in
     let line : Line = record { statement = statement.EndWhile begin; depth = depth_of blocks; number = n } in
     let left = loop_left d.lines begin (block.While begin) blocks now.opened.0 now.opened.1
-    now.opened.2 now.leads now.tied in
+    now.opened.2 now.leads now.tied now.begun in
     loop_code _ begin (block.While begin) blocks line (length d.lines) (length d.loops) left.0 left.1
-    now.opened.0 ((blocks, refl), refl) refl refl now.loops
+    now.opened.0 ((blocks, refl), refl) refl refl refl now.loops
 end_code n d (block.For begin ∷ blocks) e is =
     let now : IsCode d.lines (block.For begin ∷ blocks) (length d.loops) =
     subst (λ (opening : List Block). IsCode d.lines opening (length d.loops)) e is in
@@ -351,7 +363,14 @@ finished_code stage.Rule blocks lines d e is = tt
 finished_code stage.Header blocks lines d e is = tt
 finished_code stage.Code (block ∷ blocks) lines d e is = tt
 finished_code stage.Code [] [] d e is = tt
-finished_code stage.Code [] (first ∷ lines) d e is = (subst (Leads 0 [] d.lines) e is.leads, is.tied)
+finished_code stage.Code [] (first ∷ lines) d e is = (
+  subst (Leads 0 [] d.lines) e is.leads,
+  is.tied,
+  λ begin end said. elim (is.begun begin end said) [
+    | inl among ↦ absurd (subst (Among begin) e among)
+    | inr there ↦ there
+  ],
+)
 
 program_code : (d : Draft) → Code d → IfOk (program_in d) Nested
 unfolding program_in

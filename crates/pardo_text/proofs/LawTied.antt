@@ -11,7 +11,7 @@ use Rattle.pardo_text.specs.declared.statement.Statement.TheVariants as statemen
 use Rattle.pardo_text.specs.Blocks.{depth_of}
 use Rattle.pardo_text.specs.Drafts.{ending, ended_at}
 use Rattle.pardo_text.specs.Nested.{Leads, Stands, Belongs, opened_by, around, loop_end, loop_begin}
-use Rattle.pardo_text.specs.Nested.{said_by, AreTied}
+use Rattle.pardo_text.specs.Nested.{said_by, EndsAreTied}
 
 -- ---- what a line says
 
@@ -140,10 +140,10 @@ leads_set at blocks (first ∷ lines) last (suc i) end line e is =
 -- ---- loops that are tied
 
 -- one line more, which ends no loop or one whose first line knows it
-pub tied_push : (lines : List Line) (line : Line) → AreTied lines →
+pub tied_push : (lines : List Line) (line : Line) → EndsAreTied lines →
     ((begin : ℕ) → loop_begin line.statement ≡ Some begin →
     (begin < length lines) × (end_at lines begin ≡ Some (length lines))) →
-    AreTied (lines ++ line ∷ [])
+    EndsAreTied (lines ++ line ∷ [])
 tied_push lines line is ends k begin e = elim (begin_push lines line k begin e) [
   | inl before ↦
       let old = is k begin before.1 in (
@@ -186,8 +186,8 @@ line_there None end e = absurd (let none : None ≡ Some end = e in cc)
 line_there (Some line) end e = (line, refl, e)
 
 pub tied_set : (lines : List Line) (i end : ℕ) (line : Line) → end_at lines i ≡ Some 0 →
-    loop_end line.statement ≡ Some 0 → AreTied lines →
-    AreTied (slice_set lines i (told end line))
+    loop_end line.statement ≡ Some 0 → EndsAreTied lines →
+    EndsAreTied (slice_set lines i (told end line))
 tied_set lines i end line opening says is k begin e =
     let old = is k begin
     (begin_set lines i (told end line) k begin (ending_begins end 0 line.statement says) e) in
@@ -201,3 +201,137 @@ pub end_set : (lines : List Line) (i end : ℕ) (line : Line) → end_at lines i
     end_at (slice_set lines i (told end line)) i ≡ Some end
 end_set lines i end line opening says =
     end_set_same lines i 0 (told end line) opening ∙ ending_ends end 0 line.statement says
+
+-- ---- and the other way round
+
+-- an end that was there is there
+pub begin_kept : (lines : List Line) (line : Line) (k begin : ℕ) →
+    begin_at lines k ≡ Some begin → begin_at (lines ++ line ∷ []) k ≡ Some begin
+begin_kept [] line k begin e = absurd (let none : None ≡ Some begin = e in cc)
+begin_kept (first ∷ lines) line zero begin e = e
+begin_kept (first ∷ lines) line (suc k) begin e = begin_kept lines line k begin e
+
+pub begin_last : (lines : List Line) (line : Line) →
+    begin_at (lines ++ line ∷ []) (length lines) ≡ loop_begin line.statement
+begin_last [] line = refl
+begin_last (first ∷ lines) line = begin_last lines line
+
+pub begin_set_other : (lines : List Line) (i : ℕ) (new : Line) (k : ℕ) → k ≢ i →
+    begin_at (slice_set lines i new) k ≡ begin_at lines k
+begin_set_other [] i new k other = refl
+begin_set_other (first ∷ lines) zero new zero other = absurd (other refl)
+begin_set_other (first ∷ lines) zero new (suc k) other = refl
+begin_set_other (first ∷ lines) (suc i) new zero other = refl
+begin_set_other (first ∷ lines) (suc i) new (suc k) other =
+    begin_set_other lines i new k (λ e. other (ap suc e))
+
+-- a line does not both begin a loop and end one
+not_both : (said : Statement) (begin end : ℕ) → loop_end said ≡ Some end →
+    loop_begin said ≡ Some begin → ⊥
+not_both (statement.Assign to value) begin end e f = let none : None ≡ Some end = e in cc
+not_both (statement.If condition) begin end e f = let none : None ≡ Some end = e in cc
+not_both statement.Else begin end e f = let none : None ≡ Some end = e in cc
+not_both statement.EndIf begin end e f = let none : None ≡ Some end = e in cc
+not_both (statement.While condition was) begin end e f = let none : None ≡ Some begin = f in cc
+not_both (statement.EndWhile first) begin end e f = let none : None ≡ Some end = e in cc
+not_both (statement.For nest first last up was) begin end e f =
+    let none : None ≡ Some begin = f in cc
+not_both (statement.EndFor first) begin end e f = let none : None ≡ Some end = e in cc
+
+pub not_both_at : (found : Option Line) (begin end : ℕ) → said_by loop_end found ≡ Some end →
+    said_by loop_begin found ≡ Some begin → ⊥
+not_both_at None begin end e f = let none : None ≡ Some end = e in cc
+not_both_at (Some line) begin end e f = not_both line.statement begin end e f
+
+pub end_cases : (lines : List Line) (line : Line) (k end : ℕ) →
+    end_at (lines ++ line ∷ []) k ≡ Some end →
+    (end_at lines k ≡ Some end) ⊎ ((k ≡ length lines) × (loop_end line.statement ≡ Some end))
+end_cases [] line zero end e = inr (refl, e)
+end_cases [] line (suc k) end e = absurd (let none : None ≡ Some end = e in cc)
+end_cases (first ∷ lines) line zero end e = inl e
+end_cases (first ∷ lines) line (suc k) end e = elim (end_cases lines line k end e) [
+  | inl before ↦ inl before
+  | inr last ↦ inr (omega (arith, last.0), last.1)
+]
+
+-- a loop is open, or its end is where it says
+abbrev pub Among : ℕ → List Block → Type 0
+Among begin [] = ⊥
+Among begin (block.While first ∷ blocks) = (begin ≡ first) ⊎ Among begin blocks
+Among begin (block.For first ∷ blocks) = (begin ≡ first) ⊎ Among begin blocks
+Among begin (other ∷ blocks) = Among begin blocks
+
+abbrev pub BeginsEnd : List Line → List Block → Type 0
+BeginsEnd lines blocks = (begin end : ℕ) → end_at lines begin ≡ Some end →
+    Among begin blocks ⊎ (begin_at lines end ≡ Some begin)
+
+-- one line more, which begins no loop or one of the blocks
+pub begins_push : (lines : List Line) (line : Line) (blocks new : List Block) →
+    ((begin : ℕ) → Among begin blocks → Among begin new) →
+    ((end : ℕ) → loop_end line.statement ≡ Some end → Among (length lines) new) →
+    BeginsEnd lines blocks → BeginsEnd (lines ++ line ∷ []) new
+begins_push lines line blocks new more begins is begin end e = elim (end_cases lines line begin end e) [
+  | inl before ↦ elim (is begin end before) [
+    | inl among ↦ inl (more begin among)
+    | inr there ↦ inr (begin_kept lines line end begin there)
+  ]
+  | inr last ↦
+      inl (subst (λ (n : ℕ). Among n new) (sym last.0) (begins end last.1))
+]
+
+pub end_set_cases : (lines : List Line) (i : ℕ) (new : Line) (k end : ℕ) →
+    end_at (slice_set lines i new) k ≡ Some end →
+    ((k ≢ i) × (end_at lines k ≡ Some end)) ⊎ ((k ≡ i) × (loop_end new.statement ≡ Some end))
+end_set_cases [] i new k end e = absurd (let none : None ≡ Some end = e in cc)
+end_set_cases (first ∷ lines) zero new zero end e = inr (refl, e)
+end_set_cases (first ∷ lines) zero new (suc k) end e = inl (λ same. omega arith, e)
+end_set_cases (first ∷ lines) (suc i) new zero end e = inl (λ same. omega arith, e)
+end_set_cases (first ∷ lines) (suc i) new (suc k) end e = elim (end_set_cases lines i new k end e) [
+  | inl before ↦ inl (λ same. before.0 (omega arith), before.1)
+  | inr here ↦ inr (omega (arith, here.0), here.1)
+]
+
+-- so it is when the end of the loop whose first line is here is the next line
+abbrev pub BeginsLeft : List Line → ℕ → List Block → ℕ → Type 0
+BeginsLeft lines here blocks end = (begin was : ℕ) → end_at lines begin ≡ Some was →
+    (Among begin blocks ⊎ (begin_at lines was ≡ Some begin)) ⊎ ((begin ≡ here) × (was ≡ end))
+
+pub begins_set : (lines : List Line) (here end : ℕ) (found : Line) (blocks : List Block) →
+    end_at lines here ≡ Some 0 → loop_end found.statement ≡ Some 0 →
+    ((begin was : ℕ) → end_at lines begin ≡ Some was →
+    ((begin ≡ here) ⊎ Among begin blocks) ⊎ (begin_at lines was ≡ Some begin)) →
+    BeginsLeft (slice_set lines here (told end found)) here blocks end
+begins_set lines here end found blocks first says is begin was e =
+    elim (end_set_cases lines here (told end found) begin was e) [
+      | inr new ↦
+          let both : Some end ≡ Some was = sym (ending_ends end 0 found.statement says) ∙ new.1 in
+          inr (new.0, let same : was ≡ end = cc in same)
+      | inl old ↦ elim (is begin was old.1) [
+        | inl among ↦ elim among [
+          | inl same ↦ absurd (old.0 same)
+          | inr others ↦ inl (inl others)
+        ]
+        | inr there ↦
+            let other : was ≢ here = λ same.
+            not_both_at (slice_get lines here) begin 0 first (ap (begin_at lines) (sym same) ∙ there) in
+            inl (inr (begin_set_other lines here (told end found) was other ∙ there))
+      ]
+    ]
+
+pub begins_last : (lines : List Line) (line : Line) (here end : ℕ) (blocks : List Block) →
+    BeginsLeft lines here blocks end → length lines ≡ end → loop_begin line.statement ≡ Some here →
+    loop_end line.statement ≡ None → BeginsEnd (lines ++ line ∷ []) blocks
+begins_last lines line here end blocks is many ends plain begin was e =
+    elim (end_cases lines line begin was e) [
+      | inr last ↦ absurd (let none : None ≡ Some was = sym plain ∙ last.1 in cc)
+      | inl before ↦ elim (is begin was before) [
+        | inl old ↦ elim old [
+          | inl among ↦ inl among
+          | inr there ↦ inr (begin_kept lines line was begin there)
+        ]
+        | inr new ↦
+            let place : was ≡ length lines = new.1 ∙ sym many in
+            inr (ap (begin_at (lines ++ line ∷ [])) place ∙ begin_last lines line ∙ ends
+            ∙ ap Some (sym new.0))
+      ]
+    ]

@@ -69,10 +69,15 @@ said_by says None = None
 said_by says (Some line) = says line.statement
 
 -- the end of a loop is where its first line says
-abbrev pub AreTied : List Line → Type 0
-AreTied lines = (at begin : ℕ) → said_by loop_begin (slice_get lines at) ≡ Some begin →
+abbrev pub EndsAreTied : List Line → Type 0
+EndsAreTied lines = (at begin : ℕ) → said_by loop_begin (slice_get lines at) ≡ Some begin →
     (begin < at) × (said_by loop_end (slice_get lines begin) ≡ Some at)
+
+-- and there is one
+abbrev pub BeginsAreTied : List Line → Type 0
+BeginsAreTied lines = (begin end : ℕ) → said_by loop_end (slice_get lines begin) ≡ Some end →
+    said_by loop_begin (slice_get lines end) ≡ Some begin
 
 -- Each block is closed by its own `end`, and a loop knows it.
 abbrev pub IsNested : List Line → Type 0
-IsNested lines = Leads 0 [] lines [] × AreTied lines
+IsNested lines = Leads 0 [] lines [] × EndsAreTied lines × BeginsAreTied lines
