@@ -1,5 +1,5 @@
 -- Where a number must be known at once, an expression is a number.
-use Rattle.std.proofs.Common.{◌≡◌, ℕ, Bool, true, false, Result, IfOk, refl, ap, ◌∙◌}
+use Rattle.std.proofs.Common.{◌≡◌, ℕ, true, false, IfOk, refl, ap, ◌∙◌}
 use Rattle.pardo_text.specs.declared.names.Named.{Named}
 use Rattle.pardo_text.specs.declared.names.Named.TheVariants as thing
 use Rattle.pardo_text.specs.declared.names.Scope.TheVariants.{Fixed}
@@ -17,9 +17,11 @@ IsNumber tree = (value : ℕ) × (tree ≡ number value)
 
 applied_number : (op : Op) (first second : Tree) → IsNumber first → IsNumber second →
     IsNumber (applied op first second)
-applied_number op first second a b =
-    (value_of op a.0 b.0, ap (λ tree. applied op tree second) a.1
-    ∙ ap (λ tree. applied op (number a.0) tree) b.1)
+applied_number op first second a b = (
+  value_of op a.0 b.0,
+  ap (λ tree. applied op tree second) a.1
+      ∙ ap (λ tree. applied op (number a.0) tree) b.1,
+)
 
 joined_number : (op : Op) (first second : Tree) → IsNumber first → IsNumber second →
     IfOk (joined Fixed op first second) IsNumber
