@@ -1,6 +1,6 @@
 -- Levels of expressions, and chains of operations.
-use Rattle.std.proofs.Common.{◌≡◌, ◌≢◌, ℕ, zero, suc, ◌+◌, ◌-◌, ◌<◌, ◌≤◌, List, Option, Some, None}
-use Rattle.std.proofs.Common.{Bool, true, false, Result, Ok, Err, refl, sym, ap, ◌∙◌, arith}
+use Rattle.std.proofs.Common.{◌≡◌, ℕ, zero, suc, ◌+◌, ◌-◌, ◌<◌, ◌≤◌, List, Some, None}
+use Rattle.std.proofs.Common.{Ok, Err, refl, arith}
 use Rattle.pardo_text.specs.declared.fault.PardoKind.{PardoKind}
 use Rattle.pardo_text.specs.declared.fault.PardoKind.TheVariants.{TooDeep}
 use Rattle.pardo_text.specs.declared.names.Scope.{Scope}

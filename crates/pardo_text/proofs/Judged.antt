@@ -1,11 +1,10 @@
 -- Programs and faults, line by line.
-use Rattle.std.proofs.Common.{◌≡◌, ◌≢◌, ℕ, ◌+◌, List, [], ◌∷◌, Result, Ok, Err, sym, ap, ◌∙◌}
+use Rattle.std.proofs.Common.{◌≡◌, ◌≢◌, ℕ, ◌+◌, List, ◌∷◌, Result, Ok, Err, sym, ap, ◌∙◌}
 use Rattle.pardo_text.specs.declared.fault.PardoFault.{PardoFault}
 use Rattle.pardo_text.specs.declared.fault.PardoKind.{PardoKind}
 use Rattle.pardo_text.specs.declared.fault.PardoKind.TheVariants.{Memory}
 use Rattle.pardo_text.specs.Drafts.{Draft}
-use Rattle.pardo_text.specs.Program.{ProgramData}
-use Rattle.pardo_text.specs.Reading.{IsRefusal, and_then, on_line, program_after, program_in}
+use Rattle.pardo_text.specs.Reading.{IsRefusal, and_then, on_line, program_after}
 use Rattle.pardo_text.specs.Reading.{program_of, with_text_line}
 
 -- a line is taken

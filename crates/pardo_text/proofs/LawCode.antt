@@ -1,7 +1,7 @@
 -- Lines of code make lawful drafts of lawful ones.
-use Rattle.std.proofs.Common.{◌≡◌, ℕ, ◌+◌, ◌*◌, ◌^◌, ◌<◌, ◌≤◌, Bool, true, false, List, [], ◌∷◌, ◌++◌}
-use Rattle.std.proofs.Common.{length, max, Option, Some, None, Result, Ok, Err, IfOk, refl, sym, ap}
-use Rattle.std.proofs.Common.{subst, ◌∙◌, arith, if◌then◌else◌, is_some}
+use Rattle.std.proofs.Common.{◌≡◌, ℕ, ◌+◌, ◌*◌, ◌<◌, ◌≤◌, Bool, false, List, [], ◌∷◌}
+use Rattle.std.proofs.Common.{length, max, Option, Some, None, IfOk, refl, sym, ap}
+use Rattle.std.proofs.Common.{subst, arith, is_some}
 use Rattle.std.specs.List.{All}
 use Rattle.std.proofs.lemmas.List.Elements.{All-head}
 use Rattle.pardo_text.specs.declared.block.Block.{Block}
@@ -14,21 +14,19 @@ use Rattle.pardo_text.specs.declared.names.Scope.TheVariants.{Bound, Uniform, An
 use Rattle.pardo_text.specs.declared.statement.Statement.{Statement}
 use Rattle.pardo_text.specs.declared.statement.Statement.TheVariants as statement
 use Rattle.pardo_text.specs.declared.statement.Target.{Target}
-use Rattle.pardo_text.specs.declared.statement.Target.TheVariants as target
 use Rattle.pardo_text.specs.declared.symbol.Symbol.TheVariants as the
 use Rattle.pardo_text.specs.Blocks.{depth_of}
 use Rattle.pardo_text.specs.Code.{whole_at, place_of, bare_target, target_of, assignment_at, if_line}
 use Rattle.pardo_text.specs.Code.{while_line, way_at, for_line, else_of, end_of, statement_line}
 use Rattle.pardo_text.specs.Drafts.{Draft, cells_of, fitting, with_line, with_block, with_loop}
-use Rattle.pardo_text.specs.Drafts.{without, with_end, ended_at}
+use Rattle.pardo_text.specs.Drafts.{without, with_end}
 use Rattle.pardo_text.specs.Expression.{Tree}
 use Rattle.pardo_text.specs.Expressions.{new_name, after_assign, after_equals, after_close_index}
-use Rattle.pardo_text.specs.Expressions.{indexed, expression_at, ended}
+use Rattle.pardo_text.specs.Expressions.{indexed, expression_at}
 use Rattle.pardo_text.specs.Lawful.{Bounds, IsTree, IsTarget, IsStatement, masks_of}
 use Rattle.pardo_text.specs.Lines.{Word}
 use Rattle.pardo_text.specs.Names.{Names, divides}
 use Rattle.pardo_text.specs.Program.{shared_cells}
-use Rattle.pardo_text.specs.Reads.{◌>>=◌}
 use Rattle.pardo_text.specs.Tokens.{Token, name, symbol}
 use Rattle.pardo_text.proofs.Ifs.{ok_bind, ok_after, ok_if}
 use Rattle.pardo_text.proofs.LawBounds.{Grows, AreThings, keeps_tree, tree_more, statement_more}

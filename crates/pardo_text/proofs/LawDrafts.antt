@@ -1,19 +1,17 @@
 -- What holds of drafts, and stays so.
-use Rattle.std.proofs.Common.{◌≡◌, ℕ, zero, suc, ◌+◌, ◌*◌, ◌^◌, ◌<◌, ◌≤◌, ◌==◌, Bool, true, false}
-use Rattle.std.proofs.Common.{List, [], ◌∷◌, ◌++◌, length, max, nat_le, Option, Some, None, Result}
-use Rattle.std.proofs.Common.{Ok, Err, IfOk, refl, sym, ap, subst, ◌∙◌, arith, if◌then◌else◌}
-use Rattle.std.proofs.Common.{slice_set, slice_get, sum_by}
+use Rattle.std.proofs.Common.{◌≡◌, ℕ, ◌+◌, ◌<◌, ◌≤◌, Bool, true, false}
+use Rattle.std.proofs.Common.{List, [], ◌∷◌, ◌++◌, length, nat_le, Option, Some, None}
+use Rattle.std.proofs.Common.{IfOk, refl, sym, ap, subst, arith, if◌then◌else◌}
+use Rattle.std.proofs.Common.{slice_set, slice_get}
 use Rattle.std.specs.List.{All}
 use Rattle.std.specs.Str.{bytes_eq}
 use Rattle.std.proofs.lemmas.Bool.Decides.{nat_tests}
 use Rattle.std.proofs.lemmas.List.{length-append, length-set}
-use Rattle.std.proofs.lemmas.List.Elements.{All-nil, All-push, All-set, All-tail, All-weaker, All-cons}
+use Rattle.std.proofs.lemmas.List.Elements.{All-push, All-set, All-tail, All-weaker, All-cons}
 use Rattle.std.proofs.lemmas.List.Sums.{sum_by-append}
 use Rattle.std.proofs.lemmas.Option.{slice_get_within, get_or_from_slice_get}
 use Rattle.pardo_text.specs.declared.block.Block.{Block}
 use Rattle.pardo_text.specs.declared.block.Block.TheVariants as block
-use Rattle.pardo_text.specs.declared.fault.PardoKind.{PardoKind}
-use Rattle.pardo_text.specs.declared.fault.PardoKind.TheVariants.{TooManyCells}
 use Rattle.pardo_text.specs.declared.limits.TheConstants.{MAX_CELLS, MAX_PROCS}
 use Rattle.pardo_text.specs.declared.names.Named.{Named}
 use Rattle.pardo_text.specs.declared.names.Named.TheVariants as thing
@@ -22,7 +20,7 @@ use Rattle.pardo_text.specs.declared.draft.Stage.TheVariants as stage
 use Rattle.pardo_text.specs.declared.statement.Line.{Line}
 use Rattle.pardo_text.specs.declared.statement.Statement.{Statement}
 use Rattle.pardo_text.specs.declared.statement.Statement.TheVariants as statement
-use Rattle.pardo_text.specs.Blocks.{depth_of, is_choice}
+use Rattle.pardo_text.specs.Blocks.{depth_of}
 use Rattle.pardo_text.specs.Drafts.{Draft, cells_of, fitting, with_name, with_array, with_private}
 use Rattle.pardo_text.specs.Drafts.{with_line, with_block, with_loop, without, ending, ended_at}
 use Rattle.pardo_text.specs.Drafts.{with_end, thing_of}
@@ -30,7 +28,7 @@ use Rattle.pardo_text.specs.Lawful.{Bounds, IsStatement, IsLine, AreNumbers, Are
 use Rattle.pardo_text.specs.Lawful.{masks_of}
 use Rattle.pardo_text.specs.Lines.{Word}
 use Rattle.pardo_text.specs.Names.{Names, named, unnamed}
-use Rattle.pardo_text.specs.Program.{ArrayData, PrivateData, shared_cells, array_after}
+use Rattle.pardo_text.specs.Program.{ArrayData, shared_cells, array_after}
 use Rattle.pardo_text.proofs.Ifs.{ok_if}
 use Rattle.pardo_text.proofs.LawBounds.{Grows, IsThing, AreThings, things_more, line_more}
 

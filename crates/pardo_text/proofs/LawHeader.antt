@@ -1,7 +1,7 @@
 -- Header lines make lawful drafts of lawful ones.
-use Rattle.std.proofs.Common.{◌≡◌, ℕ, ◌+◌, ◌*◌, ◌^◌, ◌<◌, ◌≤◌, ◌==◌, Bool, true, false, List, [], ◌∷◌}
-use Rattle.std.proofs.Common.{◌++◌, length, Option, Some, None, Result, Ok, Err, IfOk, refl, sym, ap}
-use Rattle.std.proofs.Common.{subst, ◌∙◌, arith, if◌then◌else◌, unwrap_or, is_none}
+use Rattle.std.proofs.Common.{◌≡◌, ℕ, ◌+◌, ◌*◌, ◌<◌, ◌≤◌, ◌==◌, Bool, true, false, List, [], ◌∷◌}
+use Rattle.std.proofs.Common.{◌++◌, length, Option, Some, None, IfOk}
+use Rattle.std.proofs.Common.{arith, unwrap_or, is_none}
 use Rattle.std.proofs.lemmas.Bool.Decides.{nat_tests}
 use Rattle.std.proofs.lemmas.List.{length-append}
 use Rattle.pardo_text.specs.declared.draft.Stage.{Stage}
@@ -10,8 +10,7 @@ use Rattle.pardo_text.specs.declared.limits.TheConstants.{MAX_CELLS, MAX_PROCS}
 use Rattle.pardo_text.specs.declared.names.Named.TheVariants as thing
 use Rattle.pardo_text.specs.declared.names.Scope.TheVariants.{Start}
 use Rattle.pardo_text.specs.declared.symbol.Symbol.TheVariants as the
-use Rattle.pardo_text.specs.Drafts.{Draft, cells_of, fitting, with_name, with_array, with_private}
-use Rattle.pardo_text.specs.Expression.{Tree}
+use Rattle.pardo_text.specs.Drafts.{Draft, fitting, with_name, with_array, with_private}
 use Rattle.pardo_text.specs.Expressions.{ended, new_name, after_equals, after_less}
 use Rattle.pardo_text.specs.Expressions.{after_close_index, indexed, fixed_at, expression_at}
 use Rattle.pardo_text.specs.Header.{version_line, rule_line, rule_named, const_line, procs_line}
@@ -22,12 +21,11 @@ use Rattle.pardo_text.specs.Lawful.{AreNumbers}
 use Rattle.pardo_text.specs.Lines.{Word}
 use Rattle.pardo_text.specs.Names.{Names}
 use Rattle.pardo_text.specs.Program.{shared_cells}
-use Rattle.pardo_text.specs.Reads.{◌>>=◌}
 use Rattle.pardo_text.specs.Tokens.{Token, name, number as literal, symbol}
 use Rattle.pardo_text.specs.Values.{most, values_for, start_at}
 use Rattle.pardo_text.proofs.Ifs.{ok_bind, ok_after, ok_if}
-use Rattle.pardo_text.proofs.LawBounds.{Grows, AreThings, IsStart, keeps_start}
-use Rattle.pardo_text.proofs.LawDrafts.{IsDraft, IsLawful, bounds_in, fitting_kept, more_kept}
+use Rattle.pardo_text.proofs.LawBounds.{IsStart, keeps_start}
+use Rattle.pardo_text.proofs.LawDrafts.{IsLawful, bounds_in, fitting_kept, more_kept}
 use Rattle.pardo_text.proofs.LawDrafts.{name_kept, stage_kept, procs_kept, array_kept, private_kept}
 use Rattle.pardo_text.proofs.LawStarts.{Between, AreSoMany, fixed_kept, starts_kept, values_kept}
 use Rattle.pardo_text.proofs.LawTrees.{expression_kept}

@@ -1,7 +1,7 @@
 -- Programs are lawful.
-use Rattle.std.proofs.Common.{◌≡◌, ℕ, ◌+◌, ◌<◌, ◌≤◌, not, Bool, true, false, List, [], ◌∷◌, Result, Ok, Err}
-use Rattle.std.proofs.Common.{IfOk, Some, None, refl, sym, ap, subst, ◌∙◌, arith, length}
-use Rattle.std.specs.List.{All, list_all}
+use Rattle.std.proofs.Common.{◌≡◌, ℕ, ◌+◌, not, List, [], ◌∷◌, Result, Ok, Err}
+use Rattle.std.proofs.Common.{IfOk, Some, None, refl, ap, arith, length}
+use Rattle.std.specs.List.{list_all}
 use Rattle.std.proofs.lemmas.List.Elements.{All-nil}
 use Rattle.pardo_text.specs.declared.block.Block.{Block}
 use Rattle.pardo_text.specs.declared.draft.Stage.{Stage}
@@ -15,11 +15,10 @@ use Rattle.pardo_text.specs.Lawful.{IsProgram, IsPrivate, IsLine}
 use Rattle.pardo_text.specs.Lines.{lines_of, is_allowed, said_in}
 use Rattle.pardo_text.specs.Reading.{line_at, with_tokens, with_text_line, finished, program_in}
 use Rattle.pardo_text.specs.Reading.{on_line, and_then, program_after, program_of}
-use Rattle.pardo_text.specs.Reads.{◌>>=◌}
 use Rattle.pardo_text.specs.Tokens.{Token, tokens_of}
 use Rattle.pardo_text.proofs.Ifs.{ok_after, ok_if}
 use Rattle.pardo_text.proofs.LawCode.{statement_kept}
-use Rattle.pardo_text.proofs.LawDrafts.{IsDraft, IsLawful, IsBlock, bounds_in}
+use Rattle.pardo_text.proofs.LawDrafts.{IsLawful, IsBlock, bounds_in}
 use Rattle.pardo_text.proofs.LawHeader.{version_kept, rule_kept, header_kept}
 
 at_kept : (next : Stage) (n : ℕ) (d : Draft) (tokens : List Token) → d.stage ≡ next → IsLawful d →

@@ -1,9 +1,9 @@
 -- A line begins with no longer token than the one that is taken.
-use Rattle.std.proofs.Common.{◌≡◌, ℕ, suc, ◌+◌, ◌-◌, ◌<◌, ◌≤◌, Bool, true, false, not, ◌&&◌, cond}
-use Rattle.std.proofs.Common.{if◌then◌else◌, List, [], ◌∷◌, ◌++◌, length, take, drop, nat_le, min}
-use Rattle.std.proofs.Common.{unwrap_or, Option, Some, None, refl, sym, ap, subst, ◌∙◌, arith, rules}
+use Rattle.std.proofs.Common.{◌≡◌, ℕ, suc, ◌+◌, ◌≤◌, Bool, true, false, not, ◌&&◌, cond}
+use Rattle.std.proofs.Common.{if◌then◌else◌, List, [], ◌∷◌, ◌++◌, length, take, drop, nat_le}
+use Rattle.std.proofs.Common.{Option, Some, None, refl, sym, ap, ◌∙◌, arith}
 use Rattle.std.specs.Char.{is_ascii_digit}
-use Rattle.std.specs.List.{position, prefix_len}
+use Rattle.std.specs.List.{prefix_len}
 use Rattle.std.specs.Str.{bytes_eq}
 use Rattle.std.proofs.lemmas.Bool.{and_parts}
 use Rattle.std.proofs.lemmas.Bool.Decides.{nat_tests}
@@ -12,8 +12,8 @@ use Rattle.std.proofs.lemmas.Slice.Eq.{bytes_eq-Decides}
 use Rattle.pardo_text.specs.declared.symbol.Symbol.{Symbol}
 use Rattle.pardo_text.specs.Laws.{TokensAreLongest}
 use Rattle.pardo_text.specs.Lines.{Word}
-use Rattle.pardo_text.specs.Tokens.{Token, symbol, number, marks, mark_by, run_len, begins_name}
-use Rattle.pardo_text.specs.Tokens.{is_of_name, token_at, word_by, keywords, number_of}
+use Rattle.pardo_text.specs.Tokens.{Token, symbol, marks, mark_by, run_len, begins_name}
+use Rattle.pardo_text.specs.Tokens.{is_of_name, token_at}
 use Rattle.pardo_text.proofs.Runs.{unwrap_or-position}
 
 -- what is after a token

@@ -10,7 +10,6 @@ use Rattle.pardo_text.specs.Lines.{lines_of}
 use Rattle.pardo_text.specs.Program.{ProgramData}
 use Rattle.pardo_text.specs.Reading.{with_text_line, program_in, program_of, program_after, on_line}
 use Rattle.pardo_text.specs.Reading.{and_then}
-use Rattle.pardo_text.specs.Reads.{◌>>=◌}
 
 -- ---- lines that say the same
 

@@ -1,15 +1,14 @@
 -- What says nothing in a line.
-use Rattle.std.proofs.Common.{◌≡◌, ℕ, Bool, true, false, ◌&&◌, ◌||◌, ◌==◌, not, List, [], ◌∷◌, ◌++◌}
-use Rattle.std.proofs.Common.{length, Result, Ok, Err, refl, sym, ap, ◌∙◌, arith, one-add, ⊎_elim}
+use Rattle.std.proofs.Common.{◌≡◌, ℕ, Bool, true, false, ◌&&◌, ◌==◌, List, [], ◌∷◌, ◌++◌}
+use Rattle.std.proofs.Common.{refl, sym, ap, ◌∙◌, arith, one-add, ⊎_elim}
 use Rattle.std.specs.List.{list_all}
 use Rattle.std.proofs.lemmas.Bool.{cases_Bool, and_parts}
 use Rattle.std.proofs.lemmas.List.Folds.{list_all-append}
-use Rattle.pardo_text.specs.Drafts.{Draft}
 use Rattle.pardo_text.specs.Laws.{SayTheSame, CommentsSayNothing, IndentationSaysNothing}
 use Rattle.pardo_text.specs.Laws.{EmptyLinesSayNothing}
 use Rattle.pardo_text.specs.Lines.{is_allowed, is_blank, said_in}
 use Rattle.pardo_text.specs.Reading.{with_text_line}
-use Rattle.pardo_text.specs.Tokens.{tokens_of, tokens_in}
+use Rattle.pardo_text.specs.Tokens.{tokens_of}
 
 -- a line with the same tokens, whose bytes are allowed as those of the other are
 says_the_same : (line other : List ℕ) → list_all is_allowed line ≡ list_all is_allowed other →

@@ -1,8 +1,8 @@
 -- Start values have 32 bits, and there are as many as there should be.
-use Rattle.std.proofs.Common.{◌≡◌, ℕ, zero, suc, ◌+◌, ◌-◌, ◌^◌, ◌<◌, ◌≤◌, ◌==◌, Bool, true, false}
-use Rattle.std.proofs.Common.{not, ◌&&◌, ◌||◌, nat_lt, List, [], ◌∷◌, ◌++◌, length, replicate}
-use Rattle.std.proofs.Common.{slice_index, Option, Some, None, Result, Ok, Err, IfOk, refl, sym, ap}
-use Rattle.std.proofs.Common.{◌∙◌, arith, if◌then◌else◌}
+use Rattle.std.proofs.Common.{◌≡◌, ℕ, zero, suc, ◌-◌, ◌^◌, ◌<◌, ◌≤◌, ◌==◌, Bool, true}
+use Rattle.std.proofs.Common.{not, ◌&&◌, ◌||◌, nat_lt, List, [], ◌∷◌, length, replicate}
+use Rattle.std.proofs.Common.{slice_index, Option, Some, None, Result, IfOk, refl}
+use Rattle.std.proofs.Common.{arith}
 use Rattle.std.proofs.lemmas.Bool.Decides.{nat_tests}
 use Rattle.std.proofs.lemmas.List.{length-append, length-replicate}
 use Rattle.std.proofs.lemmas.List.Elements.{All-nil, All-cons, All-push, All-append, All-replicate}
@@ -14,8 +14,7 @@ use Rattle.pardo_text.specs.Expressions.{ended, fixed_at, limited, fixed_value, 
 use Rattle.pardo_text.specs.Expressions.{after_comma, after_equals}
 use Rattle.pardo_text.specs.Lawful.{AreNumbers}
 use Rattle.pardo_text.specs.Names.{Names}
-use Rattle.pardo_text.specs.Operations.{is_division, value_of}
-use Rattle.pardo_text.specs.Reads.{◌>>=◌}
+use Rattle.pardo_text.specs.Operations.{is_division}
 use Rattle.pardo_text.specs.Tokens.{Token}
 use Rattle.pardo_text.specs.Values.{most, quotient_of, value_for, values_for, values_in, values_after}
 use Rattle.pardo_text.specs.Values.{values_next, after_dots, filled, start_at}

@@ -1,6 +1,6 @@
 -- What holds of each expression that is read.
-use Rattle.std.proofs.Common.{◌≡◌, ℕ, zero, suc, ◌^◌, ◌<◌, ◌==◌, Bool, true, false, List, [], ◌∷◌}
-use Rattle.std.proofs.Common.{Option, Some, None, Result, Ok, Err, IfOk, refl, sym, ap, ◌∙◌, is_some}
+use Rattle.std.proofs.Common.{◌≡◌, ℕ, zero, suc, ◌^◌, ◌<◌, ◌==◌, true, List, [], ◌∷◌}
+use Rattle.std.proofs.Common.{Option, Some, None, Ok, Err, IfOk, refl, is_some}
 use Rattle.std.proofs.Common.{nat_lt, arith, if◌then◌else◌}
 use Rattle.std.proofs.lemmas.Bool.Decides.{nat_tests}
 use Rattle.pardo_text.specs.declared.fault.PardoKind.TheVariants.{WrongKind}
@@ -13,7 +13,7 @@ use Rattle.pardo_text.specs.declared.symbol.Symbol.TheVariants as the
 use Rattle.pardo_text.specs.Expression.{Tree, number, place}
 use Rattle.pardo_text.specs.Expressions.{Read, Inner, after_open, after_close, after_comma}
 use Rattle.pardo_text.specs.Expressions.{after_close_index, indexed, applied, joined}
-use Rattle.pardo_text.specs.Expressions.{literal_at, bracketed_at, pair_at, log_at, used_at, place_at}
+use Rattle.pardo_text.specs.Expressions.{pair_at, used_at, place_at}
 use Rattle.pardo_text.specs.Expressions.{named_at, operand_at, operator_at, chained, turns_at}
 use Rattle.pardo_text.specs.Expressions.{level_at, within_at, expression_at, log_of, fixed_value}
 use Rattle.pardo_text.specs.Lines.{Word}

@@ -1,7 +1,7 @@
 -- Values have 32 bits.
-use Rattle.std.proofs.Common.{◌≡◌, ℕ, ◌+◌, ◌-◌, ◌*◌, ◌/◌, ◌%◌, ◌^◌, ◌<◌, ◌≤◌, Bool, true, false}
-use Rattle.std.proofs.Common.{if◌then◌else◌, bit_and, bit_or, bit_xor, nat_lt, arith, ◌==◌, ◌&&◌, ◌||◌}
-use Rattle.std.proofs.Common.{not, nat_le, min, max}
+use Rattle.std.proofs.Common.{ℕ, ◌*◌, ◌/◌, ◌%◌, ◌^◌, ◌<◌, Bool, true, false}
+use Rattle.std.proofs.Common.{if◌then◌else◌, bit_and, nat_lt, arith, ◌==◌, ◌&&◌, ◌||◌}
+use Rattle.std.proofs.Common.{not, nat_le}
 use Rattle.std.proofs.lemmas.Nat.{or_lt, xor_lt, and_le_l}
 use Rattle.std.proofs.lemmas.Grind.{common_steps}
 use Rattle.pardo_text.specs.declared.operation.Op.{Op}

@@ -1,10 +1,9 @@
 -- The tokens that are left.
-use Rattle.std.proofs.Common.{◌≡◌, ℕ, suc, ◌+◌, ◌<◌, ◌≤◌, List, [], ◌∷◌, length, map, drop, get_or}
-use Rattle.std.proofs.Common.{Option, Some, None, refl, sym, ap, ◌∙◌, arith, add-one, drop-cons}
+use Rattle.std.proofs.Common.{◌≡◌, ℕ, suc, ◌+◌, ◌<◌, List, ◌∷◌, length, drop, get_or}
+use Rattle.std.proofs.Common.{ap, ◌∙◌, add-one, drop-cons}
 use Rattle.std.proofs.Math.ListN.{length-map}
 use Rattle.std.proofs.lemmas.List.{get_or-map}
 use Rattle.pardo_text.specs.declared.token.Token.{Token as Held}
-use Rattle.pardo_text.specs.Tokens.{Token}
 use Rattle.pardo_text.specs.Inner.Tokens.{plain, plain_all}
 
 -- the next one, and those after it

@@ -1,5 +1,5 @@
 -- Nodes in postfix order, and the trees that they stand for.
-use Rattle.std.proofs.Common.{◌≡◌, ◌≤◌, ℕ, List, [], ◌∷◌, ◌++◌, length, Option, Some, None}
+use Rattle.std.proofs.Common.{◌≡◌, ◌≤◌, ℕ, List, [], ◌∷◌, ◌++◌, length, Some, None}
 use Rattle.std.proofs.Common.{refl, sym, ap, ◌∙◌, arith, append_assoc}
 use Rattle.pardo_text.specs.declared.expression.Node.{Node}
 use Rattle.pardo_text.specs.declared.expression.Node.TheVariants.{Number, Own, Loop, Private}

@@ -1,7 +1,7 @@
 -- What the lines of a text so far say.
 use Rattle.std.specs.Prelude.{ℕ, ◌+◌, ◌*◌, Bool, true, false, nat_le, max, if◌then◌else◌}
 use Rattle.std.specs.Prelude.{List, [], ◌∷◌, ◌++◌, length}
-use Rattle.std.specs.Prelude.{slice_set, slice_get, Option, Some, None, Result, Ok, Err}
+use Rattle.std.specs.Prelude.{slice_set, slice_get, Some, None, Result, Ok, Err}
 use Rattle.pardo_text.specs.declared.fault.PardoKind.{PardoKind}
 use Rattle.pardo_text.specs.declared.fault.PardoKind.TheVariants.{TooManyCells}
 use Rattle.pardo_text.specs.declared.limits.TheConstants.{MAX_CELLS}

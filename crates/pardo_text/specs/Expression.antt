@@ -1,7 +1,7 @@
 -- What an expression is.
 use Rattle.std.specs.Prelude.{◌≡◌, ℕ, List, [], ◌∷◌, ◌++◌, refl}
 use Rattle.std.proofs.Common.{ap, sym, ◌∙◌, append_assoc, append-nil}
-use Rattle.std.specs.Coded.{Coded, code_by, coded×, coded_ℕ, coded_list}
+use Rattle.std.specs.Coded.{Coded, code_by, coded_list}
 use Rattle.pardo_text.specs.declared.operation.Op.{Op}
 use Rattle.pardo_text.specs.declared.expression.Node.{Node}
 use Rattle.pardo_text.specs.declared.expression.Node.TheVariants.{Number, Own, Loop, Private, Place, Apply}

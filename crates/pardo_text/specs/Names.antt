@@ -1,5 +1,5 @@
 -- What names stand for, and where they may stand.
-use Rattle.std.specs.Prelude.{ℕ, Bool, true, false, if◌then◌else◌, Option, Some, None}
+use Rattle.std.specs.Prelude.{Bool, true, false, if◌then◌else◌, Option, Some, None}
 use Rattle.std.specs.Str.{bytes_eq}
 use Rattle.pardo_text.specs.declared.names.Named.{Named}
 use Rattle.pardo_text.specs.declared.names.Named.TheVariants.{Constant, Own, Scalar, Array}

@@ -1,7 +1,6 @@
 -- What parts of a reading come to.
-use Rattle.std.specs.Prelude.{◌≡◌, Result, Ok, Err}
+use Rattle.std.specs.Prelude.{Result, Ok, Err}
 use Rattle.pardo_text.specs.declared.fault.PardoKind.{PardoKind}
-use Rattle.pardo_text.specs.declared.fault.PardoKind.TheVariants.{Memory}
 
 -- what the next part says of the value of the part before it, unless that part has a fault
 infixl 10 ◌>>=◌

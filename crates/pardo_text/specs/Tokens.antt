@@ -11,7 +11,6 @@ use Rattle.pardo_text.specs.declared.operation.Op.TheVariants as op
 use Rattle.pardo_text.specs.declared.symbol.Symbol.{Symbol}
 use Rattle.pardo_text.specs.declared.symbol.Symbol.TheVariants as the
 use Rattle.pardo_text.specs.Lines.{Word, is_blank}
-use Rattle.pardo_text.specs.Reads.{◌>>=◌}
 
 pub data Token : Type 0 where
   name : Word → Token

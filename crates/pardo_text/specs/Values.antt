@@ -7,7 +7,7 @@ use Rattle.pardo_text.specs.declared.fault.PardoKind.TheVariants.{BadLine, OutOf
 use Rattle.pardo_text.specs.declared.operation.Op.{Op}
 use Rattle.pardo_text.specs.declared.symbol.Symbol.TheVariants as the
 use Rattle.pardo_text.specs.Expression.{Tree, number, own, loop, private, place, apply}
-use Rattle.pardo_text.specs.Expressions.{Read, ended, fixed_at, after_comma, after_equals}
+use Rattle.pardo_text.specs.Expressions.{ended, fixed_at, after_comma, after_equals}
 use Rattle.pardo_text.specs.Names.{Names}
 use Rattle.pardo_text.specs.Operations.{is_division, value_of}
 use Rattle.pardo_text.specs.Reads.{◌>>=◌}

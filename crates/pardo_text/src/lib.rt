@@ -29,6 +29,3 @@ pub use operation::Op;
 pub use program::{Private, Program, Rule};
 pub use reader::read_program;
 pub use statement::{Line, Statement, Target};
-
-#[cfg(test)]
-mod tests;

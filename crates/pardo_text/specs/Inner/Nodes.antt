@@ -1,6 +1,5 @@
 -- Nodes by themselves.
 use Rattle.pardo_text.specs.declared.expression.Node.{Node}
-use Rattle.pardo_text.specs.declared.expression.Node.TheVariants.{Number, Own, Loop, Private}
 use Rattle.pardo_text.specs.declared.expression.Node.TheVariants.{Place, Apply}
 
 -- a node with no expression before it

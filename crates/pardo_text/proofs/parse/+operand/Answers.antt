@@ -1,4 +1,4 @@
-use Rattle.std.proofs.Common.{rules, ◌≡◌, ◌∙◌, ◌+◌, sym, ap, arith, refl, Ok, Bool, true, false}
+use Rattle.std.proofs.Common.{◌∙◌, sym, ap, arith, refl, Ok}
 use Rattle.std.proofs.lemmas.Result.{err_from_is_err_and}
 use Rattle.pardo_text.proofs.Chains.{within_at_none, within_at_more, level_at_zero, level_at_more}
 use Rattle.pardo_text.proofs.Chains.{chained_none, chained_operand, chained_join, chained_more}

@@ -1,4 +1,4 @@
-use Rattle.std.proofs.Common.{ℕ, ◌+◌, ◌*◌, ◌-◌, ◌≡◌}
+use Rattle.std.proofs.Common.{◌+◌, ◌*◌, ◌-◌, ◌≡◌}
 use Rattle.pardo_text.specs.Expressions.{chained, turns_at, level_at, operand_at, within_at}
 use Rattle.pardo_text.specs.Inner.Names.{names_in}
 use Rattle.pardo_text.proofs.parse.+operand.Given as goal

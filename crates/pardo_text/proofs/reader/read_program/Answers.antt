@@ -1,4 +1,4 @@
-use Rattle.std.proofs.Common.{◌≡◌, ◌<◌, ◌+◌, ◌^◌, ◌∙◌, ◌∷◌, length, refl, sym, ap, arith, rules, Ok, Err}
+use Rattle.std.proofs.Common.{◌≡◌, ◌<◌, ◌+◌, ◌^◌, ◌∙◌, ◌∷◌, length, sym, ap, arith, rules}
 use Rattle.pardo_text.specs.Drafts.{Draft}
 use Rattle.pardo_text.specs.Inner.Drafts.{draft_of}
 use Rattle.pardo_text.specs.Inner.LinesAfter.{lines_after}

@@ -1,4 +1,4 @@
-use Rattle.std.proofs.Common.{◌≡◌, ◌∙◌, ◌==◌, ap, take, length, unwrap_or}
+use Rattle.std.proofs.Common.{◌∙◌, ◌==◌, ap, take, length, unwrap_or}
 use Rattle.pardo_text.proofs.Runs.{unwrap_or-position}
 use Rattle.pardo_text.proofs.token.said.Goals as goal
 

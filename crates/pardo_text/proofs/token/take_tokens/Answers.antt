@@ -1,5 +1,4 @@
-use Rattle.std.proofs.Common.{◌≡◌, ◌≤◌, ◌∙◌, ◌∷◌, ◌++◌, [], ℕ, refl, sym, ap, length, arith, Some}
-use Rattle.pardo_text.specs.Lines.{said_in}
+use Rattle.std.proofs.Common.{◌≡◌, ◌≤◌, ◌∙◌, ◌∷◌, sym, ap, length, arith, Some}
 use Rattle.pardo_text.specs.Tokens.{tokens_of, tokens_in, token_at}
 use Rattle.pardo_text.specs.Inner.Tokens.{plain, plain_all, preceded}
 use Rattle.pardo_text.proofs.Turns.{preceded-nil, tokens_in-blank, tokens_in-token, preceded-onto}

@@ -1,8 +1,7 @@
-use Rattle.std.proofs.Common.{◌≡◌, ◌<◌, ◌∙◌, sym, arith, length}
+use Rattle.std.proofs.Common.{◌∙◌, sym, arith}
 use Rattle.std.proofs.lemmas.Result.{err_from_is_err_and}
-use Rattle.pardo_text.specs.Inner.Names.{names_in}
 use Rattle.pardo_text.proofs.Starts.{take_begins, take_fault, take_last, take_comma, take_end}
-use Rattle.pardo_text.proofs.Starts.{take_left, take_more, take_over, some_from, none_from, rest_from}
+use Rattle.pardo_text.proofs.Starts.{take_left, take_more, some_from, none_from, rest_from}
 use Rattle.pardo_text.proofs.value.take_values.Goals as goal
 
 pub loop-turn-init : goal.loop-turn-init

@@ -1,4 +1,4 @@
-use Rattle.std.proofs.Common.{◌≡◌, ◌∙◌, ap, sym, reverse, Ok, arith}
+use Rattle.std.proofs.Common.{◌∙◌, ap, sym, reverse, Ok}
 use Rattle.std.proofs.lemmas.Result.{err_from_is_err_and}
 use Rattle.pardo_text.specs.Inner.Values.{value_after}
 use Rattle.pardo_text.proofs.Stacks.{value_after-tree, value_after-next, value_after-fault}

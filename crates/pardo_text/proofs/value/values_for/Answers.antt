@@ -1,4 +1,4 @@
-use Rattle.std.proofs.Common.{◌≡◌, ◌∙◌, ◌-◌, ◌+◌, suc, ap, sym, Ok, arith}
+use Rattle.std.proofs.Common.{◌-◌, suc, arith}
 use Rattle.std.proofs.lemmas.Result.{err_from_is_err_and}
 use Rattle.pardo_text.proofs.Stacks.{values_for-next, values_for-fault}
 use Rattle.pardo_text.proofs.value.values_for.Goals as goal

@@ -1,6 +1,5 @@
-use Rattle.std.proofs.Common.{◌≡◌, ◌+◌, ◌<◌, ◌≤◌, ◌^◌, length, reverse, arith, rules}
+use Rattle.std.proofs.Common.{◌+◌, ◌<◌, ◌^◌, reverse, arith, rules}
 use Rattle.std.proofs.lemmas.List.{length-reverse}
-use Rattle.pardo_text.specs.Blocks.{depth_of}
 use Rattle.pardo_text.proofs.Depths.{depth_few}
 use Rattle.pardo_text.proofs.block.Blocks.push.Goals as goal
 

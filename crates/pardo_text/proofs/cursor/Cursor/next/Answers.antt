@@ -1,4 +1,4 @@
-use Rattle.std.proofs.Common.{◌≡◌, ◌∙◌, sym}
+use Rattle.std.proofs.Common.{◌∙◌, sym}
 use Rattle.pardo_text.proofs.Left.{left-cons}
 use Rattle.pardo_text.proofs.cursor.Cursor.next.Goals as goal
 

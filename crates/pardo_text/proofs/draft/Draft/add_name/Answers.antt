@@ -1,5 +1,4 @@
-use Rattle.std.proofs.Common.{◌≡◌, ap}
-use Rattle.pardo_text.specs.Drafts.{Draft}
+use Rattle.std.proofs.Common.{ap}
 use Rattle.pardo_text.specs.Inner.Drafts.{draft_of}
 use Rattle.pardo_text.specs.Names.{Names}
 use Rattle.pardo_text.proofs.Known.{names_in-insert}

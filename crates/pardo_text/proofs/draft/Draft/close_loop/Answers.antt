@@ -1,5 +1,5 @@
-use Rattle.std.proofs.Common.{◌≡◌, ◌∷◌, ◌++◌, [], ◌∙◌, sym, ap, subst}
-use Rattle.pardo_text.specs.Drafts.{Draft, without}
+use Rattle.std.proofs.Common.{◌≡◌, ◌∷◌, ◌∙◌, sym, ap}
+use Rattle.pardo_text.specs.Drafts.{without}
 use Rattle.pardo_text.specs.Inner.Drafts.{draft_of, loops_in}
 use Rattle.pardo_text.specs.Names.{Names}
 use Rattle.pardo_text.proofs.Known.{names_in-remove, loops_in-push}

@@ -1,4 +1,4 @@
-use Rattle.std.proofs.Common.{◌≡◌, ◌∙◌, sym}
+use Rattle.std.proofs.Common.{◌∙◌}
 use Rattle.pardo_text.proofs.Postfix.{nodes_of, constant_of-long}
 use Rattle.pardo_text.proofs.expression.Expr.constant.Goals as goal
 

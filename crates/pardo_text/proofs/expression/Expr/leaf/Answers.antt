@@ -1,5 +1,4 @@
-use Rattle.std.proofs.Common.{◌≡◌, ◌∙◌, subst, sym, ap}
-use Rattle.pardo_text.specs.Expression.{IsPostfix, tree_of}
+use Rattle.std.proofs.Common.{◌∙◌}
 use Rattle.pardo_text.proofs.Postfix.{leaf_is_postfix}
 use Rattle.pardo_text.proofs.expression.Expr.leaf.Goals as goal
 

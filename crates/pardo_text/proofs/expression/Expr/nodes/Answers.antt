@@ -1,4 +1,4 @@
-use Rattle.std.proofs.Common.{◌≡◌, ◌∙◌}
+use Rattle.std.proofs.Common.{◌∙◌}
 use Rattle.pardo_text.proofs.Postfix.{nodes_of}
 use Rattle.pardo_text.proofs.expression.Expr.nodes.Goals as goal
 

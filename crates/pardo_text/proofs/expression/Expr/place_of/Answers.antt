@@ -1,4 +1,3 @@
-use Rattle.std.proofs.Common.{◌≡◌}
 use Rattle.pardo_text.specs.Expression.{place}
 use Rattle.pardo_text.proofs.Postfix.{nodes_of, place_nodes, tree_from_nodes}
 use Rattle.pardo_text.proofs.expression.Expr.place_of.Goals as goal

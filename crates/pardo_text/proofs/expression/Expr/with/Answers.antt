@@ -1,4 +1,3 @@
-use Rattle.std.proofs.Common.{◌≡◌}
 use Rattle.pardo_text.specs.Expression.{apply}
 use Rattle.pardo_text.proofs.Postfix.{nodes_of, apply_nodes, tree_from_nodes}
 use Rattle.pardo_text.proofs.expression.Expr.with.Goals as goal
