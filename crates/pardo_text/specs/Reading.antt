@@ -64,7 +64,8 @@ on_line number (Ok value) = Ok value
 on_line number (Err kind) = Err (record { line = number; kind = kind })
 
 -- what follows, unless a line before has a fault
-abbrev pub and_then : {A B : Type 0} → Result A PardoFault → (A → Result B PardoFault) → Result B PardoFault
+abbrev pub and_then : {A B : Type 0} → Result A PardoFault → (A → Result B PardoFault) →
+    Result B PardoFault
 and_then (Ok value) next = next value
 and_then (Err fault) next = Err fault
 

@@ -74,7 +74,8 @@ impl<'t> Draft<'t> {
 
     /// One name more.
     pub(crate) fn add_name(&mut self, name: &'t [u8], thing: Named) -> Result<(), AllocError>
-        ensures { IfOk result (λ _. draft_of self.new ≡ with_name name.now thing (draft_of self.old)) }
+        ensures { IfOk result (λ _. draft_of self.new
+            ≡ with_name name.now thing (draft_of self.old)) }
     {
         self.names.insert(name, thing)?;
         Ok(())

@@ -4,7 +4,8 @@ ghost use Rattle.pardo_text.specs.Laws.{LimitsAre, LinesAreJoined, LinesAreCount
 ghost use Rattle.pardo_text.specs.Laws.{TokensAreLongest, LgIsLeast, ConstantsAreNumbers};
 ghost use Rattle.pardo_text.specs.Laws.{CommentsSayNothing, IndentationSaysNothing};
 ghost use Rattle.pardo_text.specs.Laws.{EmptyLinesSayNothing, LinesAreWhatTheySay};
-ghost use Rattle.pardo_text.specs.Laws.{ProgramsAreNested, FirstBadLine, AllLinesAreTaken, ProgramsAreLawful};
+ghost use Rattle.pardo_text.specs.Laws.{FirstBadLine, AllLinesAreTaken, ProgramsAreLawful};
+ghost use Rattle.pardo_text.specs.Laws.{ProgramsAreNested};
 
 /// The limits by their numbers.
 pub fn limits_are()
