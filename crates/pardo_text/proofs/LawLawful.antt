@@ -55,7 +55,8 @@ finished_kept stage.Code [] (first ∷ lines) d e f is = record {
   procs = (is.0.code e, is.0.procs);
   arrays = is.0.arrays;
   privates = is.0.privates;
-  lines = (omega (arith, ap length f), is.0.lines);
+  has_line = omega (arith, ap length f);
+  lines = is.0.lines;
   cells = is.1;
 }
 

@@ -4,7 +4,8 @@ use Rattle.std.proofs.Common.{ap, sym, ◌∙◌, append_assoc, append-nil}
 use Rattle.std.specs.Coded.{Coded, code_by, coded_list}
 use Rattle.pardo_text.specs.declared.operation.Op.{Op}
 use Rattle.pardo_text.specs.declared.expression.Node.{Node}
-use Rattle.pardo_text.specs.declared.expression.Node.TheVariants.{Number, Own, Loop, Private, Place, Apply}
+use Rattle.pardo_text.specs.declared.expression.Node.TheVariants.{Number, Own, Loop, Private}
+use Rattle.pardo_text.specs.declared.expression.Node.TheVariants.{Place, Apply}
 use Rattle.pardo_text.specs.contracts.expression.Node as node
 
 pub data Tree : Type 0 where
@@ -65,7 +66,8 @@ abbrev pub IsPostfix : List Node → Type 0
 IsPostfix nodes = (tree : Tree) × (nodes ≡ postfix tree)
 
 abbrev pub tree_of-postfix : (tree : Tree) → tree_of (postfix tree) ≡ tree
-tree_of-postfix tree = ap (λ nodes. tree_of nodes) (sym (append-nil (postfix tree))) ∙ ap first_of (trees_of-postfix tree [] [])
+tree_of-postfix tree = ap (λ nodes. tree_of nodes) (sym (append-nil (postfix tree)))
+    ∙ ap first_of (trees_of-postfix tree [] [])
 
 abbrev pub tree_code : Coded Tree
 tree_code = code_by (List Node) (coded_list node.the_row.coded) postfix tree_of tree_of-postfix

@@ -82,6 +82,7 @@ pub record IsProgram (program : ProgramData) : Type 0 where
   pub procs : (0 < program.procs) × (program.procs ≤ MAX_PROCS)
   pub arrays : AreArrays program.arrays 0
   pub privates : All (IsPrivate program.procs) program.privates
-  pub lines : (0 < length program.lines) × All (IsLine (bounds_of loops choices program)) program.lines
+  pub has_line : 0 < length program.lines
+  pub lines : All (IsLine (bounds_of loops choices program)) program.lines
   pub cells : shared_cells program.arrays
       + program.procs * (length program.privates + loops + choices) ≤ MAX_CELLS

@@ -57,8 +57,8 @@ ConstantsAreNumbers = (names : Names) (tokens : List Token) →
 
 -- a line that says the same, wherever it stands
 abbrev pub SayTheSame : List ℕ → List ℕ → Type 0
-SayTheSame line other =
-    (number : ℕ) (draft : Draft) → with_text_line number draft line ≡ with_text_line number draft other
+SayTheSame line other = (n : ℕ) (draft : Draft) →
+    with_text_line n draft line ≡ with_text_line n draft other
 
 -- A comment goes from its `;` to the end of the line.
 abbrev pub CommentsSayNothing : Type 0

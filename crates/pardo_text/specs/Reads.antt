@@ -4,6 +4,7 @@ use Rattle.pardo_text.specs.declared.fault.PardoKind.{PardoKind}
 
 -- what the next part says of the value of the part before it, unless that part has a fault
 infixl 10 ◌>>=◌
-abbrev pub ◌>>=◌ : {A B : Type 0} → Result A PardoKind → (A → Result B PardoKind) → Result B PardoKind
+abbrev pub ◌>>=◌ : {A B : Type 0} → Result A PardoKind → (A → Result B PardoKind) →
+    Result B PardoKind
 (Ok value) >>= next = next value
 (Err kind) >>= next = Err kind

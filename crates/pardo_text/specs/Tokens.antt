@@ -1,6 +1,7 @@
 -- The tokens of a line.
-use Rattle.std.specs.Prelude.{ℕ, zero, suc, ◌-◌, ◌^◌, min, Bool, ◌||◌, ◌==◌, if◌then◌else◌, List, [], ◌∷◌}
-use Rattle.std.specs.Prelude.{length, take, drop, not, unwrap_or, codes, Option, Some, None, Result, Ok, Err}
+use Rattle.std.specs.Prelude.{ℕ, zero, suc, ◌-◌, ◌^◌, min, Bool, not, ◌||◌, ◌==◌, if◌then◌else◌}
+use Rattle.std.specs.Prelude.{List, [], ◌∷◌, length, take, drop, codes, unwrap_or}
+use Rattle.std.specs.Prelude.{Option, Some, None, Result, Ok, Err}
 use Rattle.std.specs.Char.{is_ascii_digit, is_ascii_alphabetic, is_ascii_alphanumeric}
 use Rattle.std.specs.List.{position}
 use Rattle.std.specs.Str.{bytes_eq}
@@ -79,7 +80,8 @@ token_at (first ∷ rest) =
     let word = run_len is_of_name line in
     let digits = run_len is_ascii_digit line in
     if begins_name first then Some (word_by keywords (take word line), drop word line)
-    else (if is_ascii_digit first then Some (number (number_of (take digits line)), drop digits line)
+    else (if is_ascii_digit first
+    then Some (number (number_of (take digits line)), drop digits line)
     else mark_by marks line)
 
 abbrev pub onto : Token → Result (List Token) PardoKind → Result (List Token) PardoKind
