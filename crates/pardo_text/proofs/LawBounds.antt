@@ -1,0 +1,192 @@
+-- What is within bounds stays within greater ones.
+use Rattle.std.proofs.Common.{◌≡◌, ℕ, ◌^◌, ◌<◌, ◌≤◌, true, false, Some}
+use Rattle.std.proofs.Common.{IfOk, refl, sym, subst, ◌∙◌, arith}
+use Rattle.pardo_text.specs.declared.names.Named.{Named}
+use Rattle.pardo_text.specs.declared.names.Named.TheVariants as thing
+use Rattle.pardo_text.specs.declared.names.Scope.{Scope}
+use Rattle.pardo_text.specs.declared.names.Scope.TheVariants.{Start}
+use Rattle.pardo_text.specs.declared.operation.Op.{Op}
+use Rattle.pardo_text.specs.declared.operation.Op.TheVariants.{Div, Rem}
+use Rattle.pardo_text.specs.declared.statement.Line.{Line}
+use Rattle.pardo_text.specs.declared.statement.Statement.{Statement}
+use Rattle.pardo_text.specs.declared.statement.Statement.TheVariants as statement
+use Rattle.pardo_text.specs.declared.statement.Target.{Target}
+use Rattle.pardo_text.specs.declared.statement.Target.TheVariants as target
+use Rattle.pardo_text.specs.Expression.{Tree, number, own, loop, private, place, apply}
+use Rattle.pardo_text.specs.Expressions.{applied, joined, constant_of, is_zero}
+use Rattle.pardo_text.specs.Lawful.{Bounds, IsTree, IsTarget, IsStatement, IsLine}
+use Rattle.pardo_text.specs.Lines.{Word}
+use Rattle.pardo_text.specs.Names.{Names, admits, divides, tree_from}
+use Rattle.pardo_text.specs.Operations.{level_of, is_division, value_of}
+use Rattle.pardo_text.proofs.Ifs.{ok_if}
+use Rattle.pardo_text.proofs.LawTrees.{Keeps, IsBare}
+use Rattle.pardo_text.proofs.LawValues.{value_small}
+
+pub record Grows (b c : Bounds) : Type 0 where
+  pub arrays : b.arrays ≤ c.arrays
+  pub privates : b.privates ≤ c.privates
+  pub loops : b.loops ≤ c.loops
+  pub choices : b.choices ≤ c.choices
+  pub lines : b.lines ≤ c.lines
+
+-- what a name may stand for
+abbrev pub IsThing : Bounds → Named → Type 0
+IsThing b (thing.Constant value) = value < 2 ^ 32
+IsThing b thing.Own = Unit {0}
+IsThing b (thing.Scalar array) = array < b.arrays
+IsThing b (thing.Array array) = array < b.arrays
+IsThing b (thing.Private x) = x < b.privates
+IsThing b (thing.Loop nest) = nest < b.loops
+
+abbrev pub AreThings : Bounds → Names → Type 0
+AreThings b names = (word : Word) (found : Named) → names word ≡ Some found → IsThing b found
+
+module _ (b c : Bounds) (g : Grows b c) where
+  pub thing_more : (found : Named) → IsThing b found → IsThing c found
+  thing_more (thing.Constant value) is = is
+  thing_more thing.Own is = tt
+  thing_more (thing.Scalar array) is = omega (arith, is, g.arrays)
+  thing_more (thing.Array array) is = omega (arith, is, g.arrays)
+  thing_more (thing.Private x) is = omega (arith, is, g.privates)
+  thing_more (thing.Loop nest) is = omega (arith, is, g.loops)
+
+  pub things_more : (names : Names) → AreThings b names → AreThings c names
+  things_more names are word found e = thing_more found (are word found e)
+
+  pub tree_more : (tree : Tree) → IsTree b tree → IsTree c tree
+  tree_more (number value) is = is
+  tree_more own is = tt
+  tree_more (loop nest) is = omega (arith, is, g.loops)
+  tree_more (private x) is = omega (arith, is, g.privates)
+  tree_more (place array index) is = (omega (arith, is.0, g.arrays), tree_more index is.1)
+  tree_more (apply op first second) is =
+      (is.0, tree_more first is.1, tree_more second is.2)
+
+  target_more : (to : Target) → IsTarget b to → IsTarget c to
+  target_more (target.Private x) is = omega (arith, is, g.privates)
+  target_more (target.Array array index) is =
+      (omega (arith, is.0, g.arrays), tree_more index is.1)
+
+  pub statement_more : (said : Statement) → IsStatement b said → IsStatement c said
+  statement_more (statement.Assign to value) is = (target_more to is.0, tree_more value is.1)
+  statement_more (statement.If condition) is = tree_more condition is
+  statement_more statement.Else is = tt
+  statement_more statement.EndIf is = tt
+  statement_more (statement.While condition end) is =
+      (tree_more condition is.0, omega (arith, is.1, g.lines))
+  statement_more (statement.EndWhile begin) is = omega (arith, is, g.lines)
+  statement_more (statement.For nest first last up end) is = (
+    omega (arith, is.0, g.loops),
+    tree_more first is.1,
+    tree_more last is.2,
+    omega (arith, is.3, g.lines),
+  )
+  statement_more (statement.EndFor begin) is = omega (arith, is, g.lines)
+
+  pub line_more : (line : Line) → IsLine b line → IsLine c line
+  line_more line is = (statement_more line.statement is.0, omega (arith, is.1, g.choices))
+
+-- ---- expressions
+
+-- what an operation of two expressions makes
+pub applied_keeps : (P : Tree → Type 0) (op : Op) (first second : Tree) →
+    ((a b : ℕ) → first ≡ number a → second ≡ number b → P (number (value_of op a b))) →
+    P (apply op first second) → P (applied op first second)
+applied_keeps P op (number a) (number b) known both = known a b refl refl
+applied_keeps P op (number a) own known both = both
+applied_keeps P op (number a) (loop nest) known both = both
+applied_keeps P op (number a) (private x) known both = both
+applied_keeps P op (number a) (place array index) known both = both
+applied_keeps P op (number a) (apply other first second) known both = both
+applied_keeps P op own second known both = both
+applied_keeps P op (loop nest) second known both = both
+applied_keeps P op (private x) second known both = both
+applied_keeps P op (place array index) second known both = both
+applied_keeps P op (apply other first more) second known both = both
+
+as_number : (b : Bounds) (tree : Tree) (value : ℕ) → tree ≡ number value → IsTree b tree →
+    value < 2 ^ 32
+as_number b tree value e is = subst (IsTree b) e is
+
+applied_tree : (b : Bounds) (op : Op) (first second : Tree) → is_division op ≡ false →
+    IsTree b first → IsTree b second → IsTree b (applied op first second)
+applied_tree b op first second whole p q = applied_keeps (IsTree b) op first second
+    (λ x y e f. value_small op x y (as_number b first x e p) (as_number b second y f q)) (whole, p, q)
+
+before_no_division : (op : Op) → level_of op ≡ 0 → is_division op ≡ false
+unfolding level_of is_division
+before_no_division Div e = absurd (omega arith)
+before_no_division Rem e = absurd (omega arith)
+before_no_division op e = refl
+
+bare_tree : (b : Bounds) (found : Named) → IsBare found → IsThing b found →
+    IsTree b (tree_from found)
+bare_tree b (thing.Constant value) bare is = is
+bare_tree b thing.Own bare is = tt
+bare_tree b (thing.Scalar array) bare is = (is, omega arith)
+bare_tree b (thing.Array array) bare is = absurd bare
+bare_tree b (thing.Private x) bare is = is
+bare_tree b (thing.Loop nest) bare is = is
+
+joined_tree : (b : Bounds) (scope : Scope) (op : Op) (first second : Tree) →
+    divides scope ≡ false → IsTree b first → IsTree b second →
+    IfOk (joined scope op first second) (IsTree b)
+unfolding joined
+joined_tree b scope op first second code p q =
+    ok_if (is_division op) _ _ (IsTree b)
+    (λ _. ok_if (divides scope) _ _ (IsTree b)
+    (λ yet. absurd (let both : true ≡ false = sym yet ∙ code in cc)) (λ _. tt))
+    (λ whole. applied_tree b op first second whole p q)
+
+-- expressions in code
+pub keeps_tree : (b : Bounds) (names : Names) (scope : Scope) → divides scope ≡ false →
+    AreThings b names → Keeps names scope (IsTree b)
+keeps_tree b names scope code are = record {
+  numbers = λ value few. few;
+  bare = λ word found e f is. bare_tree b found is (are word found e);
+  placed = λ word array index e f p. (are word (thing.Array array) e, p);
+  joins = λ op first second p q. joined_tree b scope op first second code p q;
+  pairs = λ op first second e p q. applied_tree b op first second (before_no_division op e) p q;
+}
+
+-- ---- start values
+
+-- what an expression of a start value is made of
+abbrev pub IsStart : Tree → Type 0
+IsStart (number value) = value < 2 ^ 32
+IsStart own = Unit {0}
+IsStart (loop nest) = ⊥
+IsStart (private x) = ⊥
+IsStart (place array index) = ⊥
+IsStart (apply op first second) = IsStart first × IsStart second
+
+applied_start : (op : Op) (first second : Tree) → IsStart first → IsStart second →
+    IsStart (applied op first second)
+applied_start op first second p q = applied_keeps IsStart op first second
+    (λ x y e f. value_small op x y (subst IsStart e p) (subst IsStart f q)) (p, q)
+
+joined_start : (op : Op) (first second : Tree) → IsStart first → IsStart second →
+    IfOk (joined Start op first second) IsStart
+unfolding joined
+joined_start op first second p q =
+    let both = applied_start op first second p q in
+    ok_if (is_division op) _ _ IsStart
+    (λ _. ok_if (is_zero (constant_of second)) _ _ IsStart (λ _. tt) (λ _. both)) (λ _. both)
+
+bare_start : (b : Bounds) (found : Named) → admits Start found ≡ true → IsThing b found →
+    IsStart (tree_from found)
+bare_start b (thing.Constant value) e is = is
+bare_start b thing.Own e is = tt
+bare_start b (thing.Scalar array) e is = absurd (let no : false ≡ true = e in cc)
+bare_start b (thing.Array array) e is = absurd (let no : false ≡ true = e in cc)
+bare_start b (thing.Private x) e is = absurd (let no : false ≡ true = e in cc)
+bare_start b (thing.Loop nest) e is = absurd (let no : false ≡ true = e in cc)
+
+pub keeps_start : (b : Bounds) (names : Names) → AreThings b names → Keeps names Start IsStart
+keeps_start b names are = record {
+  numbers = λ value few. few;
+  bare = λ word found e f is. bare_start b found f (are word found e);
+  placed = λ word array index e f p. absurd (let no : false ≡ true = f in cc);
+  joins = joined_start;
+  pairs = λ op first second e p q. applied_start op first second p q;
+}

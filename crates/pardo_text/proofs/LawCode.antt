@@ -1,0 +1,315 @@
+-- Lines of code make lawful drafts of lawful ones.
+use Rattle.std.proofs.Common.{◌≡◌, ℕ, ◌+◌, ◌*◌, ◌<◌, ◌≤◌, Bool, false, List, [], ◌∷◌}
+use Rattle.std.proofs.Common.{length, max, Option, Some, None, IfOk, refl, sym, ap}
+use Rattle.std.proofs.Common.{subst, arith, is_some}
+use Rattle.std.specs.List.{All}
+use Rattle.std.proofs.lemmas.List.Elements.{All-head}
+use Rattle.pardo_text.specs.declared.block.Block.{Block}
+use Rattle.pardo_text.specs.declared.block.Block.TheVariants as block
+use Rattle.pardo_text.specs.declared.limits.TheConstants.{MAX_CELLS}
+use Rattle.pardo_text.specs.declared.names.Named.{Named}
+use Rattle.pardo_text.specs.declared.names.Named.TheVariants as thing
+use Rattle.pardo_text.specs.declared.names.Scope.{Scope}
+use Rattle.pardo_text.specs.declared.names.Scope.TheVariants.{Bound, Uniform, Any}
+use Rattle.pardo_text.specs.declared.statement.Statement.{Statement}
+use Rattle.pardo_text.specs.declared.statement.Statement.TheVariants as statement
+use Rattle.pardo_text.specs.declared.statement.Target.{Target}
+use Rattle.pardo_text.specs.declared.symbol.Symbol.TheVariants as the
+use Rattle.pardo_text.specs.Blocks.{depth_of}
+use Rattle.pardo_text.specs.Code.{whole_at, place_of, bare_target, target_of, assignment_at, if_line}
+use Rattle.pardo_text.specs.Code.{while_line, way_at, for_line, else_of, end_of, statement_line}
+use Rattle.pardo_text.specs.Drafts.{Draft, cells_of, fitting, with_line, with_block, with_loop}
+use Rattle.pardo_text.specs.Drafts.{without, with_end}
+use Rattle.pardo_text.specs.Expression.{Tree}
+use Rattle.pardo_text.specs.Expressions.{new_name, after_assign, after_equals, after_close_index}
+use Rattle.pardo_text.specs.Expressions.{indexed, expression_at}
+use Rattle.pardo_text.specs.Lawful.{Bounds, IsTree, IsTarget, IsStatement, masks_of}
+use Rattle.pardo_text.specs.Lines.{Word}
+use Rattle.pardo_text.specs.Names.{Names, divides}
+use Rattle.pardo_text.specs.Program.{shared_cells}
+use Rattle.pardo_text.specs.Tokens.{Token, name, symbol}
+use Rattle.pardo_text.proofs.Ifs.{ok_bind, ok_after, ok_if}
+use Rattle.pardo_text.proofs.LawBounds.{Grows, AreThings, keeps_tree, tree_more, statement_more}
+use Rattle.pardo_text.proofs.LawDrafts.{IsDraft, IsLawful, IsBlock, bounds_in, fitting_kept}
+use Rattle.pardo_text.proofs.LawDrafts.{more_kept, line_kept, block_kept, loop_kept, popped_kept}
+use Rattle.pardo_text.proofs.LawDrafts.{without_kept, end_kept, ended_at_length}
+use Rattle.pardo_text.proofs.LawHeader.{ended_kept, one_longer}
+use Rattle.pardo_text.proofs.LawTrees.{expression_kept}
+
+-- ---- expressions
+
+read_kept : (b : Bounds) (names : Names) (scope : Scope) (tokens : List Token) →
+    divides scope ≡ false → AreThings b names →
+    IfOk (expression_at names scope tokens) (λ read. IsTree b read.0)
+read_kept b names scope tokens code are =
+    expression_kept names scope (IsTree b) (keeps_tree b names scope code are) tokens
+
+whole_kept : (b : Bounds) (names : Names) (scope : Scope) (tokens : List Token) →
+    divides scope ≡ false → AreThings b names → IfOk (whole_at names scope tokens) (IsTree b)
+unfolding whole_at
+whole_kept b names scope tokens code are =
+    ok_bind (expression_at names scope tokens) _ (λ read. IsTree b read.0) (IsTree b)
+    (read_kept b names scope tokens code are) (λ tree p. ended_kept (IsTree b) tree.0 tree.1 p)
+
+-- ---- assignments
+
+place_kept : (b : Bounds) (names : Names) (array : ℕ) (inside : Option (List Token)) →
+    array < b.arrays → AreThings b names →
+    IfOk (place_of names array inside) (λ read. IsTarget b read.0)
+place_kept b names array None few are = tt
+place_kept b names array (Some inside) few are =
+    ok_bind (expression_at names Any inside) _ (λ read. IsTree b read.0)
+    (λ read. IsTarget b read.0) (read_kept b names Any inside refl are)
+    (λ index p. ok_after (after_close_index index.1) _ (λ read. IsTarget b read.0) (λ rest. (few, p)))
+
+bare_kept : (b : Bounds) (to : Target) (tokens : List Token) → IsTarget b to →
+    IfOk (bare_target to tokens) (λ read. IsTarget b read.0)
+bare_kept b to tokens is =
+    ok_if (is_some (indexed tokens)) _ _ (λ read. IsTarget b read.0) (λ _. tt) (λ _. is)
+
+target_kept : (b : Bounds) (names : Names) (word : Word) (found : Option Named)
+    (tokens : List Token) → names word ≡ found → AreThings b names →
+    IfOk (target_of names found tokens) (λ read. IsTarget b read.0)
+target_kept b names word None tokens e are = tt
+target_kept b names word (Some (thing.Array array)) tokens e are =
+    place_kept b names array (indexed tokens) (are word (thing.Array array) e) are
+target_kept b names word (Some (thing.Scalar array)) tokens e are =
+    bare_kept b _ tokens (are word (thing.Scalar array) e, omega arith)
+target_kept b names word (Some (thing.Private x)) tokens e are =
+    bare_kept b _ tokens (are word (thing.Private x) e)
+target_kept b names word (Some thing.Own) tokens e are = tt
+target_kept b names word (Some (thing.Constant value)) tokens e are = tt
+target_kept b names word (Some (thing.Loop nest)) tokens e are = tt
+
+-- an assignment writes no mask
+abbrev IsAssignment : Bounds → Statement → Type 0
+IsAssignment b said = IsStatement b said × (masks_of said ≡ 0)
+
+assignment_kept : (b : Bounds) (names : Names) (word : Word) (tokens : List Token) →
+    AreThings b names → IfOk (assignment_at names word tokens) (IsAssignment b)
+unfolding assignment_at
+assignment_kept b names word tokens are =
+    ok_bind (target_of names (names word) tokens) _ (λ read. IsTarget b read.0) (IsAssignment b)
+    (target_kept b names word (names word) tokens refl are) (λ to p.
+    ok_after (after_assign to.1) _ (IsAssignment b) (λ after.
+    ok_bind (whole_at names Any after) _ (IsTree b) (IsAssignment b)
+    (whole_kept b names Any after refl are) (λ value q. ((p, q), refl))))
+
+-- ---- lines in which no block is opened
+
+-- a draft with more lines, and all else as before
+line_grows : (n : ℕ) (said : Statement) (d : Draft) → Grows (bounds_in d) (bounds_in (with_line n said d))
+line_grows n said d = record {
+  arrays = omega arith;
+  privates = omega arith;
+  loops = omega arith;
+  choices = omega arith;
+  lines = omega (arith, one_longer d.lines (record { statement = said; depth = depth_of d.blocks; number = n }));
+}
+
+-- one line more that is lawful already before it
+plain_line : (n : ℕ) (said : Statement) (d : Draft) → IsStatement (bounds_in d) said →
+    masks_of said ≡ 0 → IsLawful d → IsLawful (with_line n said d)
+plain_line n said d is_said few is =
+    let next = with_line n said d in
+    let grows = line_grows n said d in (
+      line_kept (bounds_in next) n said d
+          (statement_more (bounds_in d) (bounds_in next) grows said is_said)
+          (omega (arith, is.0.depth, few))
+          (more_kept (bounds_in d) (bounds_in next) d grows is.0),
+      is.1,
+    )
+
+-- ---- lines that open a block
+
+opened_line : (n : ℕ) (said : Statement) (opened : Block) (d : Draft) → 0 < d.procs →
+    IsStatement (bounds_in (with_block opened (with_line n said d))) said →
+    depth_of d.blocks + masks_of said ≤ max d.most_choices (depth_of (opened ∷ d.blocks)) →
+    ((m : ℕ) → length d.lines < m → IsBlock m opened) →
+    IsDraft (bounds_in d) d →
+    IsDraft (bounds_in (with_block opened (with_line n said d))) (with_block opened (with_line n said d))
+opened_line n said opened d some is_said few begins is =
+    let lined = with_line n said d in
+    let next = with_block opened lined in
+    let longer = one_longer d.lines (record { statement = said; depth = depth_of d.blocks; number = n }) in
+    block_kept (bounds_in next) opened lined some (begins (length lined.lines) longer)
+    (line_kept (bounds_in next) n said d is_said few (more_kept (bounds_in d) (bounds_in next) d (record {
+      arrays = omega arith;
+      privates = omega arith;
+      loops = omega arith;
+      choices = omega arith;
+      lines = omega (arith, longer);
+    }) is))
+
+if_kept : (n : ℕ) (d : Draft) (tokens : List Token) → 0 < d.procs → IsLawful d →
+    IfOk (if_line n d tokens) IsLawful
+unfolding if_line
+if_kept n d tokens some is =
+    ok_bind (whole_at d.names Any tokens) _ (IsTree (bounds_in d)) IsLawful
+    (whole_kept (bounds_in d) d.names Any tokens refl is.0.names) (λ condition p.
+    let lined = with_line n (statement.If condition) d in
+    let next = with_block block.If lined in
+    fitting_kept next (opened_line n (statement.If condition) block.If d some
+    (tree_more (bounds_in d) (bounds_in next) (record {
+      arrays = omega arith;
+      privates = omega arith;
+      loops = omega arith;
+      choices = omega arith;
+      lines = omega (arith, one_longer d.lines (record { statement = statement.If condition; depth = depth_of d.blocks; number = n }));
+    }) condition p) (omega arith) (λ m lt. tt) is.0))
+
+-- the cells of a draft in which no more `if`s were open than before
+same_cells : (d : Draft) (depth : ℕ) → depth ≤ d.most_choices → cells_of d ≤ MAX_CELLS →
+    shared_cells d.arrays + d.procs * (length d.privates + d.most_loops + max d.most_choices depth)
+    ≤ MAX_CELLS
+same_cells d depth few fit = let same : max d.most_choices depth ≡ d.most_choices = omega arith in
+    subst (λ choices. shared_cells d.arrays + d.procs * (length d.privates + d.most_loops + choices)
+    ≤ MAX_CELLS) (sym same) fit
+
+while_kept : (n : ℕ) (d : Draft) (tokens : List Token) → 0 < d.procs → IsLawful d →
+    IfOk (while_line n d tokens) IsLawful
+unfolding while_line
+while_kept n d tokens some is =
+    ok_bind (whole_at d.names Uniform tokens) _ (IsTree (bounds_in d)) IsLawful
+    (whole_kept (bounds_in d) d.names Uniform tokens refl is.0.names) (λ condition p.
+    let said : Statement = statement.While condition 0 in
+    let opened : Block = block.While (length d.lines) in
+    let longer = one_longer d.lines (record { statement = said; depth = depth_of d.blocks; number = n }) in
+    let next = with_block opened (with_line n said d) in (
+      opened_line n said opened d some (
+        tree_more (bounds_in d) (bounds_in next) (record {
+          arrays = omega arith;
+          privates = omega arith;
+          loops = omega arith;
+          choices = omega arith;
+          lines = omega (arith, longer);
+        }) condition p,
+        omega (arith, longer),
+      )
+          (omega (arith, is.0.depth)) (λ m lt. lt) is.0,
+      same_cells d (depth_of d.blocks) is.0.depth is.1,
+    ))
+
+for_made : (n : ℕ) (d : Draft) (word : Word) (first last : Tree) (up : Bool) → 0 < d.procs →
+    IsTree (bounds_in d) first → IsTree (bounds_in d) last → IsLawful d →
+    IfOk (fitting (with_loop word (with_block (block.For (length d.lines))
+    (with_line n (statement.For (length d.loops) first last up 0) d)))) IsLawful
+for_made n d word first last up some p q is =
+    let said : Statement = statement.For (length d.loops) first last up 0 in
+    let opened : Block = block.For (length d.lines) in
+    let longer = one_longer d.lines (record { statement = said; depth = depth_of d.blocks; number = n }) in
+    let lined = with_line n said d in
+    let deeper = with_block opened lined in
+    let next = with_loop word deeper in
+    let grows : Grows (bounds_in d) (bounds_in next) = record {
+      arrays = omega arith;
+      privates = omega arith;
+      loops = omega arith;
+      choices = omega arith;
+      lines = omega (arith, longer);
+    } in
+    let tree = tree_more (bounds_in d) (bounds_in next) grows in
+    fitting_kept next (loop_kept (bounds_in next) word deeper some (omega arith)
+    (block_kept (bounds_in next) opened lined some longer
+    (line_kept (bounds_in next) n said d
+    (omega arith, tree first p, tree last q, omega (arith, longer))
+    (omega (arith, is.0.depth)) (more_kept (bounds_in d) (bounds_in next) d grows is.0))))
+
+for_kept : (n : ℕ) (d : Draft) (tokens : List Token) → 0 < d.procs → IsLawful d →
+    IfOk (for_line n d tokens) IsLawful
+unfolding for_line
+for_kept n d tokens some is =
+    ok_after (new_name d.names tokens) _ IsLawful (λ word.
+    ok_after (after_equals word.1) _ IsLawful (λ after.
+    ok_bind (expression_at d.names Bound after) _ (λ read. IsTree (bounds_in d) read.0) IsLawful
+    (read_kept (bounds_in d) d.names Bound after refl is.0.names) (λ first p.
+    ok_after (way_at first.1) _ IsLawful (λ way.
+    ok_bind (whole_at d.names Bound way.1) _ (IsTree (bounds_in d)) IsLawful
+    (whole_kept (bounds_in d) d.names Bound way.1 refl is.0.names) (λ last q.
+    for_made n d word.0 first.0 last way.0 some p q is)))))
+
+-- ---- lines that close one
+
+else_kept : (n : ℕ) (d : Draft) (blocks : List Block) → d.blocks ≡ blocks → 0 < d.procs →
+    IsLawful d → IfOk (else_of n d blocks) IsLawful
+else_kept n d [] e some is = tt
+else_kept n d (block.Else ∷ blocks) e some is = tt
+else_kept n d (block.While begin ∷ blocks) e some is = tt
+else_kept n d (block.For begin ∷ blocks) e some is = tt
+else_kept n d (block.If ∷ blocks) e some is =
+    let less : Draft = record d { blocks = blocks } in
+    let deep : depth_of blocks + 1 ≤ d.most_choices = omega (arith, ap depth_of e, is.0.depth) in (
+      opened_line n statement.Else block.Else less some tt (omega (arith, deep)) (λ m lt. tt)
+          (popped_kept (bounds_in d) block.If blocks d e is.0),
+      same_cells d (depth_of blocks + 1) deep is.1,
+    )
+
+-- an end in which the first line of its loop is told
+loop_ended : (n begin : ℕ) (said : Statement) (d : Draft) →
+    ((b : Bounds) → length d.lines < b.lines → IsStatement b said) → masks_of said ≡ 0 →
+    IsLawful d → IsLawful (with_line n said (with_end begin d))
+loop_ended n begin said d is_said none is =
+    let told = with_end begin d in
+    let next = with_line n said told in
+    let same = ended_at_length begin d.lines in
+    let longer = one_longer told.lines (record { statement = said; depth = depth_of told.blocks; number = n }) in (
+      line_kept (bounds_in next) n said told (is_said (bounds_in next) (omega (arith, longer, same)))
+          (omega (arith, is.0.depth, none))
+          (end_kept (bounds_in next) begin d (omega (arith, longer, same))
+          (more_kept (bounds_in d) (bounds_in next) d (record {
+            arrays = omega arith;
+            privates = omega arith;
+            loops = omega arith;
+            choices = omega arith;
+            lines = omega (arith, longer, same);
+          }) is.0)),
+      is.1,
+    )
+
+ended_for : (n begin : ℕ) (d : Draft) (loops : List Word) → length loops ≤ length d.loops →
+    begin < length d.lines → IsLawful d →
+    IsLawful (with_line n (statement.EndFor begin) (with_end begin (without loops d)))
+ended_for n begin d [] few begun is =
+    loop_ended n begin (statement.EndFor begin) d (λ b more. omega arith) refl is
+ended_for n begin d (word ∷ loops) few begun is =
+    loop_ended n begin (statement.EndFor begin) (without (word ∷ loops) d) (λ b more. omega arith)
+    refl (without_kept (bounds_in d) (word ∷ loops) d few is.0, is.1)
+
+end_line_kept : (n : ℕ) (d : Draft) (blocks : List Block) → d.blocks ≡ blocks → IsLawful d →
+    IfOk (end_of n d blocks) IsLawful
+end_line_kept n d [] e is = tt
+end_line_kept n d (block.If ∷ blocks) e is =
+    plain_line n statement.EndIf (record d { blocks = blocks }) tt refl
+    (popped_kept (bounds_in d) block.If blocks d e is.0, is.1)
+end_line_kept n d (block.Else ∷ blocks) e is =
+    plain_line n statement.EndIf (record d { blocks = blocks }) tt refl
+    (popped_kept (bounds_in d) block.Else blocks d e is.0, is.1)
+end_line_kept n d (block.While begin ∷ blocks) e is =
+    let begun : begin < length d.lines =
+    All-head (IsBlock (length d.lines)) (block.While begin) blocks
+    (subst (All (IsBlock (length d.lines))) e is.0.blocks) in
+    loop_ended n begin (statement.EndWhile begin) (record d { blocks = blocks })
+    (λ b more. omega arith) refl (popped_kept (bounds_in d) (block.While begin) blocks d e is.0, is.1)
+end_line_kept n d (block.For begin ∷ blocks) e is =
+    let begun : begin < length d.lines =
+    All-head (IsBlock (length d.lines)) (block.For begin) blocks
+    (subst (All (IsBlock (length d.lines))) e is.0.blocks) in
+    let less : Draft = record d { blocks = blocks } in
+    ended_for n begin less d.loops (omega arith) begun
+    (popped_kept (bounds_in d) (block.For begin) blocks d e is.0, is.1)
+
+-- ---- any line of code
+
+pub statement_kept : (n : ℕ) (d : Draft) (tokens : List Token) → 0 < d.procs → IsLawful d →
+    IfOk (statement_line n d tokens) IsLawful
+unfolding statement_line
+statement_kept n d (symbol the.If ∷ tokens) some is = if_kept n d tokens some is
+statement_kept n d (symbol the.While ∷ tokens) some is = while_kept n d tokens some is
+statement_kept n d (symbol the.For ∷ tokens) some is = for_kept n d tokens some is
+statement_kept n d (symbol the.Else ∷ []) some is = else_kept n d d.blocks refl some is
+statement_kept n d (symbol the.End ∷ []) some is = end_line_kept n d d.blocks refl is
+statement_kept n d (name word ∷ tokens) some is =
+    ok_bind (assignment_at d.names word tokens) _ (IsAssignment (bounds_in d)) IsLawful
+    (assignment_kept (bounds_in d) d.names word tokens is.0.names)
+    (λ said p. plain_line n said d p.0 p.1 is)
+statement_kept n d _ some is = tt

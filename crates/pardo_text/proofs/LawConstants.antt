@@ -1,0 +1,52 @@
+-- Where a number must be known at once, an expression is a number.
+use Rattle.std.proofs.Common.{◌≡◌, ℕ, true, false, IfOk, refl, ap, ◌∙◌}
+use Rattle.pardo_text.specs.declared.names.Named.{Named}
+use Rattle.pardo_text.specs.declared.names.Named.TheVariants as thing
+use Rattle.pardo_text.specs.declared.names.Scope.TheVariants.{Fixed}
+use Rattle.pardo_text.specs.declared.operation.Op.{Op}
+use Rattle.pardo_text.specs.Expression.{Tree, number}
+use Rattle.pardo_text.specs.Expressions.{applied, joined, constant_of, is_zero}
+use Rattle.pardo_text.specs.Laws.{ConstantsAreNumbers}
+use Rattle.pardo_text.specs.Names.{Names, admits, tree_from}
+use Rattle.pardo_text.specs.Operations.{is_division, value_of}
+use Rattle.pardo_text.proofs.Ifs.{ok_if}
+use Rattle.pardo_text.proofs.LawTrees.{Keeps, expression_kept}
+
+abbrev IsNumber : Tree → Type 0
+IsNumber tree = (value : ℕ) × (tree ≡ number value)
+
+applied_number : (op : Op) (first second : Tree) → IsNumber first → IsNumber second →
+    IsNumber (applied op first second)
+applied_number op first second a b = (
+  value_of op a.0 b.0,
+  ap (λ tree. applied op tree second) a.1
+      ∙ ap (λ tree. applied op (number a.0) tree) b.1,
+)
+
+joined_number : (op : Op) (first second : Tree) → IsNumber first → IsNumber second →
+    IfOk (joined Fixed op first second) IsNumber
+unfolding joined
+joined_number op first second a b =
+    let both = applied_number op first second a b in
+    ok_if (is_division op) _ _ IsNumber
+    (λ _. ok_if (is_zero (constant_of second)) _ _ IsNumber (λ _. tt) (λ _. both)) (λ _. both)
+
+bare_number : (found : Named) → admits Fixed found ≡ true → IsNumber (tree_from found)
+bare_number (thing.Constant value) e = (value, refl)
+bare_number thing.Own e = absurd (let none : false ≡ true = e in cc)
+bare_number (thing.Scalar array) e = absurd (let none : false ≡ true = e in cc)
+bare_number (thing.Array array) e = absurd (let none : false ≡ true = e in cc)
+bare_number (thing.Private x) e = absurd (let none : false ≡ true = e in cc)
+bare_number (thing.Loop nest) e = absurd (let none : false ≡ true = e in cc)
+
+keeps_number : (names : Names) → Keeps names Fixed IsNumber
+keeps_number names = record {
+  numbers = λ value few. (value, refl);
+  bare = λ word found e f is. bare_number found f;
+  placed = λ word array index e f p. absurd (let none : false ≡ true = f in cc);
+  joins = joined_number;
+  pairs = λ op first second e p q. applied_number op first second p q;
+}
+
+pub constants_are_numbers : ConstantsAreNumbers
+constants_are_numbers names tokens = expression_kept names Fixed IsNumber (keeps_number names) tokens

@@ -1,0 +1,39 @@
+use Rattle.std.proofs.Common.{◌+◌, ◌*◌, ◌-◌, ◌≡◌}
+use Rattle.pardo_text.specs.Expressions.{chained, turns_at, level_at, operand_at, within_at}
+use Rattle.pardo_text.specs.Inner.Names.{names_in}
+use Rattle.pardo_text.proofs.parse.+operand.Given as goal
+
+-- Each bracket that may still be opened counts more than all that happens within one.
+abbrev pub decreases-within : goal.decreases-within
+decreases-within l = 20 * l.around.brackets
+
+abbrev pub decreases-bracketed : goal.decreases-bracketed
+decreases-bracketed l = 20 * l.around.brackets + 1
+
+abbrev pub decreases-pair : goal.decreases-pair
+decreases-pair l = 20 * l.around.brackets + 1
+
+abbrev pub decreases-logarithm : goal.decreases-logarithm
+decreases-logarithm l = 20 * l.around.brackets + 1
+
+abbrev pub decreases-used : goal.decreases-used
+decreases-used l = 20 * l.around.brackets + 1
+
+abbrev pub decreases-named : goal.decreases-named
+decreases-named l = 20 * l.around.brackets + 2
+
+abbrev pub decreases-operand : goal.decreases-operand
+decreases-operand l = 20 * l.around.brackets + 3
+
+abbrev pub decreases-leveled : goal.decreases-leveled
+decreases-leveled l = 20 * l.around.brackets + 4 + 2 * l.level
+
+abbrev pub decreases-chain : goal.decreases-chain
+decreases-chain l = 20 * l.around.brackets + 3 + 2 * l.level
+
+abbrev pub invariant-chain-loop-turn : goal.invariant-chain-loop-turn
+invariant-chain-loop-turn l =
+    let operand = level_at (operand_at (names_in l.around.names.now)
+    (within_at (names_in l.around.names.now) l.around.brackets)) (l.level - 1) l.around.scope in
+    chained operand l.around.scope l.level (turns_at l.level l.initial.tokens) l.initial.expr l.initial.tokens
+    ≡ chained operand l.around.scope l.level (l._turn-end - l._turn) l.expr l.tokens

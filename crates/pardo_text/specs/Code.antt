@@ -1,0 +1,128 @@
+-- Lines of code.
+use Rattle.std.specs.Prelude.{ℕ, Bool, true, false, if◌then◌else◌, List, [], ◌∷◌, length}
+use Rattle.std.specs.Prelude.{is_some, Option, Some, None, Result, Ok, Err}
+use Rattle.pardo_text.specs.declared.fault.PardoKind.{PardoKind}
+use Rattle.pardo_text.specs.declared.fault.PardoKind.TheVariants.{BadLine, UnknownName, WrongKind}
+use Rattle.pardo_text.specs.declared.fault.PardoKind.TheVariants.{BadBlock}
+use Rattle.pardo_text.specs.declared.names.Named.{Named}
+use Rattle.pardo_text.specs.declared.names.Named.TheVariants as thing
+use Rattle.pardo_text.specs.declared.names.Scope.{Scope}
+use Rattle.pardo_text.specs.declared.names.Scope.TheVariants.{Bound, Uniform, Any}
+use Rattle.pardo_text.specs.declared.block.Block.{Block}
+use Rattle.pardo_text.specs.declared.block.Block.TheVariants as block
+use Rattle.pardo_text.specs.declared.statement.Statement.{Statement}
+use Rattle.pardo_text.specs.declared.statement.Statement.TheVariants as statement
+use Rattle.pardo_text.specs.declared.statement.Target.{Target}
+use Rattle.pardo_text.specs.declared.statement.Target.TheVariants as target
+use Rattle.pardo_text.specs.declared.symbol.Symbol.TheVariants as the
+use Rattle.pardo_text.specs.Drafts.{Draft, fitting, with_line, with_block, with_loop, without}
+use Rattle.pardo_text.specs.Drafts.{with_end}
+use Rattle.pardo_text.specs.Expression.{Tree, number as constant}
+use Rattle.pardo_text.specs.Expressions.{Read, after_assign, after_close_index, after_equals}
+use Rattle.pardo_text.specs.Expressions.{indexed, ended, new_name, expression_at}
+use Rattle.pardo_text.specs.Lines.{Word}
+use Rattle.pardo_text.specs.Names.{Names}
+use Rattle.pardo_text.specs.Reads.{◌>>=◌}
+use Rattle.pardo_text.specs.Tokens.{Token, name, symbol}
+
+-- an expression to the end of the line
+unfoldable pub whole_at : Names → Scope → List Token → Result Tree PardoKind
+whole_at names scope tokens = do
+  tree ← expression_at names scope tokens
+  ended tree.0 tree.1
+
+-- ---- assignments
+
+abbrev pub place_of : Names → ℕ → Option (List Token) → Read Target
+place_of names array None = Err WrongKind
+place_of names array (Some inside) = do
+  index ← expression_at names Any inside
+  rest ← after_close_index index.1
+  Ok (target.Array array index.0, rest)
+
+-- a target without an index
+abbrev pub bare_target : Target → List Token → Read Target
+bare_target place tokens = if is_some (indexed tokens) then Err WrongKind else Ok (place, tokens)
+
+-- what an assignment to this name goes to
+abbrev pub target_of : Names → Option Named → List Token → Read Target
+target_of names None tokens = Err UnknownName
+target_of names (Some (thing.Array array)) tokens = place_of names array (indexed tokens)
+target_of names (Some (thing.Scalar array)) tokens =
+    bare_target (target.Array array (constant 0)) tokens
+target_of names (Some (thing.Private x)) tokens = bare_target (target.Private x) tokens
+target_of names (Some other) tokens = Err WrongKind
+
+-- what follows the name of a target
+unfoldable pub assignment_at : Names → Word → List Token → Result Statement PardoKind
+assignment_at names word tokens = do
+  place ← target_of names (names word) tokens
+  after ← after_assign place.1
+  value ← whole_at names Any after
+  Ok (statement.Assign place.0 value)
+
+-- ---- lines that open a block
+
+-- what follows `if`
+unfoldable pub if_line : ℕ → Draft → List Token → Result Draft PardoKind
+if_line number draft tokens = do
+  condition ← whole_at draft.names Any tokens
+  fitting (with_block block.If (with_line number (statement.If condition) draft))
+
+-- what follows `while`; where the end is stands in the line when the end is read
+unfoldable pub while_line : ℕ → Draft → List Token → Result Draft PardoKind
+while_line number draft tokens = do
+  condition ← whole_at draft.names Uniform tokens
+  Ok (with_block (block.While (length draft.lines))
+      (with_line number (statement.While condition 0) draft))
+
+-- whether a loop counts up
+abbrev pub way_at : List Token → Read Bool
+way_at (symbol the.To ∷ rest) = Ok (true, rest)
+way_at (symbol the.Downto ∷ rest) = Ok (false, rest)
+way_at _ = Err BadLine
+
+-- what follows `for`
+unfoldable pub for_line : ℕ → Draft → List Token → Result Draft PardoKind
+for_line number draft tokens = do
+  word ← new_name draft.names tokens
+  after ← after_equals word.1
+  first ← expression_at draft.names Bound after
+  way ← way_at first.1
+  last ← whole_at draft.names Bound way.1
+  fitting (with_loop word.0 (with_block (block.For (length draft.lines))
+      (with_line number (statement.For (length draft.loops) first.0 last way.0 0) draft)))
+
+-- ---- lines that close one
+
+-- an `else` belongs to the innermost block, which is an `if`
+abbrev pub else_of : ℕ → Draft → List Block → Result Draft PardoKind
+else_of number draft (block.If ∷ blocks) =
+    Ok (with_block block.Else (with_line number statement.Else (record draft { blocks = blocks })))
+else_of number draft _ = Err BadBlock
+
+-- an `end` belongs to the innermost block
+abbrev pub end_of : ℕ → Draft → List Block → Result Draft PardoKind
+end_of number draft [] = Err BadBlock
+end_of number draft (block.While begin ∷ blocks) =
+    Ok (with_line number (statement.EndWhile begin)
+    (with_end begin (record draft { blocks = blocks })))
+end_of number draft (block.For begin ∷ blocks) =
+    Ok (with_line number (statement.EndFor begin)
+    (with_end begin (without draft.loops (record draft { blocks = blocks }))))
+end_of number draft (choice ∷ blocks) =
+    Ok (with_line number statement.EndIf (record draft { blocks = blocks }))
+
+-- ---- any line
+
+-- a line of this number
+unfoldable pub statement_line : ℕ → Draft → List Token → Result Draft PardoKind
+statement_line number draft (symbol the.If ∷ tokens) = if_line number draft tokens
+statement_line number draft (symbol the.While ∷ tokens) = while_line number draft tokens
+statement_line number draft (symbol the.For ∷ tokens) = for_line number draft tokens
+statement_line number draft (symbol the.Else ∷ []) = else_of number draft draft.blocks
+statement_line number draft (symbol the.End ∷ []) = end_of number draft draft.blocks
+statement_line number draft (name word ∷ tokens) = do
+  said ← assignment_at draft.names word tokens
+  Ok (with_line number said draft)
+statement_line number draft _ = Err BadLine

@@ -1,0 +1,109 @@
+-- Header lines.
+use Rattle.std.specs.Prelude.{ℕ, ◌==◌, if◌then◌else◌, List, [], ◌∷◌}
+use Rattle.std.specs.Prelude.{codes, is_none, unwrap_or, Option, Some, None, Result, Ok, Err}
+use Rattle.std.specs.Str.{bytes_eq}
+use Rattle.pardo_text.specs.declared.fault.PardoKind.{PardoKind}
+use Rattle.pardo_text.specs.declared.fault.PardoKind.TheVariants.{BadHeader}
+use Rattle.pardo_text.specs.declared.limits.TheConstants.{MAX_CELLS, MAX_PROCS}
+use Rattle.pardo_text.specs.declared.names.Named.TheVariants as thing
+use Rattle.pardo_text.specs.declared.names.Scope.TheVariants.{Start}
+use Rattle.pardo_text.specs.declared.program.Rule.{Rule}
+use Rattle.pardo_text.specs.declared.program.Rule.TheVariants.{Common, Priority, Crew}
+use Rattle.pardo_text.specs.declared.draft.Stage.TheVariants as stage
+use Rattle.pardo_text.specs.declared.symbol.Symbol.TheVariants as the
+use Rattle.pardo_text.specs.Drafts.{Draft, with_name, with_array, with_private, fitting}
+use Rattle.pardo_text.specs.Expression.{Tree, number}
+use Rattle.pardo_text.specs.Expressions.{Read, after_close_index, after_equals, after_less}
+use Rattle.pardo_text.specs.Expressions.{indexed, ended, new_name, expression_at, fixed_at}
+use Rattle.pardo_text.specs.Lines.{Word}
+use Rattle.pardo_text.specs.Names.{Names}
+use Rattle.pardo_text.specs.Reads.{◌>>=◌}
+use Rattle.pardo_text.specs.Tokens.{Token, name, number as literal, symbol}
+use Rattle.pardo_text.specs.Values.{most, values_for, start_at}
+
+-- `pardo 1`
+unfoldable pub version_line : Draft → List Token → Result Draft PardoKind
+version_line draft (symbol the.Pardo ∷ literal version ∷ []) =
+    if version == 1 then Ok (record draft { stage = stage.Rule }) else Err BadHeader
+version_line draft _ = Err BadHeader
+
+abbrev pub rule_named : Word → Result Rule PardoKind
+rule_named word =
+    if bytes_eq word (codes "common") then Ok Common
+    else (if bytes_eq word (codes "priority") then Ok Priority
+    else (if bytes_eq word (codes "crew") then Ok Crew else Err BadHeader))
+
+-- `rule NAME`
+unfoldable pub rule_line : Draft → List Token → Result Draft PardoKind
+rule_line draft (symbol the.Rule ∷ name word ∷ []) = do
+  rule ← rule_named word
+  Ok (record draft { stage = stage.Header; rule = rule })
+rule_line draft _ = Err BadHeader
+
+-- what follows `const`
+unfoldable pub const_line : Draft → List Token → Result Draft PardoKind
+const_line draft tokens = do
+  word ← new_name draft.names tokens
+  after ← after_equals word.1
+  value ← fixed_at draft.names 0 most after
+  ended (with_name word.0 (thing.Constant value.0) draft) value.1
+
+-- what follows `procs`, which stands once
+unfoldable pub procs_line : Draft → List Token → Result Draft PardoKind
+procs_line draft tokens =
+    if draft.procs == 0
+    then (do
+      word ← new_name draft.names tokens
+      after ← after_less word.1
+      procs ← fixed_at draft.names 1 MAX_PROCS after
+      ended (with_name word.0 thing.Own (record draft { procs = procs.0 })) procs.1)
+    else Err BadHeader
+
+-- how many places an array has; a scalar has no brackets
+abbrev pub length_at : Names → List Token → Option (List Token) → Read (Option ℕ)
+length_at names tokens None = Ok (None, tokens)
+length_at names tokens (Some inside) = do
+  places ← fixed_at names 1 MAX_CELLS inside
+  rest ← after_close_index places.1
+  Ok (Some places.0, rest)
+
+-- what follows `shared`
+unfoldable pub shared_line : Draft → List Token → Result Draft PardoKind
+shared_line draft tokens = do
+  word ← new_name draft.names tokens
+  places ← length_at draft.names word.1 (indexed word.1)
+  start ← start_at draft.names (unwrap_or places.0 1) places.1
+  fitting (with_array word.0 (is_none places.0) start draft)
+
+-- the start value of a private variable, to the end of the line
+unfoldable pub private_start : Names → List Token → Result Tree PardoKind
+private_start names [] = Ok (number 0)
+private_start names (token ∷ tokens) = do
+  after ← after_equals (token ∷ tokens)
+  tree ← expression_at names Start after
+  ended tree.0 tree.1
+
+-- what follows `private`, after the line `procs`
+unfoldable pub private_line : Draft → List Token → Result Draft PardoKind
+private_line draft tokens =
+    if draft.procs == 0 then Err BadHeader
+    else (do
+      word ← new_name draft.names tokens
+      tree ← private_start draft.names word.1
+      start ← values_for draft.procs tree
+      fitting (with_private word.0 start draft))
+
+-- what follows `code`, after the line `procs`
+unfoldable pub code_line : Draft → List Token → Result Draft PardoKind
+code_line draft [] =
+    if draft.procs == 0 then Err BadHeader else Ok (record draft { stage = stage.Code })
+code_line draft (token ∷ tokens) = Err BadHeader
+
+-- a header line after the first two
+unfoldable pub header_line : Draft → List Token → Result Draft PardoKind
+header_line draft (symbol the.Const ∷ tokens) = const_line draft tokens
+header_line draft (symbol the.Procs ∷ tokens) = procs_line draft tokens
+header_line draft (symbol the.Shared ∷ tokens) = shared_line draft tokens
+header_line draft (symbol the.Private ∷ tokens) = private_line draft tokens
+header_line draft (symbol the.Code ∷ tokens) = code_line draft tokens
+header_line draft _ = Err BadHeader

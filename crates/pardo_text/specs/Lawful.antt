@@ -1,0 +1,88 @@
+-- What holds of every program that a text spells.
+use Rattle.std.specs.Prelude.{◌≡◌, ℕ, ◌+◌, ◌*◌, ◌^◌, ◌<◌, ◌≤◌, false, List, [], ◌∷◌, length}
+use Rattle.std.specs.List.{All}
+use Rattle.pardo_text.specs.declared.limits.TheConstants.{MAX_CELLS, MAX_PROCS}
+use Rattle.pardo_text.specs.declared.statement.Line.{Line}
+use Rattle.pardo_text.specs.declared.statement.Statement.{Statement}
+use Rattle.pardo_text.specs.declared.statement.Statement.TheVariants as statement
+use Rattle.pardo_text.specs.declared.statement.Target.{Target}
+use Rattle.pardo_text.specs.declared.statement.Target.TheVariants as target
+use Rattle.pardo_text.specs.Expression.{Tree, number, own, loop, private, place, apply}
+use Rattle.pardo_text.specs.Operations.{is_division}
+use Rattle.pardo_text.specs.Program.{ArrayData, PrivateData, ProgramData, shared_cells}
+
+-- how many arrays, private variables and lines of code there are, and how many loops and `if`s
+-- are open at once
+pub record Bounds : Type 0 where
+  pub arrays : ℕ
+  pub privates : ℕ
+  pub loops : ℕ
+  pub choices : ℕ
+  pub lines : ℕ
+
+-- An expression in code: it names what is there, its numbers have 32 bits, and it does not divide.
+abbrev pub IsTree : Bounds → Tree → Type 0
+IsTree b (number value) = value < 2 ^ 32
+IsTree b own = Unit {0}
+IsTree b (loop nest) = nest < b.loops
+IsTree b (private x) = x < b.privates
+IsTree b (place array index) = (array < b.arrays) × IsTree b index
+IsTree b (apply op first second) = (is_division op ≡ false) × IsTree b first × IsTree b second
+
+abbrev pub IsTarget : Bounds → Target → Type 0
+IsTarget b (target.Private x) = x < b.privates
+IsTarget b (target.Array array index) = (array < b.arrays) × IsTree b index
+
+-- and the other line of a loop is there
+abbrev pub IsStatement : Bounds → Statement → Type 0
+IsStatement b (statement.Assign to value) = IsTarget b to × IsTree b value
+IsStatement b (statement.If condition) = IsTree b condition
+IsStatement b statement.Else = Unit {0}
+IsStatement b statement.EndIf = Unit {0}
+IsStatement b (statement.While condition end) = IsTree b condition × (end < b.lines)
+IsStatement b (statement.EndWhile begin) = begin < b.lines
+IsStatement b (statement.For nest first last up end) =
+    (nest < b.loops) × IsTree b first × IsTree b last × (end < b.lines)
+IsStatement b (statement.EndFor begin) = begin < b.lines
+
+-- how many masks a line writes
+abbrev pub masks_of : Statement → ℕ
+masks_of (statement.If condition) = 1
+masks_of statement.Else = 1
+masks_of _ = 0
+
+abbrev pub IsLine : Bounds → Line → Type 0
+IsLine b line = IsStatement b line.statement × (line.depth + masks_of line.statement ≤ b.choices)
+
+abbrev pub AreNumbers : List ℕ → Type 0
+AreNumbers values = All (λ value. value < 2 ^ 32) values
+
+-- Arrays have a place at least, and their cells follow one another.
+abbrev pub AreArrays : List ArrayData → ℕ → Type 0
+AreArrays [] base = Unit {0}
+AreArrays (array ∷ arrays) base = (array.base ≡ base) × (0 < length array.start)
+    × AreNumbers array.start × AreArrays arrays (base + length array.start)
+
+-- a private variable has a start value for each processor
+abbrev pub IsPrivate : ℕ → PrivateData → Type 0
+IsPrivate procs variable = (length variable.start ≡ procs) × AreNumbers variable.start
+
+abbrev pub bounds_of : ℕ → ℕ → ProgramData → Bounds
+bounds_of loops choices program = record {
+  arrays = length program.arrays;
+  privates = length program.privates;
+  loops = loops;
+  choices = choices;
+  lines = length program.lines;
+}
+
+pub record IsProgram (program : ProgramData) : Type 0 where
+  pub loops : ℕ
+  pub choices : ℕ
+  pub procs : (0 < program.procs) × (program.procs ≤ MAX_PROCS)
+  pub arrays : AreArrays program.arrays 0
+  pub privates : All (IsPrivate program.procs) program.privates
+  pub has_line : 0 < length program.lines
+  pub lines : All (IsLine (bounds_of loops choices program)) program.lines
+  pub cells : shared_cells program.arrays
+      + program.procs * (length program.privates + loops + choices) ≤ MAX_CELLS

@@ -1,0 +1,73 @@
+-- The operations of two numbers below 2^32.
+use Rattle.std.specs.Prelude.{ℕ, ◌+◌, ◌-◌, ◌*◌, ◌/◌, ◌%◌, ◌^◌, Bool, true, false, not, ◌&&◌, ◌||◌}
+use Rattle.std.specs.Prelude.{◌==◌, nat_lt, nat_le, if◌then◌else◌, bit_and, bit_or, bit_xor}
+use Rattle.std.specs.Prelude.{min, max}
+use Rattle.pardo_text.specs.declared.operation.Op.{Op}
+use Rattle.pardo_text.specs.declared.operation.Op.TheVariants.{Add, Sub, Mul, Div, Rem, Shl, Shr}
+use Rattle.pardo_text.specs.declared.operation.Op.TheVariants.{BitAnd, BitOr, BitXor, Eq, Ne}
+use Rattle.pardo_text.specs.declared.operation.Op.TheVariants.{Lt, Le, Gt, Ge, And, Or, Min, Max}
+
+-- The level at which an operation stands between its operands: those of level 1 bind most
+-- tightly. `min` and `max` stand before theirs.
+unfoldable pub level_of : Op → ℕ
+level_of Mul = 1
+level_of Div = 1
+level_of Rem = 1
+level_of Shl = 1
+level_of Shr = 1
+level_of BitAnd = 1
+level_of Add = 2
+level_of Sub = 2
+level_of BitOr = 2
+level_of BitXor = 2
+level_of Eq = 3
+level_of Ne = 3
+level_of Lt = 3
+level_of Le = 3
+level_of Gt = 3
+level_of Ge = 3
+level_of And = 4
+level_of Or = 5
+level_of Min = 0
+level_of Max = 0
+
+-- the level of comparisons, which take two operands alone
+abbrev pub comparisons : ℕ
+comparisons = 3
+
+-- the level of whole expressions
+abbrev pub loosest : ℕ
+loosest = 5
+
+unfoldable pub is_division : Op → Bool
+is_division Div = true
+is_division Rem = true
+is_division _ = false
+
+-- 1 for what is true, and 0 for what is not
+abbrev pub bit : Bool → ℕ
+bit true = 1
+bit false = 0
+
+-- The value of an operation; a divisor is not 0.
+unfoldable pub value_of : Op → ℕ → ℕ → ℕ
+value_of Add a b = (a + b) % 2 ^ 32
+value_of Sub a b = (a + (2 ^ 32 - b)) % 2 ^ 32
+value_of Mul a b = (a * b) % 2 ^ 32
+value_of Div a b = a / b
+value_of Rem a b = a % b
+value_of Shl a b = if nat_lt b 32 then (a * 2 ^ b) % 2 ^ 32 else 0
+value_of Shr a b = if nat_lt b 32 then a / 2 ^ b else 0
+value_of BitAnd a b = bit_and a b
+value_of BitOr a b = bit_or a b
+value_of BitXor a b = bit_xor a b
+value_of Eq a b = bit (a == b)
+value_of Ne a b = bit (not (a == b))
+value_of Lt a b = bit (nat_lt a b)
+value_of Le a b = bit (nat_le a b)
+value_of Gt a b = bit (nat_lt b a)
+value_of Ge a b = bit (nat_le b a)
+value_of And a b = bit (not (a == 0) && not (b == 0))
+value_of Or a b = bit (not (a == 0) || not (b == 0))
+value_of Min a b = min a b
+value_of Max a b = max a b

@@ -1,0 +1,92 @@
+//! Blocks of code.
+ghost use Rattle.std.specs.Prelude.{◌≡◌, [], ◌∷◌, ◌==◌, length, IfOk, MatchOption};
+ghost use Rattle.pardo_text.specs.Blocks.{is_choice, depth_of};
+
+use std::alloc::{AllocError, Global};
+use std::marker::Model;
+
+/// An open block; of a loop the place of its first line.
+#[derive(Clone, Copy)]
+pub(crate) enum Block {
+    If,
+    Else,
+    While(usize),
+    For(usize),
+}
+
+impl Block {
+    // Whether it is a part of an `if`.
+    fn is_choice(self) -> bool
+        ensures { result ≡ is_choice self }
+    {
+        matches!(self, Block::If | Block::Else)
+    }
+}
+
+/// The open blocks.
+#[derive(Drop)]
+pub(crate) struct Blocks {
+    blocks: Vec<Block>,
+    /// How many of them are parts of an `if`.
+    depth: usize,
+}
+
+impl Model for Blocks {
+    ghost use Rattle.std.specs.Prelude.{◌≡◌, List, reverse};
+    ghost use Rattle.pardo_text.specs.declared.block.Block.{Block};
+    ghost use Rattle.pardo_text.specs.Blocks.{depth_of};
+
+    ghost Value = { List Block };
+
+    ghost view = { λ b. reverse b.blocks.items };
+
+    ghost invariant = { λ b. b.depth ≡ depth_of (reverse b.blocks.items) };
+}
+
+impl Blocks {
+    /// No block is open.
+    pub(crate) fn new(alloc: Global) -> Self
+        ensures { result ≡ [] }
+    {
+        Blocks {
+            blocks: Vec::new(alloc),
+            depth: 0,
+        }
+    }
+
+    /// Whether no block is open.
+    pub(crate) fn is_empty(&self) -> bool
+        ensures { result ≡ (length self.now == 0) }
+    {
+        self.blocks.is_empty()
+    }
+
+    /// How many blocks of an `if` are open.
+    pub(crate) fn depth(&self) -> usize
+        ensures { result ≡ depth_of self.now }
+    {
+        self.depth
+    }
+
+    /// Opens a block in the innermost one.
+    pub(crate) fn push(&mut self, block: Block) -> Result<(), AllocError>
+        ensures { IfOk result (λ _. self.new ≡ block ∷ self.old) }
+    {
+        self.blocks.push(block)?;
+        if block.is_choice() {
+            self.depth += 1;
+        }
+        Ok(())
+    }
+
+    /// Closes the innermost block.
+    pub(crate) fn pop(&mut self) -> Option<Block>
+        ensures { MatchOption result (self.old ≡ []) (λ block. self.old ≡ block ∷ self.new) }
+    {
+        let block = self.blocks.pop()?;
+        if block.is_choice() {
+            self.depth -= 1;
+        }
+        Some(block)
+    }
+}

@@ -1,0 +1,204 @@
+//! Lines of code.
+ghost use Rattle.std.specs.Prelude.{◌≡◌};
+ghost use Rattle.pardo_text.specs.Code.{whole_at, way_at, target_of, assignment_at};
+ghost use Rattle.pardo_text.specs.Inner.Names.{names_in};
+ghost use Rattle.pardo_text.specs.Inner.Tokens.{Gives};
+
+use crate::block::Block;
+use crate::cursor::Cursor;
+use crate::draft::Draft;
+use crate::expression::Expr;
+use crate::fault::PardoKind;
+use crate::names::{Named, Names, Scope};
+use crate::parse::expression;
+use crate::part::{after_assign, after_close_index, after_equals, ended, indexed, new_name};
+use crate::statement::{Statement, Target};
+use crate::symbol::Symbol;
+use crate::token::Token;
+use std::alloc::Global;
+
+impl<'t> Draft<'t> {
+    ghost use Rattle.pardo_text.specs.Code.{statement_line, if_line, while_line, for_line};
+    ghost use Rattle.pardo_text.specs.Code.{else_of, end_of};
+    ghost use Rattle.pardo_text.specs.Inner.Drafts.{draft_of};
+
+    /// Reads a line of code of this number.
+    #[tactic(auto, unfolding(crate::specs::Code::statement_line))]
+    pub(crate) fn take_code(
+        &mut self,
+        number: u64,
+        tokens: &mut Cursor<'_, 't>,
+    ) -> Result<(), PardoKind>
+        ensures { Gives (λ _. draft_of self.new) result
+            (statement_line number (draft_of self.old) tokens.old) }
+    {
+        match tokens.next() {
+            Some(Token::Symbol(Symbol::If)) => self.take_if(number, tokens),
+            Some(Token::Symbol(Symbol::While)) => self.take_while(number, tokens),
+            Some(Token::Symbol(Symbol::For)) => self.take_for(number, tokens),
+            Some(Token::Symbol(Symbol::Else)) => {
+                ended(tokens)?;
+                self.take_else(number)
+            }
+            Some(Token::Symbol(Symbol::End)) => {
+                ended(tokens)?;
+                self.take_end(number)
+            }
+            Some(Token::Name(name)) => {
+                let statement = assignment(self.alloc, &self.names, name, tokens)?;
+                self.add_line(number, statement)?;
+                Ok(())
+            }
+            _ => Err(PardoKind::BadLine),
+        }
+    }
+
+    // Reads what follows `if`.
+    #[tactic(auto, unfolding(crate::specs::Code::if_line))]
+    fn take_if(&mut self, number: u64, tokens: &mut Cursor<'_, 't>) -> Result<(), PardoKind>
+        ensures { Gives (λ _. draft_of self.new) result
+            (if_line number (draft_of self.old) tokens.old) }
+    {
+        let condition = whole(self.alloc, &self.names, Scope::Any, tokens)?;
+        self.add_line(number, Statement::If(condition))?;
+        self.open(Block::If)?;
+        self.fit()
+    }
+
+    // Reads what follows `while`.
+    #[tactic(auto, unfolding(crate::specs::Code::while_line))]
+    fn take_while(&mut self, number: u64, tokens: &mut Cursor<'_, 't>) -> Result<(), PardoKind>
+        ensures { Gives (λ _. draft_of self.new) result
+            (while_line number (draft_of self.old) tokens.old) }
+    {
+        let condition = whole(self.alloc, &self.names, Scope::Uniform, tokens)?;
+        let begin = self.lines.len();
+        self.add_line(number, Statement::While(condition, 0))?;
+        self.open(Block::While(begin))?;
+        Ok(())
+    }
+
+    // Reads what follows `for`.
+    #[tactic(auto, unfolding(crate::specs::Code::for_line))]
+    fn take_for(&mut self, number: u64, tokens: &mut Cursor<'_, 't>) -> Result<(), PardoKind>
+        ensures { Gives (λ _. draft_of self.new) result
+            (for_line number (draft_of self.old) tokens.old) }
+    {
+        let name = new_name(&self.names, tokens)?;
+        after_equals(tokens)?;
+        let first = expression(self.alloc, &self.names, Scope::Bound, tokens)?;
+        let up = way(tokens)?;
+        let last = whole(self.alloc, &self.names, Scope::Bound, tokens)?;
+        let begin = self.lines.len();
+        let nest = self.loops.len();
+        self.add_line(number, Statement::For(nest, first, last, up, 0))?;
+        self.open(Block::For(begin))?;
+        self.open_loop(name)?;
+        self.fit()
+    }
+
+    // Reads `else`.
+    fn take_else(&mut self, number: u64) -> Result<(), PardoKind>
+        ensures { Gives (λ _. draft_of self.new) result
+            (else_of number (draft_of self.old) (draft_of self.old).blocks) }
+    {
+        match self.blocks.pop() {
+            Some(Block::If) => {
+                self.add_line(number, Statement::Else)?;
+                self.open(Block::Else)?;
+                Ok(())
+            }
+            _ => Err(PardoKind::BadBlock),
+        }
+    }
+
+    // Reads `end`.
+    fn take_end(&mut self, number: u64) -> Result<(), PardoKind>
+        ensures { Gives (λ _. draft_of self.new) result
+            (end_of number (draft_of self.old) (draft_of self.old).blocks) }
+    {
+        let statement = match self.blocks.pop() {
+            None => return Err(PardoKind::BadBlock),
+            Some(Block::If | Block::Else) => Statement::EndIf,
+            Some(Block::While(begin)) => {
+                self.end_at(begin);
+                Statement::EndWhile(begin)
+            }
+            Some(Block::For(begin)) => {
+                self.close_loop();
+                self.end_at(begin);
+                Statement::EndFor(begin)
+            }
+        };
+        self.add_line(number, statement)?;
+        Ok(())
+    }
+}
+
+// Reads an expression to the end of the line.
+#[tactic(auto, unfolding(crate::specs::Code::whole_at))]
+fn whole(
+    alloc: Global,
+    names: &Names<'_>,
+    scope: Scope,
+    tokens: &mut Cursor<'_, '_>,
+) -> Result<Expr, PardoKind>
+    ensures { Gives (λ expr. expr) result (whole_at (names_in names.now) scope tokens.old) }
+{
+    let expr = expression(alloc, names, scope, tokens)?;
+    ended(tokens)?;
+    Ok(expr)
+}
+
+// Reads whether a loop counts up.
+fn way(tokens: &mut Cursor<'_, '_>) -> Result<bool, PardoKind>
+    ensures { Gives (λ up. (up, tokens.new)) result (way_at tokens.old) }
+{
+    match tokens.next() {
+        Some(Token::Symbol(Symbol::To)) => Ok(true),
+        Some(Token::Symbol(Symbol::Downto)) => Ok(false),
+        _ => Err(PardoKind::BadLine),
+    }
+}
+
+// Reads what follows the name of the target of an assignment.
+#[tactic(auto, unfolding(crate::specs::Code::assignment_at))]
+fn assignment(
+    alloc: Global,
+    names: &Names<'_>,
+    name: &[u8],
+    tokens: &mut Cursor<'_, '_>,
+) -> Result<Statement, PardoKind>
+    ensures { Gives (λ said. said) result
+        (assignment_at (names_in names.now) name.now tokens.old) }
+{
+    let target = target(alloc, names, name, tokens)?;
+    after_assign(tokens)?;
+    let value = whole(alloc, names, Scope::Any, tokens)?;
+    Ok(Statement::Assign(target, value))
+}
+
+// Reads what an assignment to this name goes to.
+fn target(
+    alloc: Global,
+    names: &Names<'_>,
+    name: &[u8],
+    tokens: &mut Cursor<'_, '_>,
+) -> Result<Target, PardoKind>
+    ensures { Gives (λ place. (place, tokens.new)) result
+        (target_of (names_in names.now) (names_in names.now name.now) tokens.old) }
+{
+    let Some(thing) = names.get(name) else {
+        return Err(PardoKind::UnknownName);
+    };
+    match (*thing, indexed(tokens)) {
+        (Named::Array(array), true) => {
+            let index = expression(alloc, names, Scope::Any, tokens)?;
+            after_close_index(tokens)?;
+            Ok(Target::Array(array, index))
+        }
+        (Named::Scalar(array), false) => Ok(Target::Array(array, Expr::number(alloc, 0)?)),
+        (Named::Private(x), false) => Ok(Target::Private(x)),
+        _ => Err(PardoKind::WrongKind),
+    }
+}

@@ -1,0 +1,31 @@
+//! Programs of the language `pardo`, and the text that spells them.
+#![tactic(auto)]
+
+mod arrays;
+mod block;
+mod code;
+mod cursor;
+mod draft;
+mod expression;
+mod fault;
+mod header;
+pub mod laws;
+pub mod limits;
+mod names;
+mod operation;
+mod parse;
+mod part;
+mod program;
+mod reader;
+mod statement;
+mod symbol;
+mod token;
+mod value;
+
+pub use arrays::Array;
+pub use expression::{Expr, Node};
+pub use fault::{PardoFault, PardoKind};
+pub use operation::Op;
+pub use program::{Private, Program, Rule};
+pub use reader::read_program;
+pub use statement::{Line, Statement, Target};

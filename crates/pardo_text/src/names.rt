@@ -1,0 +1,62 @@
+//! What names stand for.
+ghost use Rattle.std.specs.Prelude.{◌≡◌};
+ghost use Rattle.pardo_text.specs.Names.{admits, divides};
+
+use std::collections::BTreeMap;
+
+/// What a name stands for. Arrays, variables and loops are counted from 0.
+#[derive(Clone, Copy)]
+pub(crate) enum Named {
+    Constant(u32),
+    /// The own number of a processor.
+    Own,
+    Scalar(usize),
+    Array(usize),
+    Private(usize),
+    /// The variable of the loop in so many others.
+    Loop(usize),
+}
+
+/// The names that are known.
+pub(crate) type Names<'t> = BTreeMap<&'t [u8], Named>;
+
+/// Where an expression stands, which decides on the names in it.
+#[derive(Clone, Copy)]
+pub(crate) enum Scope {
+    /// Where a number must be known at once.
+    Fixed,
+    /// A start value of a private variable.
+    Start,
+    /// A bound of a loop `for`.
+    Bound,
+    /// The condition of a loop `while`, the same for all processors.
+    Uniform,
+    /// Everywhere else.
+    Any,
+}
+
+impl Scope {
+    /// Whether what a name stands for may stand here.
+    pub(crate) fn admits(self, thing: Named) -> bool
+        ensures { result ≡ admits self thing }
+    {
+        match (self, thing) {
+            (_, Named::Constant(_)) => true,
+            (Scope::Start, Named::Own) => true,
+            (Scope::Bound, Named::Loop(_)) => true,
+            (Scope::Uniform, Named::Loop(_) | Named::Scalar(_)) => true,
+            (Scope::Any, _) => true,
+            _ => false,
+        }
+    }
+
+    /// Whether divisors are known here before the program runs.
+    pub(crate) fn divides(self) -> bool
+        ensures { result ≡ divides self }
+    {
+        match self {
+            Scope::Fixed | Scope::Start => true,
+            Scope::Bound | Scope::Uniform | Scope::Any => false,
+        }
+    }
+}

@@ -1,0 +1,144 @@
+//! Programs.
+ghost use Rattle.std.specs.Prelude.{◌≡◌};
+
+use crate::arrays::Array;
+use crate::statement::Line;
+use std::marker::Model;
+
+/// What several processors may write to one place in one line, and what it then holds.
+#[derive(Clone, Copy, Debug, PartialEq, Eq)]
+pub enum Rule {
+    /// Equal values alone.
+    Common,
+    /// Any values: that of the processor with the least number counts.
+    Priority,
+    /// Nothing: one processor alone may write to a place.
+    Crew,
+}
+
+/// A private variable.
+#[derive(Drop)]
+pub struct Private {
+    name: Vec<u8>,
+    start: Vec<u32>,
+}
+
+impl Model for Private {
+    ghost use Rattle.pardo_text.specs.Program.{PrivateData};
+
+    ghost Value = { PrivateData };
+
+    ghost view = { λ p. record { name = p.name.items; start = p.start.items } };
+}
+
+impl Private {
+    pub(crate) fn new(name: Vec<u8>, start: Vec<u32>) -> Self
+        ensures { result ≡ record { name = name.items; start = start.items } }
+    {
+        Private { name, start }
+    }
+
+    /// The name.
+    pub fn name(&self) -> &[u8]
+        ensures { result.now ≡ self.now.name }
+    {
+        self.name.as_slice()
+    }
+
+    /// The value that it starts with, of each processor.
+    pub fn start(&self) -> &[u32]
+        ensures { result.now ≡ self.now.start }
+    {
+        self.start.as_slice()
+    }
+}
+
+/// A program.
+#[derive(Drop)]
+pub struct Program {
+    rule: Rule,
+    procs: u32,
+    arrays: Vec<Array>,
+    privates: Vec<Private>,
+    lines: Vec<Line>,
+}
+
+impl Model for Program {
+    ghost use Rattle.pardo_text.specs.Program.{ProgramData};
+
+    ghost Value = { ProgramData };
+
+    ghost use Rattle.std.specs.Coded.{codes};
+    ghost use Rattle.pardo_text.specs.contracts.statement.Line as line;
+
+    ghost coded = { Prim.hlevel (codes, line.the_row.coded) };
+
+    ghost view = { λ p. record {
+      rule = p.rule;
+      procs = p.procs;
+      arrays = p.arrays.items;
+      privates = p.privates.items;
+      lines = p.lines.items;
+    } };
+}
+
+impl Program {
+    pub(crate) fn new(
+        rule: Rule,
+        procs: u32,
+        arrays: Vec<Array>,
+        privates: Vec<Private>,
+        lines: Vec<Line>,
+    ) -> Self
+        ensures { result ≡ record {
+          rule = rule;
+          procs = procs;
+          arrays = arrays.items;
+          privates = privates.items;
+          lines = lines.items;
+        } }
+    {
+        Program {
+            rule,
+            procs,
+            arrays,
+            privates,
+            lines,
+        }
+    }
+
+    /// The rule of writing.
+    pub fn rule(&self) -> Rule
+        ensures { result ≡ self.now.rule }
+    {
+        self.rule
+    }
+
+    /// How many processors there are.
+    pub fn procs(&self) -> u32
+        ensures { result ≡ self.now.procs }
+    {
+        self.procs
+    }
+
+    /// The shared arrays, in their order.
+    pub fn arrays(&self) -> &[Array]
+        ensures { result.now ≡ self.now.arrays }
+    {
+        self.arrays.as_slice()
+    }
+
+    /// The private variables, in their order.
+    pub fn privates(&self) -> &[Private]
+        ensures { result.now ≡ self.now.privates }
+    {
+        self.privates.as_slice()
+    }
+
+    /// The lines of code.
+    pub fn lines(&self) -> &[Line]
+        ensures { result.now ≡ self.now.lines }
+    {
+        self.lines.as_slice()
+    }
+}
