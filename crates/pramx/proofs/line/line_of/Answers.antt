@@ -10,7 +10,7 @@ returns-in-check c = rw (← c.in-check.is)
 pub returns-in-plain : goal.returns-in-plain
 returns-in-plain c = rw (← c.in-plain.is) (
   met_file _ _ _ _ c.in_ok-name.ensures.name c.in_ok-name.ensures.rows c.in_ok-file.ensures,
-  has_flag _ _ _ (codes "why") _
+  has_flag _ _ (found_of c.in_ok-name.inner.now) (codes "why") _
       (pair_of _ _ _ _ _ c.in_ok-name.ensures.name c.in_ok-name.ensures.rows)
       (flag_of (found_of c.in_ok-name.inner.now) (codes "why") _ c.get_flag-why.ensures.none
       c.get_flag-why.ensures.value c.get_flag-why.ensures.other),

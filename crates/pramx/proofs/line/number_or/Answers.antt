@@ -1,6 +1,6 @@
 use Rattle.std.proofs.Common.{◌≡◌, ℕ, List, Option, None, Some, MatchOption, ap}
 use Rattle.std.specs.Prelude.{IsSomeAnd, unwrap_or}
-use Rattle.clap.specs.Words.{Row, Text}
+use Rattle.clap.specs.Words.{Row, Text, first_of, found_of, rows_of}
 use Rattle.pramx.specs.CommandLine.{IsNumberOf}
 use Rattle.pramx.proofs.line.number_or.Goals as goal
 
@@ -15,4 +15,8 @@ or_other other option rows (Some text) None set = absurd set
 or_other other option rows (Some text) (Some number) set = set
 
 pub returns : goal.returns
-returns c = rw c.unwrap_or.ensures (or_other _ _ _ _ _ c.in_ok-number.ensures)
+returns c =
+    let option = c.args.option.now in
+    let rows = rows_of (found_of c.args.inner.now) in
+    rw c.unwrap_or.ensures (or_other c.args.other option rows (first_of option rows)
+    c.in_ok-number.number c.in_ok-number.ensures)

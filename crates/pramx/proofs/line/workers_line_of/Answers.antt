@@ -11,7 +11,7 @@ returns-in_ok-manner-in-run c = rw (← c.in-run.is) (
     has_plan = met_plan c.in_ok-name.inner.now _ c.get_str-plan.ensures;
     has_manner = c.in_ok-manner-in-run.ensures;
   },
-  has_flag _ _ _ (codes "why") _
+  has_flag _ _ (found_of c.in_ok-name.inner.now) (codes "why") _
       (pair_of _ _ _ _ _ c.in_ok-name.ensures.name c.in_ok-name.ensures.rows)
       (flag_of (found_of c.in_ok-name.inner.now) (codes "why") _ c.get_flag.ensures.none
       c.get_flag.ensures.value c.get_flag.ensures.other),
