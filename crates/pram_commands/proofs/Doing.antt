@@ -31,7 +31,7 @@ err_same e f is = cc is
 pub err_as : {T U E : Type 0} (e f : E) → IsErrOf {T = T} (Err e) f → IsErrOf {T = U} (Err e) f
 err_as e f is = ap (λ (x : _). Err x) (err_same e f is)
 
-other_fault : {T : Type 0} → IsErrOf {T = T} (Err print.Memory) print.Device → ⊥
+pub other_fault : {T : Type 0} → IsErrOf {T = T} (Err print.Memory) print.Device → ⊥
 other_fault is = cc is
 
 no_job : {T : Type 0} → IsErrOf {T = T} (Err OutDevice) JobDevice → ⊥
@@ -89,11 +89,12 @@ put_failed {A} Comes InPieces w Tells result print.Memory is begins memory faile
 module _ {A : Type 0} (command : Command) (taken : Taking) (w : Writing)
     (Tells : A → Option RunAnswer → Type 0) where
   -- a command whose last act is to print, where its job and its plan were given
-  pub printed_did : (job : JobData) (plan : PlanData) → Given command taken.reads job plan →
+  pub printed_did : (job : JobData) (plan : PlanData) (given : Given command taken.reads job plan) →
       MatchOption command.workers taken.Unread (λ _. ⊤) → (IsTrue taken.reads.job_failed → ⊥) →
       (IsTrue taken.reads.plan_failed → ⊥) → GivesSome taken.reads.job taken.reads.job' →
       GivesSome taken.reads.plan taken.reads.plan' →
-      (put : Result A PrintFault) → Puts (command.Comes job plan) command.InPieces w Tells put →
+      (put : Result A PrintFault) →
+      Puts (command.Comes given.job_text job plan) command.InPieces w Tells put →
       (result : Result A CommandFault) → result ≡ printed_as put →
       Did command taken w Tells result
   printed_did job plan given alone
@@ -229,17 +230,7 @@ module _ (command : Command) (taken : Taking) (w : Writing) where
         plan_reads = did.plan_reads;
       })
 
--- the answer after nothing, or the ending after what was printed before it
-pub begins_answer : (Ends : RunAnswer → List ℕ → Type 0) (job : JobData)
-    (w : Writing) (ended : RunAnswer) (steps : ℕ) → Ends ended [] → steps ≡ job.steps →
-    AppendsBeginning w.out w.out' (printed ended steps) → PutBeginning (Answering Ends job) w
-begins_answer Ends job w ended steps ends same takes = record {
-  text = printed ended job.steps;
-  answer = Some ended;
-  comes = record { ended = ended; front = []; ends = ends; prints = refl; gives = refl };
-  takes = subst (λ (n : ℕ). AppendsBeginning w.out w.out' (printed ended n)) same takes;
-}
-
+-- what was printed before an ending, or the ending after it
 pub begins_front : (alone : Bool) (Ends : RunAnswer → List ℕ → Type 0) (job : JobData)
     (w : Writing) (ended : RunAnswer) (front : List ℕ) → Ends ended front →
     AppendsBeginning w.out w.out' front → PutBeginning (Showing alone Ends job) w

@@ -139,9 +139,9 @@ module _ (taken : Taking) (w : Writing) where
       IsTrue (is_some (command_of l).workers)
   stops (line.Check file) status prints three =
       let none = ap ends_with prints.work.comes.1 in absurd (omega (arith, prints.is, three, none))
-  stops (line.Plain file) status prints three =
+  stops (line.Plain file why) status prints three =
       let comes = prints.work.comes in
-      absurd (ended-plain prints.work.job comes.ended prints.answer comes.ends.0
+      absurd (ended-plain prints.work.job comes.ended prints.answer comes.ends
       comes.gives (sym prints.is ∙ three))
   stops (line.Cost file) status prints three =
       let comes = prints.work.comes in
@@ -150,7 +150,7 @@ module _ (taken : Taking) (w : Writing) where
       let comes = prints.work.comes in
       absurd (ended-plain prints.work.job comes.ended prints.answer comes.ends.0
       comes.gives (sym prints.is ∙ three))
-  stops (line.Run file name manner) status prints three = refl
+  stops (line.Run file name manner why) status prints three = refl
   stops (line.Watch file name manner cells rounds) status prints three = refl
   stops (line.Replay file workers name alone) status prints three = refl
 

@@ -19,9 +19,9 @@ use Rattle.pram_run.specs.Watching.{HasWatchedWith, ReadsAndHears}
 use Rattle.pram_run.specs.declared.sight.Sight.{Sight}
 use Rattle.pram_commands.specs.Did.{Answering, tells, writing}
 use Rattle.pram_commands.specs.Inner.Hearing.{HasPrinted}
-use Rattle.pram_commands.specs.Inner.Puts.{Puts}
+use Rattle.pram_commands.specs.Inner.Puts.{Puts, outcome}
 use Rattle.pram_commands.specs.Inner.Watching.{Hearing, HasPrintedAfter, IsWatchedBy}
-use Rattle.pram_commands.specs.Inner.Watching.{Reading, watch_outcome}
+use Rattle.pram_commands.specs.Inner.Watching.{Reading}
 use Rattle.pram_commands.specs.Threads.{TellsSights}
 use Rattle.pram_commands.specs.declared.sources.Inputs.{Inputs}
 use Rattle.pram_commands.proofs.Doing.{begins_after, begins_front, ok_not_err, put_both, put_failed}
@@ -107,10 +107,10 @@ module _ {O : Type 0} (of_out : a_sink.Ghosts O) (inputs : Inputs) (cells : List
   pub puts_alone : (steps : ℕ) (ended : Ended) (put : Printing)
       (result : Result RunAnswer PrintFault) → OnOk ended ⊥ →
       HasPrinted (writing of_out before last) steps ended put → of_out.has_failed before ≡ false →
-      result ≡ watch_outcome put ended → Watches result
+      result ≡ outcome put ended → Watches result
   puts_alone steps (Ok answer) put result never h well_before is = absurd never
   puts_alone steps (Err refused) put result never h well_before is =
-      subst Watches (sym (is ∙ ap (λ (x : Printing). watch_outcome x (Err refused)) h.0)) (record {
+      subst Watches (sym (is ∙ ap (λ (x : Printing). outcome x (Err refused)) h.0)) (record {
         done = tt;
         wrote = inl h.1;
         failed = (
@@ -139,18 +139,18 @@ module _ {O : Type 0} (of_out : a_sink.Ghosts O) (inputs : Inputs) (cells : List
       AppendsBeginning (of_out.taken before) (of_out.taken mid) front →
       (IsTrue (of_out.has_failed mid) ↔ IsErrOf printed Device) → steps ≡ inputs.job.steps →
       HasPrintedAfter printed (writing of_out mid last) steps ended put →
-      result ≡ watch_outcome put ended → Watches result
+      result ≡ outcome put ended → Watches result
   puts_read answer front steps (Err fault) ended put result told same all begins failed count h is =
       stopped answer front fault result told begins h.1
       (subst (λ (o : O). IsTrue (of_out.has_failed o) ↔ IsErrOf {T = Unit {0}} (Err fault) Device)
-      (sym h.1) failed) (is ∙ ap (λ (x : Printing). watch_outcome x ended) h.0)
+      (sym h.1) failed) (is ∙ ap (λ (x : Printing). outcome x ended) h.0)
   puts_read answer front steps (Ok done) (Err refused) put result
       told same all begins failed count h is =
       stopped answer front Memory result told begins h.1 (
         (λ f. absurd (ok_not_err done Device
             (failed.0 (subst (λ (o : O). IsTrue (of_out.has_failed o)) h.1 f)))),
         (λ e. absurd (no_device e)),
-      ) (is ∙ ap (λ (x : Printing). watch_outcome x (Err refused)) h.0)
+      ) (is ∙ ap (λ (x : Printing). outcome x (Err refused)) h.0)
   puts_read answer front steps (Ok done) (Ok found) (Ok ended) result
       told same all begins failed count h is =
       subst Watches (sym is)

@@ -30,4 +30,4 @@ pub record TellsCost (job : JobData) (text : List ℕ) (answer : Option RunAnswe
 
 -- it prints that text
 abbrev pub costing : Command
-costing = on_job TellsCost
+costing = on_job (λ job_text. TellsCost)

@@ -11,7 +11,7 @@ use Rattle.pram_streams.specs.Transfer.{AppendsBeginning, GivesMoreThan, GivesSo
 use Rattle.pram_streams.specs.declared.device.Sink as a_sink
 use Rattle.pram_streams.specs.declared.transfer.TheConstants.{MOST}
 use Rattle.stop_plan.specs.Plan.{PlanData}
-use Rattle.pram_commands.specs.Inputs.{GivesFault, GivesJob, GivesPlan, GivesPlanFault}
+use Rattle.pram_commands.specs.Inputs.{GivesFault, GivesPlan, GivesPlanFault, GivesText}
 use Rattle.pram_commands.specs.Inputs.{GivesSomeJob, IsOfJob, Reading, Taking, first_outside}
 use Rattle.pram_commands.specs.Inputs.{missing_step}
 use Rattle.pram_commands.specs.declared.fault.CommandFault.{CommandFault}
@@ -41,13 +41,14 @@ writing of_out before after = record {
 -- What a command is: the workers of the plan that it follows, if it follows one; the cells that the
 -- job has to have; the first step that it shows, which the job has to have, or 1; whether it prints
 -- in pieces, so that a beginning may stand printed where memory runs out; and what it comes to: on
--- this job and this plan it prints these bytes, and this is the answer, if it gives one.
+-- this text, the job that it spells and this plan it prints these bytes, and this is the answer, if
+-- it gives one.
 pub record Command : Type 1 where
   pub workers : Option ℕ
   pub cells : List ℕ
   pub first : ℕ
   pub InPieces : Type 0
-  pub Comes : JobData → PlanData → List ℕ → Option RunAnswer → Type 0
+  pub Comes : List ℕ → JobData → PlanData → List ℕ → Option RunAnswer → Type 0
 
 -- what follows the rows of a command: the printed answer, unless they are to stand alone
 abbrev pub ending : Bool → RunAnswer → ℕ → List ℕ
@@ -66,10 +67,11 @@ pub record Showing (alone : Bool) (Ends : RunAnswer → List ℕ → Type 0) (jo
 abbrev pub Answering : (RunAnswer → List ℕ → Type 0) → JobData → List ℕ → Option RunAnswer → Type 0
 Answering = Showing false
 
--- The sources gave the job and, where the command follows one, its plan.
+-- The sources gave the job, by its text, and where the command follows one, its plan.
 pub record Given (command : Command) (reads : Reading) (job : JobData) (plan : PlanData)
     : Type 0 where
-  pub a_job : GivesJob reads.job reads.job' job
+  pub job_text : List ℕ
+  pub a_job : GivesText reads.job reads.job' job_text job
   pub a_plan : IfSome command.workers (λ workers. GivesPlan reads.plan reads.plan' workers plan)
 
 -- On what the sources gave, the command prints this text, and this is its answer.
@@ -78,7 +80,7 @@ pub record ComesTo (command : Command) (reads : Reading) (text : List ℕ)
   pub job : JobData
   pub plan : PlanData
   pub given : Given command reads job plan
-  pub comes : command.Comes job plan text answer
+  pub comes : command.Comes given.job_text job plan text answer
 
 -- The output took all that the command prints, and what is said holds of its answer.
 pub record Prints (command : Command) (reads : Reading) (writes : Writing)

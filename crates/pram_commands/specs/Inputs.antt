@@ -60,11 +60,15 @@ pub record AreReady {J P O : Type 0} (of_job : a_source.Ghosts J) (of_plan : a_s
   pub plan : of_plan.has_failed sources.plan ≡ false
   pub output : of_out.has_failed out ≡ false
 
--- The source gave a text that spells the job.
-pub record GivesJob (source source' : Option (List ℕ)) (job : JobData) : Type 0 where
-  pub text : List ℕ
+-- The source gave this text, which spells the job.
+pub record GivesText (source source' : Option (List ℕ)) (text : List ℕ) (job : JobData)
+    : Type 0 where
   pub gives : Gives source source' text
   pub spells : Spells text job
+
+-- The source gave a text that spells the job.
+abbrev pub GivesJob : Option (List ℕ) → Option (List ℕ) → JobData → Type 0
+GivesJob source source' job = (text : List ℕ) × GivesText source source' text job
 
 -- The source gave a text that bears the fault.
 pub record GivesFault (source source' : Option (List ℕ)) (line : ℕ) (kind : TextKind) : Type 0 where
@@ -91,10 +95,10 @@ pub record GivesPlanFault (source source' : Option (List ℕ)) (workers row : �
   pub gives : Gives source source' text
   pub fault : FirstFault workers (records_of text) row kind
 
--- The sources gave the job and the plan.
-pub record GivesBoth (reads : Reading) (workers : ℕ) (job : JobData) (plan : PlanData)
-    : Type 0 where
-  pub gives_job : GivesJob reads.job reads.job' job
+-- The sources gave the job, by this text, and the plan.
+pub record GivesBoth (reads : Reading) (workers : ℕ) (text : List ℕ) (job : JobData)
+    (plan : PlanData) : Type 0 where
+  pub gives_job : GivesText reads.job reads.job' text job
   pub gives_plan : GivesPlan reads.plan reads.plan' workers plan
 
 -- What a fault says of the source of a plan. Those of a job and of an output are never answered.
@@ -138,7 +142,8 @@ ExplainsBoth workers reads _ = ⊥
 -- a source failed is answered truly, and they stand after the bytes read so far.
 pub record Took (workers : ℕ) (taken : Taking) (result : Result Inputs CommandFault)
     : Type 0 where
-  pub both : IfOk result (λ inputs. GivesBoth taken.reads workers inputs.job inputs.plan)
+  pub both : IfOk result
+      (λ inputs. GivesBoth taken.reads workers inputs.text.items inputs.job inputs.plan)
   pub explains : IfErr result (ExplainsBoth workers taken.reads)
   pub job_first : IfErr result (λ fault. IsOfJob fault → taken.Unread)
   pub job_failed : IsTrue taken.reads.job_failed ↔ IsErrOf result JobDevice

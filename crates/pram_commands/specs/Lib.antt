@@ -12,3 +12,4 @@ pub mod Replayed
 pub mod Served
 pub mod Steps
 pub mod Threads
+pub mod Why

@@ -17,19 +17,19 @@ text_of = option_map (λ text. text.now)
 
 abbrev pub file_of : Line → List ℕ
 file_of (Check file) = file.now
-file_of (Plain file) = file.now
+file_of (Plain file why) = file.now
 file_of (Cost file) = file.now
 file_of (Steps file from to alone) = file.now
-file_of (Run file plan manner) = file.now
+file_of (Run file plan manner why) = file.now
 file_of (Watch file plan manner cells rounds) = file.now
 file_of (Replay file workers plan alone) = file.now
 
 abbrev pub plan_of : Line → Option (List ℕ)
 plan_of (Check file) = None
-plan_of (Plain file) = None
+plan_of (Plain file why) = None
 plan_of (Cost file) = None
 plan_of (Steps file from to alone) = None
-plan_of (Run file plan manner) = text_of plan
+plan_of (Run file plan manner why) = text_of plan
 plan_of (Watch file plan manner cells rounds) = text_of plan
 plan_of (Replay file workers plan alone) = text_of plan
 
@@ -37,16 +37,16 @@ plan_of (Replay file workers plan alone) = text_of plan
 -- ends
 abbrev pub command_of : Line → Command
 command_of (Check file) = checking
-command_of (Plain file) = plainly
+command_of (Plain file why) = plainly why
 command_of (Cost file) = costing
 command_of (Steps file from to alone) = stepping alone (record { from = from; to = to })
-command_of (Run file plan manner) = running manner.workers.count
+command_of (Run file plan manner why) = running why manner.workers.count
 command_of (Watch file plan manner cells rounds) =
     watching manner.workers.count (cells_of cells.text.now) rounds
 command_of (Replay file workers plan alone) = replaying alone workers.count
 
 -- The line is done by the thread that calls.
 abbrev pub StartsNoThread : Line → Type 0
-StartsNoThread (Run file plan manner) = ⊥
+StartsNoThread (Run file plan manner why) = ⊥
 StartsNoThread (Watch file plan manner cells rounds) = ⊥
 StartsNoThread _ = ⊤

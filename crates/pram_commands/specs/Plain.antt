@@ -1,30 +1,31 @@
 -- What the commands come to that run a job on the plain machine, or only judge it.
-use Rattle.std.specs.Prelude.{◌≡◌, ℕ, List, [], Option, None}
+use Rattle.std.specs.Prelude.{◌≡◌, ℕ, Bool, List, [], Option, None}
 use Rattle.pram_text.specs.Job.{JobData}
 use Rattle.pram_step.specs.Runs.{IsAnswer}
 use Rattle.pram_step.specs.declared.answer.RunAnswer.{RunAnswer}
 use Rattle.pram_streams.specs.Printed.{summary}
 use Rattle.stop_plan.specs.Plan.{PlanData}
-use Rattle.pram_commands.specs.Did.{Answering, Command}
+use Rattle.pram_commands.specs.Did.{Command}
+use Rattle.pram_commands.specs.Why.{Explaining}
 
 -- what stands for a plan where a command follows none
 abbrev pub no_plan : PlanData
 no_plan = record { workers = 0; rows = [] }
 
 -- follows no plan, and prints at once what it comes to on the job
-abbrev pub on_job : (JobData → List ℕ → Option RunAnswer → Type 0) → Command
+abbrev pub on_job : (List ℕ → JobData → List ℕ → Option RunAnswer → Type 0) → Command
 on_job Comes = record {
   workers = None;
   cells = [];
   first = 1;
   InPieces = ⊥;
-  Comes = λ job plan. Comes job;
+  Comes = λ job_text job plan. Comes job_text job;
 }
 
 -- it prints the summary of the job
 abbrev pub checking : Command
-checking = on_job (λ job text answer. (text ≡ summary job) × (answer ≡ None))
+checking = on_job (λ job_text job text answer. (text ≡ summary job) × (answer ≡ None))
 
--- it prints the answer of the job
-abbrev pub plainly : Command
-plainly = on_job (λ job. Answering (λ answer front. IsAnswer job answer × (front ≡ [])) job)
+-- it prints the answer of the job, and if it is asked for what became of the processors
+abbrev pub plainly : Bool → Command
+plainly why = on_job (λ job_text job. Explaining why (IsAnswer job) job_text job)

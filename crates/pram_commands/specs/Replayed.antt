@@ -13,6 +13,6 @@ replaying alone workers = record {
   cells = [];
   first = 1;
   InPieces = ⊤;
-  Comes = λ job plan. Showing alone (λ answer front. (trace : List TraceRow)
+  Comes = λ job_text job plan. Showing alone (λ answer front. (trace : List TraceRow)
       × IsReplay job plan answer trace × (front ≡ trace_text trace)) job;
 }

@@ -14,6 +14,6 @@ stepping alone window = record {
   cells = [];
   first = window.from;
   InPieces = ⊤;
-  Comes = λ job plan. Showing alone (λ answer front. IsAnswer job answer
+  Comes = λ job_text job plan. Showing alone (λ answer front. IsAnswer job answer
       × (front ≡ rows_text job window.from window.to (last_step job answer))) job;
 }

@@ -1,5 +1,6 @@
 -- What the commands come to that run a job on threads.
-use Rattle.std.specs.Prelude.{◌≡◌, ◌^◌, ℕ, List, [], Option, None, Some, ⊤, map, slice_index, All}
+use Rattle.std.specs.Prelude.{◌≡◌, ◌^◌, ℕ, Bool, List, [], Option, None, Some, ⊤, map}
+use Rattle.std.specs.Prelude.{slice_index, All}
 use Rattle.std.specs.List.{repeat}
 use Rattle.std.specs.List.Sorted.{IsNonDecreasingBy}
 use Rattle.pram_text.specs.Job.{JobData}
@@ -15,6 +16,7 @@ use Rattle.pram_run.specs.Running.{IsRun}
 use Rattle.pram_run.specs.Watching.{HasReadBeside, IsWatch}
 use Rattle.pram_run.specs.declared.sight.Sight.{Sight}
 use Rattle.pram_commands.specs.Did.{Answering, Command}
+use Rattle.pram_commands.specs.Why.{Explaining}
 use Rattle.pram_commands.specs.declared.block.Block.{Block}
 
 -- how many processors a block has
@@ -43,14 +45,15 @@ pub record EndsAt (job : JobData) (plan : PlanData) (later : SeatData) (answer :
 abbrev pub IsEnd : JobData → PlanData → RunAnswer → Type 0
 IsEnd job plan answer = (later : SeatData) × EndsAt job plan later answer
 
--- it prints the answer of a run of the job under the plan
-abbrev pub running : ℕ → Command
-running workers = record {
+-- it prints the answer of a run of the job under the plan, and if it is asked for what became of
+-- the processors
+abbrev pub running : Bool → ℕ → Command
+running why workers = record {
   workers = Some workers;
   cells = [];
   first = 1;
   InPieces = ⊥;
-  Comes = λ job plan. Answering (λ answer front. IsEnd job plan answer × (front ≡ [])) job;
+  Comes = λ job_text job plan. Explaining why (IsEnd job plan) job_text job;
 }
 
 -- what the cell holds after the step, which is reached
@@ -96,5 +99,5 @@ watching workers cells rounds = record {
   cells = cells;
   first = 1;
   InPieces = ⊤;
-  Comes = λ job plan. Answering (TellsSights job plan cells rounds) job;
+  Comes = λ job_text job plan. Answering (TellsSights job plan cells rounds) job;
 }

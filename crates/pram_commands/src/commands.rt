@@ -28,7 +28,7 @@ use pram_rows::Window;
 use pram_step::RunAnswer;
 use pram_streams::{PrintFault, Sink, Source, print_answer};
 pub use replays::replay;
-pub use runs::run;
+pub use runs::{Wanted, run};
 use std::alloc::Global;
 use std::rt::Clock;
 use std::sync::Wait;
@@ -53,7 +53,7 @@ pub(crate) fn do_alone<J: Source, P: Source, O: Sink>(
             check(alloc, sources, out)?;
             Ok(DONE)
         }
-        Line::Plain { .. } => ended(plain(alloc, sources, out)),
+        Line::Plain { why, .. } => ended(plain(alloc, why, sources, out)),
         Line::Cost { .. } => {
             let cost = cost(alloc, sources, out)?;
             Ok(cost_status(&cost))
@@ -88,7 +88,9 @@ pub(crate) fn do_on_threads<
         (writing O.Sink out.old out.new) tells_status result }
 {
     match *line {
-        Line::Run { manner, .. } => ended(run(rt, alloc, manner, sources, out)),
+        Line::Run { manner, why, .. } => {
+            ended(run(rt, alloc, Wanted { manner, why }, sources, out))
+        }
         Line::Watch {
             manner,
             cells,

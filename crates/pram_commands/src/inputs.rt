@@ -2,8 +2,8 @@
 ghost use Rattle.std.specs.Prelude.{◌≡◌, ◌↔◌, false, IfOk, IfErr, IsErrOf, IsTrue};
 ghost use Rattle.pram_streams.specs.Transfer.{GivesSome};
 ghost use Rattle.pram_commands.specs.Faults.{fault_of_job_source, fault_of_plan_source};
-ghost use Rattle.pram_commands.specs.Inputs.{ExplainsJob, ExplainsPlan, GivesJob, GivesPlan, Took};
-ghost use Rattle.pram_commands.specs.Inputs.{taking};
+ghost use Rattle.pram_commands.specs.Inputs.{ExplainsJob, ExplainsPlan, GivesJob, GivesPlan};
+ghost use Rattle.pram_commands.specs.Inputs.{GivesText, Took, taking};
 
 use crate::fault::CommandFault;
 use crate::sources::{Inputs, Sources};
@@ -12,6 +12,13 @@ use pram_streams::{Source, TakeFault, take};
 use pram_text::{Job, TextFault, TextKind, read_job};
 use std::alloc::Global;
 use stop_plan::{Plan, PlanFault, PlanKind, read_plan};
+
+/// A text, and the job that it spells.
+#[derive(Drop)]
+pub(crate) struct Spelled {
+    pub text: Vec<u8>,
+    pub job: Job,
+}
 
 /// The job that the bytes of a source spell, and then the plan that those of another spell. Where
 /// the job is refused, nothing is read of the plan.
@@ -24,9 +31,9 @@ pub fn take_inputs<J: Source, P: Source>(
     requires plan { P.has_failed sources.old.plan ≡ false }
     ensures { Took workers.count (taking J.Source P.Source sources.old sources.new) result }
 {
-    let job = take_job(alloc, &mut sources.job)?;
+    let Spelled { text, job } = take_text(alloc, &mut sources.job)?;
     let plan = take_plan(alloc, &mut sources.plan, workers)?;
-    Ok(Inputs { job, plan })
+    Ok(Inputs { text, job, plan })
 }
 
 /// The job that the bytes of a source spell.
@@ -39,9 +46,23 @@ pub fn take_job<J: Source>(alloc: Global, source: &mut J) -> Result<Job, Command
         ↔ IsErrOf result CommandFault.JobDevice }
     ensures reads { GivesSome (J.remaining source.old) (J.remaining source.new) }
 {
+    Ok(take_text(alloc, source)?.job)
+}
+
+/// The same, with the text.
+pub(crate) fn take_text<J: Source>(alloc: Global, source: &mut J) -> Result<Spelled, CommandFault>
+    requires { J.has_failed source.old ≡ false }
+    ensures ok { IfOk result (λ spelled. GivesText (J.remaining source.old)
+        (J.remaining source.new) spelled.text.items spelled.job) }
+    ensures explains { IfErr result (ExplainsJob (J.remaining source.old)
+        (J.remaining source.new)) }
+    ensures failed { IsTrue (J.has_failed source.new)
+        ↔ IsErrOf result CommandFault.JobDevice }
+    ensures reads { GivesSome (J.remaining source.old) (J.remaining source.new) }
+{
     let text = take(alloc, source).map_err(job_fault)?;
     match read_job(alloc, text.as_slice()) {
-        Ok(job) => Ok(job),
+        Ok(job) => Ok(Spelled { text, job }),
         Err(
             TextFault {
                 kind: TextKind::Memory,

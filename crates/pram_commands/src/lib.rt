@@ -19,11 +19,12 @@ mod sources;
 #[cfg(test)]
 mod tests;
 mod threads;
+mod why;
 mod workers;
 
 pub use block::Block;
 pub use cell_list::CellList;
-pub use commands::{Reads, check, cost, plain, replay, run, steps, watch};
+pub use commands::{Reads, Wanted, check, cost, plain, replay, run, steps, watch};
 pub use fault::CommandFault;
 pub use files::{Folder, serve_files};
 pub use inputs::{take_inputs, take_job, take_plan};

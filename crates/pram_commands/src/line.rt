@@ -13,9 +13,11 @@ pub enum Line<'a> {
     Check {
         file: &'a str,
     },
-    /// Run the job on the plain machine.
+    /// Run the job on the plain machine; after the answer what became of the processors, if it is
+    /// asked for.
     Plain {
         file: &'a str,
+        why: bool,
     },
     /// Say what the run of the job costs, and which model of the PRAM it needs.
     Cost {
@@ -29,13 +31,15 @@ pub enum Line<'a> {
         to: u32,
         alone: bool,
     },
-    /// Run the job on threads, in this manner.
+    /// Run the job on threads, in this manner; after the answer the same, if it is asked for.
     Run {
         file: &'a str,
         plan: Option<&'a str>,
         manner: Manner,
+        why: bool,
     },
-    /// The same, with a reader beside the workers, which goes so many rounds through the cells.
+    /// Run the job so, with a reader beside the workers, which goes so many rounds through the
+    /// cells.
     Watch {
         file: &'a str,
         plan: Option<&'a str>,
@@ -74,7 +78,7 @@ impl<'a> Line<'a> {
     {
         match *self {
             Line::Check { file }
-            | Line::Plain { file }
+            | Line::Plain { file, .. }
             | Line::Cost { file }
             | Line::Steps { file, .. }
             | Line::Run { file, .. }

@@ -3,9 +3,11 @@ ghost use Rattle.std.specs.Prelude.{◌≡◌, ◌↔◌, IsErrOf, IsTrue, false
 ghost use Rattle.pram_streams.specs.declared.print.PrintFault.TheVariants.{Device};
 ghost use Rattle.pram_run.specs.PutReads.{PutWatch};
 ghost use Rattle.pram_commands.specs.Did.{writing};
-ghost use Rattle.pram_commands.specs.Inner.Hearing.{HasPrinted};
+ghost use Rattle.pram_commands.specs.Inner.Hearing.{HasPrinted, HasToldEnd};
+ghost use Rattle.pram_commands.specs.Inner.Puts.{outcome};
 ghost use Rattle.pram_commands.specs.Inner.Watching.{HasPrintedAfter};
 
+use crate::why::{Question, put_told};
 use pram_board::Seat;
 use pram_run::{Listener, Observation, Reads, Sight, print_reads};
 use pram_step::RunAnswer;
@@ -13,12 +15,11 @@ use pram_streams::{PrintFault, Sink, print_answer};
 use std::alloc::{AllocError, Global};
 use stop_plan::Gate;
 
-/// Prints the answer of a job of so many steps to an output, which it hands back with what came of
-/// that.
+/// Prints the answer to a question to an output, which it hands back with what came of that.
 #[derive(Drop)]
 pub(crate) struct Printing<'a, O> {
     pub alloc: Global,
-    pub steps: u32,
+    pub question: Question<'a>,
     pub out: &'a mut O,
 }
 
@@ -28,55 +29,63 @@ impl<'a, O: Sink> Listener for Printing<'a, O> {
     ghost can_hear = { λ p. O.has_failed p.out.now ≡ false };
 
     ghost hears = { λ p ended heard. (heard.0.ghost_name ≡ p.out.ghost_name)
-        × HasPrinted (writing O.Sink p.out.now heard.0.now) p.steps ended heard.1 };
+        × HasToldEnd p.question.why p.question.text.now p.question.job.now
+        (writing O.Sink p.out.now heard.0.now) ended heard.1 };
 
     fn hear(self, ended: &Result<RunAnswer, AllocError>) -> (&'a mut O, Result<(), PrintFault>) {
-        let Printing { alloc, steps, out } = self;
+        let Printing {
+            alloc,
+            question,
+            out,
+        } = self;
         let printed = match ended {
-            Ok(answer) => print_answer(alloc, out, answer, steps),
+            Ok(answer) => put_told(alloc, out, &question, answer),
             Err(AllocError) => Err(PrintFault::Memory),
         };
         (out, printed)
     }
 }
 
-/// Prints what a reader reads, and then the answer, unless printing has failed.
+/// Prints what a reader reads, and then the answer of a job of so many steps, unless printing has
+/// failed.
 #[derive(Drop)]
 pub(crate) struct PrintingReads<'a, O> {
-    pub printing: Printing<'a, O>,
+    pub alloc: Global,
+    pub steps: u32,
+    pub out: &'a mut O,
     pub printed: Result<(), PrintFault>,
 }
 
 impl<'a, O: Sink> Listener for PrintingReads<'a, O> {
     type Heard = (&'a mut O, Result<(), PrintFault>);
 
-    ghost can_hear = { λ p. IsTrue (O.has_failed p.printing.out.now) ↔ IsErrOf p.printed Device };
+    ghost can_hear = { λ p. IsTrue (O.has_failed p.out.now) ↔ IsErrOf p.printed Device };
 
-    ghost hears = { λ p ended heard. (heard.0.ghost_name ≡ p.printing.out.ghost_name)
-        × HasPrintedAfter p.printed (writing O.Sink p.printing.out.now heard.0.now)
-        p.printing.steps ended heard.1 };
+    ghost hears = { λ p ended heard. (heard.0.ghost_name ≡ p.out.ghost_name)
+        × HasPrintedAfter p.printed (writing O.Sink p.out.now heard.0.now) p.steps ended heard.1 };
 
     fn hear(self, ended: &Result<RunAnswer, AllocError>) -> (&'a mut O, Result<(), PrintFault>) {
-        let PrintingReads { printing, printed } = self;
-        match printed {
-            Ok(()) => printing.hear(ended),
-            Err(fault) => {
-                let Printing { out, .. } = printing;
-                (out, Err(fault))
-            }
-        }
+        let PrintingReads {
+            alloc,
+            steps,
+            out,
+            printed,
+        } = self;
+        let printed = match printed {
+            Ok(()) => print_end(alloc, out, ended, steps),
+            Err(fault) => Err(fault),
+        };
+        (out, printed)
     }
 }
 
 impl<O: Sink> Reads for PrintingReads<'_, O> {
-    ghost can_read = { λ p. O.has_failed p.printing.out.now ≡ false };
+    ghost can_read = { λ p. O.has_failed p.out.now ≡ false };
 
     ghost reads = { λ p task cells rounds given later after.
-        (after.printing.out.ghost_name ≡ p.printing.out.ghost_name)
-        × (after.printing.steps ≡ p.printing.steps)
-        × PutWatch task cells rounds given later (O.taken p.printing.out.now)
-        (O.taken after.printing.out.now) after.printed
-        × (IsTrue (O.has_failed after.printing.out.now) ↔ IsErrOf after.printed Device) };
+        (after.out.ghost_name ≡ p.out.ghost_name) × (after.steps ≡ p.steps)
+        × PutWatch task cells rounds given later (O.taken p.out.now) (O.taken after.out.now)
+        after.printed × (IsTrue (O.has_failed after.out.now) ↔ IsErrOf after.printed Device) };
 
     fn read<G: Gate>(
         self,
@@ -84,11 +93,47 @@ impl<O: Sink> Reads for PrintingReads<'_, O> {
         seat: &mut Seat,
         sights: &mut Vec<Sight>,
     ) -> Self {
-        let Printing { alloc, steps, out } = self.printing;
+        let PrintingReads {
+            alloc,
+            steps,
+            out,
+            ..
+        } = self;
         let printed = print_reads(observation, seat, sights, out);
-        let printing = Printing { alloc, steps, out };
-        PrintingReads { printing, printed }
+        PrintingReads {
+            alloc,
+            steps,
+            out,
+            printed,
+        }
     }
+}
+
+// Prints the answer of a job of so many steps.
+fn print_end<O: Sink>(
+    alloc: Global,
+    out: &mut O,
+    ended: &Result<RunAnswer, AllocError>,
+    steps: u32,
+) -> Result<(), PrintFault>
+    requires { O.has_failed out.old ≡ false }
+    ensures { HasPrinted (writing O.Sink out.old out.new) steps ended.now result }
+{
+    match ended {
+        Ok(answer) => print_answer(alloc, out, answer, steps),
+        Err(AllocError) => Err(PrintFault::Memory),
+    }
+}
+
+/// What a run answers, of which was printed how it ended.
+pub(crate) fn outcome(
+    put: Result<(), PrintFault>,
+    ended: Result<RunAnswer, AllocError>,
+) -> Result<RunAnswer, PrintFault>
+    ensures { result ≡ outcome put ended }
+{
+    put?;
+    Ok(ended?)
 }
 
 /// Does nothing: the use of an output that was handed back ties it to the one that was lent.

@@ -2,9 +2,7 @@
 ghost use Rattle.std.specs.Prelude.{◌≡◌, ◌⊎◌, false, IfOk, IfErr};
 ghost use Rattle.pram_commands.specs.Did.{writing};
 ghost use Rattle.pram_commands.specs.Faults.{fault_status};
-ghost use Rattle.pram_commands.specs.Inner.Refusals.{cell_at_fault, file_at_fault, refusal_status};
-ghost use Rattle.pram_commands.specs.Inner.Refusals.{step_at_fault, told_cell, told_file};
-ghost use Rattle.pram_commands.specs.Inner.Refusals.{told_step};
+ghost use Rattle.pram_commands.specs.Inner.Refusals.{named_by, named_in, refusal_status};
 ghost use Rattle.pram_commands.specs.Inputs.{AreReady, reading};
 ghost use Rattle.pram_commands.specs.Line.{StartsNoThread};
 ghost use Rattle.pram_commands.specs.Served.{Served};
@@ -101,9 +99,7 @@ fn status_after<O: Sink, E: Sink>(
 // What is told of a fault of a line.
 fn refusal_of<'a>(line: &Line<'a>, fault: CommandFault) -> Refusal<'a>
     ensures status { refusal_status result ≡ fault_status fault }
-    ensures file { told_file result ≡ file_at_fault line.now fault }
-    ensures cell { told_cell result ≡ cell_at_fault fault }
-    ensures step { told_step result ≡ step_at_fault fault }
+    ensures names { named_in result ≡ named_by line.now fault }
 {
     match fault {
         CommandFault::Text { line, kind } => Refusal::Text { line, kind },

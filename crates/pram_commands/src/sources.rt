@@ -11,9 +11,10 @@ pub struct Sources<J, P> {
     pub plan: P,
 }
 
-/// A job, and a plan for its workers.
+/// A job with its text, and a plan for its workers.
 #[derive(Drop)]
 pub struct Inputs {
+    pub text: Vec<u8>,
     pub job: Job,
     pub plan: Plan,
     pub ghost some: { 1 ≤ plan.workers },

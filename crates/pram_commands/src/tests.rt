@@ -11,3 +11,4 @@ mod replays;
 mod served;
 mod statuses;
 mod threads;
+mod why;

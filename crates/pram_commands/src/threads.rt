@@ -3,9 +3,8 @@ ghost use Rattle.std.specs.Prelude.{◌≡◌, ◌⊎◌, ◌<◌, ◌*◌, All,
 ghost use Rattle.std.specs.Duration.{as_nanos};
 ghost use Rattle.pram_words.specs.declared.layout.Form.TheVariants.{Wide};
 ghost use Rattle.pram_board.specs.Seats.{IsOpened};
-ghost use Rattle.pram_commands.specs.Inner.Hearing.{without_seat};
 ghost use Rattle.pram_commands.specs.Inner.Watching.{HasHeardAlone, HasWatchedOn, IsWatchedBy};
-ghost use Rattle.pram_commands.specs.Threads.{EndsAt, IsNewBoard, grain_by};
+ghost use Rattle.pram_commands.specs.Threads.{IsEnd, IsNewBoard, grain_by};
 
 use crate::block::Block;
 use crate::progress::{Teller, Telling, start_teller};
@@ -63,19 +62,18 @@ fn open(alloc: Global, inputs: &Inputs, block: Option<Block>) -> Result<(Board, 
     }
 }
 
-/// Runs the plan's workers, and answers how the job ended, with the seat that saw it. The listener
-/// hears it as soon as a worker knows it.
+/// Runs the plan's workers, and answers how the job ended. The listener hears it as soon as a worker
+/// knows it.
 pub(crate) fn run_job<R: Threads + Wait + Clock + Eprint + Sync, H, L: Listener<Heard = H>>(
     rt: &R,
     alloc: Global,
     inputs: &Inputs,
     manner: Manner,
     listener: L,
-) -> (Result<(RunAnswer, Seat), AllocError>, H)
+) -> (Result<RunAnswer, AllocError>, H)
     requires { L.can_hear listener }
-    ensures ended { IfOk result.0
-        (λ ended. EndsAt inputs.now.job inputs.now.plan ended.1 ended.0) }
-    ensures heard { L.hears listener (without_seat result.0) result.1 }
+    ensures ended { IfOk result.0 (IsEnd inputs.now.job inputs.now.plan) }
+    ensures heard { L.hears listener result.0 result.1 }
 {
     match manner.pace {
         None => run_past(
@@ -109,11 +107,10 @@ fn run_past<R: Threads + Wait + Clock + Eprint + Sync, G: Gate + Sync, H, L: Lis
     inputs: &Inputs,
     way: &Way<'_, G>,
     listener: L,
-) -> (Result<(RunAnswer, Seat), AllocError>, H)
+) -> (Result<RunAnswer, AllocError>, H)
     requires { L.can_hear listener }
-    ensures ended { IfOk result.0
-        (λ ended. EndsAt inputs.now.job inputs.now.plan ended.1 ended.0) }
-    ensures heard { L.hears listener (without_seat result.0) result.1 }
+    ensures ended { IfOk result.0 (IsEnd inputs.now.job inputs.now.plan) }
+    ensures heard { L.hears listener result.0 result.1 }
 {
     let (manner, gate) = (way.manner, way.gate);
     let Ok((board, seat)) = open(alloc, inputs, manner.block) else {
@@ -126,13 +123,12 @@ fn run_past<R: Threads + Wait + Clock + Eprint + Sync, G: Gate + Sync, H, L: Lis
     thread::scope(
         thread::scope_env(),
         rt,
-        |scope| -> (Result<(RunAnswer, Seat), AllocError>, H)
+        |scope| -> (Result<RunAnswer, AllocError>, H)
             requires opened { IsNewBoard job.now plan.now (board.now, seat) }
             requires steps { teller.now.steps ≡ board.now.task.job.steps }
             requires listener { L.can_hear listener }
-            ensures ended { IfOk result.0
-                (λ ended. EndsAt job.entry.now plan.entry.now ended.1 ended.0) }
-            ensures heard { L.hears listener (without_seat result.0) result.1 }
+            ensures ended { IfOk result.0 (IsEnd job.entry.now plan.entry.now) }
+            ensures heard { L.hears listener result.0 result.1 }
         {
             let assignment = Assignment {
                 job,
@@ -173,13 +169,13 @@ fn run_on<
     errand: &Errand<'s, 's, G>,
     seat: Seat,
     listener: L,
-) -> (Result<(RunAnswer, Seat), AllocError>, H)
+) -> (Result<RunAnswer, AllocError>, H)
     requires opened { IsNewBoard errand.now.assignment.job.now errand.now.assignment.plan.now
         (errand.now.assignment.board.now, seat) }
     requires listener { L.can_hear listener }
-    ensures ended { IfOk result.0 (λ ended. EndsAt errand.now.assignment.job.now
-        errand.now.assignment.plan.now ended.1 ended.0) }
-    ensures heard { L.hears listener (without_seat result.0) result.1 }
+    ensures ended { IfOk result.0 (IsEnd errand.now.assignment.job.now
+        errand.now.assignment.plan.now) }
+    ensures heard { L.hears listener result.0 result.1 }
 {
     let (assignment, teller) = (&errand.assignment, errand.teller);
     let seat = start_teller(scope, rt, assignment.board, seat, teller);
@@ -188,8 +184,8 @@ fn run_on<
         teller,
         listener,
     };
-    let (seat, ended, heard) = run_heard(rt, errand.alloc, assignment, seat, listener);
-    (with_seat(ended, seat), heard)
+    let (_seat, ended, heard) = run_heard(rt, errand.alloc, assignment, seat, listener);
+    (ended, heard)
 }
 
 // A listener, before whose turn the teller has no more to tell.
@@ -230,31 +226,10 @@ impl<R: Clock, L: Reads> Reads for Hushing<'_, R, L> {
         seat: &mut Seat,
         sights: &mut Vec<Sight>,
     ) -> Self {
-        let Hushing {
-            rt,
-            teller,
-            listener,
-        } = self;
-        let listener = listener.read(observation, seat, sights);
         Hushing {
-            rt,
-            teller,
-            listener,
+            listener: self.listener.read(observation, seat, sights),
+            ..self
         }
-    }
-}
-
-// The answer with the seat that saw it.
-fn with_seat(
-    ended: Result<RunAnswer, AllocError>,
-    seat: Seat,
-) -> Result<(RunAnswer, Seat), AllocError>
-    ensures ended { without_seat result ≡ ended }
-    ensures seat { IfOk result (λ ended. ended.1 ≡ seat) }
-{
-    match ended {
-        Ok(answer) => Ok((answer, seat)),
-        Err(refused) => Err(refused),
     }
 }
 

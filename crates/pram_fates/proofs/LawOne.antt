@@ -4,7 +4,6 @@ use Rattle.std.proofs.Common.{◌∙◌, inl, inr, arith}
 use Rattle.std.specs.Prelude.{MatchOption}
 use Rattle.std.proofs.lemmas.Bool.{cases_lt}
 use Rattle.pram_text.specs.Job.{JobData}
-use Rattle.pram_step.specs.Laws.{AllStopped}
 use Rattle.pram_step.specs.Machine.{State, counter}
 use Rattle.pram_step.specs.Runs.{IsReached, state_after}
 use Rattle.pram_step.proofs.LawFixed.{reached_down}
@@ -13,7 +12,7 @@ use Rattle.pram_fates.specs.declared.fates.End.{End}
 use Rattle.pram_fates.specs.declared.fates.End.TheVariants.{Running, Stopped}
 use Rattle.pram_fates.specs.declared.fates.Lost.{Lost}
 use Rattle.pram_fates.specs.Fates.{AreMade, AreRunning, HaveStopped, IsEnd, IsFirstLost}
-use Rattle.pram_fates.specs.Fates.{IsFirstLostOrNone, IsFirstNaming, IsFirstRunning}
+use Rattle.pram_fates.specs.Fates.{IsFirstLostOrNone, IsFirstNaming, IsFirstRunning, NoneRuns}
 use Rattle.pram_fates.specs.Laws.{OneFates}
 
 made_within : (job : JobData) (n a b : ℕ) → AreMade job n a → AreMade job n b → b ≤ a
@@ -70,7 +69,7 @@ never_both job n c i x step reached runs stop =
     (record { reached = reached_down job step n within reached; state = refl }) stop.stopped in
     let e : step + (n - step) ≡ n = omega arith in
     let same : state_after job step ≡ state_after job n = later.state ∙ ap (state_after job) e in
-    let stopped = subst (λ (s : State). AllStopped job s) same stop.stopped i runs.first_is.within in
+    let stopped = subst (λ (s : State). NoneRuns job s) same stop.stopped i runs.first_is.within in
     let running = runs.first_is.runs in
     omega arith
 

@@ -3,7 +3,6 @@ use Rattle.std.specs.Prelude.{◌≡◌, ℕ, ◌+◌, ◌<◌, ◌≤◌, Bool,
 use Rattle.std.specs.List.{range_with_len}
 use Rattle.pram_text.specs.Job.{JobData}
 use Rattle.pram_step.specs.Instructions.{request_in}
-use Rattle.pram_step.specs.Laws.{AllStopped}
 use Rattle.pram_step.specs.Machine.{State, counter, halted, out_of_range, IsStopped}
 use Rattle.pram_step.specs.Runs.{AgreesAfter, IsReached, state_after}
 use Rattle.pram_fates.specs.declared.fates.End.{End}
@@ -29,11 +28,15 @@ pub record AreRunning (job : JobData) (state : State) (count first index : ℕ) 
   pub first_is : IsFirstRunning job state first
   pub index_is : index ≡ counter job state first
 
+-- none does
+abbrev pub NoneRuns : JobData → State → Type 0
+NoneRuns job state = (i : ℕ) → i < job.procs → IsStopped job state i
+
 -- all have stopped after this step, which is one of the first n or none, and not after fewer
 pub record HaveStopped (job : JobData) (n step : ℕ) : Type 0 where
   pub within : step ≤ n
-  pub stopped : AllStopped job (state_after job step)
-  pub not_before : (t : ℕ) → t < step → AllStopped job (state_after job t) → ⊥
+  pub stopped : NoneRuns job (state_after job step)
+  pub not_before : (t : ℕ) → t < step → NoneRuns job (state_after job t) → ⊥
 
 -- how they are after n steps
 abbrev pub IsEnd : JobData → ℕ → End → Type 0

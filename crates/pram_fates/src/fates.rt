@@ -1,7 +1,7 @@
 //! What becomes of the processors of a job.
 ghost use Rattle.std.specs.Prelude.{◌≡◌, ◌+◌, ◌<◌, IfOk, OnOk};
 ghost use Rattle.pram_fates.specs.Fates.{AreFates, HaveStopped, IsEnd, IsFirstLostOrNone};
-ghost use Rattle.pram_step.specs.Laws.{AllStopped};
+ghost use Rattle.pram_fates.specs.Fates.{NoneRuns};
 ghost use Rattle.pram_step.specs.Machine.{start};
 ghost use Rattle.pram_step.specs.Runs.{IsReached, IsStateAfter, state_after};
 
@@ -106,7 +106,7 @@ fn end_of(alloc: Global, moment: &Moment<'_>) -> Result<End, AllocError>
 
 // The first step after which all processors have stopped, where they have at this moment.
 fn stopping_step(alloc: Global, last: &Moment<'_>) -> Result<u32, AllocError>
-    requires { AllStopped last.now.job.now (state_after last.now.job.now last.now.made) }
+    requires { NoneRuns last.now.job.now (state_after last.now.job.now last.now.made) }
     ensures { IfOk result (HaveStopped last.now.job.now last.now.made) }
 {
     laws::start_is_a_state();

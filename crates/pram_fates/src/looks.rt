@@ -2,9 +2,8 @@
 ghost use Rattle.std.specs.Prelude.{◌≡◌, ◌<◌, ◌↔◌, count_by, IsTrue, MatchOption};
 ghost use Rattle.std.specs.List.{range_with_len};
 ghost use Rattle.pram_fates.specs.Fates.{AllName, IsFirstNaming, IsFirstRunning, NamesNone};
-ghost use Rattle.pram_fates.specs.Fates.{is_running};
+ghost use Rattle.pram_fates.specs.Fates.{NoneRuns, is_running};
 ghost use Rattle.pram_fates.specs.Inner.Losses.{SomeIsLost};
-ghost use Rattle.pram_step.specs.Laws.{AllStopped};
 ghost use Rattle.pram_step.specs.Machine.{out_of_range, counter as counter_of};
 ghost use Rattle.pram_step.specs.Runs.{state_after};
 
@@ -49,7 +48,7 @@ pub(crate) fn count_running(moment: &Moment<'_>) -> u32
 /// The least processor that runs.
 pub(crate) fn first_running(moment: &Moment<'_>) -> Option<u32>
     ensures { MatchOption result
-        (AllStopped moment.now.job.now (state_after moment.now.job.now moment.now.made))
+        (NoneRuns moment.now.job.now (state_after moment.now.job.now moment.now.made))
         (IsFirstRunning moment.now.job.now (state_after moment.now.job.now moment.now.made)) }
 {
     for processor in 0..moment.job.procs() {

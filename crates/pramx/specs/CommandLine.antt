@@ -47,6 +47,10 @@ on_file name = with_rule (with_rule (new_app name)
     (needed (record (new_rule (codes "file")) { value_names = 1; action = Some Set })))
     (flag_rule (codes "explain"))
 
+-- plain FILE [--why]
+abbrev pub on_plain : App
+on_plain = with_rule (on_file (codes "plain")) (flag_rule (codes "why"))
+
 -- steps FILE [--from A] [--to B] [--csv]
 abbrev pub on_steps : App
 on_steps = with_rule (with_rule (with_rule (on_file (codes "steps"))
@@ -68,9 +72,9 @@ with_progress app = with_rule (with_rule app (flag_rule (codes "progress")))
 abbrev pub with_manner : App → App
 with_manner app = with_rule (with_progress app) (number_rule (codes "block") 1 64)
 
--- run FILE --workers W [--plan P], and these
+-- run FILE --workers W [--plan P], these, and [--why]
 abbrev pub on_run : App
-on_run = with_manner (with_workers (codes "run"))
+on_run = with_rule (with_manner (with_workers (codes "run"))) (flag_rule (codes "why"))
 
 -- watch FILE --workers W --cells C,C,.. --rounds R [--plan P], and these
 abbrev pub on_watch : App
@@ -92,7 +96,7 @@ abbrev pub on_machine : App
 on_machine =
     with_subcommand (with_subcommand (with_subcommand (with_subcommand bare
     (on_file (codes "check")).top)
-    (on_file (codes "plain")).top)
+    on_plain.top)
     (on_file (codes "cost")).top)
     on_steps.top
 
@@ -115,6 +119,10 @@ pub record IsFlag (found : Option Text) (flag : Bool) : Type 0 where
   pub set : found ≡ Some (codes "true") → flag ≡ true
   pub unset : found ≡ Some (codes "false") → flag ≡ false
   pub none : found ≡ None → flag ≡ false
+
+-- What was met has this flag.
+abbrev pub HasFlag : Text → Option (Text × List Row) → Bool → Type 0
+HasFlag option matches flag = IfSome matches (λ met. IsFlag (one_of option met.1) flag)
 
 -- The number is that of the option's value.
 abbrev pub IsNumberOf : Text → List Row → ℕ → Type 0
@@ -180,12 +188,14 @@ pub record HasWatch (matches : Option (Text × List Row)) (name file : Text) (pl
 -- the line is what was met
 abbrev pub IsMet : Option (Text × List Row) → Line → Type 0
 IsMet matches (Check file) = HasFile matches (codes "check") file.now
-IsMet matches (Plain file) = HasFile matches (codes "plain") file.now
+IsMet matches (Plain file why) =
+    HasFile matches (codes "plain") file.now × HasFlag (codes "why") matches why
 IsMet matches (Cost file) = HasFile matches (codes "cost") file.now
 IsMet matches (Steps file from to alone) =
     HasSteps matches (codes "steps") file.now from to alone
-IsMet matches (Run file plan manner) =
+IsMet matches (Run file plan manner why) =
     HasRun matches (codes "run") file.now (text_of plan) manner
+    × HasFlag (codes "why") matches why
 IsMet matches (Watch file plan manner cells rounds) =
     HasWatch matches (codes "watch") file.now (text_of plan) manner cells.text.now rounds
 IsMet matches (Replay file workers plan alone) =
@@ -194,7 +204,7 @@ IsMet matches (Replay file workers plan alone) =
 -- The line is what was met, and so is whether a refusal is to be explained.
 pub record IsAsked (matches : Option (Text × List Row)) (asked : Asked) : Type 0 where
   pub line : IsMet matches asked.line
-  pub explain : IfSome matches (λ met. IsFlag (one_of (codes "explain") met.1) asked.explain)
+  pub explain : HasFlag (codes "explain") matches asked.explain
 
 -- What stands for cells names none.
 pub record HasBadCells (rows : List Row) : Type 0 where

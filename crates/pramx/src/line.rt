@@ -8,7 +8,7 @@ ghost use Rattle.pramx.specs.CommandLine.{AreRefused, FailsByWords, HasBadBlock,
 ghost use Rattle.pramx.specs.CommandLine.{HasBadValue, HasBadWindow, IsAsked};
 ghost use Rattle.pramx.specs.CommandLine.{HasManner, IsBlockIfSet, IsMet, IsNumberIfSet};
 ghost use Rattle.pramx.specs.CommandLine.{IsNumberOf, IsNumberOr, flag_rule, pramx};
-ghost use Rattle.pramx.specs.CommandLine.{needed, on_file, on_machine, on_replay, on_run};
+ghost use Rattle.pramx.specs.CommandLine.{needed, on_file, on_machine, on_plain, on_replay, on_run};
 ghost use Rattle.pramx.specs.CommandLine.{on_steps, on_watch};
 ghost use Rattle.pramx.specs.CommandLine.{option_rule, with_manner, with_progress, with_workers};
 
@@ -22,6 +22,7 @@ const EXAMPLES: &str = "\
 Examples:
   pramx check examples/prefix.pram
   pramx plain examples/prefix.pram
+  pramx plain examples/sum.pram --why
   pramx cost examples/prefix.pram
   pramx steps examples/prefix.pram --from 1 --to 5
   pramx run examples/prefix.pram --workers 4
@@ -38,8 +39,34 @@ const MOST_ROUNDS: i64 = 1_000_000;
 /// The longest pause of a pace, in microseconds.
 const MOST_PACE: i64 = 1_000_000;
 
-/// What `--csv` does.
-const ROWS_ALONE: &str = "Print the rows alone, without the answer";
+// What the help says of the words of a line.
+
+const FILE: &str = "The text of the job; - is standard input";
+
+const EXPLAIN: &str = "Explain a refusal in a sentence, as on a terminal";
+
+const WHY: &str = "Say after the answer what became of the processors";
+
+const FROM: &str = "The first step to print, which the job must have; 1 if it is left out";
+
+const TO: &str = "The last step to print, from 1; the job's last if it is left out";
+
+const CSV: &str = "Print the rows alone, without the answer";
+
+const WORKERS: &str = "How many workers there are, from 1 to 64";
+
+const PLAN: &str = "The plan that the workers follow, as CSV; - is standard input";
+
+const CELLS: &str = "The cells that are read, by their numbers";
+
+const ROUNDS: &str = "How often they are read, from 1 to 1000000";
+
+const PROGRESS: &str = "Tell on standard error how far the workers are";
+
+const PACE: &str = "The pause before each atomic step, from 0 to 1000000; none if it is left out";
+
+const BLOCK: &str =
+    "How many processors a leaf of the board stands for, a power of two from 1 to 64";
 
 /// What the words ask: a line, and whether a refusal is to be explained.
 #[derive(Clone, Copy, Debug, PartialEq, Eq)]
@@ -204,7 +231,7 @@ fn machine_command<'a>(alloc: Global) -> Result<Command<'a>, AllocError>
         "check",
         "Say whether a text spells a job, and how large it is",
     )?;
-    let plain = file_command(alloc, "plain", "Run a job on the plain machine")?;
+    let plain = plain_command(alloc)?;
     let cost = file_command(
         alloc,
         "cost",
@@ -222,21 +249,18 @@ fn machine_command<'a>(alloc: Global) -> Result<Command<'a>, AllocError>
         .subcommand(steps)
 }
 
+fn plain_command<'a>(alloc: Global) -> Result<Command<'a>, AllocError>
+    ensures { IfOk result (λ command. app_of command ≡ on_plain) }
+{
+    let why = flag(alloc, "why", WHY);
+    file_command(alloc, "plain", "Run a job on the plain machine")?.arg(why)
+}
+
 fn steps_command<'a>(alloc: Global) -> Result<Command<'a>, AllocError>
     ensures { IfOk result (λ command. app_of command ≡ on_steps) }
 {
-    let from = option(
-        alloc,
-        "from",
-        "A",
-        "The first step to print, which the job must have; 1 if it is left out",
-    );
-    let to = option(
-        alloc,
-        "to",
-        "B",
-        "The last step to print, from 1; the job's last if it is left out",
-    );
+    let from = option(alloc, "from", "A", FROM);
+    let to = option(alloc, "to", "B", TO);
     file_command(
         alloc,
         "steps",
@@ -244,7 +268,7 @@ fn steps_command<'a>(alloc: Global) -> Result<Command<'a>, AllocError>
     )?
     .arg(numbered(from, value_parser!(u32).range(1..=MOST_STEPS)))?
     .arg(numbered(to, value_parser!(u32).range(1..=MOST_STEPS)))?
-    .arg(flag(alloc, "csv", ROWS_ALONE))
+    .arg(flag(alloc, "csv", CSV))
 }
 
 fn replay_command<'a>(alloc: Global) -> Result<Command<'a>, AllocError>
@@ -255,31 +279,21 @@ fn replay_command<'a>(alloc: Global) -> Result<Command<'a>, AllocError>
         "replay",
         "Run a job on one thread, and print each step",
     )?
-    .arg(flag(alloc, "csv", ROWS_ALONE))
+    .arg(flag(alloc, "csv", CSV))
 }
 
 fn run_command<'a>(alloc: Global) -> Result<Command<'a>, AllocError>
     ensures { IfOk result (λ command. app_of command ≡ on_run) }
 {
     let command = workers_command(alloc, "run", "Run a job on threads")?;
-    with_manner(alloc, command)
+    with_manner(alloc, command)?.arg(flag(alloc, "why", WHY))
 }
 
 fn watch_command<'a>(alloc: Global) -> Result<Command<'a>, AllocError>
     ensures { IfOk result (λ command. app_of command ≡ on_watch) }
 {
-    let cells = option(
-        alloc,
-        "cells",
-        "C,C,..",
-        "The cells that are read, by their numbers",
-    );
-    let rounds = option(
-        alloc,
-        "rounds",
-        "R",
-        "How often they are read, from 1 to 1000000",
-    );
+    let cells = option(alloc, "cells", "C,C,..", CELLS);
+    let rounds = option(alloc, "rounds", "R", ROUNDS);
     let command = workers_command(
         alloc,
         "watch",
@@ -294,29 +308,15 @@ fn watch_command<'a>(alloc: Global) -> Result<Command<'a>, AllocError>
 fn with_manner<'a>(alloc: Global, command: Command<'a>) -> Result<Command<'a>, AllocError>
     ensures { IfOk result (λ made. app_of made ≡ with_manner (app_of command.entry)) }
 {
-    let block = option(
-        alloc,
-        "block",
-        "G",
-        "How many processors a leaf of the board stands for, a power of two from 1 to 64",
-    );
+    let block = option(alloc, "block", "G", BLOCK);
     with_progress(alloc, command)?.arg(numbered(block, value_parser!(u32).range(1..=64)))
 }
 
 fn with_progress<'a>(alloc: Global, command: Command<'a>) -> Result<Command<'a>, AllocError>
     ensures { IfOk result (λ made. app_of made ≡ with_progress (app_of command.entry)) }
 {
-    let progress = flag(
-        alloc,
-        "progress",
-        "Tell on standard error how far the workers are",
-    );
-    let pace = option(
-        alloc,
-        "pace",
-        "MICROSECONDS",
-        "The pause before each atomic step, from 0 to 1000000; none if it is left out",
-    );
+    let progress = flag(alloc, "progress", PROGRESS);
+    let pace = option(alloc, "pace", "MICROSECONDS", PACE);
     command
         .arg(progress)?
         .arg(numbered(pace, value_parser!(u32).range(0..=MOST_PACE)))
@@ -329,18 +329,8 @@ fn workers_command<'a>(
 ) -> Result<Command<'a>, AllocError>
     ensures { IfOk result (λ command. app_of command ≡ with_workers name.entry.now) }
 {
-    let workers = option(
-        alloc,
-        "workers",
-        "W",
-        "How many workers there are, from 1 to 64",
-    );
-    let plan = option(
-        alloc,
-        "plan",
-        "P",
-        "The plan that the workers follow, as CSV; - is standard input",
-    );
+    let workers = option(alloc, "workers", "W", WORKERS);
+    let plan = option(alloc, "plan", "P", PLAN);
     file_command(alloc, name, about)?
         .arg(needed(numbered(workers, value_parser!(u32).range(1..=64))))?
         .arg(plan)
@@ -351,13 +341,9 @@ fn file_command<'a>(alloc: Global, name: &'a str, about: &'a str) -> Result<Comm
 {
     let file = Arg::new(alloc, "file")
         .value_name("FILE")
-        .help("The text of the job; - is standard input")
+        .help(FILE)
         .action(ArgAction::Set);
-    let explain = flag(
-        alloc,
-        "explain",
-        "Explain a refusal in a sentence, as on a terminal",
-    );
+    let explain = flag(alloc, "explain", EXPLAIN);
     Command::new(alloc, name)
         .about(about)
         .arg(needed(file))?
@@ -419,10 +405,12 @@ fn line_of<'a>(matches: &ArgMatches<'a>, on_terminal: bool) -> Option<Line<'a>>
 {
     let (name, inner) = matches.subcommand()?;
     let file = inner.get_str("file")?;
-    let plan = inner.get_str("plan");
     match name {
         "check" => Some(Line::Check { file }),
-        "plain" => Some(Line::Plain { file }),
+        "plain" => {
+            let why = inner.get_flag("why");
+            Some(Line::Plain { file, why })
+        }
         "cost" => Some(Line::Cost { file }),
         "steps" => {
             let (from, to) = window_of(inner)?;
@@ -433,9 +421,26 @@ fn line_of<'a>(matches: &ArgMatches<'a>, on_terminal: bool) -> Option<Line<'a>>
                 alone: inner.get_flag("csv"),
             })
         }
+        _ => workers_line_of(matches, on_terminal),
+    }
+}
+
+// The same of the lines that have workers.
+fn workers_line_of<'a>(matches: &ArgMatches<'a>, on_terminal: bool) -> Option<Line<'a>>
+    ensures { IfSome result (IsMet (subcommand_rows_of matches.now)) }
+{
+    let (name, inner) = matches.subcommand()?;
+    let file = inner.get_str("file")?;
+    let plan = inner.get_str("plan");
+    match name {
         "run" => {
             let manner = manner_of(inner, on_terminal)?;
-            Some(Line::Run { file, plan, manner })
+            Some(Line::Run {
+                file,
+                plan,
+                manner,
+                why: inner.get_flag("why"),
+            })
         }
         "watch" => {
             let manner = manner_of(inner, on_terminal)?;
@@ -517,13 +522,8 @@ fn window_of(inner: &ArgMatches<'_>) -> Option<(u32, u32)>
 fn number_or(inner: &ArgMatches<'_>, option: &str, other: u32) -> Option<u32>
     ensures { IfSome result (IsNumberOr option.now (rows_of (found_of inner.now)) other) }
 {
-    match inner.get_str(option) {
-        Some(_) => {
-            let number = inner.get_one::<u32>(option)?;
-            Some(number)
-        }
-        None => Some(other),
-    }
+    let number = number_if_set(inner, option)?;
+    Some(number.unwrap_or(other))
 }
 
 // The number of an option, if it stands.

@@ -1,15 +1,15 @@
 -- What comes of an answer that is printed as it is heard.
-use Rattle.std.specs.Prelude.{◌≡◌, ◌↔◌, ℕ, List, Result, Ok, Err, OnOk, IsErrOf, IsTrue}
+use Rattle.std.specs.Prelude.{◌≡◌, ◌↔◌, ℕ, Bool, List, Result, Ok, Err, OnOk, IsErrOf, IsTrue}
 use Rattle.std.specs.Io.KnownBytes.{Appends}
-use Rattle.std.specs.declared.alloc.AllocError.{AllocError}
+use Rattle.pram_text.specs.Job.{JobData}
 use Rattle.pram_step.specs.declared.answer.RunAnswer.{RunAnswer}
 use Rattle.pram_streams.specs.Printed.{printed}
 use Rattle.pram_streams.specs.Transfer.{AppendsBeginning}
 use Rattle.pram_streams.specs.declared.print.PrintFault.{PrintFault}
 use Rattle.pram_streams.specs.declared.print.PrintFault.TheVariants.{Device, Memory}
-use Rattle.pram_board.specs.Seats.{SeatData}
 use Rattle.pram_run.specs.Heard.{Ended}
 use Rattle.pram_commands.specs.Did.{Writing}
+use Rattle.pram_commands.specs.Inner.Puts.{HasTold}
 
 -- The output took the text, or a beginning of it; nothing where memory ran out.
 pub record PutText (writes : Writing) (text : List ℕ) (put : Result (Unit {0}) PrintFault)
@@ -24,14 +24,8 @@ abbrev pub HasPrinted : Writing → ℕ → Ended → Result (Unit {0}) PrintFau
 HasPrinted writes steps (Ok answer) put = PutText writes (printed answer steps) put
 HasPrinted writes steps (Err refused) put = (put ≡ Err Memory) × writes.Unwritten
 
--- how the run ended, without the seat that saw it
-abbrev pub without_seat : Result (RunAnswer × SeatData) AllocError → Ended
-without_seat (Ok ended) = Ok ended.0
-without_seat (Err refused) = Err refused
-
--- what a run that was printed answers
-abbrev pub outcome : Result (RunAnswer × SeatData) AllocError → Result (Unit {0}) PrintFault →
-    Result RunAnswer PrintFault
-outcome (Ok ended) (Ok done) = Ok ended.0
-outcome (Ok ended) (Err fault) = Err fault
-outcome (Err refused) put = Err Memory
+-- The same of an answer with what follows it.
+abbrev pub HasToldEnd : Bool → List ℕ → JobData → Writing → Ended → Result (Unit {0}) PrintFault
+    → Type 0
+HasToldEnd why job_text job writes (Ok answer) put = HasTold why job_text job writes answer put
+HasToldEnd why job_text job writes (Err refused) put = (put ≡ Err Memory) × writes.Unwritten

@@ -1,13 +1,16 @@
 -- What printing to the output came to, for a job and a plan at hand.
-use Rattle.std.specs.Prelude.{◌⊎◌, ◌↔◌, List, ℕ, Option, Result, Ok, Err, IfOk, IfErr, IsErrOf}
-use Rattle.std.specs.Prelude.{IsTrue}
+use Rattle.std.specs.Prelude.{◌≡◌, ◌⊎◌, ◌↔◌, List, ℕ, Bool, Option, Result, Ok, Err, IfOk, IfErr}
+use Rattle.std.specs.Prelude.{IsErrOf, IsTrue}
 use Rattle.std.specs.Io.KnownBytes.{Appends}
+use Rattle.pram_text.specs.Job.{JobData}
 use Rattle.pram_step.specs.declared.answer.RunAnswer.{RunAnswer}
 use Rattle.pram_streams.specs.Transfer.{AppendsBeginning}
 use Rattle.pram_streams.specs.declared.print.PrintFault.{PrintFault}
 use Rattle.pram_streams.specs.declared.print.PrintFault.TheVariants.{Device, Memory}
-use Rattle.pram_commands.specs.Did.{Writing, status_of}
+use Rattle.pram_run.specs.Heard.{Ended}
+use Rattle.pram_commands.specs.Did.{Writing, status_of, tells}
 use Rattle.pram_commands.specs.Faults.{fault_of_print}
+use Rattle.pram_commands.specs.Why.{Explaining}
 use Rattle.pram_commands.specs.declared.fault.CommandFault.{CommandFault}
 
 -- The output took all that the relation tells, or a beginning of it.
@@ -36,6 +39,19 @@ pub record Puts {A : Type 0} (Comes : List ℕ → Option RunAnswer → Type 0) 
   pub done : IfOk result (λ told. PutAll Comes writes (Tells told))
   pub wrote : IfErr result (PutSome Comes InPieces writes)
   pub failed : IsTrue writes.failed ↔ IsErrOf result Device
+
+-- The answer was printed with what follows it, or a beginning of both; nothing where memory ran
+-- out.
+abbrev pub HasTold : Bool → List ℕ → JobData → Writing → RunAnswer → Result (Unit {0}) PrintFault
+    → Type 0
+HasTold why job_text job writes answer =
+    Puts (Explaining why (λ ended. ended ≡ answer) job_text job) ⊥ writes (λ done. tells answer)
+
+-- what a command answers that printed how a run ended
+abbrev pub outcome : Result (Unit {0}) PrintFault → Ended → Result RunAnswer PrintFault
+outcome (Err fault) ended = Err fault
+outcome (Ok done) (Ok answer) = Ok answer
+outcome (Ok done) (Err refused) = Err Memory
 
 -- what a command answers where printing is its last act
 abbrev pub printed_as : {A : Type 0} → Result A PrintFault → Result A CommandFault

@@ -1,6 +1,8 @@
 -- The statuses of refusals, the files that they name, and what is told of them.
 use Rattle.std.specs.Prelude.{◌≡◌, ◌++◌, ℕ, List, [], Option, Some, None, codes, decimal, unwrap_or}
 use Rattle.std.specs.Io.KnownBytes.{Appends}
+use Rattle.pram_text.specs.declared.fault.TextKind.{TextKind}
+use Rattle.stop_plan.specs.declared.plan.PlanKind.{PlanKind}
 use Rattle.pram_commands.specs.Line.{file_of, plan_of}
 use Rattle.pram_commands.specs.declared.fault.CommandFault.{CommandFault}
 use Rattle.pram_commands.specs.declared.fault.CommandFault.TheVariants as fault
@@ -17,37 +19,36 @@ refusal_status (refusal.Step step) = REFUSED
 refusal_status refusal.Memory = MEMORY
 refusal_status _ = FAILED
 
--- the file that a refusal names
-abbrev pub told_file : Refusal → Option (List ℕ)
-told_file (refusal.File name) = Some name.now
-told_file (refusal.Size name) = Some name.now
-told_file _ = None
+-- What a refusal names: a line of the text or a row of the plan, and what is wrong with it; a file;
+-- a cell; a step; or nothing.
+pub data Named : Type 0 where
+  a_line : ℕ → TextKind → Named
+  a_row : ℕ → PlanKind → Named
+  a_file : List ℕ → Named
+  a_cell : ℕ → Named
+  a_step : ℕ → Named
+  nothing : Named
 
--- the file that a fault of a line is about
-abbrev pub file_at_fault : Line → CommandFault → Option (List ℕ)
-file_at_fault line fault.JobDevice = Some (file_of line)
-file_at_fault line fault.JobTooLarge = Some (file_of line)
-file_at_fault line fault.PlanDevice = Some (unwrap_or (plan_of line) [])
-file_at_fault line fault.PlanTooLarge = Some (unwrap_or (plan_of line) [])
-file_at_fault line _ = None
+abbrev pub named_in : Refusal → Named
+named_in (refusal.Text line kind) = a_line line kind
+named_in (refusal.Plan row kind) = a_row row kind
+named_in (refusal.File name) = a_file name.now
+named_in (refusal.Size name) = a_file name.now
+named_in (refusal.Cell cell) = a_cell cell
+named_in (refusal.Step step) = a_step step
+named_in _ = nothing
 
--- the cell that a refusal names, and the one that a fault is about
-abbrev pub told_cell : Refusal → Option ℕ
-told_cell (refusal.Cell cell) = Some cell
-told_cell _ = None
-
-abbrev pub cell_at_fault : CommandFault → Option ℕ
-cell_at_fault (fault.OutsideCell cell) = Some cell
-cell_at_fault _ = None
-
--- the same of a step
-abbrev pub told_step : Refusal → Option ℕ
-told_step (refusal.Step step) = Some step
-told_step _ = None
-
-abbrev pub step_at_fault : CommandFault → Option ℕ
-step_at_fault (fault.OutsideStep step) = Some step
-step_at_fault _ = None
+-- what a fault of a line is about
+abbrev pub named_by : Line → CommandFault → Named
+named_by line (fault.Text number kind) = a_line number kind
+named_by line (fault.Plan row kind) = a_row row kind
+named_by line fault.JobDevice = a_file (file_of line)
+named_by line fault.JobTooLarge = a_file (file_of line)
+named_by line fault.PlanDevice = a_file (unwrap_or (plan_of line) [])
+named_by line fault.PlanTooLarge = a_file (unwrap_or (plan_of line) [])
+named_by line (fault.OutsideCell cell) = a_cell cell
+named_by line (fault.OutsideStep step) = a_step step
+named_by line _ = nothing
 
 -- what standard error tells of a refusal; the kinds of a bad text print as they are derived, of
 -- which no clause speaks

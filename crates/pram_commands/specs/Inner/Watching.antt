@@ -45,9 +45,3 @@ pub record IsWatchedBy {P H : Type 0} (Reads : Reading P) (Hears : Hearing P H) 
 abbrev pub HasPrintedAfter : Printing → Writing → ℕ → Ended → Printing → Type 0
 HasPrintedAfter (Ok done) writes steps ended put = HasPrinted writes steps ended put
 HasPrintedAfter (Err fault) writes steps ended put = (put ≡ Err fault) × writes.Unwritten
-
--- what a watch that was printed answers
-abbrev pub watch_outcome : Printing → Ended → Result RunAnswer PrintFault
-watch_outcome (Err fault) ended = Err fault
-watch_outcome (Ok done) (Ok answer) = Ok answer
-watch_outcome (Ok done) (Err refused) = Err Memory

@@ -1,5 +1,5 @@
 //! How large a job is.
-ghost use Rattle.std.specs.Prelude.{◌≡◌, false};
+ghost use Rattle.std.specs.Prelude.{◌≡◌, [], false};
 ghost use Rattle.pram_commands.specs.Did.{Did, tells_none, writing};
 ghost use Rattle.pram_commands.specs.Inner.Puts.{Puts};
 ghost use Rattle.pram_commands.specs.Inputs.{AreReady, taking};
@@ -29,7 +29,7 @@ pub fn check<J: Source, P: Source, O: Sink>(
 
 fn put_summary<O: Sink>(alloc: Global, job: &Job, out: &mut O) -> Result<(), PrintFault>
     requires { O.has_failed out.old ≡ false }
-    ensures { Puts (checking.Comes job.now no_plan) checking.InPieces
+    ensures { Puts (checking.Comes [] job.now no_plan) checking.InPieces
         (writing O.Sink out.old out.new) tells_none result }
 {
     print_summary(alloc, out, job)?;

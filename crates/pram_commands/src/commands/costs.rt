@@ -1,5 +1,5 @@
 //! What a run costs.
-ghost use Rattle.std.specs.Prelude.{◌≡◌, false};
+ghost use Rattle.std.specs.Prelude.{◌≡◌, [], false};
 ghost use Rattle.pram_commands.specs.Costs.{costing, tells_conflict};
 ghost use Rattle.pram_commands.specs.Did.{Did, writing};
 ghost use Rattle.pram_commands.specs.Inner.Puts.{Puts};
@@ -32,7 +32,7 @@ pub fn cost<J: Source, P: Source, O: Sink>(
 
 fn put_cost<O: Sink>(alloc: Global, job: &Job, out: &mut O) -> Result<Cost, PrintFault>
     requires { O.has_failed out.old ≡ false }
-    ensures { Puts (costing.Comes job.now no_plan) costing.InPieces
+    ensures { Puts (costing.Comes [] job.now no_plan) costing.InPieces
         (writing O.Sink out.old out.new) tells_conflict result }
 {
     let cost = cost_of(alloc, job)?;

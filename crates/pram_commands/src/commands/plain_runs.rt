@@ -7,33 +7,44 @@ ghost use Rattle.pram_commands.specs.Plain.{no_plan, plainly};
 
 use crate::commands::printed;
 use crate::fault::CommandFault;
-use crate::inputs::take_job;
+use crate::inputs::take_text;
 use crate::sources::Sources;
+use crate::why::{Question, put_told};
 use pram_step::{RunAnswer, plain_answer};
-use pram_streams::{PrintFault, Sink, Source, print_answer};
-use pram_text::Job;
+use pram_streams::{PrintFault, Sink, Source};
 use std::alloc::Global;
 
-/// Reads a job, and prints its answer. The time is that of reading the text and running the job.
+/// Reads a job, and prints its answer, and if it is asked for what became of the processors. The
+/// time is that of reading the text and running the job, or of running it twice.
 pub fn plain<J: Source, P: Source, O: Sink>(
     alloc: Global,
+    why: bool,
     sources: &mut Sources<J, P>,
     out: &mut O,
 ) -> Result<RunAnswer, CommandFault>
     requires { AreReady J.Source P.Source O.Sink sources.old out.old }
-    ensures { Did plainly (taking J.Source P.Source sources.old sources.new)
+    ensures { Did (plainly why) (taking J.Source P.Source sources.old sources.new)
         (writing O.Sink out.old out.new) tells result }
 {
-    let job = take_job(alloc, &mut sources.job)?;
-    printed(put_plain(alloc, &job, out))
+    let spelled = take_text(alloc, &mut sources.job)?;
+    let question = Question {
+        why,
+        text: spelled.text.as_slice(),
+        job: &spelled.job,
+    };
+    printed(put_plain(alloc, &question, out))
 }
 
-fn put_plain<O: Sink>(alloc: Global, job: &Job, out: &mut O) -> Result<RunAnswer, PrintFault>
+fn put_plain<O: Sink>(
+    alloc: Global,
+    question: &Question<'_>,
+    out: &mut O,
+) -> Result<RunAnswer, PrintFault>
     requires { O.has_failed out.old ≡ false }
-    ensures { Puts (plainly.Comes job.now no_plan) plainly.InPieces
-        (writing O.Sink out.old out.new) tells result }
+    ensures { Puts ((plainly question.now.why).Comes question.now.text.now question.now.job.now
+        no_plan) (plainly false).InPieces (writing O.Sink out.old out.new) tells result }
 {
-    let answer = plain_answer(alloc, job)?;
-    print_answer(alloc, out, &answer, job.steps())?;
+    let answer = plain_answer(alloc, question.job)?;
+    put_told(alloc, out, question, &answer)?;
     Ok(answer)
 }

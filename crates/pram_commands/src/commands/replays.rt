@@ -1,5 +1,5 @@
 //! Replays of a plan on one thread.
-ghost use Rattle.std.specs.Prelude.{◌≡◌, false};
+ghost use Rattle.std.specs.Prelude.{◌≡◌, [], false};
 ghost use Rattle.pram_commands.specs.Did.{Did, tells, writing};
 ghost use Rattle.pram_commands.specs.Inner.Puts.{Puts};
 ghost use Rattle.pram_commands.specs.Inputs.{AreReady, taking};
@@ -41,7 +41,7 @@ fn put_replay<O: Sink>(
     out: &mut O,
 ) -> Result<RunAnswer, PrintFault>
     requires { O.has_failed out.old ≡ false }
-    ensures { Puts ((replaying alone 0).Comes inputs.now.job inputs.now.plan)
+    ensures { Puts ((replaying alone 0).Comes [] inputs.now.job inputs.now.plan)
         (replaying alone 0).InPieces
         (writing O.Sink out.old out.new) tells result }
 {

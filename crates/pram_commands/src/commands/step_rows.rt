@@ -1,5 +1,5 @@
 //! What each processor of a job asks for, step by step.
-ghost use Rattle.std.specs.Prelude.{◌≡◌, false};
+ghost use Rattle.std.specs.Prelude.{◌≡◌, [], false};
 ghost use Rattle.pram_commands.specs.Did.{Did, tells, writing};
 ghost use Rattle.pram_commands.specs.Inner.Puts.{Puts};
 ghost use Rattle.pram_commands.specs.Inputs.{AreReady, missing_step, taking};
@@ -45,8 +45,8 @@ fn put_steps<O: Sink>(
     out: &mut O,
 ) -> Result<RunAnswer, PrintFault>
     requires { O.has_failed out.old ≡ false }
-    ensures { Puts ((stepping alone window).Comes job.now no_plan) (stepping alone window).InPieces
-        (writing O.Sink out.old out.new) tells result }
+    ensures { Puts ((stepping alone window).Comes [] job.now no_plan)
+        (stepping alone window).InPieces (writing O.Sink out.old out.new) tells result }
 {
     let answer = print_steps(alloc, out, job, window)?;
     print_ending(alloc, out, &answer, job.steps(), alone)?;

@@ -3,7 +3,6 @@ ghost use Rattle.std.specs.Prelude.{◌≡◌, [], false};
 ghost use Rattle.pram_commands.specs.CellLists.{cells_of};
 ghost use Rattle.pram_commands.specs.Did.{Did, tells, writing};
 ghost use Rattle.pram_commands.specs.Inner.Puts.{Puts};
-ghost use Rattle.pram_commands.specs.Inner.Watching.{watch_outcome};
 ghost use Rattle.pram_commands.specs.Inputs.{AreReady, first_outside, taking};
 ghost use Rattle.pram_commands.specs.Threads.{watching};
 
@@ -11,13 +10,13 @@ use crate::cell_list::CellList;
 use crate::commands::printed;
 use crate::fault::CommandFault;
 use crate::inputs::take_inputs;
-use crate::printing::{Printing, PrintingReads, take_back};
+use crate::printing::{PrintingReads, outcome, take_back};
 use crate::sources::Sources;
 use crate::threads::{Manner, Watched, watch_job};
 use pram_step::RunAnswer;
 use pram_streams::{PrintFault, Sink, Source};
 use pram_text::Job;
-use std::alloc::{AllocError, Global};
+use std::alloc::Global;
 use std::rt::Clock;
 use std::sync::Wait;
 use std::thread::Threads;
@@ -76,31 +75,19 @@ fn put_watch<R: Threads + Wait + Clock + Eprint + Sync, O: Sink>(
     out: &mut O,
 ) -> Result<RunAnswer, PrintFault>
     requires { O.has_failed out.old ≡ false }
-    ensures { Puts ((watching 0 watched.now.cells.now watched.now.rounds).Comes
+    ensures { Puts ((watching 0 watched.now.cells.now watched.now.rounds).Comes []
         watched.now.inputs.now.job watched.now.inputs.now.plan) (watching 0 [] 0).InPieces
         (writing O.Sink out.old out.new) tells result }
 {
-    let printing = Printing {
+    let reader = PrintingReads {
         alloc,
         steps: watched.inputs.job.steps(),
         out,
+        printed: Ok(()),
     };
-    let printed = Ok(());
-    let reader = PrintingReads { printing, printed };
     let (ended, (out, put)) = watch_job(rt, alloc, watched, manner, reader);
     take_back(out);
-    watch_outcome(put, ended)
-}
-
-// What a watch that was printed answers.
-fn watch_outcome(
-    put: Result<(), PrintFault>,
-    ended: Result<RunAnswer, AllocError>,
-) -> Result<RunAnswer, PrintFault>
-    ensures { result ≡ watch_outcome put ended }
-{
-    put?;
-    Ok(ended?)
+    outcome(put, ended)
 }
 
 // The first of the cells that the job does not have.

@@ -14,7 +14,7 @@ pub fn expect_answers(rt: &impl Abort, alloc: Global, rows: &[Row]) -> Result<()
     for (text, wanted) in rows {
         let text_lines = lines_of(alloc, text)?;
         let mut sink = IntoWrite::new(Vec::new(alloc));
-        plain(alloc, &mut of_text(text_lines.as_slice()), &mut sink)?;
+        plain(alloc, false, &mut of_text(text_lines.as_slice()), &mut sink)?;
         let wanted = lines_of(alloc, wanted)?;
         assert_eq!(rt;
             sink.into_inner().as_slice(),

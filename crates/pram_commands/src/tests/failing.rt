@@ -50,7 +50,7 @@ fn nothing_is_printed_where_a_pull_fails(rt: HostRuntime) -> Result<(), Fail> {
     let alloc = rt.alloc();
     for pulls in 0..=TEXT.len() {
         let mut sink = IntoWrite::new(Vec::new(alloc));
-        let answer = plain(alloc, &mut dripped(pulls), &mut sink);
+        let answer = plain(alloc, false, &mut dripped(pulls), &mut sink);
         assert_eq!(rt; answer.err(), Some(CommandFault::JobDevice), "at {pulls}");
         assert!(rt; sink.into_inner().is_empty());
         let mut sink = IntoWrite::new(Vec::new(alloc));
@@ -60,7 +60,7 @@ fn nothing_is_printed_where_a_pull_fails(rt: HostRuntime) -> Result<(), Fail> {
     }
     // one pull more finds the end
     let mut sink = IntoWrite::new(Vec::new(alloc));
-    plain(alloc, &mut dripped(TEXT.len() + 1), &mut sink)?;
+    plain(alloc, false, &mut dripped(TEXT.len() + 1), &mut sink)?;
     assert_eq!(rt; sink.into_inner().as_slice(), ANSWER);
     Ok(())
 }
@@ -71,7 +71,7 @@ fn a_beginning_is_printed_where_a_push_fails(rt: HostRuntime) {
     for pushes in 0..ANSWER.len() {
         let mut room = [0u8; 256];
         let mut sink = IntoWrite::new(&mut room[..pushes.min(256)]);
-        let answer = plain(alloc, &mut of_text(TEXT), &mut sink);
+        let answer = plain(alloc, false, &mut of_text(TEXT), &mut sink);
         assert_eq!(rt; answer.err(), Some(CommandFault::OutDevice), "at {pushes}");
         assert!(rt; sink.into_inner().is_empty());
         assert!(rt; ANSWER.starts_with(&room[..pushes.min(256)]));

@@ -2,8 +2,8 @@
 ghost use Rattle.std.specs.Prelude.{◌≡◌, false};
 
 use crate::{
-    CellList, CommandFault, Manner, Reads, Sources, Telling, Workers, replay, run, take_inputs,
-    take_plan, watch,
+    CellList, CommandFault, Manner, Reads, Sources, Telling, Wanted, Workers, replay, run,
+    take_inputs, take_plan, watch,
 };
 use pram_step::RunAnswer;
 use pram_streams::{Empty, FromRead, IntoWrite, Source};
@@ -67,11 +67,15 @@ fn replays_between_devices(rt: HostRuntime) -> Result<(), Fail> {
 fn runs_between_devices(rt: HostRuntime) -> Result<(), Fail> {
     let alloc = rt.alloc();
     let mut out = IntoWrite::new(Vec::new(alloc));
-    let answer = run(&rt, alloc, SILENT, &mut sources(), &mut out);
+    let wanted = Wanted {
+        manner: SILENT,
+        why: true,
+    };
+    let answer = run(&rt, alloc, wanted, &mut sources(), &mut out);
     assert!(rt; matches!(answer, Ok(RunAnswer::Final(_))));
     assert_eq!(rt;
         out.into_inner().as_slice(),
-        "done steps=0\n0: 5\n".as_bytes()
+        "done steps=0\n0: 5\nrunning count=1 first=0 line=7\n".as_bytes()
     );
     Ok(())
 }

@@ -22,6 +22,7 @@ const RUN: Line<'static> = Line::Run {
         pace: None,
         block: None,
     },
+    why: false,
 };
 
 const JOB: &[u8] = b"pram 1\ncells 1\nprocs 1\nsteps 0\ncode\nhalt\n";

@@ -13,7 +13,10 @@ pub const FILE: &str = "job.txt";
 
 pub const CHECK: Line<'static> = Line::Check { file: FILE };
 
-pub const PLAIN: Line<'static> = Line::Plain { file: FILE };
+pub const PLAIN: Line<'static> = Line::Plain {
+    file: FILE,
+    why: false,
+};
 
 pub const COST: Line<'static> = Line::Cost { file: FILE };
 

@@ -41,6 +41,7 @@ fn run_line(manner: Manner) -> Line<'static> {
         file: FILE,
         plan: Some("plan.csv"),
         manner,
+        why: false,
     }
 }
 

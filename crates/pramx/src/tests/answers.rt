@@ -66,10 +66,22 @@ fn words_are_answered_over_the_files_that_they_name(rt: HostRuntime) -> Result<(
     let stopped = answer(
         &rt,
         alloc,
-        &["pramx", "run", "job", "--workers", "1", "--plan", "plan"],
+        &[
+            "pramx",
+            "run",
+            "job",
+            "--workers",
+            "1",
+            "--plan",
+            "plan",
+            "--why",
+        ],
     );
     assert_eq!(rt; stopped.status, 3);
-    assert_eq!(rt; stopped.out.as_slice(), "unfinished step=0\n".as_bytes());
+    assert_eq!(rt;
+        stopped.out.as_slice(),
+        "unfinished step=0\nrunning count=1 first=0 line=6\n".as_bytes()
+    );
     let swapped = answer(&rt, alloc, &["pramx", "check", "plan"]);
     assert_eq!(rt; swapped.status, 2);
     assert_eq!(rt;

@@ -9,6 +9,8 @@ const CHECK: &[&str] = &["pramx", "check", "f"];
 
 const PLAIN: &[&str] = &["pramx", "plain", "f"];
 
+const PLAIN_WHY: &[&str] = &["pramx", "plain", "--why", "f"];
+
 const COST: &[&str] = &["pramx", "cost", "f"];
 
 const STEPS: &[&str] = &["pramx", "steps", "f"];
@@ -32,7 +34,14 @@ const PACED: &[&str] = &["pramx", "run", "f", "--workers", "1", "--pace", "10000
 
 const REPLAY: &[&str] = &["pramx", "replay", "job.txt", "--workers", "1"];
 
-const ALL: &[&str] = &["pramx", "run", "--workers=64", "--block=1", "job.txt"];
+const ALL: &[&str] = &[
+    "pramx",
+    "run",
+    "--workers=64",
+    "--block=1",
+    "job.txt",
+    "--why",
+];
 
 const WATCH: &[&str] = &[
     "pramx",
@@ -70,6 +79,10 @@ fn words_make_a_watch(rt: HostRuntime) -> Result<(), Fail> {
     Ok(())
 }
 
+fn plain(why: bool) -> Line<'static> {
+    Line::Plain { file: "f", why }
+}
+
 fn steps(from: u32, to: u32) -> Line<'static> {
     Line::Steps {
         file: "f",
@@ -84,7 +97,8 @@ fn words_make_a_line(rt: HostRuntime) -> Result<(), Fail> {
     let alloc = rt.alloc();
     for (words, line) in [
         (CHECK, Line::Check { file: "f" }),
-        (PLAIN, Line::Plain { file: "f" }),
+        (PLAIN, plain(false)),
+        (PLAIN_WHY, plain(true)),
         (COST, Line::Cost { file: "f" }),
         (STEPS, steps(1, u32::MAX)),
         (FROM, steps(101, u32::MAX)),
@@ -100,6 +114,7 @@ fn words_make_a_line(rt: HostRuntime) -> Result<(), Fail> {
                     pace: None,
                     block: None,
                 },
+                why: false,
             },
         ),
         (
@@ -113,6 +128,7 @@ fn words_make_a_line(rt: HostRuntime) -> Result<(), Fail> {
                     pace: Some(1_000_000),
                     block: None,
                 },
+                why: false,
             },
         ),
         (
@@ -144,6 +160,7 @@ fn words_make_a_line(rt: HostRuntime) -> Result<(), Fail> {
                     pace: None,
                     block: Some(Block { exponent: 0 }),
                 },
+                why: true,
             },
         ),
     ] {
@@ -262,6 +279,21 @@ const REPLAY_IN_BLOCKS: &[&str] = &["pramx", "replay", "f", "--workers", "1", "-
 
 const PACED_REPLAY: &[&str] = &["pramx", "replay", "f", "--workers", "1", "--pace", "1"];
 
+const WATCH_WHY: &[&str] = &[
+    "pramx",
+    "watch",
+    "f",
+    "--workers",
+    "1",
+    "--rounds",
+    "1",
+    "--cells",
+    "1",
+    "--why",
+];
+
+const STEPS_WHY: &[&str] = &["pramx", "steps", "f", "--why"];
+
 const VERSION: &[&str] = &["pramx", "--version"];
 
 const HELP: &[&str] = &["pramx", "--help"];
@@ -293,6 +325,8 @@ fn other_words_are_refused(rt: HostRuntime) {
         (ODD_BLOCK, ErrorKind::ValueValidation),
         (LARGE_BLOCK, ErrorKind::ValueValidation),
         (REPLAY_IN_BLOCKS, ErrorKind::UnknownArgument),
+        (WATCH_WHY, ErrorKind::UnknownArgument),
+        (STEPS_WHY, ErrorKind::UnknownArgument),
         (VERSION, ErrorKind::DisplayVersion),
         (HELP, ErrorKind::DisplayHelp),
         (HELP_OF_RUN, ErrorKind::DisplayHelp),
@@ -327,6 +361,7 @@ Options:
 Examples:
   pramx check examples/prefix.pram
   pramx plain examples/prefix.pram
+  pramx plain examples/sum.pram --why
   pramx cost examples/prefix.pram
   pramx steps examples/prefix.pram --from 1 --to 5
   pramx run examples/prefix.pram --workers 4

@@ -1,5 +1,5 @@
 use Rattle.pram_commands.proofs.Ends.{opened_as}
-use Rattle.pram_commands.proofs.Hearing.{ends_with_seat}
+use Rattle.pram_commands.proofs.Hearing.{ends_heard}
 use Rattle.pram_commands.proofs.threads.run_on.Goals as goal
 
 pub returns-clause-ended : goal.returns-clause-ended
@@ -11,5 +11,5 @@ returns-clause-ended g c =
     let opened = opened_as job plan desk c.args.seat seat c.start_teller-seat.ensures
     c.requires.opened in
     let run = c.run_heard-seat in
-    ends_with_seat job plan (desk, seat) run.result.0 run.result.1 c.with_seat.result opened
-    run.ensures.ran run.ensures.answer c.with_seat.ensures.ended c.with_seat.ensures.seat
+    ends_heard job plan (desk, seat) run.result.0 run.result.1 opened run.ensures.ran
+    run.ensures.answer

@@ -1,27 +1,22 @@
-use Rattle.std.proofs.Common.{◌≡◌, ◌∙◌, ℕ, List, Option, None, Some, MatchOption, subst, sym, refl}
-use Rattle.clap.specs.Words.{Text, Row, first_of, found_of, one_of, one_text, rows_of}
-use Rattle.clap.proofs.WalkLemmas.{first_value-rows, one_text-rows}
-use Rattle.pramx.specs.CommandLine.{IsNumberOf, IsNumberOr}
-use Rattle.pramx.proofs.Matches.{number_of}
+use Rattle.std.proofs.Common.{◌≡◌, ℕ, List, Option, None, Some, MatchOption, ap}
+use Rattle.std.specs.Prelude.{IsSomeAnd, unwrap_or}
+use Rattle.clap.specs.Words.{Row, Text, first_of, found_of, rows_of}
+use Rattle.pramx.specs.CommandLine.{IsNumberOf}
 use Rattle.pramx.proofs.line.number_or.Goals as goal
 
-abbrev Fact : ℕ → ℕ → Text → List Row → Option Text → Type 0
-Fact other number option rows first =
-    MatchOption first (number ≡ other) (λ _. IsNumberOf option rows number)
+-- the number that is set, or another one
+or_other : (other : ℕ) (option : Text) (rows : List Row) (first : Option Text)
+    (number : Option ℕ) →
+    MatchOption first (number ≡ None) (λ _. IsSomeAnd number (IsNumberOf option rows)) →
+    MatchOption first (unwrap_or number other ≡ other)
+    (λ _. IsNumberOf option rows (unwrap_or number other))
+or_other other option rows None number none = ap (λ (n : Option ℕ). unwrap_or n other) none
+or_other other option rows (Some text) None set = absurd set
+or_other other option rows (Some text) (Some number) set = set
 
-pub returns-in-None : goal.returns-in-None
-returns-in-None c =
-    let rows = rows_of (found_of c.args.inner.now) in
-    subst (Fact c.args.other c.args.other c.args.option.now rows)
-    (c.in-None.ensures ∙ first_value-rows (found_of c.args.inner.now) c.args.option.now) refl
-
-pub returns-in_ok-number-in-Some : goal.returns-in_ok-number-in-Some
-returns-in_ok-number-in-Some c =
-    let found = found_of c.args.inner.now in
+pub returns : goal.returns
+returns c =
     let option = c.args.option.now in
-    let number : IsNumberOf option (rows_of found) c.in_ok-number-in-Some.number =
-    rw (← one_text-rows found option)
-    (number_of (one_text found option) _ c.in_ok-number-in-Some.ensures.none
-    (λ text is. (c.in_ok-number-in-Some.ensures.value text is).0.1)) in
-    subst (Fact c.args.other c.in_ok-number-in-Some.number option (rows_of found))
-    (c.in-Some.ensures ∙ first_value-rows found option) number
+    let rows = rows_of (found_of c.args.inner.now) in
+    rw c.unwrap_or.ensures (or_other c.args.other option rows (first_of option rows)
+    c.in_ok-number.number c.in_ok-number.ensures)

@@ -1,12 +1,16 @@
-use Rattle.std.proofs.Common.{Err, inl, refl, ap}
-use Rattle.pram_commands.proofs.Doing.{begins_answer, err_is, put_failed}
+use Rattle.std.proofs.Common.{Err, Ok, refl}
+use Rattle.pram_step.specs.Runs.{IsAnswer}
+use Rattle.pram_commands.proofs.Doing.{err_is}
+use Rattle.pram_commands.proofs.Told.{told_as}
 use Rattle.pram_commands.proofs.commands.plain_runs.put_plain.Goals as goal
 
-pub returns-in_err-print_answer : goal.returns-in_err-print_answer
-returns-in_err-print_answer g c =
-    put_failed _ _ _ _ _ c.in_err-print_answer.field-0.0
-    (err_is _ _ c.from_residual-in_err-print_answer.ensures)
-    (begins_answer _ c.args.job.now _ c.in_ok-answer.answer _
-    (c.in_ok-answer.ensures, refl) c.steps.ensures.value c.in_err-print_answer.ensures.beginning)
-    (λ e. inl (c.in_err-print_answer.ensures.memory (ap (λ x. Err x) e)))
-    c.in_err-print_answer.ensures.failed
+pub returns-in_err-put_told : goal.returns-in_err-put_told
+returns-in_err-put_told g c =
+    told_as _ (IsAnswer c.args.question.now.job.now) _ _ _ c.in_ok-answer.answer
+    c.in_ok-answer.ensures (Err c.in_err-put_told.field-0.0) c.in_err-put_told.ensures _
+    (err_is _ _ c.from_residual-in_err-put_told.ensures)
+
+pub returns : goal.returns
+returns g c =
+    told_as _ (IsAnswer c.args.question.now.job.now) _ _ _ c.in_ok-answer.answer
+    c.in_ok-answer.ensures (Ok tt) c.in_ok-put_told.ensures _ refl

@@ -1,4 +1,4 @@
-use Rattle.std.proofs.Common.{◌≡◌, ◌⊎◌, Bool, Result, Err, IsTrue, inl, inr, refl, subst, sym}
+use Rattle.std.proofs.Common.{◌≡◌, ◌⊎◌, Bool, [], Result, Err, IsTrue, inl, inr, refl, subst, sym}
 use Rattle.std.specs.Prelude.{◌↔◌, IsErrOf, ⊤}
 use Rattle.pram_text.specs.Job.{JobData}
 use Rattle.pram_step.specs.declared.answer.RunAnswer.{RunAnswer}
@@ -15,7 +15,7 @@ use Rattle.pram_commands.proofs.commands.step_rows.put_steps.Goals as goal
 
 module _ (alone : Bool) (job : JobData) (window : Window) (w : Writing) where
   beginning : BeginsSteps job window w.out w.out' →
-      PutBeginning ((stepping alone window).Comes job no_plan) w
+      PutBeginning ((stepping alone window).Comes [] job no_plan) w
   beginning begins =
       begins_front alone _ job w begins.answer _ (begins.answers, refl) begins.prints
 
@@ -24,14 +24,14 @@ module _ (alone : Bool) (job : JobData) (window : Window) (w : Writing) where
       (IsErrOf {T = RunAnswer} (Err e) Device → BeginsSteps job window w.out w.out') →
       w.Unwritten ⊎ BeginsSteps job window w.out w.out' →
       (IsTrue w.failed ↔ IsErrOf {T = RunAnswer} (Err e) Device) →
-      Puts ((stepping alone window).Comes job no_plan) ⊤ w tells result
+      Puts ((stepping alone window).Comes [] job no_plan) ⊤ w tells result
   rows_failed result Device is device memory failed =
       subst (λ (x : Result RunAnswer PrintFault).
-      Puts ((stepping alone window).Comes job no_plan) ⊤ w tells x) (sym is)
+      Puts ((stepping alone window).Comes [] job no_plan) ⊤ w tells x) (sym is)
       (record { done = tt; wrote = beginning (device refl); failed = failed })
   rows_failed result Memory is device memory failed =
       subst (λ (x : Result RunAnswer PrintFault).
-      Puts ((stepping alone window).Comes job no_plan) ⊤ w tells x) (sym is)
+      Puts ((stepping alone window).Comes [] job no_plan) ⊤ w tells x) (sym is)
       (record {
         done = tt;
         wrote = elim memory [

@@ -21,7 +21,7 @@ returns-in-Some g c = record {
   explains = record {
     job = c.in_ok-job.job;
     plan = no_plan;
-    given = record { a_job = c.in_ok-job.ensures.ok; a_plan = tt };
+    given = record { job_text = _; a_job = c.in_ok-job.ensures.ok.1; a_plan = tt };
     missing = sym c.in-Some.ensures;
   };
   wrote = refl;
@@ -41,7 +41,7 @@ returns-in-Some g c = record {
 pub returns : goal.returns
 returns g c =
     printed_did _ _ _ _ c.in_ok-job.job no_plan
-    (record { a_job = c.in_ok-job.ensures.ok; a_plan = tt }) refl
+    (record { job_text = _; a_job = c.in_ok-job.ensures.ok.1; a_plan = tt }) refl
     (λ f. ok_not_err _ _ (c.in_ok-job.ensures.failed.0 f))
     (well _ c.requires.plan) c.in_ok-job.ensures.reads (gives_none _)
     _ c.put_steps.ensures _ c.printed.ensures

@@ -13,15 +13,15 @@ returns g c =
     elim c.watch_job-ended.ensures [
       | inl alone ↦ rw (c.out-1.given.1 (sym alone.1.0) ∙ c.take_back.ensures)
           (puts_alone g.O.Sink inputs cells rounds c.args.out.now c.args.out.now ended.1.0.now
-          c.steps.result ended.0 ended.1.1 c.watch_outcome.result alone.0 alone.1.1 c.requires
-          c.watch_outcome.ensures)
+          c.steps.result ended.0 ended.1.1 c.outcome.result alone.0 alone.1.1 c.requires
+          c.outcome.ensures)
       | inr by ↦
           let read = by.on.watched.ran.reads in
           rw (c.out-1.given.1 (sym (read.hears.0 ∙ read.reads.0)) ∙ c.take_back.ensures)
-          (puts_read g.O.Sink inputs cells rounds c.args.out.now read.after.printing.out.now
-          ended.1.0.now by.on.watched.answer _ read.after.printing.steps read.after.printed ended.0
-          ended.1.1 c.watch_outcome.result (told_by _ _ inputs cells rounds ended _ _ _ by
+          (puts_read g.O.Sink inputs cells rounds c.args.out.now read.after.out.now
+          ended.1.0.now by.on.watched.answer _ read.after.steps read.after.printed ended.0
+          ended.1.1 c.outcome.result (told_by _ _ inputs cells rounds ended _ _ _ by
           read.reads.2) by.on.watched.given_if read.reads.2.ok read.reads.2.beginning
           read.reads.3 (read.reads.1 ∙ c.steps.ensures.value) read.hears.1
-          c.watch_outcome.ensures)
+          c.outcome.ensures)
     ]

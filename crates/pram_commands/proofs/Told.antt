@@ -1,0 +1,90 @@
+-- An answer that was told with what follows it.
+use Rattle.std.proofs.Common.{◌≡◌, ℕ, Bool, List, ◌++◌, Option, Some, Result, Ok, Err}
+use Rattle.std.proofs.Common.{refl, sym, ap₂, subst, inl, inr}
+use Rattle.std.specs.Prelude.{IsErrOf}
+use Rattle.pram_text.specs.Job.{JobData}
+use Rattle.pram_step.specs.declared.answer.RunAnswer.{RunAnswer}
+use Rattle.pram_streams.specs.Printed.{printed}
+use Rattle.pram_streams.specs.declared.print.PrintFault.{PrintFault}
+use Rattle.pram_streams.specs.declared.print.PrintFault.TheVariants.{Device, Memory}
+use Rattle.pram_commands.specs.Did.{Writing, tells}
+use Rattle.pram_commands.specs.Inner.Puts.{HasTold, PutBeginning, Puts, outcome}
+use Rattle.pram_commands.specs.Why.{Explaining, Follows}
+use Rattle.pram_commands.proofs.Doing.{ok_not_err, other_fault}
+
+-- what is told of an answer
+abbrev pub Told : Bool → List ℕ → JobData → RunAnswer → List ℕ → Option RunAnswer → Type 0
+Told why job_text job answer = Explaining why (λ ended. ended ≡ answer) job_text job
+
+pub tells_all : (why : Bool) (job_text : List ℕ) (job : JobData) (answer : RunAnswer) (steps : ℕ)
+    (back bytes : List ℕ) → steps ≡ job.steps → bytes ≡ back →
+    Follows why job_text job answer back →
+    Told why job_text job answer (printed answer steps ++ bytes) (Some answer)
+tells_all why job_text job answer steps back bytes same is follows = record {
+  ended = answer;
+  back = back;
+  ends = refl;
+  follows = follows;
+  prints = ap₂ (λ (n : ℕ) (b : List ℕ). printed answer n ++ b) same is;
+  gives = refl;
+}
+
+module _ (why : Bool) (Ends : RunAnswer → Type 0) (job_text : List ℕ) (job : JobData) (w : Writing)
+    (answer : RunAnswer) (ends : Ends answer) where
+  abbrev Comes : List ℕ → Option RunAnswer → Type 0
+  Comes = Explaining why Ends job_text job
+
+  -- it is what a command comes to that ends so
+  comes_so : (text : List ℕ) (given : Option RunAnswer) → Told why job_text job answer text given →
+      Comes text given
+  comes_so text given told = record {
+    ended = told.ended;
+    back = told.back;
+    ends = subst Ends (sym told.ends) ends;
+    follows = told.follows;
+    prints = told.prints;
+    gives = told.gives;
+  }
+
+  begins_so : PutBeginning (Told why job_text job answer) w → PutBeginning Comes w
+  begins_so some = record {
+    text = some.text;
+    answer = some.answer;
+    comes = comes_so _ _ some.comes;
+    takes = some.takes;
+  }
+
+  pub told_as : (put : Result (Unit {0}) PrintFault) → HasTold why job_text job w answer put →
+      (result : Result RunAnswer PrintFault) → result ≡ outcome put (Ok answer) →
+      Puts Comes ⊥ w tells result
+  told_as (Ok done) puts result is =
+      let all = puts.done in
+      subst (λ (x : Result RunAnswer PrintFault). Puts Comes ⊥ w tells x) (sym is) (record {
+        done = record {
+          text = all.text;
+          answer = all.answer;
+          comes = comes_so _ _ all.comes;
+          takes = all.takes;
+          is = all.is;
+        };
+        wrote = tt;
+        failed = (
+          (λ f. absurd (ok_not_err done Device (puts.failed.0 f))),
+          (λ e. absurd (ok_not_err answer Device e)),
+        );
+      })
+  told_as (Err Device) puts result is =
+      subst (λ (x : Result RunAnswer PrintFault). Puts Comes ⊥ w tells x) (sym is) (record {
+        done = tt;
+        wrote = begins_so puts.wrote;
+        failed = ((λ _. refl), (λ _. puts.failed.1 refl));
+      })
+  told_as (Err Memory) puts result is =
+      subst (λ (x : Result RunAnswer PrintFault). Puts Comes ⊥ w tells x) (sym is) (record {
+        done = tt;
+        wrote = elim puts.wrote [ inl unwritten ↦ inl unwritten | inr some ↦ absurd some.0 ];
+        failed = (
+          (λ f. absurd (other_fault (puts.failed.0 f))),
+          (λ e. absurd (other_fault e)),
+        );
+      })

@@ -1,0 +1,63 @@
+//! An answer, and what became of the processors.
+ghost use Rattle.std.specs.Prelude.{◌≡◌, false, string_bytes, IfOk};
+ghost use Rattle.pram_commands.specs.Did.{writing};
+ghost use Rattle.pram_commands.specs.Inner.Puts.{HasTold};
+ghost use Rattle.pram_commands.specs.Why.{Follows, told_steps};
+
+use pram_fates::{fates_after, fates_text};
+use pram_step::RunAnswer;
+use pram_streams::{PrintFault, Sink, print_answer, put};
+use pram_text::Job;
+use std::alloc::{AllocError, Global};
+
+/// A job with its text, and whether what became of the processors is to follow its answer.
+#[derive(Clone, Copy)]
+pub(crate) struct Question<'a> {
+    pub why: bool,
+    pub text: &'a [u8],
+    pub job: &'a Job,
+}
+
+/// Prints an answer and what follows it. Nothing is printed before memory for both was found.
+pub(crate) fn put_told<O: Sink>(
+    alloc: Global,
+    out: &mut O,
+    question: &Question<'_>,
+    answer: &RunAnswer,
+) -> Result<(), PrintFault>
+    requires { O.has_failed out.old ≡ false }
+    ensures { HasTold question.now.why question.now.text.now question.now.job.now
+        (writing O.Sink out.old out.new) answer.now result }
+{
+    let back = following(alloc, question, answer)?;
+    print_answer(alloc, out, answer, question.job.steps())?;
+    put(out, back.as_bytes())?;
+    Ok(())
+}
+
+// What follows an answer: nothing, or if it is asked for, what became of the processors.
+fn following(
+    alloc: Global,
+    question: &Question<'_>,
+    answer: &RunAnswer,
+) -> Result<String, AllocError>
+    ensures { IfOk result (λ back. Follows question.now.why question.now.text.now
+        question.now.job.now answer.now (string_bytes back)) }
+{
+    if !question.why {
+        return Ok(String::new(alloc));
+    }
+    let steps = told_steps(question.job, answer);
+    let fates = fates_after(alloc, question.job, steps)?;
+    fates_text(alloc, question.text, &fates)
+}
+
+// The steps that an answer speaks of.
+fn told_steps(job: &Job, answer: &RunAnswer) -> u32
+    ensures { result ≡ told_steps job.now answer.now }
+{
+    match answer {
+        RunAnswer::Final(_) | RunAnswer::Conflict(_) => job.steps(),
+        RunAnswer::Unfinished { step } => *step,
+    }
+}
