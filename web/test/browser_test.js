@@ -1,4 +1,5 @@
-// browser_test.js PAGE EXAMPLES PICTURES: the page in Debian's Chromium, by real clicks and keys.
+// browser_test.js PAGE EXAMPLES PICTURES [TEST..]: the page in Debian's Chromium, by real clicks and
+// keys.
 // Pictures of what a reader sees are saved to the folder PICTURES, to be looked at.
 import { readFileSync, readdirSync } from 'node:fs';
 import { join, resolve } from 'node:path';

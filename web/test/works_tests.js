@@ -94,4 +94,10 @@ export async function testHistory() {
   await has('with its schedule', '#moment-said', '60 of 60');
   await page.evaluate('history.forward()');
   is('forward', await isShown('sum'), true);
+  await page.call('Page.reload');
+  await page.until('document.documentElement.hasAttribute("data-ready")');
+  is('loaded anew', await isShown('sum'), true);
+  await page.evaluate('history.back()');
+  is('back from there', await isShown('prefix'), true);
+  await has('by its address', '#moment-said', '60 of 60');
 }
