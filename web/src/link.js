@@ -111,9 +111,9 @@ export class Link {
     const field = byId('link');
     field.value = `${start}#${address}`;
     field.hidden = false;
-    field.select();
     const isCopied =
       await navigator.clipboard?.writeText(field.value).then(() => true, () => false);
+    if (!isCopied) field.select();
     const unsaid = `${said.replace(COPIED, '')} Copy it from the field.`.trim();
     setText(byId('link-said'), isCopied ? said : unsaid);
   }

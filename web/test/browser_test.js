@@ -86,6 +86,7 @@ async function testGallery() {
 }
 
 async function testFaults() {
+  await open();
   const head = 'pram 1\ncells 2\nprocs 2\nsteps 2\ncode\n';
   await write(`${head}pid r0\nld r1\n`);
   is('a fault is said', await text('#fault'),
