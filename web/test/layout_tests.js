@@ -143,7 +143,7 @@ export async function testManyColours() {
   await page.click('#next-finish');
   await has('a step', '#outcome', 'Finished: 1 of 9');
   await clicks('#all-100', 30);
-  is('bars', await count('.bar-node'), 2047);
+  is('bars', await count('.block'), 2047);
   const colours = await page.evaluate(`['pass1', 'pass2', 'pass3'].map((pass) =>
     getComputedStyle(document.querySelector('.key.' + pass)).backgroundColor).join(' ')`);
   is('colours', new Set(colours.match(/rgb[^)]*/g)).size, 3);
