@@ -43,6 +43,11 @@ export async function testBoxes() {
     const now = await page.evaluate(BOXES);
     is(`boxes stand still in step ${step}`, now === first, true);
   }
+  await open('#example=conflict');
+  const calm = await page.evaluate(BOXES);
+  await page.click('#step-end');
+  await has('a conflict', '#plain-said', 'Conflict: step 4');
+  is('boxes stand still in a conflict', await page.evaluate(BOXES) === calm, true);
   is('arrows are in front', await page.evaluate(`(() => {
     const arrows = document.getElementById('arrows');
     const after = arrows.compareDocumentPosition(document.querySelector('#plain-cells')) & 2;
