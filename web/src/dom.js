@@ -33,7 +33,7 @@ export function setAttribute(element, name, value) {
 }
 
 // Focus that would be lost goes to the part of the page that it was in.
-export function keepFocus(element, goes) {
+function keepFocus(element, goes) {
   if (!goes.contains(document.activeElement)) return;
   element.closest('[tabindex]')?.focus({ preventScroll: true });
 }

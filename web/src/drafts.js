@@ -28,6 +28,20 @@ function write(list) {
   }
 }
 
+const LEAST = 40;
+
+// Whether a text is no version of the one before: hardly anything of it is left.
+function isAnother(before, after) {
+  const most = Math.min(before.length, after.length);
+  let [head, tail] = [0, 0];
+  while (head < most && before.charCodeAt(head) === after.charCodeAt(head)) head += 1;
+  const [last, end] = [before.length - 1, after.length - 1];
+  while (tail < most - head && before.charCodeAt(last - tail) === after.charCodeAt(end - tail)) {
+    tail += 1;
+  }
+  return before.length >= LEAST && head + tail < before.length / 4;
+}
+
 export class Drafts {
   constructor() {
     this.list = read();
@@ -51,6 +65,13 @@ export class Drafts {
     clearTimeout(this.timer);
     this.timer = setTimeout(() => this.write(), QUIET);
     return number;
+  }
+
+  // Keeps what a text became: as the same draft, or as another one, so that nothing is overwritten
+  // by what is no version of it. Nothing is kept of an empty text.
+  follow({ text: before, draft }, text) {
+    if (text === '') return undefined;
+    return this.keep(text, isAnother(before, text) ? undefined : draft);
   }
 
   write() {

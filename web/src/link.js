@@ -37,6 +37,7 @@ function showWhole(address = '') {
 export class Link {
   constructor(app, examples, onAddress) {
     Object.assign(this, { app, examples, onAddress, written: '', isOpen: false });
+    this.life = Date.now();
     onClick('copy-link', () => this.copy());
     window.addEventListener('popstate', (event) => this.goBack(event.state));
     window.addEventListener('hashchange', () => this.read());
@@ -46,10 +47,15 @@ export class Link {
     return writeAddress(this.app, this.examples);
   }
 
+  // Which work is shown, and from which opening of the page on that says something.
+  get state() {
+    return { life: this.life, work: this.app.work.number };
+  }
+
   // Puts the address, and which work it shows, into the browser's history.
   enter(hash) {
     this.written = hash;
-    history.replaceState({ work: this.app.work.number }, '', hash || location.href);
+    history.replaceState(this.state, '', hash || location.href);
   }
 
   // The address follows what is shown, a moment after the last change.
@@ -72,7 +78,7 @@ export class Link {
   // A chosen program is a page of its own in the browser's history.
   push() {
     clearTimeout(this.timer);
-    history.pushState({ work: this.app.work.number }, '', location.href);
+    history.pushState(this.state, '', location.href);
     return this.write();
   }
 
@@ -92,9 +98,10 @@ export class Link {
     showWhole(await this.address());
   }
 
-  // Back to a program that was shown before, with its schedule.
+  // Back to a program that was shown before, with its schedule. One of an earlier opening of the
+  // page is read from its address.
   goBack(state) {
-    if (state !== null && this.app.showWork(state.work)) this.written = location.hash;
+    if (state?.life === this.life && this.app.showWork(state.work)) this.written = location.hash;
   }
 
   async copy() {
@@ -104,9 +111,9 @@ export class Link {
     const field = byId('link');
     field.value = `${start}#${address}`;
     field.hidden = false;
-    field.select();
     const isCopied =
       await navigator.clipboard?.writeText(field.value).then(() => true, () => false);
+    if (!isCopied) field.select();
     const unsaid = `${said.replace(COPIED, '')} Copy it from the field.`.trim();
     setText(byId('link-said'), isCopied ? said : unsaid);
   }

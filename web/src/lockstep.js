@@ -133,11 +133,11 @@ export class LockstepView {
   show() {
     const { app, moments } = this;
     if (!app.job || app.view !== 'lockstep') return;
-    if (app.isAnswering && app.step > moments.last) return;
-    app.step = Math.min(app.step, moments.last);
     this.shown = undefined;
+    const isAhead = app.isAnswering && app.step > moments.last;
+    if (!isAhead) app.step = Math.min(app.step, moments.last);
     this.showButtons();
-    if (!moments.isThere(app.step)) {
+    if (isAhead || !moments.isThere(app.step)) {
       setText(byId('plain-said'), `Making ${grouped(app.step)} steps.`);
       return;
     }

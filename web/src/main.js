@@ -125,10 +125,10 @@ class Playground {
   changeText(text) {
     const { work, works } = this;
     const now = performance.now();
-    const isNew = now - this.written > PAUSE || work.draft === undefined || works.canRedo ||
+    const draft = this.drafts.follow(work, text);
+    const isNew = now - this.written > PAUSE || draft !== work.draft || works.canRedo ||
       work.schedule.past.length > 0 || work.schedule.length > 0;
     this.written = now;
-    const draft = text === '' ? work.draft : this.drafts.keep(text, work.draft);
     if (isNew) works.add(makeWork(text, new Schedule(work.schedule.workers), { draft }));
     else Object.assign(work, { text, step: 0 });
     this.saved();

@@ -12,9 +12,11 @@ const TOP = 34;
 const BOTTOM = 34;
 const MOST_CIRCLES = 64;
 const LEAST_NAMED = 9;
+const LEAST_EDGED = 6;
 
 const depthOf = (node) => 31 - Math.clz32(node);
-const middleOf = (node) => (node - 2 ** depthOf(node) + 0.5) * (WIDTH / 2 ** depthOf(node));
+const wideOf = (node) => WIDTH / 2 ** depthOf(node);
+const middleOf = (node) => (node - 2 ** depthOf(node) + 0.5) * wideOf(node);
 
 // Nodes as circles with edges.
 function circlesOf(leaves) {
@@ -30,7 +32,13 @@ function circlesOf(leaves) {
     bottom: (node) => y(node) + radius,
     isNamed: radius >= LEAST_NAMED,
     edges: Array.from({ length: 2 * leaves - 2 }, (_, k) => edge(k + 2)).join(''),
-    shape: (node) => makeSvg('circle', { cx: middleOf(node), cy: y(node), r: radius }),
+    kind: () => 'node',
+    make: (node) => {
+      const at = { x: middleOf(node), y: y(node) };
+      const circle = makeSvg('circle', { cx: at.x, cy: at.y, r: radius });
+      const phase = radius >= LEAST_NAMED ? [makeSvg('text', at)] : [];
+      return makeSvg('g', { 'data-node': node }, circle, ...phase);
+    },
   };
 }
 
@@ -46,23 +54,15 @@ function barsOf(leaves) {
     bottom: (node) => top(node) + tall,
     isNamed: false,
     edges: '',
-    shape: (node) => {
-      const wide = WIDTH / 2 ** depthOf(node);
-      return makeSvg('rect', {
-        class: wide > 6 ? 'bar-node edged' : 'bar-node',
-        x: middleOf(node) - wide / 2, y: top(node), width: wide, height: tall,
-      });
-    },
+    kind: (node) => (wideOf(node) > LEAST_EDGED ? 'block edged' : 'block'),
+    make: (node) => makeSvg('rect', {
+      'data-node': node, x: middleOf(node) - wideOf(node) / 2, y: top(node),
+      width: wideOf(node), height: tall,
+    }),
   };
 }
 
 const layoutOf = (leaves) => (leaves > MOST_CIRCLES ? barsOf(leaves) : circlesOf(leaves));
-
-function makeNode(layout, node) {
-  const group = makeSvg('g', { 'data-node': node }, layout.shape(node));
-  if (layout.isNamed) group.append(makeSvg('text', { x: layout.x(node), y: layout.y(node) }));
-  return group;
-}
 
 function makeLeafNames(job, layout) {
   const group = makeSvg('g', { class: 'leaf-names' });
@@ -113,17 +113,17 @@ export class Tree {
 
   // A node's words are made when someone points at it.
   name(target) {
-    const group = target.closest('[data-node]');
-    if (!group) return;
-    const node = Number(group.dataset.node);
-    const title = group.querySelector('title') ?? group.appendChild(makeSvg('title'));
+    const drawn = target.closest('[data-node]');
+    if (!drawn) return;
+    const node = Number(drawn.dataset.node);
+    const title = drawn.querySelector('title') ?? drawn.appendChild(makeSvg('title'));
     setText(title, nodeInWords(this.job, node, this.phases[node]));
   }
 
   // Makes the nodes of a tree of another size.
   make(job) {
     const layout = layoutOf(job.leaves);
-    const all = Array.from({ length: 2 * job.leaves - 1 }, (_, k) => makeNode(layout, k + 1));
+    const all = Array.from({ length: 2 * job.leaves - 1 }, (_, k) => layout.make(k + 1));
     this.nodes = [undefined, ...all];
     this.layout = layout;
     this.phases = new Float64Array(2 * job.leaves).fill(-1);
@@ -135,10 +135,10 @@ export class Tree {
   }
 
   showNode(job, node, phase) {
-    const group = this.nodes[node];
-    const isSpare = node - job.leaves >= job.procs;
-    setAttribute(group, 'class', `node pass${passOfPhase(phase)}${isSpare ? ' spare' : ''}`);
-    if (this.layout.isNamed) setText(group.children[1], String(phase));
+    const drawn = this.nodes[node];
+    const kind = `${this.layout.kind(node)} pass${passOfPhase(phase)}`;
+    setAttribute(drawn, 'class', node - job.leaves >= job.procs ? `${kind} spare` : kind);
+    if (this.layout.isNamed) setText(drawn.children[1], String(phase));
   }
 
   show(job, scene, workers) {

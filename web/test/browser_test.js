@@ -1,4 +1,5 @@
-// browser_test.js PAGE EXAMPLES PICTURES: the page in Debian's Chromium, by real clicks and keys.
+// browser_test.js PAGE EXAMPLES PICTURES [TEST..]: the page in Debian's Chromium, by real clicks and
+// keys.
 // Pictures of what a reader sees are saved to the folder PICTURES, to be looked at.
 import { readFileSync, readdirSync } from 'node:fs';
 import { join, resolve } from 'node:path';
@@ -85,6 +86,7 @@ async function testGallery() {
 }
 
 async function testFaults() {
+  await open();
   const head = 'pram 1\ncells 2\nprocs 2\nsteps 2\ncode\n';
   await write(`${head}pid r0\nld r1\n`);
   is('a fault is said', await text('#fault'),

@@ -43,6 +43,11 @@ export async function testBoxes() {
     const now = await page.evaluate(BOXES);
     is(`boxes stand still in step ${step}`, now === first, true);
   }
+  await open('#example=conflict');
+  const calm = await page.evaluate(BOXES);
+  await page.click('#step-end');
+  await has('a conflict', '#plain-said', 'Conflict: step 4');
+  is('boxes stand still in a conflict', await page.evaluate(BOXES) === calm, true);
   is('arrows are in front', await page.evaluate(`(() => {
     const arrows = document.getElementById('arrows');
     const after = arrows.compareDocumentPosition(document.querySelector('#plain-cells')) & 2;
@@ -143,7 +148,7 @@ export async function testManyColours() {
   await page.click('#next-finish');
   await has('a step', '#outcome', 'Finished: 1 of 9');
   await clicks('#all-100', 30);
-  is('bars', await count('.bar-node'), 2047);
+  is('bars', await count('.block'), 2047);
   const colours = await page.evaluate(`['pass1', 'pass2', 'pass3'].map((pass) =>
     getComputedStyle(document.querySelector('.key.' + pass)).backgroundColor).join(' ')`);
   is('colours', new Set(colours.match(/rgb[^)]*/g)).size, 3);

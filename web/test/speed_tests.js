@@ -1,7 +1,7 @@
 // How long a click takes, until the page is laid out anew and painted: with a bar.
 import { writeAddress } from '../src/address.js';
 import { Schedule } from '../src/schedule.js';
-import { is, open, page, valueOf } from './drive.js';
+import { has, is, open, page, valueOf } from './drive.js';
 
 // Bars are on the processor time of the page's thread, in milliseconds: what the clock says depends
 // on what else the machine does. A click is to take 100 ms; beside other work on all processors even
@@ -83,7 +83,10 @@ export async function testSpeedOfLongSchedules() {
 }
 
 export async function testSpeedOfFarSteps() {
-  await openQuietly(await linkTo(loop(4, 4, 4294967295), 'lockstep'));
+  const far = await linkTo(loop(4, 4, 4294967295), 'lockstep');
+  await openQuietly(far.replace('step=0', 'step=4000000'));
+  await has('a link to a far step', '#plain-said', 'After step 4,000,000 of');
+  await openQuietly(far);
   await page.until('document.getElementById("answer").textContent.includes("too far")');
   await clickOn('5,000,000 steps', '#step-end');
   await page.until('document.getElementById("plain-said").textContent.startsWith("After")');

@@ -31,6 +31,11 @@ export async function testDrafts() {
   await open();
   await chooseOwn('your own: mine');
   is('it is there when the page is opened anew', await valueOf('#text'), OWN);
+  await write('; another\n' + HEAD.replace('procs 2', 'procs 1') + 'set r1 7\nset r2 9\nhalt\n');
+  await write('');
+  await write(`; a third\n${HEAD}halt\n`);
+  await chooseOwn('your own: mine');
+  is('what is written over it is another one', await valueOf('#text'), OWN);
   await page.choose('#example', 'new');
   await has('a new program', '#answer', 'done after');
 }
@@ -94,4 +99,10 @@ export async function testHistory() {
   await has('with its schedule', '#moment-said', '60 of 60');
   await page.evaluate('history.forward()');
   is('forward', await isShown('sum'), true);
+  await page.call('Page.reload');
+  await page.until('document.documentElement.hasAttribute("data-ready")');
+  is('loaded anew', await isShown('sum'), true);
+  await page.evaluate('history.back()');
+  is('back from there', await isShown('prefix'), true);
+  await has('by its address', '#moment-said', '60 of 60');
 }
