@@ -3,6 +3,7 @@ ghost use Rattle.std.specs.Prelude.{◌≡◌, ℕ, ◌+◌, ◌^◌, ◌<◌, L
 ghost use Rattle.std.specs.Prelude.{◌++◌, All, IfSome, Option, Some};
 ghost use Rattle.pram_text.specs.Instructions.{IsOperand, IsPlace};
 ghost use Rattle.pram_text.specs.Job.{IsInstr};
+ghost use Rattle.pram_step.specs.Machine.{out_of_range};
 ghost use Rattle.pram_step.specs.Instructions.{registers_in, value_of, held_after, index_of};
 ghost use Rattle.pram_step.specs.Instructions.{reached, sources_of, listed, cell_read};
 ghost use Rattle.pram_step.specs.Instructions.{gives, goes_to, decided, HasShape};
@@ -137,28 +138,29 @@ pub(crate) trait Held {
 }
 
 /// What a processor asks for by the instruction at its counter. Only what the instruction reads is
-/// looked up.
+/// looked up. The instruction is no copy, and each of its forms has an arm of its own: so only the
+/// operands that it has are loaded.
 #[inline(always)]
 #[tactic(auto, unfolding(crate::specs::Instructions::decided))]
 pub(crate) fn decide<H: Held>(
     job: &Job,
     processor: u32,
     counter: u32,
-    instr: Instr,
+    instr: &Instr,
     held: &H,
 ) -> Request
     requires processor { processor < job.now.procs }
     requires counter { counter < length job.now.code }
-    requires instr { IsInstr job.now.cells (length job.now.code) instr }
+    requires instr { IsInstr job.now.cells (length job.now.code) instr.now }
     requires cells { H.cells held.now ≡ job.now.cells }
-    ensures { result ≡ decided job.now processor counter instr
-        (H.operand held.now (sources_of instr) 0) (H.operand held.now (sources_of instr) 1)
-        (H.cell held.now (cell_read job.now instr (H.operand held.now (sources_of instr) 0))) }
+    ensures { result ≡ decided job.now processor counter instr.now
+        (H.operand held.now (sources_of instr.now) 0) (H.operand held.now (sources_of instr.now) 1)
+        (H.cell held.now
+        (cell_read job.now instr.now (H.operand held.now (sources_of instr.now) 0))) }
 {
-    let past_code = job.code().len() as u32;
-    let out_of_range = goes_to(past_code + 1);
+    job.limits_hold();
     let gives = |r, value| gives(job, processor, counter, r, value);
-    match instr {
+    match *instr {
         Instr::Set(r, k) => gives(r, k),
         Instr::Pid(r) => gives(r, processor),
         Instr::Add(r, a, b) => gives(r, held.first(a).wrapping_add(second(held, b))),
@@ -171,22 +173,42 @@ pub(crate) fn decide<H: Held>(
         Instr::Eq(r, a, b) => gives(r, u32::from(held.first(a) == second(held, b))),
         Instr::Shl(r, a, b) => gives(r, held.first(a).checked_shl(second(held, b)).unwrap_or(0)),
         Instr::Shr(r, a, b) => gives(r, held.first(a).checked_shr(second(held, b)).unwrap_or(0)),
-        Instr::Ld(r, place) => match reached(job, place, first(held, index_of(place))) {
+        Instr::Ld(r, Place::Cell(a)) => match reached(job, Place::Cell(a), first(held, a)) {
             Some(cell) => gives(r, held.cell(cell)),
-            None => out_of_range,
+            None => leaves(job),
         },
-        Instr::St(place, b) => match reached(job, place, first(held, index_of(place))) {
-            Some(cell) => puts(cell, stored(held, index_of(place), b), counter),
-            None => out_of_range,
+        Instr::Ld(r, Place::Named(array, a)) => {
+            match reached(job, Place::Named(array, a), first(held, a)) {
+                Some(cell) => gives(r, held.cell(cell)),
+                None => leaves(job),
+            }
+        }
+        Instr::St(Place::Cell(a), b) => match reached(job, Place::Cell(a), first(held, a)) {
+            Some(cell) => puts(cell, stored(held, a, b), counter),
+            None => leaves(job),
         },
+        Instr::St(Place::Named(array, a), b) => {
+            match reached(job, Place::Named(array, a), first(held, a)) {
+                Some(cell) => puts(cell, stored(held, a, b), counter),
+                None => leaves(job),
+            }
+        }
         Instr::Jz(r, index) => goes_to(if held.first(r) == 0 {
             index
         } else {
             counter + 1
         }),
         Instr::Jmp(index) => goes_to(index),
-        Instr::Halt => goes_to(past_code),
+        Instr::Halt => goes_to(job.code().len() as u32),
     }
+}
+
+// The request where there is no such cell.
+#[inline(always)]
+fn leaves(job: &Job) -> Request
+    ensures { result ≡ goes_to (out_of_range job.now) }
+{
+    goes_to(job.code().len() as u32 + 1)
 }
 
 // The value of an operand before which no register is read.
@@ -253,7 +275,7 @@ pub fn decided(job: &Job, processor: u32, counter: u32, instr: Instr, found: Fou
     ensures shape { HasShape job.now processor result }
 {
     let cells = job.cells();
-    decide(job, processor, counter, instr, &Heard { found, cells })
+    decide(job, processor, counter, &instr, &Heard { found, cells })
 }
 
 /// What was found before, in a job with so many cells.

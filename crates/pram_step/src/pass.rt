@@ -28,8 +28,8 @@ pub(crate) enum Course {
     Disputed(Fault),
 }
 
-/// What the processors did in a step: whether one of them changed anything, and whether one
-/// stopped.
+/// What the processors did in a step: whether one of them changed anything, and whether one had
+/// stopped before.
 #[derive(Clone, Copy, Debug, PartialEq, Eq)]
 pub(crate) struct Moves {
     pub changed: bool,
@@ -152,10 +152,10 @@ fn pass(job: &Job, places: &mut [u32], running: &[u32], asked: &mut [Store]) -> 
     let mut stopped = false;
     for processor in running {
         let counter = counters + *processor;
+        stopped |= places[counter as usize] as usize >= job.code().len();
         let request = request_in(job, places, *processor, counter);
-        stopped |= request.next as usize >= job.code().len();
-        count = take_up(job, asked, count, *processor, request.put);
         changed |= move_on(job, places, *processor, counter, request);
+        count = take_up(job, asked, count, *processor, request.put);
     }
     Passed {
         count,

@@ -54,7 +54,7 @@ pub(crate) fn request_in(job: &Job, places: &[u32], processor: u32, at: u32) -> 
         job,
         processor,
         counter,
-        *instr,
+        instr,
         &Registers {
             job,
             places,
