@@ -2,6 +2,7 @@ pub mod RequestList
 pub mod Judging
 pub mod Marking
 pub mod Passing
+pub mod Turning
 pub mod Applying
 pub mod Shapes
 pub mod LawFixed

@@ -6,6 +6,7 @@ ghost use Rattle.pram_step.specs.Runs.{AreConflicting, IsFault};
 use crate::answer::{Dispute, Fault};
 use crate::requests::Request;
 use crate::stores::{Stores, judge_all, take_up};
+use crate::turn::Put;
 use pram_text::{Job, Rule};
 use std::alloc::{AllocError, Global};
 
@@ -25,7 +26,7 @@ pub fn dispute(
     stores.make_room(alloc, job)?;
     let mut count = 0;
     for processor in 0..job.procs() {
-        let put = requests[processor as usize].put;
+        let put = Put::of(job, requests[processor as usize].put);
         count = take_up(job, &mut stores.asked, count, processor, put);
     }
     let asked = &stores.asked[..count as usize];

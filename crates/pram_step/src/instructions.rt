@@ -3,12 +3,15 @@ ghost use Rattle.std.specs.Prelude.{◌≡◌, ℕ, ◌+◌, ◌^◌, ◌<◌, L
 ghost use Rattle.std.specs.Prelude.{◌++◌, All, IfSome, Option, Some};
 ghost use Rattle.pram_text.specs.Instructions.{IsOperand, IsPlace};
 ghost use Rattle.pram_text.specs.Job.{IsInstr};
-ghost use Rattle.pram_step.specs.Machine.{out_of_range};
+ghost use Rattle.pram_step.specs.Machine.{out_of_range, register_place};
 ghost use Rattle.pram_step.specs.Instructions.{registers_in, value_of, held_after, index_of};
 ghost use Rattle.pram_step.specs.Instructions.{reached, sources_of, listed, cell_read};
-ghost use Rattle.pram_step.specs.Instructions.{gives, goes_to, decided, HasShape};
+ghost use Rattle.pram_step.specs.Instructions.{goes_to, decided, HasShape};
+ghost use Rattle.pram_step.specs.Inner.Turns.{request_of, IsSorted};
+ghost use Rattle.pram_step.specs.declared.turn.Put.TheVariants.{Nothing, Register, Cell};
 
 use crate::requests::Request;
+use crate::turn::{Put, Turn};
 use pram_text::{Instr, Job, Operand, Operands, Place};
 
 /// The registers that an instruction reads, in the order in which it is written.
@@ -148,15 +151,16 @@ pub(crate) fn decide<H: Held>(
     counter: u32,
     instr: &Instr,
     held: &H,
-) -> Request
+) -> Turn
     requires processor { processor < job.now.procs }
     requires counter { counter < length job.now.code }
     requires instr { IsInstr job.now.cells (length job.now.code) instr.now }
     requires cells { H.cells held.now ≡ job.now.cells }
-    ensures { result ≡ decided job.now processor counter instr.now
+    ensures value { request_of result ≡ decided job.now processor counter instr.now
         (H.operand held.now (sources_of instr.now) 0) (H.operand held.now (sources_of instr.now) 1)
         (H.cell held.now
         (cell_read job.now instr.now (H.operand held.now (sources_of instr.now) 0))) }
+    ensures sorted { IsSorted job.now result.put }
 {
     job.limits_hold();
     let gives = |r, value| gives(job, processor, counter, r, value);
@@ -193,22 +197,22 @@ pub(crate) fn decide<H: Held>(
                 None => leaves(job),
             }
         }
-        Instr::Jz(r, index) => goes_to(if held.first(r) == 0 {
+        Instr::Jz(r, index) => jumps(if held.first(r) == 0 {
             index
         } else {
             counter + 1
         }),
-        Instr::Jmp(index) => goes_to(index),
-        Instr::Halt => goes_to(job.code().len() as u32),
+        Instr::Jmp(index) => jumps(index),
+        Instr::Halt => jumps(job.code().len() as u32),
     }
 }
 
-// The request where there is no such cell.
+// The turn of a processor that names no cell.
 #[inline(always)]
-fn leaves(job: &Job) -> Request
-    ensures { result ≡ goes_to (out_of_range job.now) }
+fn leaves(job: &Job) -> Turn
+    ensures { result ≡ record { put = Nothing; next = out_of_range job.now } }
 {
-    goes_to(job.code().len() as u32 + 1)
+    jumps(job.code().len() as u32 + 1)
 }
 
 // The value of an operand before which no register is read.
@@ -275,7 +279,7 @@ pub fn decided(job: &Job, processor: u32, counter: u32, instr: Instr, found: Fou
     ensures shape { HasShape job.now processor result }
 {
     let cells = job.cells();
-    decide(job, processor, counter, &instr, &Heard { found, cells })
+    decide(job, processor, counter, &instr, &Heard { found, cells }).request()
 }
 
 /// What was found before, in a job with so many cells.
@@ -310,24 +314,41 @@ impl Held for Heard {
 
 // A register takes a value.
 #[inline(always)]
-fn gives(job: &Job, processor: u32, counter: u32, register: u8, value: u32) -> Request
+fn gives(job: &Job, processor: u32, counter: u32, register: u8, value: u32) -> Turn
     requires processor { processor < job.now.procs }
     requires counter { counter < length job.now.code }
     requires register { register < 4 }
-    ensures { result ≡ gives job.now processor counter register value }
+    ensures { result ≡ record {
+      put = Register (register_place job.now processor register) value;
+      next = counter + 1;
+    } }
 {
-    puts(job.register_place(processor, register), value, counter)
+    Turn {
+        put: Put::Register(job.register_place(processor, register), value),
+        next: counter + 1,
+    }
 }
 
-// A place takes a value, and the counter goes on.
+// A cell takes a value, and the counter goes on.
 #[inline(always)]
-fn puts(place: u32, value: u32, counter: u32) -> Request
+fn puts(cell: u32, value: u32, counter: u32) -> Turn
     requires { counter + 1 < 2 ^ 32 }
-    ensures { result ≡ record { put = Some (place, value); next = counter + 1 } }
+    ensures { result ≡ record { put = Cell cell value; next = counter + 1 } }
 {
-    Request {
-        put: Some((place, value)),
+    Turn {
+        put: Put::Cell(cell, value),
         next: counter + 1,
+    }
+}
+
+// No data, and this next counter.
+#[inline(always)]
+pub(crate) fn jumps(next: u32) -> Turn
+    ensures { result ≡ record { put = Nothing; next = next } }
+{
+    Turn {
+        put: Put::Nothing,
+        next,
     }
 }
 

@@ -13,6 +13,7 @@ mod run;
 mod running;
 mod state;
 mod stores;
+mod turn;
 
 pub use answer::{Cells, Dispute, Fault, RunAnswer};
 pub use arrival::{Arrival, go_to, make_step};

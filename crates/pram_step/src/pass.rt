@@ -7,13 +7,15 @@ ghost use Rattle.pram_step.specs.Machine.{IsDataPlace, counter, counter_place, p
 ghost use Rattle.pram_step.specs.Instructions.{requests_in};
 ghost use Rattle.pram_step.specs.Steps.{IsDispute};
 ghost use Rattle.pram_step.specs.Inner.Marks.{HasRoom};
+ghost use Rattle.pram_step.specs.Inner.Turns.{put_of, request_of, IsSorted};
 ghost use Rattle.pram_step.specs.Inner.Passes.{AllIdle, AreRunning, GoesTo, IsAdvance, IsMade};
 ghost use Rattle.pram_step.specs.Inner.Passes.{IsMove, IsPassed, SameCells};
 
 use crate::answer::{Dispute, Fault};
-use crate::requests::{Request, request_in};
+use crate::requests::turn_in;
 use crate::running::Running;
 use crate::stores::{Store, Stores, judge_all, take_up, write_stores};
+use crate::turn::{Put, Turn};
 use pram_text::Job;
 use pram_text::places::counters_at;
 
@@ -153,9 +155,9 @@ fn pass(job: &Job, places: &mut [u32], running: &[u32], asked: &mut [Store]) -> 
     for processor in running {
         let counter = counters + *processor;
         stopped |= places[counter as usize] as usize >= job.code().len();
-        let request = request_in(job, places, *processor, counter);
-        changed |= move_on(job, places, *processor, counter, request);
-        count = take_up(job, asked, count, *processor, request.put);
+        let turn = turn_in(job, places, *processor, counter);
+        changed |= move_on(job, places, *processor, counter, turn);
+        count = take_up(job, asked, count, *processor, turn.put);
     }
     Passed {
         count,
@@ -166,22 +168,19 @@ fn pass(job: &Job, places: &mut [u32], running: &[u32], asked: &mut [Store]) -> 
 /// Writes what a processor asks for to its own register and counter, and answers whether its
 /// counter changed.
 #[inline(always)]
-fn move_on(job: &Job, places: &mut [u32], processor: u32, at: u32, request: Request) -> bool
+fn move_on(job: &Job, places: &mut [u32], processor: u32, at: u32, turn: Turn) -> bool
     requires processor { processor < job.now.procs }
     requires places { length places.old ≡ place_count job.now }
     requires counter { at ≡ counter_place job.now processor }
-    requires own { IfSome request.put (λ w. IsDataPlace job.now processor w.0) }
-    ensures moved { IsMove job.now processor request places.old places.new }
-    ensures idle { OnFalse result (request.next ≡ counter job.now places.old processor) }
+    requires own { IfSome (put_of turn.put) (λ w. IsDataPlace job.now processor w.0) }
+    requires sorted { IsSorted job.now turn.put }
+    ensures moved { IsMove job.now processor (request_of turn) places.old places.new }
+    ensures idle { OnFalse result (turn.next ≡ counter job.now places.old processor) }
 {
-    let changed = places[at as usize] != request.next;
-    places[at as usize] = request.next;
-    let Some((place, value)) = request.put else {
-        return changed;
-    };
-    if place < job.cells() {
-        return changed;
+    let changed = places[at as usize] != turn.next;
+    places[at as usize] = turn.next;
+    if let Put::Register(place, value) = turn.put {
+        places[place as usize] = value;
     }
-    places[place as usize] = value;
     changed
 }

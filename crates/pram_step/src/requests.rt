@@ -2,8 +2,10 @@
 ghost use Rattle.std.specs.Prelude.{◌≡◌, ◌+◌, ◌^◌, ◌<◌, ◌≤◌, length, map, slice_index, None, Some};
 ghost use Rattle.pram_step.specs.Machine.{counter_place, place_count, register_place, register};
 ghost use Rattle.pram_step.specs.Instructions.{place_part, value_part, request_in};
+ghost use Rattle.pram_step.specs.Inner.Turns.{request_of, IsSorted};
 
-use crate::instructions::{Held, decide, goes_to};
+use crate::instructions::{Held, decide, jumps};
+use crate::turn::Turn;
 use pram_text::Job;
 
 /// What a processor asks for in a step: at most one data write, and the index of its next
@@ -38,17 +40,28 @@ pub fn value_part(request: Request) -> u32
 }
 
 /// What a processor asks for where the machine's places hold this, its counter being there.
-#[inline(always)]
-#[tactic(auto, unfolding(crate::specs::Instructions::request_in))]
 pub(crate) fn request_in(job: &Job, places: &[u32], processor: u32, at: u32) -> Request
     requires processor { processor < job.now.procs }
     requires places { length places.now ≡ place_count job.now }
     requires counter { at ≡ counter_place job.now processor }
     ensures { result ≡ request_in job.now places.now processor }
 {
+    turn_in(job, places, processor, at).request()
+}
+
+/// Its turn: the same, its data told apart.
+#[inline(always)]
+#[tactic(auto, unfolding(crate::specs::Instructions::request_in))]
+pub(crate) fn turn_in(job: &Job, places: &[u32], processor: u32, at: u32) -> Turn
+    requires processor { processor < job.now.procs }
+    requires places { length places.now ≡ place_count job.now }
+    requires counter { at ≡ counter_place job.now processor }
+    ensures value { request_of result ≡ request_in job.now places.now processor }
+    ensures sorted { IsSorted job.now result.put }
+{
     let counter = places[at as usize];
     let Some(instr) = job.code().get(counter as usize) else {
-        return goes_to(counter);
+        return jumps(counter);
     };
     decide(
         job,

@@ -1,10 +1,12 @@
 //! The stores of a step, which wait for its end.
 ghost use Rattle.std.specs.Prelude.{◌≡◌, ◌<◌, ◌≤◌, ◌+◌, length, All, OnOk};
 ghost use Rattle.pram_step.specs.Inner.Marks.{AreStored, AsksNext, HasRoom, store_at};
+ghost use Rattle.pram_step.specs.Inner.Turns.{put_of, IsSorted};
 ghost use Rattle.pram_step.specs.Inner.Marks.{JudgesAll, JudgesNext, JudgesStore, TellsFirst};
 
 use crate::answer::Dispute;
 use crate::conflict::is_forbidden;
+use crate::turn::Put;
 use pram_text::{Job, Rule};
 use std::alloc::{AllocError, Global};
 
@@ -60,24 +62,17 @@ const NO_STORE: Store = Store {
 /// Takes up what the next processor stores to a cell, if it does, after so many stores, and answers
 /// how many there are then.
 #[inline(always)]
-pub(crate) fn take_up(
-    job: &Job,
-    asked: &mut [Store],
-    count: u32,
-    processor: u32,
-    put: Option<(u32, u32)>,
-) -> u32
+pub(crate) fn take_up(job: &Job, asked: &mut [Store], count: u32, processor: u32, put: Put) -> u32
     requires room { length asked.old ≡ job.now.procs }
     requires count { count < job.now.procs }
+    requires sorted { IsSorted job.now put }
     ensures few { result ≤ count + 1 }
-    ensures asked { AsksNext job.now processor put asked.old count asked.new result }
+    ensures asked { AsksNext job.now processor (put_of put) asked.old count asked.new result }
 {
-    let Some((cell, value)) = put else {
+    job.limits_hold();
+    let Put::Cell(cell, value) = put else {
         return count;
     };
-    if cell >= job.cells() {
-        return count;
-    }
     asked[count as usize] = Store {
         processor,
         cell,

@@ -1,5 +1,5 @@
 use Rattle.std.proofs.Common.{◌≡◌, ◌+◌, ◌<◌, ◌≤◌, List, length, take, drop, sym, subst}
-use Rattle.std.proofs.Common.{refl, None, arith}
+use Rattle.std.proofs.Common.{None, arith}
 use Rattle.std.proofs.lemmas.Option.{slice_get-get_or}
 use Rattle.pram_step.specs.declared.stores.Store.{Store}
 use Rattle.pram_step.specs.Inner.Marks.{AreAsked}
@@ -25,7 +25,7 @@ loop-processor-preserved c =
           (drop (length c.take_up-count.new.asked) c.loop-processor.stores.asked.items)
           (omega arith)))
           (c.take_up-count.ensures.asked requests (request_at requests p)
-          (slice_get-get_or requests p (record { put = None; next = 0 }) inside) refl
+          (slice_get-get_or requests p (record { put = None; next = 0 }) inside) (sym c.of-put.ensures.value)
           (subst (λ (xs : List Store). AreAsked cells requests p xs c.loop-processor.count)
           (sym c.deref_mut.ensures.value) c.loop-processor.invariant.asked));
     }

@@ -5,6 +5,7 @@ use Rattle.pram_step.specs.declared.requests.Request.{Request}
 use Rattle.pram_step.specs.Machine.{IsDataPlace}
 use Rattle.std.proofs.lemmas.Bool.{OnFalse_at, OnFalse_from, or_parts}
 use Rattle.pram_step.specs.Inner.Passes.{AllIdle, IsPassed}
+use Rattle.pram_step.specs.Inner.Turns.{request_of}
 use Rattle.pram_step.proofs.Applying.{passed_first, passed_next, passed_turn, same_request}
 use Rattle.pram_step.proofs.Applying.{idle_first, idle_next, count_next}
 use Rattle.pram_step.proofs.Passing.{bound, bound_inside, bound_past, listed_below}
@@ -22,8 +23,8 @@ loop-processor-init c =
       idle = idle_first job is_job start c.requires.places c.args.running.now c.requires.running;
     }
 
-pub request_in-request-requires-clause-processor : goal.request_in-request-requires-clause-processor
-request_in-request-requires-clause-processor c =
+pub turn_in-turn-requires-clause-processor : goal.turn_in-turn-requires-clause-processor
+turn_in-turn-requires-clause-processor c =
     listed_below c.args.job.now c.args.places.now c.args.running.now c.requires.running
     c.loop-processor.processor-index (omega arith)
 
@@ -32,7 +33,7 @@ move_on-changed-requires-clause-own c =
     let job = c.args.job.now in
     let p = get_or c.args.running.now c.loop-processor.processor-index 0 in
     subst (λ (r : Request). IfSome r.put (λ w. IsDataPlace job p w.0))
-    (sym c.request_in-request.ensures)
+    (sym c.turn_in-turn.ensures.value)
     (request_own job c.loop-processor.places p c.limits_hold.ensures)
 
 pub loop-processor-preserved : goal.loop-processor-preserved
@@ -61,7 +62,7 @@ loop-processor-preserved c =
           c.move_on-changed.new.places c.take_up-count.new.asked c.take_up-count.result
           (passed_turn job is_job start c.requires.places p low c.loop-processor.places before.own
           c.loop-processor.asked c.loop-processor.count before.stores
-          c.request_in-request.result c.request_in-request.ensures c.move_on-changed.new.places
+          (request_of c.turn_in-turn.result) c.turn_in-turn.ensures.value c.move_on-changed.new.places
           c.move_on-changed.ensures.moved
           c.take_up-count.new.asked c.take_up-count.result c.take_up-count.ensures.asked);
       idle = OnFalse_from _ _ (λ unchanged.
@@ -71,7 +72,7 @@ loop-processor-preserved c =
           idle_next job is_job start c.requires.places running are k inside
           (OnFalse_at parts.0 c.loop-processor.invariant.idle)
           (request_idle job start p (ap (λ (r : Request). r.next)
-          (sym (c.request_in-request.ensures ∙ same))
+          (sym (c.turn_in-turn.ensures.value ∙ same))
           ∙ OnFalse_at parts.1 c.move_on-changed.ensures.idle
           ∙ before.own.left p _ (omega arith) low (inl refl))));
     }
