@@ -12,8 +12,6 @@ mod print;
 mod runner;
 mod schedule;
 mod sight;
-#[cfg(test)]
-mod tests;
 mod tower;
 mod trace;
 mod watcher;

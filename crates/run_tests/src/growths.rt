@@ -2,9 +2,9 @@
 //! same call then succeeds.
 ghost use Rattle.std.specs.Prelude.{◌≡◌, IfOk};
 
-use super::{SWAP, Wanted};
-use crate::{Sight, Trace, replay, run, watch};
+use crate::jobs::{SWAP, Wanted};
 use pram_board::{Board, Seat};
+use pram_run::{Sight, Trace, replay, run, watch};
 use pram_step::RunAnswer;
 use pram_text::{Job, read_job};
 use std::sync::Wait;

@@ -1,12 +1,12 @@
 //! Runs on threads: worked rows, and gates that hold workers and readers at chosen ticks.
 ghost use Rattle.std.specs.Prelude.{◌≤◌};
 
-use super::{
+use crate::jobs::{
     BELOW_ZERO, BEYOND, COMMON_EQUAL, COMMON_NUMBERS, CREW_EQUAL, LATER, PRIORITY_NUMBERS, SET,
     SUMS, SWAP, TWO_CELLS, Wanted, holds_at, plan_of,
 };
-use crate::{Sight, run, watch};
 use pram_board::Board;
+use pram_run::{Sight, run, watch};
 use pram_step::RunAnswer;
 use pram_text::read_job;
 use std::process::Abort;
@@ -187,14 +187,6 @@ fn watched<C: Clock + Sync>(
     }
 }
 
-fn sight(step: u32, value: u32) -> Sight {
-    Sight {
-        cell: 0,
-        step,
-        value,
-    }
-}
-
 // The reader is held until the worker has passed, and the worker until the reader has; the worker
 // is held until the reader's last read; and the first read finds a write of step 2 before the step
 // is finished.
@@ -203,8 +195,16 @@ fn the_reader_reads_beside_the_workers(rt: HostRuntime) -> Result<(), Fail> {
     let both = [holding(0, 0, 1, 0), holding(1, 0, 0, 0)];
     let before = [holding(0, 0, 1, 3), holding(0, 0, 1, 3)];
     let between = [holding(1, 0, 0, 53), holding(0, 53, 1, 1)];
-    let start = [sight(0, 0); 3];
-    let later = [sight(1, 4)];
+    let start = [Sight {
+        cell: 0,
+        step: 0,
+        value: 0,
+    }; 3];
+    let later = [Sight {
+        cell: 0,
+        step: 1,
+        value: 4,
+    }];
     let rows = [
         (LATER, 1, both, &start[..0]),
         (BELOW_ZERO, 4, before, start.as_slice()),

@@ -1,11 +1,11 @@
 //! Worked rows by replay: by 1, 2 and 4 workers, and under plans that leave some worker.
 ghost use Rattle.std.specs.Prelude.{◌≤◌};
 
-use super::{
+use crate::jobs::{
     BELOW_ZERO, BEYOND, COMMON_EQUAL, COMMON_NUMBERS, CREW_EQUAL, LATER, PRIORITY_NUMBERS, SET,
     SUMS, SWAP, TWO_CELLS, Wanted, holds_at, plan_of,
 };
-use crate::{OutFault, StepKind, Trace, TraceRow, replay, write_trace};
+use pram_run::{OutFault, StepKind, Trace, TraceRow, replay, write_trace};
 use pram_step::RunAnswer;
 use pram_text::read_job;
 use std::io;
@@ -13,11 +13,11 @@ use std::io::Write;
 use std::process::Abort;
 use std::test::Fail;
 
-pub(super) const LONG_SWAP: &str = "pram 1\ncells 2\nprocs 2\nsteps 20\ninit 0 7\ninit 1 9\ncode\n\
+pub(crate) const LONG_SWAP: &str = "pram 1\ncells 2\nprocs 2\nsteps 20\ninit 0 7\ninit 1 9\ncode\n\
     pid r0\nset r1 1\nsub r1 r1 r0\nld r2 r1\nst r0 r2\n";
 
 // A replay of a text under rows of a plan.
-pub(super) fn replayed(
+pub(crate) fn replayed(
     rt: &(impl AllocGlobal + Abort),
     text: &str,
     workers: u32,
@@ -153,7 +153,7 @@ fn all_64_workers_start_at_the_root(rt: HostRuntime) -> Result<(), Fail> {
 }
 
 // The text of a replay's trace, and how many rows it has.
-pub(super) fn traced(
+pub(crate) fn traced(
     rt: &(impl AllocGlobal + Abort),
     text: &str,
     workers: u32,

@@ -2,9 +2,9 @@
 //! the answer is heard while another is, and where the sink fails the watch goes on.
 ghost use Rattle.std.specs.Prelude.{◌≡◌, ⊤, false};
 
-use super::LATER;
-use crate::{Assignment, Listener, Observation, Reads, Sight, print_reads, watch_heard};
+use crate::jobs::LATER;
 use pram_board::{Board, Seat};
+use pram_run::{Assignment, Listener, Observation, Reads, Sight, print_reads, watch_heard};
 use pram_step::RunAnswer;
 use pram_streams::{Failed, IntoWrite, PrintFault, Sink};
 use pram_text::read_job;

@@ -1,9 +1,9 @@
 //! Answers that are heard while a worker is held, and after all have left.
 ghost use Rattle.std.specs.Prelude.{◌≡◌, ◌≤◌, ⊤};
 
-use super::{SWAP, TWO_CELLS, holds_at, plan_of};
-use crate::{Assignment, Listener, run_heard};
+use crate::jobs::{SWAP, TWO_CELLS, holds_at, plan_of};
 use pram_board::Board;
+use pram_run::{Assignment, Listener, run_heard};
 use pram_step::RunAnswer;
 use pram_text::read_job;
 use std::alloc::AllocError;

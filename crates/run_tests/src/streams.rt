@@ -2,9 +2,9 @@
 //! ends within a row of the plan.
 ghost use Rattle.std.specs.Prelude.{◌≤◌};
 
-use super::replays::{LONG_SWAP, traced};
-use super::{Wanted, plan_of};
-use crate::{print_trace, replay_to};
+use crate::jobs::{Wanted, plan_of};
+use crate::replays::{LONG_SWAP, traced};
+use pram_run::{print_trace, replay_to};
 use pram_streams::IntoWrite;
 use pram_text::read_job;
 use std::process::Abort;
