@@ -18,3 +18,4 @@ pub mod Assigning
 pub mod Requesting
 pub mod Meanings
 pub mod Sharing
+pub mod Trees

@@ -5,9 +5,11 @@ use Rattle.pardo_text.specs.declared.program.Rule.{Rule}
 use Rattle.pardo_text.specs.declared.program.Rule.TheVariants.{Priority, Crew}
 use Rattle.pardo_text.specs.declared.statement.Line.{Line}
 use Rattle.pardo_text.specs.Expression.{Tree}
-use Rattle.pardo_text.specs.Lawful.{IsCommon}
+use Rattle.pardo_text.specs.Lawful.{IsCommon, IsTree, bounds_of}
 use Rattle.pardo_text.specs.Program.{ProgramData}
 use Rattle.pardo_job.specs.Conflicts.{Agrees, Dispute, IsDispute, Writes, asked}
+use Rattle.pardo_job.specs.Layouts.{layout_of}
+use Rattle.pardo_job.specs.Lawful.{IsLawful}
 use Rattle.pardo_job.specs.Meaning.{Source, is_active, next, value}
 use Rattle.pardo_job.specs.Runs.{IsReached}
 
@@ -63,3 +65,8 @@ LoopsAreCommon = (program : ProgramData) (source : Source) (tree : Tree) (i j : 
 abbrev pub OneDispute : Type 0
 OneDispute = (program : ProgramData) (source : Source) (dispute other : Dispute) →
     IsDispute program source dispute → IsDispute program source other → dispute ≡ other
+
+-- What the reader says of expressions is what their code rests on.
+abbrev pub TreesAreLawful : Type 0
+TreesAreLawful = (program : ProgramData) (tree : Tree) →
+    IsTree (bounds_of program) tree → IsLawful (layout_of program) tree

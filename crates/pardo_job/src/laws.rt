@@ -1,5 +1,6 @@
 //! The laws of the meaning: each function does nothing, and says to a proof that its law holds.
 ghost use Rattle.pardo_job.specs.Laws.{GoneForGood, LoopsAreCommon, OutsideIsUnchanged};
+ghost use Rattle.pardo_job.specs.Laws.{TreesAreLawful};
 ghost use Rattle.pardo_job.specs.Leaves.{ConditionsDecide, ExpressionsAreEvaluated};
 
 /// The value of an expression without the own number and private variables is one for all
@@ -27,4 +28,9 @@ pub fn expressions_are_evaluated()
 /// The code of a condition leaves 1 or 0, as the value is not 0 or is.
 pub fn conditions_decide()
     ensures { ConditionsDecide }
+{}
+
+/// An expression of a lawful program names what there is in its cells.
+pub fn trees_are_lawful()
+    ensures { TreesAreLawful }
 {}
