@@ -14,7 +14,7 @@ use Rattle.pardo_text.specs.declared.statement.Target.{Target}
 use Rattle.pardo_text.specs.declared.statement.Target.TheVariants as target
 use Rattle.pardo_text.specs.Expression.{Tree, number, own, loop, private, place, apply}
 use Rattle.pardo_text.specs.Expressions.{applied, joined, constant_of, is_zero}
-use Rattle.pardo_text.specs.Lawful.{Bounds, IsTree, IsTarget, IsStatement, IsLine}
+use Rattle.pardo_text.specs.Lawful.{Bounds, IsTree, IsCommonTree, IsTarget, IsStatement, IsLine}
 use Rattle.pardo_text.specs.Lines.{Word}
 use Rattle.pardo_text.specs.Names.{Names, admits, divides, tree_from}
 use Rattle.pardo_text.specs.Operations.{level_of, is_division, value_of}
@@ -62,6 +62,9 @@ module _ (b c : Bounds) (g : Grows b c) where
   tree_more (apply op first second) is =
       (is.0, tree_more first is.1, tree_more second is.2)
 
+  pub common_more : (tree : Tree) → IsCommonTree b tree → IsCommonTree c tree
+  common_more tree is = (tree_more tree is.0, is.1)
+
   target_more : (to : Target) → IsTarget b to → IsTarget c to
   target_more (target.Private x) is = omega (arith, is, g.privates)
   target_more (target.Array array index) is =
@@ -73,12 +76,12 @@ module _ (b c : Bounds) (g : Grows b c) where
   statement_more statement.Else is = tt
   statement_more statement.EndIf is = tt
   statement_more (statement.While condition end) is =
-      (tree_more condition is.0, omega (arith, is.1, g.lines))
+      (common_more condition is.0, omega (arith, is.1, g.lines))
   statement_more (statement.EndWhile begin) is = omega (arith, is, g.lines)
   statement_more (statement.For nest first last up end) is = (
     omega (arith, is.0, g.loops),
-    tree_more first is.1,
-    tree_more last is.2,
+    common_more first is.1,
+    common_more last is.2,
     omega (arith, is.3, g.lines),
   )
   statement_more (statement.EndFor begin) is = omega (arith, is, g.lines)
@@ -147,6 +150,50 @@ keeps_tree b names scope code are = record {
   placed = λ word array index e f p. (are word (thing.Array array) e, p);
   joins = λ op first second p q. joined_tree b scope op first second code p q;
   pairs = λ op first second e p q. applied_tree b op first second (before_no_division op e) p q;
+}
+
+-- ---- expressions that are the same for all processors
+
+-- what differs by processor may not stand in the scope
+abbrev pub IsCommonScope : Scope → Type 0
+IsCommonScope scope =
+    (admits scope thing.Own ≡ false) × ((x : ℕ) → admits scope (thing.Private x) ≡ false)
+
+applied_common : (b : Bounds) (op : Op) (first second : Tree) → is_division op ≡ false →
+    IsCommonTree b first → IsCommonTree b second → IsCommonTree b (applied op first second)
+applied_common b op first second whole p q = applied_keeps (IsCommonTree b) op first second
+    (λ x y e f. (value_small op x y (as_number b first x e p.0) (as_number b second y f q.0), tt))
+    ((whole, p.0, q.0), (p.1, q.1))
+
+bare_common : (b : Bounds) (scope : Scope) (found : Named) → IsCommonScope scope → IsBare found →
+    admits scope found ≡ true → IsThing b found → IsCommonTree b (tree_from found)
+bare_common b scope (thing.Constant value) common bare e is = (is, tt)
+bare_common b scope thing.Own common bare e is =
+    absurd (let no : false ≡ true = sym common.0 ∙ e in cc)
+bare_common b scope (thing.Scalar array) common bare e is = ((is, omega arith), tt)
+bare_common b scope (thing.Array array) common bare e is = absurd bare
+bare_common b scope (thing.Private x) common bare e is =
+    absurd (let no : false ≡ true = sym (common.1 x) ∙ e in cc)
+bare_common b scope (thing.Loop nest) common bare e is = (is, tt)
+
+joined_common : (b : Bounds) (scope : Scope) (op : Op) (first second : Tree) →
+    divides scope ≡ false → IsCommonTree b first → IsCommonTree b second →
+    IfOk (joined scope op first second) (IsCommonTree b)
+unfolding joined
+joined_common b scope op first second code p q =
+    ok_if (is_division op) _ _ (IsCommonTree b)
+    (λ _. ok_if (divides scope) _ _ (IsCommonTree b)
+    (λ yet. absurd (let both : true ≡ false = sym yet ∙ code in cc)) (λ _. tt))
+    (λ whole. applied_common b op first second whole p q)
+
+pub keeps_common : (b : Bounds) (names : Names) (scope : Scope) → divides scope ≡ false →
+    IsCommonScope scope → AreThings b names → Keeps names scope (IsCommonTree b)
+keeps_common b names scope code common are = record {
+  numbers = λ value few. (few, tt);
+  bare = λ word found e f is. bare_common b scope found common is f (are word found e);
+  placed = λ word array index e f p. ((are word (thing.Array array) e, p.0), p.1);
+  joins = λ op first second p q. joined_common b scope op first second code p q;
+  pairs = λ op first second e p q. applied_common b op first second (before_no_division op e) p q;
 }
 
 -- ---- start values

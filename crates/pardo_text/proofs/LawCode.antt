@@ -23,13 +23,14 @@ use Rattle.pardo_text.specs.Drafts.{without, with_end}
 use Rattle.pardo_text.specs.Expression.{Tree}
 use Rattle.pardo_text.specs.Expressions.{new_name, after_assign, after_equals, after_close_index}
 use Rattle.pardo_text.specs.Expressions.{indexed, expression_at}
-use Rattle.pardo_text.specs.Lawful.{Bounds, IsTree, IsTarget, IsStatement, masks_of}
+use Rattle.pardo_text.specs.Lawful.{Bounds, IsTree, IsCommonTree, IsTarget, IsStatement, masks_of}
 use Rattle.pardo_text.specs.Lines.{Word}
 use Rattle.pardo_text.specs.Names.{Names, divides}
 use Rattle.pardo_text.specs.Program.{shared_cells}
 use Rattle.pardo_text.specs.Tokens.{Token, name, symbol}
 use Rattle.pardo_text.proofs.Ifs.{ok_bind, ok_after, ok_if}
-use Rattle.pardo_text.proofs.LawBounds.{Grows, AreThings, keeps_tree, tree_more, statement_more}
+use Rattle.pardo_text.proofs.LawBounds.{Grows, AreThings, IsCommonScope, keeps_tree, tree_more}
+use Rattle.pardo_text.proofs.LawBounds.{keeps_common, common_more, statement_more}
 use Rattle.pardo_text.proofs.LawDrafts.{IsDraft, IsLawful, IsBlock, bounds_in, fitting_kept}
 use Rattle.pardo_text.proofs.LawDrafts.{more_kept, line_kept, block_kept, loop_kept, popped_kept}
 use Rattle.pardo_text.proofs.LawDrafts.{without_kept, end_kept, ended_at_length}
@@ -50,6 +51,28 @@ unfolding whole_at
 whole_kept b names scope tokens code are =
     ok_bind (expression_at names scope tokens) _ (λ read. IsTree b read.0) (IsTree b)
     (read_kept b names scope tokens code are) (λ tree p. ended_kept (IsTree b) tree.0 tree.1 p)
+
+-- the same of expressions that loops depend on
+common_kept : (b : Bounds) (names : Names) (scope : Scope) (tokens : List Token) →
+    divides scope ≡ false → IsCommonScope scope → AreThings b names →
+    IfOk (expression_at names scope tokens) (λ read. IsCommonTree b read.0)
+common_kept b names scope tokens code common are =
+    expression_kept names scope (IsCommonTree b) (keeps_common b names scope code common are) tokens
+
+common_whole_kept : (b : Bounds) (names : Names) (scope : Scope) (tokens : List Token) →
+    divides scope ≡ false → IsCommonScope scope → AreThings b names →
+    IfOk (whole_at names scope tokens) (IsCommonTree b)
+unfolding whole_at
+common_whole_kept b names scope tokens code common are =
+    ok_bind (expression_at names scope tokens) _ (λ read. IsCommonTree b read.0) (IsCommonTree b)
+    (common_kept b names scope tokens code common are)
+    (λ tree p. ended_kept (IsCommonTree b) tree.0 tree.1 p)
+
+bound_is_common : IsCommonScope Bound
+bound_is_common = (refl, λ x. refl)
+
+uniform_is_common : IsCommonScope Uniform
+uniform_is_common = (refl, λ x. refl)
 
 -- ---- assignments
 
@@ -170,14 +193,15 @@ while_kept : (n : ℕ) (d : Draft) (tokens : List Token) → 0 < d.procs → IsL
     IfOk (while_line n d tokens) IsLawful
 unfolding while_line
 while_kept n d tokens some is =
-    ok_bind (whole_at d.names Uniform tokens) _ (IsTree (bounds_in d)) IsLawful
-    (whole_kept (bounds_in d) d.names Uniform tokens refl is.0.names) (λ condition p.
+    ok_bind (whole_at d.names Uniform tokens) _ (IsCommonTree (bounds_in d)) IsLawful
+    (common_whole_kept (bounds_in d) d.names Uniform tokens refl uniform_is_common is.0.names)
+    (λ condition p.
     let said : Statement = statement.While condition 0 in
     let opened : Block = block.While (length d.lines) in
     let longer = one_longer d.lines (record { statement = said; depth = depth_of d.blocks; number = n }) in
     let next = with_block opened (with_line n said d) in (
       opened_line n said opened d some (
-        tree_more (bounds_in d) (bounds_in next) (record {
+        common_more (bounds_in d) (bounds_in next) (record {
           arrays = omega arith;
           privates = omega arith;
           loops = omega arith;
@@ -191,7 +215,7 @@ while_kept n d tokens some is =
     ))
 
 for_made : (n : ℕ) (d : Draft) (word : Word) (first last : Tree) (up : Bool) → 0 < d.procs →
-    IsTree (bounds_in d) first → IsTree (bounds_in d) last → IsLawful d →
+    IsCommonTree (bounds_in d) first → IsCommonTree (bounds_in d) last → IsLawful d →
     IfOk (fitting (with_loop word (with_block (block.For (length d.lines))
     (with_line n (statement.For (length d.loops) first last up 0) d)))) IsLawful
 for_made n d word first last up some p q is =
@@ -208,7 +232,7 @@ for_made n d word first last up some p q is =
       choices = omega arith;
       lines = omega (arith, longer);
     } in
-    let tree = tree_more (bounds_in d) (bounds_in next) grows in
+    let tree = common_more (bounds_in d) (bounds_in next) grows in
     fitting_kept next (loop_kept (bounds_in next) word deeper some (omega arith)
     (block_kept (bounds_in next) opened lined some longer
     (line_kept (bounds_in next) n said d
@@ -221,11 +245,11 @@ unfolding for_line
 for_kept n d tokens some is =
     ok_after (new_name d.names tokens) _ IsLawful (λ word.
     ok_after (after_equals word.1) _ IsLawful (λ after.
-    ok_bind (expression_at d.names Bound after) _ (λ read. IsTree (bounds_in d) read.0) IsLawful
-    (read_kept (bounds_in d) d.names Bound after refl is.0.names) (λ first p.
+    ok_bind (expression_at d.names Bound after) _ (λ read. IsCommonTree (bounds_in d) read.0) IsLawful
+    (common_kept (bounds_in d) d.names Bound after refl bound_is_common is.0.names) (λ first p.
     ok_after (way_at first.1) _ IsLawful (λ way.
-    ok_bind (whole_at d.names Bound way.1) _ (IsTree (bounds_in d)) IsLawful
-    (whole_kept (bounds_in d) d.names Bound way.1 refl is.0.names) (λ last q.
+    ok_bind (whole_at d.names Bound way.1) _ (IsCommonTree (bounds_in d)) IsLawful
+    (common_whole_kept (bounds_in d) d.names Bound way.1 refl bound_is_common is.0.names) (λ last q.
     for_made n d word.0 first.0 last way.0 some p q is)))))
 
 -- ---- lines that close one

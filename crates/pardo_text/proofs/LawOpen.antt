@@ -1,17 +1,14 @@
 -- Code so far, with the blocks that are open.
-use Rattle.std.proofs.Common.{◌≡◌, ◌≢◌, ℕ, ◌+◌, ◌<◌, ◌≤◌, ◌⊎◌, List, [], ◌∷◌, ◌++◌, length}
+use Rattle.std.proofs.Common.{◌≡◌, ℕ, ◌<◌, ◌≤◌, ◌⊎◌, List, [], ◌∷◌, ◌++◌, length}
 use Rattle.std.proofs.Common.{slice_get, slice_set, Option, Some, None}
 use Rattle.std.proofs.Common.{refl, sym, ap, subst, ◌∙◌, arith}
-use Rattle.std.proofs.lemmas.List.{length-append, length-set}
+use Rattle.std.proofs.lemmas.List.{length-set}
 use Rattle.pardo_text.specs.declared.block.Block.{Block}
 use Rattle.pardo_text.specs.declared.block.Block.TheVariants as block
 use Rattle.pardo_text.specs.declared.statement.Line.{Line}
-use Rattle.pardo_text.specs.declared.statement.Statement.{Statement}
-use Rattle.pardo_text.specs.declared.statement.Statement.TheVariants as statement
-use Rattle.pardo_text.specs.Blocks.{depth_of}
 use Rattle.pardo_text.specs.Drafts.{ended_at}
-use Rattle.pardo_text.specs.Nested.{Leads, Stands, Belongs, opened_by, around, loop_end, loop_begin}
-use Rattle.pardo_text.specs.Nested.{said_by, EndsAreTied, loops_of}
+use Rattle.pardo_text.specs.Nested.{Leads, loop_end}
+use Rattle.pardo_text.specs.Nested.{EndsAreTied, loops_of}
 use Rattle.pardo_text.proofs.LawTied.{begin_at, end_at, end_push, end_set_other, leads_set}
 use Rattle.pardo_text.proofs.LawTied.{tied_set, end_set, line_there, told, begins_set}
 use Rattle.pardo_text.proofs.LawTied.{Among, BeginsEnd, BeginsLeft}

@@ -1,16 +1,14 @@
 -- Lines that are added, and ends that are told.
-use Rattle.std.proofs.Common.{◌≡◌, ◌≢◌, ℕ, zero, suc, ◌+◌, ◌<◌, ◌≤◌, ◌⊎◌, inl, inr, List, [], ◌∷◌}
+use Rattle.std.proofs.Common.{◌≡◌, ◌≢◌, ℕ, zero, suc, ◌+◌, ◌<◌, ◌⊎◌, inl, inr, List, [], ◌∷◌}
 use Rattle.std.proofs.Common.{◌++◌, length, slice_get, slice_set, Option, Some, None}
 use Rattle.std.proofs.Common.{refl, sym, ap, subst, ◌∙◌, arith}
-use Rattle.std.proofs.lemmas.List.{length-append}
 use Rattle.pardo_text.specs.declared.block.Block.{Block}
 use Rattle.pardo_text.specs.declared.block.Block.TheVariants as block
 use Rattle.pardo_text.specs.declared.statement.Line.{Line}
 use Rattle.pardo_text.specs.declared.statement.Statement.{Statement}
 use Rattle.pardo_text.specs.declared.statement.Statement.TheVariants as statement
-use Rattle.pardo_text.specs.Blocks.{depth_of}
-use Rattle.pardo_text.specs.Drafts.{ending, ended_at}
-use Rattle.pardo_text.specs.Nested.{Leads, Stands, Belongs, opened_by, around, loop_end, loop_begin}
+use Rattle.pardo_text.specs.Drafts.{ending}
+use Rattle.pardo_text.specs.Nested.{Leads, Stands, opened_by, around, loop_end, loop_begin}
 use Rattle.pardo_text.specs.Nested.{said_by, EndsAreTied}
 
 -- ---- what a line says

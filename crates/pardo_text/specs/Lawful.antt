@@ -29,6 +29,19 @@ IsTree b (private x) = x < b.privates
 IsTree b (place array index) = (array < b.arrays) × IsTree b index
 IsTree b (apply op first second) = (is_division op ≡ false) × IsTree b first × IsTree b second
 
+-- No own number and no private variable stands in it, so its value is one for all processors.
+abbrev pub IsCommon : Tree → Type 0
+IsCommon (number value) = Unit {0}
+IsCommon own = ⊥
+IsCommon (loop nest) = Unit {0}
+IsCommon (private x) = ⊥
+IsCommon (place array index) = IsCommon index
+IsCommon (apply op first second) = IsCommon first × IsCommon second
+
+-- what a loop depends on
+abbrev pub IsCommonTree : Bounds → Tree → Type 0
+IsCommonTree b tree = IsTree b tree × IsCommon tree
+
 abbrev pub IsTarget : Bounds → Target → Type 0
 IsTarget b (target.Private x) = x < b.privates
 IsTarget b (target.Array array index) = (array < b.arrays) × IsTree b index
@@ -39,10 +52,10 @@ IsStatement b (statement.Assign to value) = IsTarget b to × IsTree b value
 IsStatement b (statement.If condition) = IsTree b condition
 IsStatement b statement.Else = Unit {0}
 IsStatement b statement.EndIf = Unit {0}
-IsStatement b (statement.While condition end) = IsTree b condition × (end < b.lines)
+IsStatement b (statement.While condition end) = IsCommonTree b condition × (end < b.lines)
 IsStatement b (statement.EndWhile begin) = begin < b.lines
 IsStatement b (statement.For nest first last up end) =
-    (nest < b.loops) × IsTree b first × IsTree b last × (end < b.lines)
+    (nest < b.loops) × IsCommonTree b first × IsCommonTree b last × (end < b.lines)
 IsStatement b (statement.EndFor begin) = begin < b.lines
 
 -- how many masks a line writes
@@ -67,22 +80,20 @@ AreArrays (array ∷ arrays) base = (array.base ≡ base) × (0 < length array.s
 abbrev pub IsPrivate : ℕ → PrivateData → Type 0
 IsPrivate procs variable = (length variable.start ≡ procs) × AreNumbers variable.start
 
-abbrev pub bounds_of : ℕ → ℕ → ProgramData → Bounds
-bounds_of loops choices program = record {
+abbrev pub bounds_of : ProgramData → Bounds
+bounds_of program = record {
   arrays = length program.arrays;
   privates = length program.privates;
-  loops = loops;
-  choices = choices;
+  loops = program.loops;
+  choices = program.choices;
   lines = length program.lines;
 }
 
 pub record IsProgram (program : ProgramData) : Type 0 where
-  pub loops : ℕ
-  pub choices : ℕ
   pub procs : (0 < program.procs) × (program.procs ≤ MAX_PROCS)
   pub arrays : AreArrays program.arrays 0
   pub privates : All (IsPrivate program.procs) program.privates
   pub has_line : 0 < length program.lines
-  pub lines : All (IsLine (bounds_of loops choices program)) program.lines
+  pub lines : All (IsLine (bounds_of program)) program.lines
   pub cells : shared_cells program.arrays
-      + program.procs * (length program.privates + loops + choices) ≤ MAX_CELLS
+      + program.procs * (length program.privates + program.loops + program.choices) ≤ MAX_CELLS

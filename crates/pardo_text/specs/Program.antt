@@ -31,4 +31,7 @@ pub record ProgramData : Type 0 where
   pub procs : ℕ
   pub arrays : List ArrayData
   pub privates : List PrivateData
+  -- how many loops, and how many `if`s, are open at once
+  pub loops : ℕ
+  pub choices : ℕ
   pub lines : List Line

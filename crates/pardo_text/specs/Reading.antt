@@ -45,6 +45,8 @@ said_so_far draft = record {
   procs = draft.procs;
   arrays = draft.arrays;
   privates = draft.privates;
+  loops = draft.most_loops;
+  choices = draft.most_choices;
   lines = draft.lines;
 }
 

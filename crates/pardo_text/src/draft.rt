@@ -199,12 +199,14 @@ impl<'t> Draft<'t> {
         if self.lines.is_empty() {
             return Err(PardoKind::NoCode);
         }
-        Ok(Program::new(
-            self.rule,
-            self.procs,
-            self.arrays.into_items(),
-            self.privates,
-            self.lines,
-        ))
+        Ok(Program {
+            rule: self.rule,
+            procs: self.procs,
+            arrays: self.arrays.into_items(),
+            privates: self.privates,
+            loops: self.most_loops,
+            choices: self.most_choices,
+            lines: self.lines,
+        })
     }
 }

@@ -56,11 +56,13 @@ impl Private {
 /// A program.
 #[derive(Drop)]
 pub struct Program {
-    rule: Rule,
-    procs: u32,
-    arrays: Vec<Array>,
-    privates: Vec<Private>,
-    lines: Vec<Line>,
+    pub(crate) rule: Rule,
+    pub(crate) procs: u32,
+    pub(crate) arrays: Vec<Array>,
+    pub(crate) privates: Vec<Private>,
+    pub(crate) loops: usize,
+    pub(crate) choices: usize,
+    pub(crate) lines: Vec<Line>,
 }
 
 impl Model for Program {
@@ -78,35 +80,13 @@ impl Model for Program {
       procs = p.procs;
       arrays = p.arrays.items;
       privates = p.privates.items;
+      loops = p.loops;
+      choices = p.choices;
       lines = p.lines.items;
     } };
 }
 
 impl Program {
-    pub(crate) fn new(
-        rule: Rule,
-        procs: u32,
-        arrays: Vec<Array>,
-        privates: Vec<Private>,
-        lines: Vec<Line>,
-    ) -> Self
-        ensures { result ≡ record {
-          rule = rule;
-          procs = procs;
-          arrays = arrays.items;
-          privates = privates.items;
-          lines = lines.items;
-        } }
-    {
-        Program {
-            rule,
-            procs,
-            arrays,
-            privates,
-            lines,
-        }
-    }
-
     /// The rule of writing.
     pub fn rule(&self) -> Rule
         ensures { result ≡ self.now.rule }
@@ -133,6 +113,20 @@ impl Program {
         ensures { result.now ≡ self.now.privates }
     {
         self.privates.as_slice()
+    }
+
+    /// How many loops are open at once at most.
+    pub fn loops(&self) -> usize
+        ensures { result ≡ self.now.loops }
+    {
+        self.loops
+    }
+
+    /// How many `if`s are open at once at most.
+    pub fn choices(&self) -> usize
+        ensures { result ≡ self.now.choices }
+    {
+        self.choices
     }
 
     /// The lines of code.

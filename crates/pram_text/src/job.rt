@@ -1,5 +1,5 @@
 //! Jobs.
-ghost use Rattle.std.specs.Prelude.{◌≡◌, ℕ, ◌+◌, ◌<◌, IfOk};
+ghost use Rattle.std.specs.Prelude.{◌≡◌, ℕ, ◌+◌, ◌<◌, vec_len, IfOk};
 ghost use Rattle.pram_text.specs.Job.{JobData, IsJob, job_data};
 ghost use Rattle.pram_text.specs.Places.{register_at, counters_at};
 ghost use Rattle.pram_text.specs.Inner.Reading.{job_of};
@@ -44,6 +44,28 @@ impl Job {
             init,
             code,
         }
+    }
+
+    /// The job of these parts, with a cell for each start value.
+    pub fn of_parts(rule: Rule, procs: u32, steps: u32, init: Vec<u32>, code: Vec<Instr>) -> Self
+        requires { IsJob (job_data rule (vec_len init) procs steps init.items code.items) }
+        ensures { result ≡ job_data rule (vec_len init) procs steps init.items code.items }
+    {
+        Job {
+            rule,
+            cells: init.len() as u32,
+            procs,
+            steps,
+            init,
+            code,
+        }
+    }
+
+    /// The same job, which ends after so many steps.
+    pub fn with_steps(self, steps: u32) -> Self
+        ensures { result ≡ record self { steps = steps } }
+    {
+        Job { steps, ..self }
     }
 
     /// An equal job.

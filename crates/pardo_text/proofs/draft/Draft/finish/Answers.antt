@@ -31,7 +31,7 @@ returns c =
     let same : length c.args.self.lines.items ≡ vec_len c.args.self.lines =
     omega (arith, c.args.self.lines.ok.0) in
     let said = said_so_far (draft_of c.args.self) in
-    ap Ok (c.new.ensures ∙ ap (λ (arrays : List ArrayData). record said { arrays = arrays }) c.into_items.ensures)
+    ap Ok (ap (λ (arrays : List ArrayData). record said { arrays = arrays }) c.into_items.ensures)
     ∙ sym (finished-whole c.args.self.stage _ _ (draft_of c.args.self) c.in-Code.is
     (sym c.is_empty.ensures ∙ c.if-not-is_empty.false)
     (ap (λ n. n == 0) same ∙ sym c.is_empty-2.ensures ∙ c.if-is_empty.false))

@@ -1,0 +1,69 @@
+-- The code of expressions node by node.
+use Rattle.std.specs.Prelude.{◌≡◌, ℕ, ◌+◌, ◌<◌, ◌&&◌, List, [], ◌∷◌, ◌++◌, length, sum_by}
+use Rattle.pram_text.specs.declared.instr.Instr.{Instr}
+use Rattle.pram_text.specs.declared.instr.Instr.TheVariants.{Ld}
+use Rattle.pram_text.specs.declared.instr.Place.TheVariants.{Named}
+use Rattle.pardo_text.specs.declared.expression.Node.{Node}
+use Rattle.pardo_text.specs.declared.expression.Node.TheVariants.{Number, Own, Loop}
+use Rattle.pardo_text.specs.declared.expression.Node.TheVariants.{Private, Place, Apply}
+use Rattle.pardo_text.specs.Expression.{Tree, with_node}
+use Rattle.pardo_job.specs.declared.held.Held.{Held}
+use Rattle.pardo_job.specs.Layouts.{LayoutData, private_cells, loop_cells, array_cells}
+use Rattle.pardo_job.specs.Operations.{operation_code}
+use Rattle.pardo_job.specs.Values.{own_load, operand_of, takes, is_truth}
+
+-- the first register that is free after these expressions, the last one first
+abbrev pub free_after : ℕ → List Tree → ℕ
+free_after base trees = base + sum_by takes trees
+
+-- an expression whose value is at hand
+abbrev pub held_of : ℕ → Tree → Held
+held_of at tree = record { operand = operand_of at tree; is_truth = is_truth tree }
+
+-- several, the last one last
+abbrev pub all_held : ℕ → List Tree → List Held
+all_held base [] = []
+all_held base (tree ∷ trees) = all_held base trees ++ held_of (free_after base trees) tree ∷ []
+
+-- the code of a node after these expressions
+abbrev pub node_code : LayoutData → ℕ → List Tree → Node → List Instr
+node_code layout base trees (Number k) = []
+node_code layout base trees Own = []
+node_code layout base trees (Loop nest) =
+    own_load (free_after base trees) (loop_cells layout nest) ∷ []
+node_code layout base trees (Private x) =
+    own_load (free_after base trees) (private_cells layout x) ∷ []
+node_code layout base (index ∷ trees) (Place array) = Ld (free_after base trees)
+    (Named (array_cells layout array) (operand_of (free_after base trees) index)) ∷ []
+node_code layout base [] (Place array) = []
+node_code layout base (second ∷ first ∷ trees) (Apply op) =
+    operation_code (free_after base trees) op (is_truth first && is_truth second)
+    (operand_of (free_after base trees) first)
+    (operand_of (free_after base trees + takes first) second)
+node_code layout base (second ∷ []) (Apply op) = []
+node_code layout base [] (Apply op) = []
+
+abbrev pub nodes_code : LayoutData → ℕ → List Tree → List Node → List Instr
+nodes_code layout base trees [] = []
+nodes_code layout base trees (node ∷ nodes) =
+    node_code layout base trees node ++ nodes_code layout base (with_node trees node) nodes
+
+-- ---- nodes of lawful expressions
+
+-- the node names what there is, and its operands are at hand
+abbrev pub IsReady : LayoutData → List Tree → Node → Type 0
+IsReady layout trees (Number k) = Unit {0}
+IsReady layout trees Own = Unit {0}
+IsReady layout trees (Loop nest) = nest < layout.loops
+IsReady layout trees (Private x) = x < layout.privates
+IsReady layout (index ∷ trees) (Place array) = array < length layout.arrays
+IsReady layout [] (Place array) = ⊥
+IsReady layout (second ∷ first ∷ trees) (Apply op) = Unit {0}
+IsReady layout (second ∷ []) (Apply op) = ⊥
+IsReady layout [] (Apply op) = ⊥
+
+-- so is each of these, and they make one expression
+abbrev pub AreReady : LayoutData → List Tree → List Node → Type 0
+AreReady layout trees [] = length trees ≡ 1
+AreReady layout trees (node ∷ nodes) =
+    IsReady layout trees node × AreReady layout (with_node trees node) nodes

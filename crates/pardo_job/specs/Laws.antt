@@ -1,0 +1,72 @@
+-- The laws of the meaning.
+use Rattle.std.specs.Prelude.{◌≡◌, ◌≢◌, ℕ}
+use Rattle.std.specs.Prelude.{false, slice_get, Some, None}
+use Rattle.pardo_text.specs.declared.program.Rule.{Rule}
+use Rattle.pardo_text.specs.declared.program.Rule.TheVariants.{Priority, Crew}
+use Rattle.pardo_text.specs.declared.statement.Line.{Line}
+use Rattle.pardo_text.specs.Expression.{Tree}
+use Rattle.pardo_text.specs.Lawful.{IsCommon, IsTree, bounds_of}
+use Rattle.pardo_text.specs.Program.{ProgramData}
+use Rattle.pardo_job.specs.Conflicts.{Agrees, Dispute, IsDispute, Writes, asked}
+use Rattle.pardo_job.specs.Layouts.{layout_of}
+use Rattle.pardo_job.specs.Lawful.{IsLawful}
+use Rattle.pardo_job.specs.Meaning.{Source, is_active, next, value}
+use Rattle.pardo_job.specs.Runs.{IsReached}
+
+-- the same program by another rule
+abbrev pub by_rule : Rule → ProgramData → ProgramData
+by_rule rule program = record program { rule = rule }
+
+-- The rule says which lines agree, and nothing of the states.
+abbrev pub RuleChangesNoState : Type 0
+RuleChangesNoState = (program : ProgramData) (rule : Rule) (source : Source) →
+    next (by_rule rule program) source ≡ next program source
+
+-- What crew accepts every rule accepts.
+abbrev pub CrewIsAccepted : Type 0
+CrewIsAccepted = (program : ProgramData) (rule : Rule) (n : ℕ) →
+    IsReached (by_rule Crew program) n → IsReached (by_rule rule program) n
+
+-- No order of processors matters: but for rule priority, a cell holds what any of its writers gave
+-- it.
+abbrev pub AnyWriterCounts : Type 0
+AnyWriterCounts = (program : ProgramData) (source : Source) (cell i value : ℕ) →
+    Agrees program source → program.rule ≢ Priority → Writes program source cell i value →
+    (next program source).cells cell ≡ value
+
+-- a cell that nobody writes keeps its value
+abbrev pub UnwrittenIsKept : Type 0
+UnwrittenIsKept = (program : ProgramData) (source : Source) (cell : ℕ) →
+    ((i value : ℕ) → Writes program source cell i value → ⊥) →
+    (next program source).cells cell ≡ source.cells cell
+
+-- A processor that is not active asks for nothing, keeps its variables, and is not lost.
+pub record IsUnchanged (program : ProgramData) (source : Source) (i : ℕ) : Type 0 where
+  pub asks : asked program source i ≡ None
+  pub privates : (x : ℕ) → (next program source).privates x i ≡ source.privates x i
+  pub gone : (next program source).gone i ≡ source.gone i
+
+abbrev pub OutsideIsUnchanged : Type 0
+OutsideIsUnchanged = (program : ProgramData) (source : Source) (line : Line) (i : ℕ) →
+    slice_get program.lines source.at ≡ Some line → is_active source line.depth i ≡ false →
+    IsUnchanged program source i
+
+-- A processor that is gone stays so, with its line.
+abbrev pub GoneForGood : Type 0
+GoneForGood = (program : ProgramData) (source : Source) (i line : ℕ) →
+    source.gone i ≡ Some line → (next program source).gone i ≡ Some line
+
+-- Its value is one for all processors, so all make the same turns of every loop.
+abbrev pub LoopsAreCommon : Type 0
+LoopsAreCommon = (program : ProgramData) (source : Source) (tree : Tree) (i j : ℕ) → IsCommon tree →
+    value program source i tree ≡ value program source j tree
+
+-- A line has one dispute at most.
+abbrev pub OneDispute : Type 0
+OneDispute = (program : ProgramData) (source : Source) (dispute other : Dispute) →
+    IsDispute program source dispute → IsDispute program source other → dispute ≡ other
+
+-- What the reader says of expressions is what their code rests on.
+abbrev pub TreesAreLawful : Type 0
+TreesAreLawful = (program : ProgramData) (tree : Tree) →
+    IsTree (bounds_of program) tree → IsLawful (layout_of program) tree

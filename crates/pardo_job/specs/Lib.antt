@@ -1,0 +1,17 @@
+pub mod Meaning
+pub mod Conflicts
+pub mod Runs
+pub mod Layouts
+pub mod Operations
+pub mod Values
+pub mod Sees
+pub mod Lawful
+pub mod Straight
+pub mod Lines
+pub mod Leaves
+pub mod Shows
+pub mod Carries
+pub mod Printed
+pub mod Refusals
+pub mod Laws
+pub mod Inner

@@ -1,0 +1,219 @@
+-- What a program means, without a machine: its states, and what a line makes of a state.
+use Rattle.std.specs.Prelude.{ℕ, zero, suc, ◌+◌, Bool, false, not, ◌&&◌, ◌==◌, nat_lt}
+use Rattle.std.specs.Prelude.{if◌then◌else◌, length, slice_get}
+use Rattle.std.specs.Prelude.{slice_index, Option, Some, None}
+use Rattle.std.specs.Prelude.{unwrap_or, is_some}
+use Rattle.std.specs.List.{flat_map}
+use Rattle.std.specs.Option.{option_map, option_and_then, option_or, is_none}
+use Rattle.pardo_text.specs.declared.operation.Op.TheVariants as op
+use Rattle.pardo_text.specs.declared.statement.Statement.{Statement}
+use Rattle.pardo_text.specs.declared.statement.Statement.TheVariants.{Assign, If, Else, EndIf}
+use Rattle.pardo_text.specs.declared.statement.Statement.TheVariants.{While, EndWhile, For, EndFor}
+use Rattle.pardo_text.specs.declared.statement.Target.TheVariants.{Private, Array}
+use Rattle.pardo_text.specs.Expression.{Tree, number, own, loop, private, place, apply}
+use Rattle.pardo_text.specs.Operations.{value_of}
+use Rattle.pardo_text.specs.Program.{ProgramData}
+
+-- ---- states
+
+-- What there is between two lines.
+pub record Source : Type 0 where
+  -- the next line, which is one for all processors; lines count from 0
+  pub at : ℕ
+  -- the value of each shared cell
+  pub cells : ℕ → ℕ
+  -- the value of each private variable, for each processor
+  pub privates : ℕ → ℕ → ℕ
+  -- the value of the variable of the loop that stands in so many others, one for all processors
+  pub loops : ℕ → ℕ
+  -- whether the mask of a line that so many `if`s are open before has a processor
+  pub masks : ℕ → ℕ → Bool
+  -- the line of the text in which a processor was gone, if it is
+  pub gone : ℕ → Option ℕ
+
+-- the start value of a private variable for processor i
+abbrev pub private_start : ProgramData → ℕ → ℕ → ℕ
+private_start program x i = elim (slice_get program.privates x) [
+  | None ↦ 0
+  | Some variable ↦ slice_index variable.start i
+]
+
+-- Before the first line all processors are there, and in the mask of no `if`.
+abbrev pub start : ProgramData → Source
+start program = record {
+  at = 0;
+  cells = slice_index (flat_map (λ array. array.start) program.arrays);
+  privates = private_start program;
+  loops = λ nest. 0;
+  masks = λ depth i. depth == 0;
+  gone = λ i. None;
+}
+
+-- it is in the mask of a line of this depth, and not gone
+abbrev pub is_active : Source → ℕ → ℕ → Bool
+is_active source depth i = source.masks depth i && is_none (source.gone i)
+
+-- ---- values
+
+-- the shared cell of a place of an array, if the array has it
+abbrev pub cell_of : ProgramData → ℕ → ℕ → Option ℕ
+cell_of program array index = elim (slice_get program.arrays array) [
+  | None ↦ None
+  | Some held ↦ if nat_lt index (length held.start) then Some (held.base + index) else None
+]
+
+-- the value of an expression for processor i; there is none where an array does not have a place
+abbrev pub value : ProgramData → Source → ℕ → Tree → Option ℕ
+value program source i (number k) = Some k
+value program source i own = Some i
+value program source i (loop nest) = Some (source.loops nest)
+value program source i (private x) = Some (source.privates x i)
+value program source i (place array index) =
+    option_and_then (λ k. option_map source.cells (cell_of program array k))
+    (value program source i index)
+value program source i (apply op first second) =
+    option_and_then (λ a. option_map (value_of op a) (value program source i second))
+    (value program source i first)
+
+-- the value of an expression of which each processor has the same
+abbrev pub common_value : ProgramData → Source → Tree → ℕ
+common_value program source tree = unwrap_or (value program source 0 tree) 0
+
+-- ---- writing
+
+-- what processor i writes to a shared cell, if its value and its place are there
+abbrev pub write_of : ProgramData → Source → ℕ → ℕ → Tree → Tree → Option (ℕ × ℕ)
+write_of program source array i index tree =
+    option_and_then (λ v. option_map (λ cell. (cell, v))
+    (option_and_then (cell_of program array) (value program source i index)))
+    (value program source i tree)
+
+-- what processor i asks for in a line of this depth: nothing if it is not active
+abbrev pub asked_in : ProgramData → Source → ℕ → Statement → ℕ → Option (ℕ × ℕ)
+asked_in program source depth (Assign (Array array index) tree) i =
+    if is_active source depth i then write_of program source array i index tree else None
+asked_in program source depth _ i = None
+
+-- the value that is written to a cell, if any
+abbrev pub given_to : ℕ → Option (ℕ × ℕ) → Option ℕ
+given_to cell None = None
+given_to cell (Some write) = if write.0 == cell then Some write.1 else None
+
+-- the first there is, among those of the processors below n
+abbrev pub first_below : ℕ → (ℕ → Option ℕ) → Option ℕ
+first_below zero values = None
+first_below (suc n) values = option_or (first_below n values) (values n)
+
+-- each cell takes the value of its least writer
+abbrev pub written : ProgramData → Source → (ℕ → Option (ℕ × ℕ)) → ℕ → ℕ
+written program source asked cell =
+    unwrap_or (first_below program.procs (λ i. given_to cell (asked i))) (source.cells cell)
+
+-- ---- what a line does
+
+abbrev pub on_to : ℕ → Source → Source
+on_to line source = record source { at = line }
+
+-- the active processors that have no value are gone in the line of this number
+abbrev pub losing : ℕ → ℕ → (ℕ → Bool) → Source → ℕ → Option ℕ
+losing text_line depth has source i =
+    if is_active source depth i && not (has i) then Some text_line else source.gone i
+
+abbrev pub is_true : Option ℕ → Bool
+is_true None = false
+is_true (Some value) = not (value == 0)
+
+-- `x := e`
+abbrev pub private_assigned : ProgramData → ℕ → ℕ → ℕ → Tree → Source → Source
+private_assigned program text_line depth x tree source = record source {
+  privates = λ y i. if (y == x) && is_active source depth i
+      then unwrap_or (value program source i tree) (source.privates y i)
+      else source.privates y i;
+  gone = losing text_line depth (λ i. is_some (value program source i tree)) source;
+}
+
+-- `A[f] := e`
+abbrev pub shared_assigned : ProgramData → ℕ → ℕ → ℕ → Tree → Tree → Source → Source
+shared_assigned program text_line depth array index tree source = record source {
+  cells = written program source
+      (asked_in program source depth (Assign (Array array index) tree));
+  gone = losing text_line depth (λ i. is_some (write_of program source array i index tree)) source;
+}
+
+-- `if e`: the active processors whose value is not 0
+abbrev pub chosen : ProgramData → ℕ → ℕ → Tree → Source → Source
+chosen program text_line depth tree source = record source {
+  masks = λ d i. if d == depth + 1
+      then is_active source depth i && is_true (value program source i tree)
+      else source.masks d i;
+  gone = losing text_line depth (λ i. is_some (value program source i tree)) source;
+}
+
+-- `else`: those of the mask around that the condition did not choose
+abbrev pub otherwise : ℕ → Source → Source
+otherwise depth source = record source {
+  masks = λ d i. if d == depth + 1
+      then source.masks depth i && not (source.masks d i)
+      else source.masks d i;
+}
+
+-- the variable of a loop takes a value
+abbrev pub turned : ℕ → ℕ → Source → Source
+turned nest value source = record source {
+  loops = λ n. if n == nest then value else source.loops n;
+}
+
+-- whether a loop from the first of these values to the second has no turn
+abbrev pub has_none : Bool → ℕ → ℕ → Bool
+has_none up first last = if up then nat_lt last first else nat_lt first last
+
+-- the next value of the variable of a loop
+abbrev pub next_turn : Bool → ℕ → ℕ
+next_turn up value = if up then value_of op.Add value 1 else value_of op.Sub value 1
+
+-- The end of the loop that begins in the line `begin`: the last turn is that of its last value.
+abbrev pub loop_ended : ProgramData → ℕ → Statement → Source → Source
+loop_ended program begin (For nest first last up end) source =
+    if source.loops nest == common_value program source last then on_to (end + 1) source
+    else on_to (begin + 1) (turned nest (next_turn up (source.loops nest)) source)
+loop_ended program begin _ source = source
+
+abbrev pub statement_at : ProgramData → ℕ → Statement
+statement_at program at = elim (slice_get program.lines at) [
+  | None ↦ EndIf
+  | Some line ↦ line.statement
+]
+
+-- The state after a line, the next one being that after it where nothing else is said.
+abbrev pub after_statement : ProgramData → ℕ → ℕ → Statement → Source → Source
+after_statement program text_line depth (Assign (Private x) tree) source =
+    on_to (source.at + 1) (private_assigned program text_line depth x tree source)
+after_statement program text_line depth (Assign (Array array index) tree) source =
+    on_to (source.at + 1) (shared_assigned program text_line depth array index tree source)
+after_statement program text_line depth (If tree) source =
+    on_to (source.at + 1) (chosen program text_line depth tree source)
+after_statement program text_line depth Else source =
+    on_to (source.at + 1) (otherwise depth source)
+after_statement program text_line depth EndIf source = on_to (source.at + 1) source
+after_statement program text_line depth (While tree end) source =
+    if common_value program source tree == 0 then on_to (end + 1) source
+    else on_to (source.at + 1) source
+after_statement program text_line depth (EndWhile begin) source = on_to begin source
+after_statement program text_line depth (For nest first last up end) source =
+    if has_none up (common_value program source first) (common_value program source last)
+    then on_to (end + 1) source
+    else on_to (source.at + 1) (turned nest (common_value program source first) source)
+after_statement program text_line depth (EndFor begin) source =
+    loop_ended program begin (statement_at program begin) source
+
+-- the state after the line that is next, if there is one
+unfoldable pub next : ProgramData → Source → Source
+next program source = elim (slice_get program.lines source.at) [
+  | None ↦ source
+  | Some line ↦ after_statement program line.number line.depth line.statement source
+]
+
+-- the state after n lines
+unfoldable pub after : ProgramData → ℕ → Source
+after program zero = start program
+after program (suc n) = next program (after program n)

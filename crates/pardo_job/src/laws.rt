@@ -1,0 +1,36 @@
+//! The laws of the meaning: each function does nothing, and says to a proof that its law holds.
+ghost use Rattle.pardo_job.specs.Laws.{GoneForGood, LoopsAreCommon, OutsideIsUnchanged};
+ghost use Rattle.pardo_job.specs.Laws.{TreesAreLawful};
+ghost use Rattle.pardo_job.specs.Leaves.{ConditionsDecide, ExpressionsAreEvaluated};
+
+/// The value of an expression without the own number and private variables is one for all
+/// processors.
+pub fn loops_are_common()
+    ensures { LoopsAreCommon }
+{}
+
+/// A processor that is not active asks for nothing, keeps its variables, and is not lost.
+pub fn outside_is_unchanged()
+    ensures { OutsideIsUnchanged }
+{}
+
+/// A processor that is gone stays so.
+pub fn gone_for_good()
+    ensures { GoneForGood }
+{}
+
+/// The code of an expression leaves its value in its register, and keeps those that were taken;
+/// where there is no value it names a place that there is not.
+pub fn expressions_are_evaluated()
+    ensures { ExpressionsAreEvaluated }
+{}
+
+/// The code of a condition leaves 1 or 0, as the value is not 0 or is.
+pub fn conditions_decide()
+    ensures { ConditionsDecide }
+{}
+
+/// An expression of a lawful program names what there is in its cells.
+pub fn trees_are_lawful()
+    ensures { TreesAreLawful }
+{}
