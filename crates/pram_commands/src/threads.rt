@@ -62,8 +62,8 @@ fn open(alloc: Global, inputs: &Inputs, block: Option<Block>) -> Result<(Board, 
     }
 }
 
-/// Runs the plan's workers, and answers how the job ended. The listener hears it as soon as a worker
-/// knows it.
+/// Runs the plan's workers, and answers how the job ended. The listener hears it as soon as a
+/// worker knows it.
 pub(crate) fn run_job<R: Threads + Wait + Clock + Eprint + Sync, H, L: Listener<Heard = H>>(
     rt: &R,
     alloc: Global,

@@ -29,10 +29,10 @@ pub struct Wanted {
 
 /// Reads a job, then its plan, runs the plan's workers on threads in this manner, and prints the
 /// job's answer as soon as a worker knows it: threads that are kept from going on hold back the
-/// return of the call, and not what is printed. Where it is asked for, what became of the processors
-/// is found before that, on the plain machine. Where progress is asked for, that is one thread more.
-/// Workers whose threads are refused take no part; where the others do not come to the end, that is
-/// out of memory.
+/// return of the call, and not what is printed. Where it is asked for, what became of the
+/// processors is found before that, on the plain machine. Where progress is asked for, that is one
+/// thread more. Workers whose threads are refused take no part; where the others do not come to the
+/// end, that is out of memory.
 pub fn run<R: Threads + Wait + Clock + Eprint + Sync, J: Source, P: Source, O: Sink>(
     rt: &R,
     alloc: Global,
