@@ -19,3 +19,4 @@ pub mod Requesting
 pub mod Meanings
 pub mod Sharing
 pub mod Trees
+pub mod Holding

@@ -1,5 +1,5 @@
 -- Expressions of a program name what there is in its cells.
-use Rattle.std.proofs.Common.{◌≡◌, ◌<◌, length, map, sym, subst}
+use Rattle.std.proofs.Common.{◌<◌, sym, subst}
 use Rattle.std.proofs.lemmas.List.{length-map}
 use Rattle.pardo_text.specs.Expression.{Tree, number, own, loop, private, place, apply}
 use Rattle.pardo_text.specs.Lawful.{IsTree, bounds_of}

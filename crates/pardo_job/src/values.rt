@@ -3,12 +3,16 @@ ghost use Rattle.std.specs.Prelude.{◌≡◌, ◌+◌, ◌++◌, ◌∷◌, [],
 ghost use Rattle.pram_text.specs.declared.instr.Instr.TheVariants.{Ld};
 ghost use Rattle.pram_text.specs.declared.instr.Operand.TheVariants.{Register};
 ghost use Rattle.pram_text.specs.declared.instr.Place.TheVariants.{Named};
+ghost use Rattle.pardo_text.specs.declared.expression.Node.TheVariants.{Apply, Place as PlaceOf};
 ghost use Rattle.pardo_job.specs.Inner.Emitting.{Puts};
+ghost use Rattle.pardo_job.specs.Inner.Nodes.{CanTake, Takes};
 ghost use Rattle.pardo_job.specs.Values.{own_load};
 
 use crate::fault::JobKind;
 use crate::held::{OWN, Stack};
-use crate::operations::put;
+use crate::layout::Layout;
+use crate::operations::{gives_truth, put, put_operation};
+use pardo_text::{Node, Op};
 use pram_text::{Array, Instr, Operand, Place};
 
 /// Takes what a processor's own cell of a row holds to hand.
@@ -39,5 +43,66 @@ fn put_load(
     let at = stack.free();
     put(code, Instr::Ld(at, Place::Named(array, index)))?;
     stack.push(Operand::Register(at), false)?;
+    Ok(())
+}
+
+/// One node more, whose operands are at hand.
+pub(crate) fn put_node(
+    code: &mut Vec<Instr>,
+    stack: &mut Stack,
+    layout: &Layout,
+    node: Node,
+) -> Result<(), JobKind>
+    requires { CanTake stack.old layout.now node }
+    ensures { Takes stack.old code.old.items code.new.items stack.new result layout.now node }
+{
+    match node {
+        Node::Number(value) => {
+            stack.push(Operand::Number(value), false)?;
+            Ok(())
+        }
+        Node::Own => {
+            stack.push(Operand::Register(OWN), false)?;
+            Ok(())
+        }
+        Node::Loop(nest) => put_own(code, stack, layout.loop_variable(nest)),
+        Node::Private(variable) => put_own(code, stack, layout.private(variable)),
+        Node::Place(array) => put_place(code, stack, layout, array),
+        Node::Apply(op) => put_apply(code, stack, layout, op),
+    }
+}
+
+// The place of an array whose index is at hand.
+fn put_place(
+    code: &mut Vec<Instr>,
+    stack: &mut Stack,
+    layout: &Layout,
+    array: usize,
+) -> Result<(), JobKind>
+    requires { CanTake stack.old layout.now (PlaceOf array) }
+    ensures { Takes stack.old code.old.items code.new.items stack.new result layout.now
+        (PlaceOf array) }
+{
+    let index = stack.pop();
+    put_load(code, stack, layout.array(array), index.operand)
+}
+
+// An operation whose operands are at hand.
+fn put_apply(
+    code: &mut Vec<Instr>,
+    stack: &mut Stack,
+    layout: &Layout,
+    op: Op,
+) -> Result<(), JobKind>
+    requires { CanTake stack.old layout.now (Apply op) }
+    ensures { Takes stack.old code.old.items code.new.items stack.new result layout.now
+        (Apply op) }
+{
+    let second = stack.pop();
+    let first = stack.pop();
+    let at = stack.free();
+    put_operation(code, at, op, first, second)?;
+    let is_truth = gives_truth(op, first.is_truth && second.is_truth);
+    stack.push(Operand::Register(at), is_truth)?;
     Ok(())
 }

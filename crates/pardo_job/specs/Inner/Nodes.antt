@@ -1,5 +1,6 @@
 -- The code of expressions node by node.
 use Rattle.std.specs.Prelude.{◌≡◌, ℕ, ◌+◌, ◌<◌, ◌&&◌, List, [], ◌∷◌, ◌++◌, length, sum_by}
+use Rattle.std.specs.Prelude.{Result, OnOk}
 use Rattle.pram_text.specs.declared.instr.Instr.{Instr}
 use Rattle.pram_text.specs.declared.instr.Instr.TheVariants.{Ld}
 use Rattle.pram_text.specs.declared.instr.Place.TheVariants.{Named}
@@ -7,7 +8,10 @@ use Rattle.pardo_text.specs.declared.expression.Node.{Node}
 use Rattle.pardo_text.specs.declared.expression.Node.TheVariants.{Number, Own, Loop}
 use Rattle.pardo_text.specs.declared.expression.Node.TheVariants.{Private, Place, Apply}
 use Rattle.pardo_text.specs.Expression.{Tree, with_node}
+use Rattle.pardo_job.specs.declared.fault.JobKind.{JobKind}
 use Rattle.pardo_job.specs.declared.held.Held.{Held}
+use Rattle.pardo_job.specs.declared.held.Stack.{Stack}
+use Rattle.pardo_job.specs.Inner.Emitting.{Puts}
 use Rattle.pardo_job.specs.Layouts.{LayoutData, private_cells, loop_cells, array_cells}
 use Rattle.pardo_job.specs.Operations.{operation_code}
 use Rattle.pardo_job.specs.Values.{own_load, operand_of, takes, is_truth}
@@ -67,3 +71,32 @@ abbrev pub AreReady : LayoutData → List Tree → List Node → Type 0
 AreReady layout trees [] = length trees ≡ 1
 AreReady layout trees (node ∷ nodes) =
     IsReady layout trees node × AreReady layout (with_node trees node) nodes
+
+-- ---- values at hand
+
+-- some values, and after them those of these expressions, the last one first
+pub record Holds (stack : Stack) (before : List Held) (base : ℕ) (trees : List Tree) : Type 0 where
+  pub values : stack.values.items ≡ before ++ all_held base trees
+  pub taken : stack.taken ≡ free_after base trees
+
+-- the operands of a node are at hand
+pub record CanTake (stack : Stack) (layout : LayoutData) (node : Node) : Type 0 where
+  pub before : List Held
+  pub base : ℕ
+  pub trees : List Tree
+  pub holds : Holds stack before base trees
+  pub ready : IsReady layout trees node
+
+-- the code of the node is put, and its value is at hand
+pub record TakesOne {A : Type 0} (old new : List Instr) (stack : Stack) (result : Result A JobKind)
+    (code : List Instr) (before : List Held) (base : ℕ) (trees : List Tree) : Type 0 where
+  pub put : Puts old new result code
+  pub held : OnOk result (Holds stack before base trees)
+
+-- whatever was at hand before
+abbrev pub Takes : {A : Type 0} → Stack → List Instr → List Instr → Stack → Result A JobKind →
+    LayoutData → Node → Type 0
+Takes was old new stack result layout node = (before : List Held) (base : ℕ) (trees : List Tree) →
+    Holds was before base trees → IsReady layout trees node →
+    TakesOne old new stack result (node_code layout base trees node) before base
+    (with_node trees node)
