@@ -1,9 +1,11 @@
-// assemble.js CORE.wasm EXAMPLES TABLE SENTENCES OUT.html: puts the page into one file. The modules of
-// src/ are written one after the other, each as a function of its own after those that it imports.
+// assemble.js CORE.wasm EXAMPLES TABLE SENTENCES OUT.html: puts the page into one file. The modules
+// of src/ are written one after the other, each as a function of its own after those that it
+// imports.
 import { createHash } from 'node:crypto';
 import { readFileSync, readdirSync, writeFileSync } from 'node:fs';
 import { dirname, join } from 'node:path';
 import { fileURLToPath } from 'node:url';
+import { deflateRawSync } from 'node:zlib';
 
 const source = join(dirname(fileURLToPath(import.meta.url)), '..', 'src');
 const read = (name) => readFileSync(join(source, name), 'utf8');
@@ -60,7 +62,8 @@ const hash = (text) => `'sha256-${createHash('sha256').update(text).digest('base
 // page's own text, too.
 const policyOf = (style, script) =>
   `default-src 'none'; img-src data:; style-src ${hash(style)}; ` +
-  `script-src ${hash(script)} 'wasm-unsafe-eval'; worker-src blob:; base-uri 'none'; form-action 'none'`;
+  `script-src ${hash(script)} 'wasm-unsafe-eval'; worker-src blob:; base-uri 'none'; ` +
+  "form-action 'none'";
 
 const [core, examples, table, sentences, out] = process.argv.slice(2);
 const style = `\n${read('style.css')}`;
@@ -70,7 +73,7 @@ const parts = {
   STYLE: style,
   EXAMPLES: JSON.stringify(examplesOf(examples)).replaceAll('<', '\\u003c'),
   FAR: bundleOf('far_core'),
-  CORE: readFileSync(core).toString('base64'),
+  CORE: deflateRawSync(readFileSync(core), { level: 9 }).toString('base64'),
   PAGE: script,
 };
 const page = read('page.html').replace(/\/\*([A-Z]+)\*\//g, (_, name) => parts[name]);

@@ -1,61 +1,16 @@
 // Program, workers and schedule in the address, after `#`, so that a link carries a
 // demonstration. What comes from an address is never trusted: it is read within limits or refused.
 import { MOST_WORKERS, readActs, writeActs } from './acts.js';
+import { pack, unpack } from './packing.js';
 import { Schedule } from './schedule.js';
 
 const MOST_ADDRESS = 60000;
 const MOST_TEXT = 16777216;
 
-async function throughStream(bytes, stream, most) {
-  const writer = stream.writable.getWriter();
-  writer.write(bytes).catch(() => {});
-  writer.close().catch(() => {});
-  const reader = stream.readable.getReader();
-  const pieces = [];
-  let length = 0;
-  for (;;) {
-    const { done, value } = await reader.read();
-    if (done) break;
-    length += value.length;
-    if (length > most) {
-      reader.cancel().catch(() => {});
-      throw new RangeError('the text is too long');
-    }
-    pieces.push(value);
-  }
-  return joined(pieces, length);
-}
-
-function joined(pieces, length) {
-  const whole = new Uint8Array(length);
-  let at = 0;
-  for (const piece of pieces) {
-    whole.set(piece, at);
-    at += piece.length;
-  }
-  return whole;
-}
-
-function toBase64(bytes) {
-  let characters = '';
-  for (const byte of bytes) characters += String.fromCharCode(byte);
-  return btoa(characters).replaceAll('+', '-').replaceAll('/', '_').replaceAll('=', '');
-}
-
-function fromBase64(text) {
-  const characters = atob(text.replaceAll('-', '+').replaceAll('_', '/'));
-  return Uint8Array.from(characters, (character) => character.charCodeAt(0));
-}
-
-async function packText(text) {
-  const bytes = new TextEncoder().encode(text);
-  return toBase64(await throughStream(bytes, new CompressionStream('deflate-raw'), MOST_TEXT));
-}
+const packText = (text) => pack(new TextEncoder().encode(text), MOST_TEXT);
 
 async function unpackText(packed) {
-  const stream = new DecompressionStream('deflate-raw');
-  const bytes = await throughStream(fromBase64(packed), stream, MOST_TEXT);
-  return new TextDecoder('utf-8', { fatal: true }).decode(bytes);
+  return new TextDecoder('utf-8', { fatal: true }).decode(await unpack(packed, MOST_TEXT));
 }
 
 // The part after `#`, or nothing where it would be too long for a link.

@@ -59,10 +59,10 @@ export class Board {
     return this.schedule.events.upTo(this.schedule.at);
   }
 
-  // The scene after these events, with the effects of those from `from` on.
-  ask(events, from) {
+  // The scene after these events, with the effects of those from `from` on, and all cells or none.
+  ask(events, from, cells = this.app.job.cells) {
     const { core, text, job } = this.app;
-    const wanted = { from, places: job.places, place: this.place };
+    const wanted = { from, places: job.places, place: this.place, cells };
     return core.scene(text, this.schedule.workers, events, wanted);
   }
 
@@ -87,7 +87,8 @@ export class Board {
     let scene;
     while (film.length < acts.length) {
       const end = Math.min(film.length + MOST_STEPS, acts.length);
-      scene = this.ask(events.upTo(end), events.countOf(film.length));
+      const cells = end === acts.length ? undefined : 0;
+      scene = this.ask(events.upTo(end), events.countOf(film.length), cells);
       if (scene.code !== CODE.DONE) return scene;
       film.add(spread(acts.slice(film.length, end), scene.effects));
     }
@@ -102,15 +103,15 @@ export class Board {
     return this.keep(this.ask(this.events, this.events.length / 2));
   }
 
-  // Each cell as a reader gets it at the moment: step and value, one pair after the other.
-  reads() {
+  // What the board answers at the moment.
+  outcome() {
     const { moment } = this;
-    if (this.read === undefined || !isSame(this.read.moment, moment)) {
+    if (this.end === undefined || !isSame(this.end.moment, moment)) {
       const { core, text, job } = this.app;
-      const { pairs } = core.reads(text, job, this.schedule.workers, this.events);
-      this.read = { moment, pairs };
+      const told = core.outcome(text, job, this.schedule.workers, this.events);
+      this.end = { moment, told };
     }
-    return this.read.pairs;
+    return this.end.told;
   }
 
   // Those that are neither asleep, lost nor over.

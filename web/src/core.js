@@ -38,12 +38,24 @@ const SCENE = {
 };
 const READ = { step: 4, value: 4 };
 const VALUE = { value: 4 };
+const FATES = {
+  code: 4, fault: 4, line: 8, endLine: 8, end: 4, running: 4, first: 4, stopped: 4, lostLine: 8,
+  lostStep: 4, lost: 4,
+};
+const COST = {
+  code: 4, fault: 4, line: 8, executed: 8, steps: 4, procs: 4, most: 4, reading: 4, writing: 4,
+  needs: 4,
+};
+const MEETING = { step: 4, cell: 4, first: 4, second: 4 };
+const STEP = { running: 4, reading: 4, writing: 4 };
+const LAST = { step: 4, index: 4 };
 
 const sizeOf = (struct) => Object.values(struct).reduce((sum, width) => sum + width, 0);
 
 // Everything is read as words of 32 bits, and so are sizes and offsets from here on.
 const wordsOf = (struct) => sizeOf(struct) / 4;
 const EVENT_SIZE = 8;
+const MODELS = 3;
 const WORD_WORDS = wordsOf(WORD);
 const ROW_WORDS = wordsOf(EFFECT) + wordsOf(BODY);
 const TWIN = 3;
@@ -58,8 +70,8 @@ function fieldsOf(struct) {
   });
 }
 
-const FIELDS = new Map([JUDGEMENT, TOLD, REQUEST, BODY, EFFECT, WORD, SCENE, READ, VALUE]
-  .map((struct) => [struct, fieldsOf(struct)]));
+const FIELDS = new Map([JUDGEMENT, TOLD, REQUEST, BODY, EFFECT, WORD, SCENE, READ, VALUE, FATES,
+  COST, MEETING, STEP, LAST].map((struct) => [struct, fieldsOf(struct)]));
 
 const wide = (memory, at) => memory[at] + memory[at + 1] * 2 ** 32;
 
@@ -140,15 +152,29 @@ function tell(desk, struct, call) {
 
 const isFilled = ({ code }) => code === CODE.DONE || code === CODE.CONFLICT;
 
-// A call that fills one list, of so many elements at most, which `read` takes from the memory.
-function tellList(desk, element, most, call, read) {
-  const rows = desk.room(most * sizeOf(element));
-  const told = tell(desk, TOLD, (at) => call(rows, BigInt(most), at));
+// Room for a list of so many elements at most, and for what is told of it.
+function roomForList(desk, element, most) {
+  const [rows, told] = [desk.room(most * sizeOf(element)), desk.room(sizeOf(TOLD))];
+  return { rows, told, room: [rows, BigInt(most), told] };
+}
+
+// What is told of the list, which `read` takes from the memory.
+function readList(desk, { rows, told: at }, read) {
+  const told = readStruct(desk.memory(), wordAt(at), TOLD);
   return { ...told, list: read(desk.memory(), wordAt(rows), isFilled(told) ? told.count : 0) };
+}
+
+// A call that fills one list.
+function tellList(desk, element, most, call, read) {
+  const list = roomForList(desk, element, most);
+  call(...list.room);
+  return readList(desk, list, read);
 }
 
 const readNumbers = (memory, at, count) => memory.slice(at, at + count);
 const readRequests = (memory, at, count) => readStructs(memory, at, REQUEST, count);
+const readSteps = (memory, at, count) => readStructs(memory, at, STEP, count);
+const readLast = (memory, at, count) => readStructs(memory, at, LAST, count);
 const readPairs = (memory, at, count) => memory.slice(at, at + 2 * count);
 
 // `sizes` is what the text was judged to be.
@@ -164,17 +190,49 @@ function plainCalls(exports) {
       return { ...told, cells: told.list };
     }),
 
-    state: (text, sizes, step, most) => atDesk(exports, (desk) => {
+    // The state after a step, and what the processors ask for in it.
+    moment: (text, sizes, step, most) => atDesk(exports, (desk) => {
       const input = putText(desk, text);
-      const told = tellList(desk, VALUE, sizes.places, (...room) =>
-        exports.pram_page_state(...input, step, most, ...room), readNumbers);
-      return { ...told, places: told.list };
+      const places = roomForList(desk, VALUE, sizes.places);
+      const rows = roomForList(desk, REQUEST, sizes.procs);
+      exports.pram_page_moment(...input, step, most, ...places.room, ...rows.room);
+      const state = readList(desk, places, readNumbers);
+      const requests = readList(desk, rows, readRequests);
+      return { state: { ...state, places: state.list }, requests };
+    }),
+  };
+}
+
+// The cost, and after it the meetings that rule out a weaker model, from the weakest one on.
+function tellCost(desk, call) {
+  const told = desk.room(sizeOf(COST) + MODELS * sizeOf(MEETING));
+  call(told);
+  const at = wordAt(told);
+  const meetings = readStructs(desk.memory(), at + wordsOf(COST), MEETING, MODELS);
+  return { ...readStruct(desk.memory(), at, COST), meetings };
+}
+
+// Calls about a whole run. None goes on where a step changes nothing.
+function runCalls(exports) {
+  return {
+    fates: (text) => atDesk(exports, (desk) => tell(desk, FATES, (told) =>
+      exports.pram_page_fates(...putText(desk, text), told))),
+
+    cost: (text) => atDesk(exports, (desk) => tellCost(desk, (told) =>
+      exports.pram_page_cost(...putText(desk, text), told))),
+
+    // What so many steps from one on do.
+    steps: (text, from, count, most) => atDesk(exports, (desk) => {
+      const input = putText(desk, text);
+      return tellList(desk, STEP, count, (...room) =>
+        exports.pram_page_steps(...input, from, most, ...room), readSteps);
     }),
 
-    requests: (text, sizes, step, most) => atDesk(exports, (desk) => {
+    // What each processor executed last in the steps up to this one.
+    last: (text, sizes, step, most) => atDesk(exports, (desk) => {
       const input = putText(desk, text);
-      return tellList(desk, REQUEST, sizes.procs, (...room) =>
-        exports.pram_page_requests(...input, step, most, ...room), readRequests);
+      return tellList(desk, LAST, sizes.procs, (...room) =>
+        exports.pram_page_last(...input, step, most, ...room), readLast);
     }),
   };
 }
@@ -186,13 +244,9 @@ export const FORM = {
   CONFLICT: 0, NODE: 1, REQUEST: 2, POSITION: 3, STORED: 4, CLAIM: 5, SPARE: 6, NONE: 7,
 };
 
-// How many words and bodies there are before any event: twins add bodies, and nothing adds words.
-function sizesOfScene(desk, exports, text, workers) {
-  const none = desk.room(1);
-  const input = [...putRun(desk, text, workers, new Uint32Array(0)), 0n];
-  return tell(desk, SCENE, (told) =>
-    exports.pram_page_scene(...input, none, 0n, none, 0n, none, 0n, told));
-}
+// Room for the words of any board with so many places, as boards are; the core tells if there are
+// more.
+const wordsFor = (places) => 4 * places + 128;
 
 function countTwins(events) {
   let count = 0;
@@ -229,38 +283,45 @@ function readNodes(memory, words, numbers) {
   return phases;
 }
 
-// Scenes: the tree, the bodies, the two words of one place, and the effects of the events from
-// `from` on.
+// Scenes: the tree, the bodies, the two words of one place, the effects of the events from `from`
+// on, and the cells as a reader gets them, all or none: step and value, one pair after the other.
 class Scenes {
   constructor(exports) {
     this.exports = exports;
     this.known = {};
   }
 
-  // The sizes of the scenes of a text and so many workers.
-  sizesOf(desk, text, workers) {
-    const { known, exports } = this;
-    if (known.text !== text || known.workers !== workers) {
-      this.known = { text, workers, sizes: sizesOfScene(desk, exports, text, workers) };
-    }
-    return this.known.sizes;
+  // What is known of the boards of a text with so many workers: how many words they have.
+  knowFor(text, workers, places) {
+    const { known } = this;
+    if (known.text === text && known.workers === workers) return;
+    this.known = { text, workers, words: wordsFor(places) };
   }
 
   tell(text, workers, events, wanted) {
-    return atDesk(this.exports, (desk) => {
-      const sizes = this.sizesOf(desk, text, workers);
-      if (sizes.code !== CODE.NO_ROOM) return sizes;
-      const asked = events.length / 2 - wanted.from;
-      const count = sizes.bodies + countTwins(events);
-      const input = [...putRun(desk, text, workers, events), BigInt(wanted.from)];
-      const rows = desk.room(asked * ROW_WORDS * 4);
-      const words = desk.room(sizes.words * sizeOf(WORD));
-      const bodies = desk.room(count * sizeOf(BODY));
-      const told = tell(desk, SCENE, (at) => this.exports.pram_page_scene(
-        ...input, rows, BigInt(asked), words, BigInt(sizes.words), bodies, BigInt(count), at));
-      const rooms = { rows: wordAt(rows), words: wordAt(words), bodies: wordAt(bodies) };
-      return told.code === CODE.DONE ? this.read(desk.memory(), told, rooms, wanted) : told;
-    });
+    this.knowFor(text, workers, wanted.places);
+    const room = this.known.words;
+    const told = atDesk(this.exports, (desk) => this.ask(desk, text, workers, events, wanted));
+    if (told.words > 0) this.known.words = told.words;
+    return told.code === CODE.NO_ROOM && told.words > room
+      ? this.tell(text, workers, events, wanted) : told;
+  }
+
+  ask(desk, text, workers, events, wanted) {
+    const { known, exports } = this;
+    const asked = events.length / 2 - wanted.from;
+    const count = workers + countTwins(events);
+    const input = [...putRun(desk, text, workers, events), BigInt(wanted.from)];
+    const rows = desk.room(asked * ROW_WORDS * 4);
+    const words = desk.room(known.words * sizeOf(WORD));
+    const bodies = desk.room(count * sizeOf(BODY));
+    const cells = roomForList(desk, READ, wanted.cells ?? 0);
+    const told = tell(desk, SCENE, (at) => exports.pram_page_scene(...input, rows, BigInt(asked),
+      words, BigInt(known.words), bodies, BigInt(count), at, ...cells.room));
+    if (told.code !== CODE.DONE) return told;
+    const rooms = { rows: wordAt(rows), words: wordAt(words), bodies: wordAt(bodies) };
+    const pairs = readList(desk, cells, readPairs).list;
+    return { ...this.read(desk.memory(), told, rooms, wanted), pairs };
   }
 
   read(memory, told, { rows, words, bodies }, { places, place }) {
@@ -289,18 +350,11 @@ function boardCalls(exports) {
         exports.pram_page_outcome(...input, ...room), readNumbers);
       return { ...told, cells: told.list };
     }),
-
-    // Each cell as a reader gets it: step and value, one pair after the other.
-    reads: (text, sizes, workers, events) => atDesk(exports, (desk) => {
-      const input = putRun(desk, text, workers, events);
-      const told = tellList(desk, READ, sizes.cells, (...room) =>
-        exports.pram_page_reads(...input, ...room), readPairs);
-      return { ...told, pairs: told.list };
-    }),
   };
 }
 
 export async function openCore(bytes) {
   const { instance } = await WebAssembly.instantiate(bytes, {});
-  return { ...plainCalls(instance.exports), ...boardCalls(instance.exports) };
+  const { exports } = instance;
+  return { ...plainCalls(exports), ...runCalls(exports), ...boardCalls(exports) };
 }

@@ -1,6 +1,6 @@
 // One's own programs, the newest first. They are kept in the browser, where it lets the page.
 const KEY = 'kaolinsilk drafts';
-const MOST = 20;
+const MOST = 100;
 const MOST_CHARACTERS = 2000000;
 const QUIET = 300;
 
@@ -15,14 +15,21 @@ function read() {
   }
 }
 
+// Those that there is room for: a long one that has none takes none of the others'.
+function fittingOf(list) {
+  let room = MOST_CHARACTERS;
+  return list.slice(0, MOST).filter(({ text }) => {
+    const fits = text.length <= room;
+    if (fits) room -= text.length;
+    return fits;
+  });
+}
+
 // Another page may have kept some meanwhile: they stay.
 function write(list) {
   const others = read().filter(({ number }) => !list.some((draft) => draft.number === number));
-  let room = MOST_CHARACTERS;
-  const fitting = [...list, ...others].slice(0, MOST)
-    .filter(({ text }) => (room -= text.length) > 0);
   try {
-    localStorage.setItem(KEY, JSON.stringify(fitting));
+    localStorage.setItem(KEY, JSON.stringify(fittingOf([...list, ...others])));
   } catch {
     // Without room, or in a frame that may keep nothing, they last as long as the page.
   }

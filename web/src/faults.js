@@ -86,7 +86,8 @@ function badHeader(line) {
     return `Cell ${words[1]} was given a value before, or init does not stand here. ${HEADER}`;
   }
   if (words[0] === 'rule') {
-    return `A rule is common, priority or crew, and stands only in a text of pram 2 or 3. ${HEADER}`;
+    return 'A rule is common, priority or crew, and stands only in a text of pram 2 or 3. ' +
+      HEADER;
   }
   const found = words.length > 0
     ? `“${words.join(' ')}” does not stand here. ` : 'A line is missing. ';

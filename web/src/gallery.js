@@ -57,7 +57,8 @@ export function openGallery(examples, drafts, choose) {
     // The menu names the program that stands in the editor.
     show(work) {
       const value = valueNow(work);
-      const linked = value === LINKED ? [optionOf(LINKED, 'the program of this link')] : [];
+      const title = work.name ?? 'the program of this link';
+      const linked = value === LINKED ? [optionOf(LINKED, title)] : [];
       own.replaceChildren(...linked,
         ...drafts.list.map((draft) => optionOf(valueOf(draft), titleOfDraft(draft))),
         optionOf(NEW, 'a new program'));

@@ -2,6 +2,7 @@
 import { openArrows } from './arrows.js';
 import { openCells } from './cells.js';
 import { CODE } from './core.js';
+import { openCosts } from './costs.js';
 import { byId, onClick, setDisabled, setText } from './dom.js';
 import { Errands } from './errands.js';
 import { momentInWords } from './lockstep_words.js';
@@ -10,6 +11,7 @@ import { saveMemory } from './memory_svg.js';
 import { Moments } from './moments.js';
 import { grouped, numberWithin } from './numbers.js';
 import { openPlayer } from './player.js';
+import { openPlot } from './plot.js';
 import { openProcessors } from './processors.js';
 import { Search, hasAccess, isAtLine } from './seek.js';
 
@@ -21,6 +23,8 @@ export class LockstepView {
     this.processors = openProcessors(show);
     this.cells = openCells('plain-cells', 'Cells after this step', show);
     this.arrows = openArrows(show);
+    this.plot = openPlot((step) => this.jump(step));
+    this.costs = openCosts((step) => this.jump(step));
     this.errands = new Errands();
     this.note = '';
     this.player = openPlayer(byId('plain-play'), byId('plain-speed'), (beats) => this.play(beats));
@@ -58,6 +62,11 @@ export class LockstepView {
   pause() {
     this.player.pause();
     this.errands.stop();
+  }
+
+  jump(step) {
+    this.pause();
+    this.goTo(step);
   }
 
   goTo(step, note = '') {
@@ -126,8 +135,8 @@ export class LockstepView {
   // Something far was told: it is shown, or it stands beside what is shown.
   hearFar() {
     const { app, moments } = this;
-    if (this.shown === app.step) moments.isThere(app.step);
-    else this.show();
+    if (this.shown !== app.step) this.show();
+    else if (moments.isThere(app.step)) this.showRun();
   }
 
   show() {
@@ -146,10 +155,21 @@ export class LockstepView {
     if (state.code !== CODE.DONE) return;
     const next = moments.requests(app.step);
     const fault = next.code === CODE.CONFLICT ? next : undefined;
-    this.say(next.list, fault);
+    this.now = { places: state.places, requests: next.list, fault };
     this.showInText(next.list, fault);
-    this.processors.show(app.job, state.places, next.list);
     this.showCells(state.places, next.list, fault);
+    this.showRun();
+  }
+
+  // What the core tells of the whole run stands beside the moment as soon as it is there.
+  showRun() {
+    const { app, now } = this;
+    const { whole, job, step } = app;
+    if (this.shown !== step || !now) return;
+    this.say(now.requests, now.fault);
+    this.processors.show(job, now.places, now.requests, () => whole.lastAt(step));
+    this.plot.show(step, this.moments.last, job.procs, whole.stepsAbout(step));
+    this.costs.show(whole.cost());
   }
 
   showButtons() {

@@ -1,5 +1,6 @@
 // A moment of the plain machine in words.
 import { CODE } from './core.js';
+import { endInWords } from './ends.js';
 import { counted, grouped } from './numbers.js';
 import { STATUS, instructionInWords } from './processors.js';
 import { RULES } from './program.js';
@@ -17,7 +18,8 @@ function conflictInWords(app, requests, fault) {
 export function momentInWords(app, requests, fault) {
   if (fault) return conflictInWords(app, requests, fault);
   if (app.answer.code === CODE.DONE && app.step === app.answer.step) {
-    return `Done: the job ends after ${counted(app.step, 'step')}.`;
+    const end = endInWords(app.whole.fates());
+    return `Done: the job ends after ${counted(app.step, 'step')}. ${end}`.trim();
   }
   const running = requests.filter((request) => request.status === STATUS.RUNS).length;
   const next = running === 0 ? 'All processors have stopped.' :

@@ -1,24 +1,29 @@
 // The page: what it shows, and who is told when that changes.
 import { openCore } from './core.js';
-import { byId, ignoreDisabled, onClick, setDisabled } from './dom.js';
+import { byId, ignoreDisabled, onClick, setDisabled, setText } from './dom.js';
 import { Drafts } from './drafts.js';
 import { Editor } from './editor.js';
+import { endInWords } from './ends.js';
 import { Far } from './far.js';
 import { openGallery } from './gallery.js';
 import { listenToKeys } from './keys.js';
+import { openLessons } from './lessons.js';
 import { Link } from './link.js';
 import { LockstepView } from './lockstep.js';
+import { unpack } from './packing.js';
 import { listenToPrinting } from './print.js';
 import { answerFar, judge, showJudgement } from './program.js';
 import { Schedule } from './schedule.js';
 import { openStops } from './stops.js';
 import { openTabs } from './tabs.js';
+import { Whole } from './whole.js';
 import { WorkersView } from './workers.js';
 import { Works, makeWork } from './works.js';
 
 const FIRST_EXAMPLE = 'maximum';
 const WORKERS = 4;
 const PAUSE = 1000;
+const MOST_CORE = 16777216;
 
 // What is shown: a work, which is a text with its schedule and its step, the text's job and answer,
 // and the view. The views read it, and change the schedule and the step.
@@ -27,6 +32,7 @@ class Playground {
     Object.assign(this, { core, far, examples, view: 'lockstep', written: 0 });
     this.works = new Works(makeWork('', new Schedule(WORKERS)));
     this.drafts = new Drafts();
+    this.whole = new Whole(this, () => this.showRun());
     this.editor = new Editor({
       change: (text) => this.changeText(text),
       undo: () => this.undoText(-1),
@@ -40,6 +46,7 @@ class Playground {
       onChange: () => this.show(), toLine: (line) => this.toLine(line),
     });
     this.tabs = openTabs((view) => this.turnTo(view));
+    openLessons(this);
     this.link = new Link(this, examples, (shown) => this.showAddress(shown));
     this.listen();
   }
@@ -93,6 +100,17 @@ class Playground {
     if (isLost) this.editor.area.focus();
     this.tabs.show(this.view);
     this.views[this.view].show();
+    this.showEnds();
+  }
+
+  // What became of the processors, as soon as it is told.
+  showEnds() {
+    setText(byId('ends'), this.job ? endInWords(this.whole.fates()) : '');
+  }
+
+  showRun() {
+    this.showEnds();
+    this.views.lockstep.hearFar();
   }
 
   // Shows the work of now, whose text stands in the editor.
@@ -144,11 +162,12 @@ class Playground {
     this.showNow();
   }
 
-  // A chosen program; the one before it stays, to be undone or gone back to.
-  choose(text, draft) {
+  // A chosen program, with a name where it is neither one's own nor of the gallery; the one before
+  // it stays, to be undone or gone back to.
+  choose(text, draft, name) {
     this.editor.look();
     this.written = 0;
-    this.works.add(makeWork(text, new Schedule(this.schedule.workers), { draft }));
+    this.works.add(makeWork(text, new Schedule(this.schedule.workers), { draft, name }));
     this.editor.stops.clear();
     this.editor.set(text);
     this.link.push();
@@ -207,15 +226,17 @@ function warm(core) {
   const text = 'pram 1\ncells 1\nprocs 1\nsteps 1\ncode\nhalt\n';
   const job = core.judge(text);
   const events = new Uint32Array(2);
-  core.state(text, job, 1, 1);
-  core.requests(text, job, 0, 1);
-  core.scene(text, 1, events, { from: 0, places: job.places, place: 0 });
-  core.reads(text, job, 1, events);
+  core.moment(text, job, 0, 1);
+  core.scene(text, 1, events, { from: 0, places: job.places, place: 0, cells: job.cells });
   core.outcome(text, job, 1, events);
+  core.fates(text);
+  core.cost(text);
+  core.steps(text, 0, 1, 1);
+  core.last(text, job, 1, 1);
 }
 
 async function start() {
-  const bytes = Uint8Array.from(atob(byId('core').textContent), (byte) => byte.charCodeAt(0));
+  const bytes = await unpack(byId('core').textContent, MOST_CORE);
   document.documentElement.toggleAttribute('data-embed', isEmbedded());
   const core = await openCore(bytes);
   const app = new Playground(core, new Far(bytes), JSON.parse(byId('examples').textContent));

@@ -5,7 +5,7 @@ import { grouped } from './numbers.js';
 import { passNames, passOfPhase, stepOfPhase } from './phases.js';
 import { nameOfPlace } from './places.js';
 
-const OP = { NONE: 0, LOAD: 1, STORE: 2, MAX: 3, SWAP: 4 };
+export const OP = { NONE: 0, LOAD: 1, STORE: 2, MAX: 3, SWAP: 4 };
 export const DOING = { LOST: 0, COMES_BACK: 1, BEGINS: 2, TURN: 3, DONE: 4, CONFLICT: 5 };
 
 // The workers, of which there are so many, and their twins, which are told apart by their number.

@@ -1,5 +1,6 @@
-// The moments of the plain machine, as the core tells them. Those that were asked for last are
-// kept, so that the step before is not asked for again. Far ones are asked for in another thread.
+// The moments of the plain machine, as the core tells them: the state after a step, and what the
+// processors ask for in it. Those that were asked for last are kept, so that the one before is not
+// asked for again. Far ones are asked for in another thread.
 import { CODE } from './core.js';
 
 const MOST = 16;
@@ -21,9 +22,9 @@ export class Moments {
     if (this.text !== this.app.text) this.forget();
   }
 
-  keep(key, told) {
-    this.kept.delete(key);
-    this.kept.set(key, told);
+  keep(step, told) {
+    this.kept.delete(step);
+    this.kept.set(step, told);
     if (this.kept.size > MOST) this.kept.delete(this.kept.keys().next().value);
     return told;
   }
@@ -33,10 +34,9 @@ export class Moments {
     return [text, job, step, most];
   }
 
-  ask(name, step) {
+  moment(step) {
     this.check();
-    const key = `${name} ${step}`;
-    return this.keep(key, this.kept.get(key) ?? this.app.core[name](...this.wantedFor(step)));
+    return this.keep(step, this.kept.get(step) ?? this.app.core.moment(...this.wantedFor(step)));
   }
 
   // The last step whose state there is.
@@ -46,13 +46,13 @@ export class Moments {
     return code === CODE.CONFLICT ? step - 1 : this.app.most;
   }
 
-  hasKept(name, step) {
+  hasKept(step) {
     this.check();
-    return this.kept.has(`${name} ${step}`);
+    return this.kept.has(step);
   }
 
   state(step) {
-    return this.ask('state', step);
+    return this.moment(step).state;
   }
 
   hasRequests(step) {
@@ -61,7 +61,7 @@ export class Moments {
 
   // What the processors ask for after so many steps; nothing after the last one.
   requests(step) {
-    return this.hasRequests(step) ? this.ask('requests', step) : { list: [], code: CODE.DONE };
+    return this.hasRequests(step) ? this.moment(step).requests : { list: [], code: CODE.DONE };
   }
 
   // The same of a far step, as a promise; what is asked for meanwhile is forgotten.
@@ -69,8 +69,8 @@ export class Moments {
     if (!this.hasRequests(step)) return Promise.resolve(this.requests(step));
     this.app.far.forget();
     return new Promise((done) => {
-      this.app.far.ask('requests', this.wantedFor(step), (told) =>
-        done(this.keep(`requests ${step}`, told)));
+      this.app.far.ask('moment', this.wantedFor(step), (told) =>
+        done(this.keep(step, told).requests));
     });
   }
 
@@ -78,11 +78,9 @@ export class Moments {
     return step * this.app.job.procs <= NEAR;
   }
 
-  // What is not kept of this: the state after a step, its requests, and those of the step before.
+  // Which moments are not kept of those that are shown at a step: it, and the one before.
   missingOf(step) {
-    const asked = [['state', step]];
-    for (const one of [step, step - 1]) if (this.hasRequests(one)) asked.push(['requests', one]);
-    return asked.filter(([name, one]) => !this.kept.has(`${name} ${one}`));
+    return [step, step - 1].filter((one) => one >= 0 && !this.kept.has(one));
   }
 
   // Whether the moment can be shown at once. A far one is asked for, with those beside it.
@@ -92,13 +90,13 @@ export class Moments {
     const missing = this.missingOf(step);
     const beside = [step + 1, step - 1].filter((one) => one <= this.last && !this.isNear(one));
     const [next] = [...missing, ...beside.flatMap((one) => this.missingOf(one))];
-    if (next && this.app.far.isFree) this.fetch(...next);
+    if (next !== undefined && this.app.far.isFree) this.fetch(next);
     return missing.length === 0;
   }
 
-  fetch(name, step) {
-    this.app.far.ask(name, this.wantedFor(step), (told) => {
-      this.keep(`${name} ${step}`, told);
+  fetch(step) {
+    this.app.far.ask('moment', this.wantedFor(step), (told) => {
+      this.keep(step, told);
       this.onTold();
     });
   }

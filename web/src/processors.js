@@ -1,5 +1,6 @@
 // The processors as a table: counter, registers, and what each asks for in the next step.
 import { byId, fit, make, setAttribute, setText } from './dom.js';
+import { grouped } from './numbers.js';
 import { counterPlace, registersOf } from './places.js';
 import { openWindow } from './window.js';
 
@@ -15,11 +16,25 @@ function makeRow() {
   return make('tr', {}, make('th', { scope: 'row' }), ...cells);
 }
 
-export function instructionInWords(instructions, request) {
-  if (request.status === STATUS.HALTED) return 'halted';
-  if (request.status === STATUS.OUT_OF_RANGE) return 'stopped: its address names no cell';
-  const { line, words } = instructions[request.counter] ?? { line: 0, words: '' };
+// An instruction, by its index, as it stands in the text.
+export function instructionInWords(instructions, { counter }) {
+  const { line, words } = instructions[counter] ?? { line: 0, words: '' };
   return `${line}: ${words}`;
+}
+
+const WHY = { [STATUS.HALTED]: 'halted', [STATUS.OUT_OF_RANGE]: 'no such cell' };
+
+// Why a processor has stopped, with what it executed last, where that is told.
+function stopInWords(instructions, status, last) {
+  if (!last) return WHY[status];
+  const { line, words } = instructions[last.index] ?? { line: 0, words: '' };
+  return `${WHY[status]} in step ${grouped(last.step)}, ${line}: ${words}`;
+}
+
+// A counter is the index of an instruction, or one or two after the last one.
+function statusOf(job, counter) {
+  if (counter < job.instructions) return STATUS.RUNS;
+  return counter === job.instructions ? STATUS.HALTED : STATUS.OUT_OF_RANGE;
 }
 
 function readsInWords(request) {
@@ -33,23 +48,22 @@ function writesInWords(request) {
 }
 
 function nextInWords(instructions, request) {
-  if (request.status !== STATUS.RUNS || request.next === request.counter + 1) return '';
+  if (request.next === request.counter + 1) return '';
   const line = instructions[request.next]?.line;
   return line === undefined ? 'its end' : `line ${line}`;
 }
 
-function cellsOfRow(job, places, request) {
-  const { processor } = request;
-  const counter = places[counterPlace(job, processor)];
-  const held = [...registersOf(job, places, processor), counter];
-  if (request.status === undefined) return [...held, '', '', '', ''];
-  return [
-    ...held,
-    instructionInWords(job.program, request),
-    readsInWords(request),
-    writesInWords(request),
-    nextInWords(job.program, request),
-  ];
+// After the last step nothing is asked for any more.
+function asksInWords(job, { isLast, status, ...request }) {
+  if (isLast || status !== STATUS.RUNS) return ['', '', ''];
+  return [readsInWords(request), writesInWords(request), nextInWords(job.program, request)];
+}
+
+function cellsOfRow(job, places, row, lastOf) {
+  const { processor, counter, status } = row;
+  const instruction = status === STATUS.RUNS
+    ? instructionInWords(job.program, row) : stopInWords(job.program, status, lastOf(processor));
+  return [...registersOf(job, places, processor), counter, instruction, ...asksInWords(job, row)];
 }
 
 export function openProcessors(onMove) {
@@ -61,12 +75,18 @@ export function openProcessors(onMove) {
     make('thead', {}, head), body);
   byId('processors').append(sight.bar, make('div', { class: 'scroll' }, table));
   return {
-    show(job, places, requests) {
+    // `lasts` gives what each processor executed last, where that is told.
+    show(job, places, requests, lasts) {
       const range = sight.range(job.procs);
+      const lastOf = (processor) => lasts()?.[processor];
       fit(body, range.length, makeRow).forEach((row, k) => {
         const processor = range.first + k;
-        const request = { processor, ...requests[processor] };
-        const texts = [`P${processor}`, ...cellsOfRow(job, places, request)];
+        const counter = places[counterPlace(job, processor)];
+        const request = {
+          processor, counter, isLast: requests.length === 0, ...requests[processor],
+          status: statusOf(job, counter),
+        };
+        const texts = [`P${processor}`, ...cellsOfRow(job, places, request, lastOf)];
         [...row.children].forEach((cell, column) => setText(cell, String(texts[column])));
         setAttribute(row, 'class', request.status > STATUS.RUNS ? 'stopped' : '');
       });

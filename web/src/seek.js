@@ -17,7 +17,7 @@ export class Search {
       this.isFound = this.isWanted(list);
       return !this.isFound && next !== this.to;
     };
-    return this.moments.hasKept('requests', next) || this.moments.isNear(next)
+    return this.moments.hasKept(next) || this.moments.isNear(next)
       ? judge(this.moments.requests(next)) : this.moments.farRequests(next).then(judge);
   }
 

@@ -1,78 +1,17 @@
 // The progress tree: its nodes in the colour of the pass that is finished below them, and the
-// workers at the nodes where they stand. What is drawn stays, and only changes are drawn anew.
+// workers at the nodes where they stand.
 import { byId, makeSvg, setAttribute, setText } from './dom.js';
 import { DOING, nodeInWords } from './meaning.js';
 import { counted, grouped } from './numbers.js';
 import { passNames, passOfPhase, stepOfPhase } from './phases.js';
 import { pictureOf, saveSvg, withStyles } from './styled_svg.js';
+import { barsOf } from './tree_bars.js';
+import { circlesOf } from './tree_circles.js';
+import { HEIGHT, WIDTH, middleOf } from './tree_shape.js';
 
-const WIDTH = 800;
-const HEIGHT = 300;
-const TOP = 34;
-const BOTTOM = 34;
 const MOST_CIRCLES = 64;
-const LEAST_NAMED = 9;
-const LEAST_EDGED = 6;
 
-const depthOf = (node) => 31 - Math.clz32(node);
-const wideOf = (node) => WIDTH / 2 ** depthOf(node);
-const middleOf = (node) => (node - 2 ** depthOf(node) + 0.5) * wideOf(node);
-
-// Nodes as circles with edges.
-function circlesOf(leaves) {
-  const height = depthOf(leaves);
-  const radius = Math.max(1.5, Math.min(17, (WIDTH / leaves) * 0.4));
-  const y = (node) =>
-    TOP + (height === 0 ? 0.5 : depthOf(node) / height) * (HEIGHT - TOP - BOTTOM);
-  const edge = (node) => `M${middleOf(node)} ${y(node)}L${middleOf(node >> 1)} ${y(node >> 1)}`;
-  return {
-    x: middleOf,
-    y,
-    top: (node) => y(node) - radius,
-    bottom: (node) => y(node) + radius,
-    isNamed: radius >= LEAST_NAMED,
-    edges: Array.from({ length: 2 * leaves - 2 }, (_, k) => edge(k + 2)).join(''),
-    kind: () => 'node',
-    make: (node) => {
-      const at = { x: middleOf(node), y: y(node) };
-      const circle = makeSvg('circle', { cx: at.x, cy: at.y, r: radius });
-      const phase = radius >= LEAST_NAMED ? [makeSvg('text', at)] : [];
-      return makeSvg('g', { 'data-node': node }, circle, ...phase);
-    },
-  };
-}
-
-// Many nodes as bars that lie on each other, so that even narrow ones show their colour.
-function barsOf(leaves) {
-  const height = depthOf(leaves);
-  const tall = (HEIGHT - TOP) / (height + 1);
-  const top = (node) => TOP + depthOf(node) * tall;
-  return {
-    x: middleOf,
-    y: (node) => top(node) + tall / 2,
-    top,
-    bottom: (node) => top(node) + tall,
-    isNamed: false,
-    edges: '',
-    kind: (node) => (wideOf(node) > LEAST_EDGED ? 'block edged' : 'block'),
-    make: (node) => makeSvg('rect', {
-      'data-node': node, x: middleOf(node) - wideOf(node) / 2, y: top(node),
-      width: wideOf(node), height: tall,
-    }),
-  };
-}
-
-const layoutOf = (leaves) => (leaves > MOST_CIRCLES ? barsOf(leaves) : circlesOf(leaves));
-
-function makeLeafNames(job, layout) {
-  const group = makeSvg('g', { class: 'leaf-names' });
-  for (let processor = 0; layout.isNamed && processor < job.procs; processor += 1) {
-    const node = job.leaves + processor;
-    const at = { x: layout.x(node), y: layout.bottom(node) + 10 };
-    group.append(makeSvg('text', at, `P${processor}`));
-  }
-  return group;
-}
+const layoutOf = (job) => (job.leaves > MOST_CIRCLES ? barsOf(job) : circlesOf(job));
 
 // Bodies at one node stand side by side above it.
 function makeBodies(layout, scene, workers) {
@@ -82,7 +21,7 @@ function makeBodies(layout, scene, workers) {
     standing.set(body.node, [...(standing.get(body.node) ?? []), number]);
   });
   return [...standing].flatMap(([node, numbers]) => numbers.map((number, k) => {
-    const x = layout.x(node) + (k - (numbers.length - 1) / 2) * 15;
+    const x = middleOf(node) + (k - (numbers.length - 1) / 2) * 15;
     const at = { x: Math.min(Math.max(x, 9), WIDTH - 9), y: layout.top(node) - 8 };
     return makeBody(at, workers[number], number >= scene.workers);
   }));
@@ -108,37 +47,26 @@ export class Tree {
   constructor() {
     this.drawing = byId('tree');
     this.size = '';
-    this.drawing.addEventListener('pointerover', (event) => this.name(event.target));
+    this.drawing.addEventListener('pointermove', (event) => this.name(event));
   }
 
   // A node's words are made when someone points at it.
-  name(target) {
-    const drawn = target.closest('[data-node]');
+  name({ target, clientX, clientY }) {
+    const at = new DOMPoint(clientX, clientY)
+      .matrixTransform(this.drawing.getScreenCTM().inverse());
+    const { node, drawn } = this.layout.nodeAt(target, at) ?? {};
     if (!drawn) return;
-    const node = Number(drawn.dataset.node);
     const title = drawn.querySelector('title') ?? drawn.appendChild(makeSvg('title'));
     setText(title, nodeInWords(this.job, node, this.phases[node]));
   }
 
   // Makes the nodes of a tree of another size.
   make(job) {
-    const layout = layoutOf(job.leaves);
-    const all = Array.from({ length: 2 * job.leaves - 1 }, (_, k) => layout.make(k + 1));
-    this.nodes = [undefined, ...all];
-    this.layout = layout;
+    this.layout = layoutOf(job);
     this.phases = new Float64Array(2 * job.leaves).fill(-1);
     this.bodies = makeSvg('g', { class: 'bodies' });
     this.drawing.setAttribute('viewBox', `0 0 ${WIDTH} ${HEIGHT}`);
-    this.drawing.replaceChildren(
-      makeSvg('path', { class: 'edges', d: layout.edges }),
-      makeSvg('g', { class: 'nodes' }, ...all), makeLeafNames(job, layout), this.bodies);
-  }
-
-  showNode(job, node, phase) {
-    const drawn = this.nodes[node];
-    const kind = `${this.layout.kind(node)} pass${passOfPhase(phase)}`;
-    setAttribute(drawn, 'class', node - job.leaves >= job.procs ? `${kind} spare` : kind);
-    if (this.layout.isNamed) setText(drawn.children[1], String(phase));
+    this.drawing.replaceChildren(...this.layout.parts, this.bodies);
   }
 
   show(job, scene, workers) {
@@ -146,9 +74,7 @@ export class Tree {
     this.job = job;
     if (this.size !== size) this.make(job);
     this.size = size;
-    for (let node = 1; node < scene.nodes.length; node += 1) {
-      if (this.phases[node] !== scene.nodes[node]) this.showNode(job, node, scene.nodes[node]);
-    }
+    this.layout.show(scene.nodes, this.phases);
     this.phases = scene.nodes;
     this.bodies.replaceChildren(...makeBodies(this.layout, scene, workers));
     this.summary = summary(job, scene);

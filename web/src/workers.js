@@ -243,10 +243,9 @@ export class WorkersView {
     this.scene = board.now();
     if (this.scene.code !== CODE.DONE) return;
     app.job.leaves = this.scene.leaves;
-    const { events } = board;
     this.showBodies();
     this.showCells();
-    this.showControls(events);
+    this.showControls();
     app.editor.mark(new Map());
   }
 
@@ -264,12 +263,12 @@ export class WorkersView {
   }
 
   showCells() {
-    const pairs = this.board.reads();
+    const { pairs } = this.scene;
     this.cells.show(this.app.job.cells, (cell) => (
       { value: pairs[2 * cell + 1], note: `step ${grouped(pairs[2 * cell])}`, kind: '' }));
   }
 
-  showControls(events) {
+  showControls() {
     const { schedule } = this.app;
     const sleepers = schedule.sleepers();
     const isOver = !this.scene.bodies.some((row, body) => isGoing(row) && !sleepers.has(body));
@@ -283,7 +282,7 @@ export class WorkersView {
     setDisabled(byId('reset'), schedule.length === 0);
     setHidden(byId('full'), !schedule.isFull);
     this.slider.show();
-    this.showOutcome(isOver, events);
+    this.showOutcome(isOver);
     if (byId('plan-part').open) showPlan(this.app);
   }
 
@@ -294,19 +293,14 @@ export class WorkersView {
     return schedule.whatIf;
   }
 
-  showOutcome(isOver, events) {
-    const { app, scene, whatIf } = this;
+  showOutcome(isOver) {
+    const { app, board, scene, whatIf } = this;
     const isAnswered = isOver || scene.conflict > 0 || scene.finished === app.job.steps;
     const told = isAnswered
-      ? outcomeInWords(this.outcomeAfter(events), app.answer)
+      ? outcomeInWords(board.outcome(), app.answer)
       : `Finished: ${grouped(scene.finished)} of ${counted(app.job.steps, 'step')}.`;
     setText(byId('outcome'), (whatIf?.told ?? '') + told);
     byId('outcome').className = scene.conflict > 0 ? 'said bad' : 'said';
     setHidden(byId('before'), whatIf === undefined);
-  }
-
-  outcomeAfter(events) {
-    const { app } = this;
-    return app.core.outcome(app.text, app.job, app.schedule.workers, events);
   }
 }

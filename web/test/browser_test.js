@@ -1,5 +1,5 @@
-// browser_test.js PAGE EXAMPLES PICTURES [TEST..]: the page in Debian's Chromium, by real clicks and
-// keys.
+// browser_test.js PAGE EXAMPLES PICTURES [TEST..]: the page in Debian's Chromium, by real clicks
+// and keys.
 // Pictures of what a reader sees are saved to the folder PICTURES, to be looked at.
 import { readFileSync, readdirSync } from 'node:fs';
 import { join, resolve } from 'node:path';
@@ -10,6 +10,7 @@ import { withPage } from './browser.js';
 import { clicks, count, drive, end, has, is, isShown, open, page, picture, saved, text,
   valueOf, write } from './drive.js';
 import * as layout from './layout_tests.js';
+import * as lessons from './lesson_tests.js';
 import * as links from './link_tests.js';
 import * as speed from './speed_tests.js';
 import * as steps from './steps_tests.js';
@@ -338,7 +339,7 @@ async function testWidths() {
 const OWN = [testLockstep, testLockstepKeys, testConflict, testGallery, testFaults, testHostile,
   testLongTexts, testWorkers, testPlan, testTwinsAndTime, testEnds, testWorkersKeys, testLink,
   testReading, testWidths];
-const MODULES = [works, layout, steps, links, speed];
+const MODULES = [works, layout, steps, lessons, links, speed];
 const TESTS = [...OWN, ...MODULES.flatMap((module) => Object.values(module))];
 
 // With names after the folders only the tests of these names are made.

@@ -5,6 +5,7 @@ import { execFileSync } from 'node:child_process';
 import { readFileSync, readdirSync, writeFileSync } from 'node:fs';
 import { tmpdir } from 'node:os';
 import { join } from 'node:path';
+import { inflateRawSync } from 'node:zlib';
 import { CODE, openCore } from '../src/core.js';
 import { effectOf } from '../src/effects.js';
 import { FAULT, INSTRUCTIONS, SENTENCES, wordsOfFault } from '../src/faults.js';
@@ -22,7 +23,7 @@ const page = readFileSync(pagePath, 'utf8');
 
 function coreOfPage() {
   const found = /<script type="text\/plain" id="core">([^<]*)</.exec(page);
-  return openCore(Buffer.from(found[1], 'base64'));
+  return openCore(inflateRawSync(Buffer.from(found[1], 'base64')));
 }
 
 // The table that the page's maker put into the page.
@@ -61,9 +62,8 @@ function plainOf(path) {
 function stepsAgree(core, text, job, answer) {
   const last = answer.code === CODE.CONFLICT ? answer.step - 1 : answer.step;
   for (let step = 0; step < last; step += 1) {
-    const { places } = core.state(text, job, step, MOST);
-    const { list } = core.requests(text, job, step, MOST);
-    const next = core.state(text, job, step + 1, MOST).places;
+    const { state: { places }, requests: { list } } = core.moment(text, job, step, MOST);
+    const next = core.moment(text, job, step + 1, MOST).state.places;
     for (const [processor, request] of [...list.entries()].reverse()) {
       if (request.target === 1) places[request.number] = request.value;
       const register = job.cells + 4 * processor + request.number;
@@ -110,11 +110,12 @@ function readsAgree(core, text, job, events) {
   const count = events.length / 2;
   for (let k = 0; k <= 20; k += 1) {
     const part = events.subarray(0, 2 * Math.floor((count * k) / 20));
-    const { pairs } = core.reads(text, job, 3, part);
+    const wanted = { from: part.length / 2, places: job.places, cells: job.cells };
+    const { pairs } = core.scene(text, 3, part, wanted);
     const states = new Map();
     for (let cell = 0; cell < job.cells; cell += 1) {
       const [step, value] = pairs.subarray(2 * cell);
-      if (!states.has(step)) states.set(step, core.state(text, job, step, MOST).places);
+      if (!states.has(step)) states.set(step, core.moment(text, job, step, MOST).state.places);
       if (states.get(step)[cell] !== value) return `cell ${cell} at ${k} of 20`;
     }
   }
@@ -252,8 +253,9 @@ function testSizes(core) {
   is('too many workers', bad.code, CODE.BAD_WORKERS);
   is('an unknown body', core.scene(text, 2, Uint32Array.of(0, 2), all).code, CODE.BAD_EVENT);
   is('an unknown event', core.scene(text, 2, Uint32Array.of(7, 0), all).code, CODE.BAD_EVENT);
-  is('a step past the end', core.state('pram 1\ncells 1\nprocs 1\nsteps 1\ncode\nhalt\n',
-    { places: 6 }, 2, 10).code, CODE.NO_STEP);
+  const { state, requests } = core.moment('pram 1\ncells 1\nprocs 1\nsteps 1\ncode\nhalt\n',
+    { places: 6, procs: 1 }, 2, 10);
+  is('a step past the end', `${state.code} ${requests.code}`, `${CODE.NO_STEP} ${CODE.NO_STEP}`);
 }
 
 // Going to a far moment is quick.

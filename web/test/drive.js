@@ -46,11 +46,21 @@ export async function write(content) {
   await page.until('!document.getElementById("text").classList.contains("waits")');
 }
 
+// Pastes a text in the place of all there is, as the keys for it do.
+export const paste = (text) => `(() => {
+  const data = new DataTransfer();
+  data.setData('text/plain', ${text});
+  const area = document.getElementById('text');
+  area.focus();
+  area.select();
+  const how = { clipboardData: data, bubbles: true, cancelable: true };
+  area.dispatchEvent(new ClipboardEvent('paste', how));
+})()`;
+
 // An address with nothing else of the last one: the page is loaded anew.
 export async function open(hash = '') {
   is(`opens ${hash.slice(0, 60)}`, await page.open(folders.address + hash), true);
 }
-
 
 // Clicks on what saves a file of this name, and reads the file.
 export async function saved(selector, name) {

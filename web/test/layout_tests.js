@@ -135,6 +135,44 @@ export async function testFocus() {
   is('a button that goes', await focused(), 'workers');
 }
 
+// What eyes that lack one kind of cone make of a colour, in linear light.
+const EYES = {
+  all: [[1, 0, 0], [0, 1, 0], [0, 0, 1]],
+  protan: [[0.152, 1.053, -0.205], [0.115, 0.786, 0.099], [-0.004, -0.048, 1.052]],
+  deutan: [[0.367, 0.861, -0.228], [0.28, 0.673, 0.047], [-0.012, 0.043, 0.969]],
+  tritan: [[1.256, -0.077, -0.179], [-0.078, 0.931, 0.148], [0.005, 0.691, 0.304]],
+};
+const linear = (value) => (value / 255) ** 2.2;
+const shown = (value) => 255 * Math.max(0, Math.min(1, value)) ** (1 / 2.2);
+const seenBy = (eyes, colour) =>
+  eyes.map((row) => shown(row.reduce((sum, part, k) => sum + part * linear(colour[k]), 0)));
+const distance = (one, other) => Math.hypot(...one.map((part, k) => part - other[k]));
+
+function leastDistance(eyes, colours) {
+  const seen = colours.map((colour) => seenBy(eyes, colour));
+  return Math.min(...seen.flatMap((one, k) =>
+    seen.slice(k + 1).map((other) => distance(one, other))));
+}
+
+const COLOURS = `['.node.pass0 circle, .block.pass0', '.key.pass1', '.key.pass2', '.key.pass3']
+  .map((one) => document.querySelector(one)).filter(Boolean).map((one) => {
+    const { fill, backgroundColor } = getComputedStyle(one);
+    return (one.tagName === 'SPAN' ? backgroundColor : fill).match(/\\d+/g).slice(0, 3).map(Number);
+  })`;
+
+// What is told of what one points at in a drawing: its first words.
+async function pointedAt(selector, right, down) {
+  const [x, y] = await page.evaluate(`(() => {
+    const { x, y, width, height } =
+      document.querySelector(${JSON.stringify(selector)}).getBoundingClientRect();
+    return [x + ${right} * width, y + ${down} * height];
+  })()`);
+  await page.call('Input.dispatchMouseEvent', { type: 'mouseMoved', x, y });
+  const title = await page.evaluate(`document.elementFromPoint(${x}, ${y})
+    .closest(':has(> title)')?.querySelector('title').textContent ?? ''`);
+  return title.slice(0, 32);
+}
+
 // Of a board of 1,024 processors each of the three passes has a colour of its own, and bars in it.
 export async function testManyColours() {
   const head = 'pram 1\\ncells 4\\nprocs 1024\\nsteps 9\\ncode\\npid r0\\nhalt\\n';
@@ -148,9 +186,20 @@ export async function testManyColours() {
   await page.click('#next-finish');
   await has('a step', '#outcome', 'Finished: 1 of 9');
   await clicks('#all-100', 30);
-  is('bars', await count('.block'), 2047);
-  const colours = await page.evaluate(`['pass1', 'pass2', 'pass3'].map((pass) =>
-    getComputedStyle(document.querySelector('.key.' + pass)).backgroundColor).join(' ')`);
-  is('colours', new Set(colours.match(/rgb[^)]*/g)).size, 3);
+  is('bars', await page.evaluate(`[...document.querySelectorAll('.block')]
+    .map((one) => one.getAttribute('d').split('M').length - 1).reduce((sum, one) => sum + one)`),
+  2047);
   await page.sightPicture('many');
+  is('a bar says what it is', await pointedAt('#tree', 0.5, 0.15), 'the root: finished up to step 1,');
+  await page.click('#moment-start');
+  for (const scheme of ['light', 'dark']) {
+    await page.setScheme(scheme);
+    const colours = await page.evaluate(COLOURS);
+    is(`colours when it is ${scheme}`, colours.length, 4);
+    for (const [name, eyes] of Object.entries(EYES)) {
+      const least = leastDistance(eyes, colours);
+      is(`${scheme}: colours apart for ${name}`, least > 40 || least, true);
+    }
+  }
+  await page.setScheme('light');
 }

@@ -1,14 +1,24 @@
 // How long a click takes, until the page is laid out anew and painted: with a bar.
 import { writeAddress } from '../src/address.js';
 import { Schedule } from '../src/schedule.js';
-import { has, is, open, page, valueOf } from './drive.js';
+import { has, is, open, page, paste, valueOf } from './drive.js';
 
-// Bars are on the processor time of the page's thread, in milliseconds: what the clock says depends
-// on what else the machine does. A click is to take 100 ms; beside other work on all processors even
-// the thread's own time is up to twice as long, so that is the bar. A text of 1 MB that is new, and
-// the first look at the largest board, have a higher one.
-const BAR = 200;
-const HIGH_BAR = 400;
+// A click is to take 100 ms of the page's thread on a quiet machine. What the clock says depends on
+// what else the machine does, and beside other work even the thread's own time does: so work that
+// takes a known time on a quiet machine is measured before and after each click, and the bar is
+// raised by as much as that took longer.
+const BAR = 100;
+const QUIET = 28;
+const KNOWN_WORK = `(() => {
+  let sum = 0;
+  for (let k = 0; k < 6; k += 1) {
+    const list = Array.from({ length: 10000 },
+      (_, i) => ({ at: (i * 7919) % 10007, name: String(i) }));
+    list.sort((one, other) => one.at - other.at);
+    for (const { at, name } of list) sum += at * name.length;
+  }
+  return sum;
+})()`;
 
 const CODE = 'code\npid r0\nset r1 1\nagain: add r0 r0 r1\nld r2 r1\njmp again\n';
 
@@ -21,6 +31,7 @@ const linkTo = async (text, view) =>
 // Opens it, and waits until the browser is done with it.
 async function openQuietly(hash) {
   await open(hash);
+  for (let k = 0; k < 5; k += 1) await page.evaluate(KNOWN_WORK);
   await page.until('false', 1);
 }
 
@@ -47,14 +58,19 @@ async function timesOf(work) {
   return { thread: await threadTime() - before, clock };
 }
 
-async function isQuick(what, work, bar = BAR) {
+const knownWork = async () => (await timesOf(KNOWN_WORK)).thread;
+
+async function isQuick(what, work) {
+  const before = await knownWork();
   const { thread, clock } = await timesOf(work);
-  console.log(`  ${what}: ${thread.toFixed(0)} ms, by the clock ${clock.toFixed(0)} ms`);
-  is(`${what} is quick`, thread < bar || thread, true);
+  const slower = Math.max(1, (before + await knownWork()) / 2 / QUIET);
+  console.log(`  ${what}: ${thread.toFixed(0)} ms (${(thread / slower).toFixed(0)} on a quiet ` +
+    `machine), by the clock ${clock.toFixed(0)} ms`);
+  is(`${what} is quick`, thread < BAR * slower || thread / slower, true);
 }
 
-const clickOn = (what, selector, bar) => isQuick(`${what} ${selector}`,
-  `document.querySelector(${JSON.stringify(selector)}).click()`, bar);
+const clickOn = (what, selector) => isQuick(`${what} ${selector}`,
+  `document.querySelector(${JSON.stringify(selector)}).click()`);
 
 async function clicksOn(what, selectors) {
   for (const selector of selectors) await clickOn(what, selector);
@@ -69,10 +85,33 @@ export async function testSpeedOfBitonic() {
     '#next-change', '#reset', '#undo-acts', '#tab-lockstep', '#access-on', '#step-end']);
 }
 
+const choiceOf = (selector, value) => `(() => {
+  const menu = document.querySelector(${JSON.stringify(selector)});
+  menu.value = ${JSON.stringify(value)};
+  menu.dispatchEvent(new Event('change', { bubbles: true }));
+})()`;
+
+export async function testSpeedOfLessons() {
+  await openQuietly();
+  for (let k = 1; k <= 10; k += 1) {
+    await isQuick(`exercise ${k}`, choiceOf('#lesson', `exercise ${k}`));
+    await clickOn(`exercise ${k}`, '#judge');
+  }
+  await isQuick('a puzzle', choiceOf('#lesson', 'puzzle 1'));
+  await clicksOn('a puzzle', ['#all-100', '#to-end']);
+  await page.until('document.getElementById("outcome").textContent.startsWith("Done")');
+  await clickOn('a puzzle', '#judge');
+  await isQuick('the tour', choiceOf('#lesson', 'tour 1'));
+  for (let k = 2; k <= 9; k += 1) await clickOn(`the tour, ${k}`, '#lesson-on');
+  for (const example of ['bitonic', 'maximum', 'sort']) {
+    await isQuick(example, choiceOf('#example', example));
+  }
+}
+
 export async function testSpeedOfMany() {
   await openQuietly(await linkTo(loop(65536, 1024, 200), 'lockstep'));
   await clicksOn('1,024 processors', ['#step-on', '#access-on', '#step-end', '#step-back']);
-  await clickOn('1,024 processors', '#tab-workers', HIGH_BAR);
+  await clickOn('1,024 processors', '#tab-workers');
   await clicksOn('1,024 processors', ['#all-1', '#all-100', '#moment-back', '#next-finish']);
 }
 
@@ -98,25 +137,14 @@ export async function testSpeedOfFarSteps() {
     await page.until('document.getElementById("step").value === "4999998"', 20), true);
 }
 
-// Pastes a text in the place of all there is, as the keys for it do.
-const paste = (text) => `(() => {
-  const data = new DataTransfer();
-  data.setData('text/plain', ${text});
-  const area = document.getElementById('text');
-  area.focus();
-  area.select();
-  const how = { clipboardData: data, bubbles: true, cancelable: true };
-  area.dispatchEvent(new ClipboardEvent('paste', how));
-})()`;
-
 export async function testSpeedOfLongTexts() {
   await openQuietly();
   const lines = `'pram 1\\ncells 4\\nprocs 4\\nsteps 3\\ncode\\npid r0\\n' +
     '; a line\\n'.repeat(110000) + 'st r0 r0\\n'`;
-  await isQuick('1 MB is pasted', paste(lines), HIGH_BAR);
+  await isQuick('1 MB is pasted', paste(lines));
   is('and is a program', await page.evaluate(
     'document.getElementById("answer").textContent.startsWith("4 cells")'), true);
   await clicksOn('1 MB', ['#step-on', '#step-on', '#undo-text']);
-  await clickOn('1 MB', '#redo-text', HIGH_BAR);
-  await isQuick('a line of 1 MB is pasted', paste('"x".repeat(1000000)'), HIGH_BAR);
+  await clickOn('1 MB', '#redo-text');
+  await isQuick('a line of 1 MB is pasted', paste('"x".repeat(1000000)'));
 }

@@ -62,6 +62,7 @@ export async function testSeeking() {
   await has('forward in the schedule', '#moment-said', `${Number(all).toLocaleString('en')} of`);
   await page.click('#read-cells li:nth-child(6)');
   await page.click('#to-end');
+  await has('the end', '#outcome', 'Done: the same answer');
   await page.click('#place-changes li:last-child button');
   await has('a click on a change', '#steps li', 'swaps the');
 }

@@ -1,5 +1,5 @@
 // No work is lost: drafts, undo, and the browser's history.
-import { clicks, count, has, is, open, page, text, valueOf, write } from './drive.js';
+import { clicks, count, has, is, open, page, paste, text, valueOf, write } from './drive.js';
 
 const HEAD = 'pram 1\ncells 2\nprocs 2\nsteps 2\ncode\n';
 const OWN = `; mine\n${HEAD}pid r0\nhalt\n`;
@@ -38,6 +38,23 @@ export async function testDrafts() {
   is('what is written over it is another one', await valueOf('#text'), OWN);
   await page.choose('#example', 'new');
   await has('a new program', '#answer', 'done after');
+}
+
+// Long programs that the browser has no room for take none of the others'.
+export async function testLongDrafts() {
+  await open();
+  await page.evaluate('localStorage.clear()');
+  await open();
+  await write(OWN);
+  for (const word of ['one', 'two']) {
+    await page.choose('#example', 'new');
+    await page.evaluate(paste(`'; ${word}\\n'.repeat(200000)`));
+    await has(`long ${word}`, '#fault', 'Line ');
+  }
+  await page.until('false', 1);
+  await open();
+  await chooseOwn('your own: mine');
+  is('a short one is there', await valueOf('#text'), OWN);
 }
 
 export async function testUndoOfText() {
@@ -100,7 +117,7 @@ export async function testHistory() {
   await page.evaluate('history.forward()');
   is('forward', await isShown('sum'), true);
   await page.call('Page.reload');
-  await page.until('document.documentElement.hasAttribute("data-ready")');
+  await page.until('document.documentElement?.hasAttribute("data-ready")');
   is('loaded anew', await isShown('sum'), true);
   await page.evaluate('history.back()');
   is('back from there', await isShown('prefix'), true);

@@ -11,250 +11,215 @@ fn job<R: AllocGlobal>(rt: &R, text: &str) -> Result<Job, Fail> {
     Ok(read_job(rt.alloc(), text.as_bytes())?)
 }
 
+// Stops where this does not hold of a job's text.
+fn holds_of<R: Abort>(rt: &R, text: &str, holds: bool) {
+    assert!(rt; holds, "{text}");
+}
+
 // Checks that the job ends with these cells.
 fn ends<R: AllocGlobal + Abort>(rt: &R, text: &str, cells: &[u32]) -> Result<(), Fail> {
     let job = job(rt, text)?;
-    match plain_answer(rt.alloc(), &job)? {
-        RunAnswer::Final(found) => assert_eq!(rt; found.as_slice(), cells),
-        _ => panic!(rt; "{text}"),
-    }
-    match run_plain(rt.alloc(), &job)? {
-        Outcome::Final(state) => {
-            assert_eq!(rt; state.into_cells(&job).into_vec().as_slice(), cells);
-        }
-        _ => panic!(rt; "{text}"),
-    }
+    let answers = match plain_answer(rt.alloc(), &job)? {
+        RunAnswer::Final(found) => found.as_slice() == cells,
+        _ => false,
+    };
+    holds_of(rt, text, answers);
+    let runs = match run_plain(rt.alloc(), &job)? {
+        Outcome::Final(state) => state.into_cells(&job).into_vec().as_slice() == cells,
+        _ => false,
+    };
+    holds_of(rt, text, runs);
     Ok(())
 }
 
 // Checks that the job ends with this first conflict.
 fn conflicts<R: AllocGlobal + Abort>(rt: &R, text: &str, fault: Fault) -> Result<(), Fail> {
     let job = job(rt, text)?;
-    match plain_answer(rt.alloc(), &job)? {
-        RunAnswer::Conflict(found) => assert_eq!(rt; found, fault),
-        _ => panic!(rt; "{text}"),
-    }
-    match run_plain(rt.alloc(), &job)? {
+    let answers = match plain_answer(rt.alloc(), &job)? {
+        RunAnswer::Conflict(found) => found == fault,
+        _ => false,
+    };
+    holds_of(rt, text, answers);
+    let runs = match run_plain(rt.alloc(), &job)? {
         Outcome::Conflict {
             step,
             cell,
             first,
             second,
-        } => {
-            let found = Fault {
-                step,
-                cell,
-                first,
-                second,
-            };
-            assert_eq!(rt; found, fault);
-        }
-        _ => panic!(rt; "{text}"),
+        } => (step, cell, first, second) == (fault.step, fault.cell, fault.first, fault.second),
+        _ => false,
+    };
+    holds_of(rt, text, runs);
+    Ok(())
+}
+
+// Texts of jobs, and the cells that they end with.
+const ENDS: [(&str, &[u32]); 16] = [
+    // no steps leave the start
+    (
+        "pram 1\ncells 1\nprocs 1\nsteps 0\ninit 0 5\ncode\nhalt\n",
+        &[5],
+    ),
+    // registers are no cells
+    ("pram 1\ncells 1\nprocs 1\nsteps 1\ncode\nset r0 7\n", &[0]),
+    // loads come before stores
+    (
+        "pram 1\ncells 2\nprocs 2\nsteps 5\ninit 0 7\ninit 1 9\ncode\n\
+         pid r0\nset r1 1\nsub r1 r1 r0\nld r2 r1\nst r0 r2\n",
+        &[9, 7],
+    ),
+    // two writers of equal values
+    (
+        "pram 1\ncells 5\nprocs 4\nsteps 5\ninit 1 1\ninit 3 1\ncode\n\
+         pid r0\nld r1 r0\njz r1 end\nset r2 4\nst r2 r1\nend: halt\n",
+        &[0, 1, 0, 1, 1],
+    ),
+    // sub goes below zero
+    (
+        "pram 1\ncells 1\nprocs 1\nsteps 3\ncode\nset r1 1\nsub r2 r0 r1\nst r0 r2\n",
+        &[4294967295],
+    ),
+    // load out of range
+    (
+        "pram 1\ncells 2\nprocs 2\nsteps 5\ninit 0 5\ninit 1 9\ncode\n\
+         pid r0\nset r1 1\nadd r2 r0 r1\nld r3 r2\nst r0 r3\n",
+        &[9, 9],
+    ),
+    // three processors write apart
+    (
+        "pram 1\ncells 3\nprocs 3\nsteps 4\ncode\n\
+         pid r0\nset r1 10\nadd r1 r0 r1\nst r0 r1\n",
+        &[10, 11, 12],
+    ),
+    // cells that nobody writes
+    (
+        "pram 1\ncells 3\nprocs 2\nsteps 3\ninit 2 8\ncode\n\
+         pid r0\nset r1 6\nst r0 r1\n",
+        &[6, 6, 8],
+    ),
+    // store out of range
+    (
+        "pram 1\ncells 1\nprocs 2\nsteps 2\ncode\npid r0\nst r0 r0\n",
+        &[0],
+    ),
+    // mul goes past the greatest number
+    (
+        "pram 1\ncells 1\nprocs 1\nsteps 4\ncode\n\
+         set r1 4294967295\nmul r2 r1 r1\nlt r3 r2 r1\nst r0 r3\n",
+        &[1],
+    ),
+    // a loop counts
+    (
+        "pram 1\ncells 1\nprocs 1\nsteps 6\ncode\n\
+         set r1 1\nl: add r2 r2 r1\nst r0 r2\njmp l\n",
+        &[2],
+    ),
+    // halted machine ends at once
+    (
+        "pram 1\ncells 2\nprocs 3\nsteps 4294967295\ncode\npid r0\nhalt\n",
+        &[0, 0],
+    ),
+    // common takes equal values
+    (
+        "pram 2\ncells 5\nprocs 4\nsteps 5\nrule common\ninit 1 1\ninit 3 1\ncode\n\
+         pid r0\nld r1 r0\njz r1 end\nset r2 4\nst r2 r1\nend: halt\n",
+        &[0, 1, 0, 1, 1],
+    ),
+    // priority takes the least writer
+    (
+        "pram 2\ncells 5\nprocs 4\nsteps 5\nrule priority\ninit 1 1\ninit 3 1\ncode\n\
+         pid r0\nld r1 r0\njz r1 end\nset r2 4\nst r2 r0\nend: halt\n",
+        &[0, 1, 0, 1, 1],
+    ),
+    // priority takes the least writer of each cell
+    (
+        "pram 2\ncells 2\nprocs 4\nsteps 4\nrule priority\ncode\n\
+         pid r0\nset r1 1\nand r2 r0 r1\nst r2 r0\n",
+        &[0, 1],
+    ),
+    // version 3, one processor: places that are numbers, and shifts
+    (
+        "pram 3\ncells 5\nprocs 1\nsteps 9\nrule common\ncode\n\
+         st 1 7\nset r0 1\nshl r1 r0 32\nst 0 r1\nshl r1 r0 31\nst 2 r1\nld r2 1\nst r2 r0\n\
+         halt\n",
+        &[0, 7, 2_147_483_648, 0, 0],
+    ),
+];
+
+#[test]
+fn jobs_that_end(rt: HostRuntime) -> Result<(), Fail> {
+    for (text, cells) in ENDS {
+        ends(&rt, text, cells)?;
     }
     Ok(())
 }
 
-#[test]
-fn no_steps_leave_the_start(rt: HostRuntime) -> Result<(), Fail> {
-    let text = "pram 1\ncells 1\nprocs 1\nsteps 0\ninit 0 5\ncode\n\
-        halt\n";
-    ends(&rt, text, &[5])
+// Texts of jobs, and their first conflicts: the step, the cell and the two processors.
+const CONFLICTS: [(&str, (u32, u32, u32, u32)); 7] = [
+    // two writers of different values
+    (
+        "pram 1\ncells 5\nprocs 4\nsteps 5\ninit 1 1\ninit 3 1\ncode\n\
+         pid r0\nld r1 r0\njz r1 end\nset r2 4\nst r2 r0\nend: halt\n",
+        (5, 4, 1, 3),
+    ),
+    // least of two disputed cells
+    (
+        "pram 1\ncells 2\nprocs 4\nsteps 4\ncode\n\
+         pid r0\nset r1 1\nand r2 r0 r1\nst r2 r0\n",
+        (4, 0, 0, 2),
+    ),
+    // least of three writers
+    (
+        "pram 1\ncells 1\nprocs 3\nsteps 2\ncode\npid r0\nst r1 r0\n",
+        (2, 0, 0, 1),
+    ),
+    // crew refuses equal values
+    (
+        "pram 2\ncells 5\nprocs 4\nsteps 5\nrule crew\ninit 1 1\ninit 3 1\ncode\n\
+         pid r0\nld r1 r0\njz r1 end\nset r2 4\nst r2 r1\nend: halt\n",
+        (5, 4, 1, 3),
+    ),
+    // crew names the two least writers
+    (
+        "pram 2\ncells 1\nprocs 3\nsteps 1\nrule crew\ncode\nst r0 r1\n",
+        (1, 0, 0, 1),
+    ),
+    // version 3, each processor in its own rows: the shifts, numbers as operands, and places of an
+    // array, the last of which is none. Processor 3 has stopped where it loads; of the others the
+    // last stores are against the rule.
+    (
+        "pram 3\ncells 8\nprocs 4\nsteps 9\nrule crew\narray A 1 3\narray B 4 4\n\
+         init 0 9 20 30 40\ncode\n\
+         pid r0\nld r1 A r0\nadd r1 r1 4294967295\nshl r2 r1 r0\nshr r2 r2 1\n\
+         st B r0 r2\nld r3 A 0\nlt r3 r3 20\nst B 2 r3\n",
+        (9, 6, 0, 1),
+    ),
+    // the same, and a store into one place of an array
+    (
+        "pram 3\ncells 8\nprocs 4\nsteps 8\nrule crew\narray A 1 3\narray B 4 4\n\
+         init 0 9 20 30 40\ncode\n\
+         pid r0\nld r1 A r0\nadd r1 r1 4294967295\nshl r2 r1 r0\nshr r2 r2 1\n\
+         st B r0 r2\nst B 3 r2\nhalt\n",
+        (7, 7, 0, 1),
+    ),
+];
+
+fn fault(row: (u32, u32, u32, u32)) -> Fault {
+    let (step, cell, first, second) = row;
+    Fault {
+        step,
+        cell,
+        first,
+        second,
+    }
 }
 
 #[test]
-fn registers_are_no_cells(rt: HostRuntime) -> Result<(), Fail> {
-    let text = "pram 1\ncells 1\nprocs 1\nsteps 1\ncode\n\
-        set r0 7\n";
-    ends(&rt, text, &[0])
-}
-
-#[test]
-fn loads_come_before_stores(rt: HostRuntime) -> Result<(), Fail> {
-    let text = "pram 1\ncells 2\nprocs 2\nsteps 5\ninit 0 7\ninit 1 9\ncode\n\
-        pid r0\nset r1 1\nsub r1 r1 r0\nld r2 r1\nst r0 r2\n";
-    ends(&rt, text, &[9, 7])
-}
-
-#[test]
-fn two_writers_of_equal_values(rt: HostRuntime) -> Result<(), Fail> {
-    let text = "pram 1\ncells 5\nprocs 4\nsteps 5\ninit 1 1\ninit 3 1\ncode\n\
-        pid r0\nld r1 r0\njz r1 end\nset r2 4\nst r2 r1\nend: halt\n";
-    ends(&rt, text, &[0, 1, 0, 1, 1])
-}
-
-#[test]
-fn two_writers_of_different_values(rt: HostRuntime) -> Result<(), Fail> {
-    let text = "pram 1\ncells 5\nprocs 4\nsteps 5\ninit 1 1\ninit 3 1\ncode\n\
-        pid r0\nld r1 r0\njz r1 end\nset r2 4\nst r2 r0\nend: halt\n";
-    let fault = Fault {
-        step: 5,
-        cell: 4,
-        first: 1,
-        second: 3,
-    };
-    conflicts(&rt, text, fault)
-}
-
-#[test]
-fn least_of_two_disputed_cells(rt: HostRuntime) -> Result<(), Fail> {
-    let text = "pram 1\ncells 2\nprocs 4\nsteps 4\ncode\n\
-        pid r0\nset r1 1\nand r2 r0 r1\nst r2 r0\n";
-    let fault = Fault {
-        step: 4,
-        cell: 0,
-        first: 0,
-        second: 2,
-    };
-    conflicts(&rt, text, fault)
-}
-
-#[test]
-fn sub_goes_below_zero(rt: HostRuntime) -> Result<(), Fail> {
-    let text = "pram 1\ncells 1\nprocs 1\nsteps 3\ncode\n\
-        set r1 1\nsub r2 r0 r1\nst r0 r2\n";
-    ends(&rt, text, &[4294967295])
-}
-
-// Each processor in its own rows: the shifts, numbers as operands, and places of an array, the last
-// of which is none.
-#[test]
-fn version_3(rt: HostRuntime) -> Result<(), Fail> {
-    let text = "pram 3\ncells 8\nprocs 4\nsteps 9\nrule crew\narray A 1 3\narray B 4 4\n\
-        init 0 9 20 30 40\ncode\n\
-        pid r0\nld r1 A r0\nadd r1 r1 4294967295\nshl r2 r1 r0\nshr r2 r2 1\n\
-        st B r0 r2\nld r3 A 0\nlt r3 r3 20\nst B 2 r3\n";
-    // Processor 3 has stopped where it loads; of the others the last stores are against the rule.
-    let fault = Fault {
-        step: 9,
-        cell: 6,
-        first: 0,
-        second: 1,
-    };
-    conflicts(&rt, text, fault)?;
-    let fewer = "pram 3\ncells 8\nprocs 4\nsteps 8\nrule crew\narray A 1 3\narray B 4 4\n\
-        init 0 9 20 30 40\ncode\n\
-        pid r0\nld r1 A r0\nadd r1 r1 4294967295\nshl r2 r1 r0\nshr r2 r2 1\n\
-        st B r0 r2\nst B 3 r2\nhalt\n";
-    let alone = "pram 3\ncells 5\nprocs 1\nsteps 9\nrule common\ncode\n\
-        st 1 7\nset r0 1\nshl r1 r0 32\nst 0 r1\nshl r1 r0 31\nst 2 r1\nld r2 1\nst r2 r0\n\
-        halt\n";
-    ends(&rt, alone, &[0, 7, 2_147_483_648, 0, 0])?;
-    let fault = Fault {
-        step: 7,
-        cell: 7,
-        first: 0,
-        second: 1,
-    };
-    conflicts(&rt, fewer, fault)
-}
-
-#[test]
-fn load_out_of_range(rt: HostRuntime) -> Result<(), Fail> {
-    let text = "pram 1\ncells 2\nprocs 2\nsteps 5\ninit 0 5\ninit 1 9\ncode\n\
-        pid r0\nset r1 1\nadd r2 r0 r1\nld r3 r2\nst r0 r3\n";
-    ends(&rt, text, &[9, 9])
-}
-
-#[test]
-fn three_processors_write_apart(rt: HostRuntime) -> Result<(), Fail> {
-    let text = "pram 1\ncells 3\nprocs 3\nsteps 4\ncode\n\
-        pid r0\nset r1 10\nadd r1 r0 r1\nst r0 r1\n";
-    ends(&rt, text, &[10, 11, 12])
-}
-
-#[test]
-fn cells_that_nobody_writes(rt: HostRuntime) -> Result<(), Fail> {
-    let text = "pram 1\ncells 3\nprocs 2\nsteps 3\ninit 2 8\ncode\n\
-        pid r0\nset r1 6\nst r0 r1\n";
-    ends(&rt, text, &[6, 6, 8])
-}
-
-#[test]
-fn least_of_three_writers(rt: HostRuntime) -> Result<(), Fail> {
-    let text = "pram 1\ncells 1\nprocs 3\nsteps 2\ncode\n\
-        pid r0\nst r1 r0\n";
-    let fault = Fault {
-        step: 2,
-        cell: 0,
-        first: 0,
-        second: 1,
-    };
-    conflicts(&rt, text, fault)
-}
-
-#[test]
-fn store_out_of_range(rt: HostRuntime) -> Result<(), Fail> {
-    let text = "pram 1\ncells 1\nprocs 2\nsteps 2\ncode\n\
-        pid r0\nst r0 r0\n";
-    ends(&rt, text, &[0])
-}
-
-#[test]
-fn mul_goes_past_the_greatest_number(rt: HostRuntime) -> Result<(), Fail> {
-    let text = "pram 1\ncells 1\nprocs 1\nsteps 4\ncode\n\
-        set r1 4294967295\nmul r2 r1 r1\nlt r3 r2 r1\nst r0 r3\n";
-    ends(&rt, text, &[1])
-}
-
-#[test]
-fn a_loop_counts(rt: HostRuntime) -> Result<(), Fail> {
-    let text = "pram 1\ncells 1\nprocs 1\nsteps 6\ncode\n\
-        set r1 1\nl: add r2 r2 r1\nst r0 r2\njmp l\n";
-    ends(&rt, text, &[2])
-}
-
-#[test]
-fn halted_machine_ends_at_once(rt: HostRuntime) -> Result<(), Fail> {
-    let text = "pram 1\ncells 2\nprocs 3\nsteps 4294967295\ncode\n\
-        pid r0\nhalt\n";
-    ends(&rt, text, &[0, 0])
-}
-
-#[test]
-fn common_takes_equal_values(rt: HostRuntime) -> Result<(), Fail> {
-    let text = "pram 2\ncells 5\nprocs 4\nsteps 5\nrule common\ninit 1 1\ninit 3 1\ncode\n\
-        pid r0\nld r1 r0\njz r1 end\nset r2 4\nst r2 r1\nend: halt\n";
-    ends(&rt, text, &[0, 1, 0, 1, 1])
-}
-
-#[test]
-fn priority_takes_the_least_writer(rt: HostRuntime) -> Result<(), Fail> {
-    let text = "pram 2\ncells 5\nprocs 4\nsteps 5\nrule priority\ninit 1 1\ninit 3 1\ncode\n\
-        pid r0\nld r1 r0\njz r1 end\nset r2 4\nst r2 r0\nend: halt\n";
-    ends(&rt, text, &[0, 1, 0, 1, 1])
-}
-
-#[test]
-fn priority_takes_the_least_writer_of_each_cell(rt: HostRuntime) -> Result<(), Fail> {
-    let text = "pram 2\ncells 2\nprocs 4\nsteps 4\nrule priority\ncode\n\
-        pid r0\nset r1 1\nand r2 r0 r1\nst r2 r0\n";
-    ends(&rt, text, &[0, 1])
-}
-
-#[test]
-fn crew_refuses_equal_values(rt: HostRuntime) -> Result<(), Fail> {
-    let text = "pram 2\ncells 5\nprocs 4\nsteps 5\nrule crew\ninit 1 1\ninit 3 1\ncode\n\
-        pid r0\nld r1 r0\njz r1 end\nset r2 4\nst r2 r1\nend: halt\n";
-    let fault = Fault {
-        step: 5,
-        cell: 4,
-        first: 1,
-        second: 3,
-    };
-    conflicts(&rt, text, fault)
-}
-
-#[test]
-fn crew_names_the_two_least_writers(rt: HostRuntime) -> Result<(), Fail> {
-    let text = "pram 2\ncells 1\nprocs 3\nsteps 1\nrule crew\ncode\n\
-        st r0 r1\n";
-    let fault = Fault {
-        step: 1,
-        cell: 0,
-        first: 0,
-        second: 1,
-    };
-    conflicts(&rt, text, fault)
+fn jobs_with_a_conflict(rt: HostRuntime) -> Result<(), Fail> {
+    for (text, row) in CONFLICTS {
+        conflicts(&rt, text, fault(row))?;
+    }
+    Ok(())
 }
 
 // Checks that the second instruction stops the only processor, its address being out of range.
@@ -311,12 +276,7 @@ fn steps_are_gone_through(rt: HostRuntime) -> Result<(), Fail> {
     assert_eq!(rt; job.procs(), 2);
     job.limits_hold();
     laws::states_have_all_places();
-    let fault = Fault {
-        step: 2,
-        cell: 0,
-        first: 0,
-        second: 1,
-    };
+    let fault = fault((2, 0, 0, 1));
     match go_to(rt.alloc(), &job, 3, 3)? {
         Arrival::Disputed(found) => assert_eq!(rt; found, fault),
         _ => panic!(rt; "step 3"),
@@ -337,18 +297,9 @@ fn steps_are_gone_through(rt: HostRuntime) -> Result<(), Fail> {
     Ok(())
 }
 
-fn disputed(cell: u32, first: u32, second: u32) -> Option<Dispute> {
-    Some(Dispute {
-        cell,
-        first,
-        second,
-    })
-}
-
 #[test]
 fn disputes_in_lists_of_requests(rt: HostRuntime) -> Result<(), Fail> {
-    let text = "pram 1\ncells 6\nprocs 5\nsteps 1\ncode\nhalt\n";
-    let job = job(&rt, text)?;
+    let job = job(&rt, "pram 1\ncells 6\nprocs 5\nsteps 1\ncode\nhalt\n")?;
     assert_eq!(rt; job.procs(), 5);
     let lists = [
         (
@@ -372,4 +323,12 @@ fn disputes_in_lists_of_requests(rt: HostRuntime) -> Result<(), Fail> {
         assert_eq!(rt; dispute(rt.alloc(), &job, &requests)?, found);
     }
     Ok(())
+}
+
+fn disputed(cell: u32, first: u32, second: u32) -> Option<Dispute> {
+    Some(Dispute {
+        cell,
+        first,
+        second,
+    })
 }

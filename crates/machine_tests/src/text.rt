@@ -1,155 +1,90 @@
 //! Texts that are read, and each kind of fault.
 use pram_text::{Array, Instr, Operand, Place, Rule, TextFault, TextKind, read_job};
-use std::alloc::Global;
+use std::alloc::{AllocError, Global};
+use std::process::Abort;
 use std::test::Fail;
 
 /// A header up to the line `code`.
-const HEADER: &[u8] = b"pram 1\ncells 1\nprocs 1\nsteps 1\ncode\n";
+const HEADER: &str = "pram 1/cells 1/procs 1/steps 1/code/";
 
-#[test]
-fn refused_headers(rt: HostRuntime) {
-    for (name, text, line, kind) in [
-        ("no byte at all", "", 1, TextKind::BadHeader),
-        ("version 4", "pram 4\n", 1, TextKind::BadHeader),
-        ("version x", "pram x\n", 1, TextKind::BadNumber),
-        ("no cell", "pram 1\ncells 0\n", 2, TextKind::OutOfLimits),
-        (
-            "one cell too many",
-            "pram 1\ncells 65537\n",
-            2,
-            TextKind::OutOfLimits,
-        ),
-        (
-            "one processor too many",
-            "pram 1\ncells 1\nprocs 1025\n",
-            3,
-            TextKind::OutOfLimits,
-        ),
-        (
-            "one step too many",
-            "pram 1\ncells 1\nprocs 1\nsteps 4294967296\n",
-            4,
-            TextKind::OutOfLimits,
-        ),
-        (
-            "a second start value",
-            "pram 1\ncells 1\nprocs 1\nsteps 0\ninit 0 1\ninit 0 1\ncode\nhalt\n",
-            6,
-            TextKind::BadHeader,
-        ),
-        (
-            "a start value of no cell",
-            "pram 1\ncells 1\nprocs 1\nsteps 0\ninit 1 0\n",
-            5,
-            TextKind::OutOfLimits,
-        ),
-        (
-            "no line code",
-            "pram 1\ncells 1\nprocs 1\nsteps 1\n\n",
-            6,
-            TextKind::BadHeader,
-        ),
-        (
-            "a rule in version 1",
-            "pram 1\ncells 1\nprocs 1\nsteps 1\nrule common\n",
-            5,
-            TextKind::BadHeader,
-        ),
-        (
-            "no rule in version 2",
-            "pram 2\ncells 1\nprocs 1\nsteps 1\ncode\n",
-            5,
-            TextKind::BadHeader,
-        ),
-        (
-            "an unknown rule",
-            "pram 2\ncells 1\nprocs 1\nsteps 1\nrule arbitrary\n",
-            5,
-            TextKind::BadHeader,
-        ),
-    ] {
-        assert_eq!(rt;
-            read_job(rt.alloc(), text.as_bytes()).err(),
-            Some(TextFault { line, kind }),
-            "{name}"
-        );
-    }
+// Whether the text is refused by this fault at this line.
+fn is_refused(alloc: Global, text: &[u8], line: u64, kind: TextKind) -> bool {
+    read_job(alloc, text).err() == Some(TextFault { line, kind })
 }
 
-#[test]
-fn refused_instructions(rt: HostRuntime) -> Result<(), Fail> {
-    for (name, code, line, kind) in [
-        ("no instruction", "", 6, TextKind::NoCode),
-        (
-            "a second label",
-            "a: halt\na: halt\n",
-            7,
-            TextKind::DuplicateLabel,
-        ),
-        ("half a name", "ad", 6, TextKind::UnknownInstruction),
-        (
-            "a label with a digit first",
-            "1a: halt\n",
-            6,
-            TextKind::UnknownInstruction,
-        ),
-        ("a label alone", "a:\n", 6, TextKind::UnknownInstruction),
-        (
-            "a second word with a colon",
-            "a: b: halt\n",
-            6,
-            TextKind::UnknownInstruction,
-        ),
-        ("register 4", "jz r4 x\n", 6, TextKind::BadRegister),
-        ("digits and a letter", "set r0 1x\n", 6, TextKind::BadNumber),
-        (
-            "a number of 20 digits",
-            "set r0 99999999999999999999\n",
-            6,
-            TextKind::OutOfLimits,
-        ),
-        ("an unknown label", "jmp x\n", 6, TextKind::UnknownLabel),
-        (
-            "an unknown label, then a fault",
-            "jmp x\nfoo\n",
-            7,
-            TextKind::UnknownInstruction,
-        ),
-        (
-            "an unknown label, then one operand",
-            "jmp y\nset r0\n",
-            7,
-            TextKind::WrongOperands,
-        ),
-        (
-            "two unknown labels",
-            "halt\n\njmp x\njmp y\n",
-            8,
-            TextKind::UnknownLabel,
-        ),
-    ] {
-        let mut text = HEADER.to_vec(rt.alloc())?;
-        text.extend_from_slice(code.as_bytes())?;
-        assert_eq!(rt;
-            read_job(rt.alloc(), &text).err(),
-            Some(TextFault { line, kind }),
-            "{name}"
-        );
+// A text in which `/` stands for a line feed.
+fn lines_of(alloc: Global, row: &str) -> Result<Vec<u8>, AllocError> {
+    row.bytes()
+        .map(|byte| if byte == b'/' { b'\n' } else { byte })
+        .collect(alloc)
+}
+
+// Checks the refusals of texts that begin with this head. Each line of the table names a row, and
+// has the rest of its text, and the line and the kind of its fault.
+fn all_refused<R: AllocGlobal + Abort>(rt: &R, head: &str, table: &str) -> Result<(), Fail> {
+    for row in table.lines() {
+        let mut columns = row.split(" | ").skip(1);
+        let (Some(rest), Some(fault)) = (columns.next(), columns.next()) else {
+            panic!(rt; "{row}");
+        };
+        let mut text = lines_of(rt.alloc(), head)?;
+        text.extend_from_slice(lines_of(rt.alloc(), rest)?.as_slice())?;
+        let told = match read_job(rt.alloc(), &text) {
+            Ok(_) => String::new(rt.alloc()),
+            Err(TextFault { line, kind }) => format!(in rt.alloc(); "{line} {kind:?}")?,
+        };
+        assert!(rt; told.as_str() == fault, "{row}");
     }
     Ok(())
 }
 
+const HEADERS: &str = "\
+no byte at all |  | 1 BadHeader
+version 4 | pram 4/ | 1 BadHeader
+version x | pram x/ | 1 BadNumber
+no cell | pram 1/cells 0/ | 2 OutOfLimits
+one cell too many | pram 1/cells 65537/ | 2 OutOfLimits
+one processor too many | pram 1/cells 1/procs 1025/ | 3 OutOfLimits
+one step too many | pram 1/cells 1/procs 1/steps 4294967296/ | 4 OutOfLimits
+a second start value | pram 1/cells 1/procs 1/steps 0/init 0 1/init 0 1/code/halt/ | 6 BadHeader
+a start value of no cell | pram 1/cells 1/procs 1/steps 0/init 1 0/ | 5 OutOfLimits
+no line code | pram 1/cells 1/procs 1/steps 1// | 6 BadHeader
+a rule in version 1 | pram 1/cells 1/procs 1/steps 1/rule common/ | 5 BadHeader
+no rule in version 2 | pram 2/cells 1/procs 1/steps 1/code/ | 5 BadHeader
+an unknown rule | pram 2/cells 1/procs 1/steps 1/rule arbitrary/ | 5 BadHeader
+";
+
+#[test]
+fn refused_headers(rt: HostRuntime) -> Result<(), Fail> {
+    all_refused(&rt, "", HEADERS)
+}
+
+const INSTRUCTIONS: &str = "\
+no instruction |  | 6 NoCode
+a second label | a: halt/a: halt/ | 7 DuplicateLabel
+half a name | ad | 6 UnknownInstruction
+a label with a digit first | 1a: halt/ | 6 UnknownInstruction
+a label alone | a:/ | 6 UnknownInstruction
+a second word with a colon | a: b: halt/ | 6 UnknownInstruction
+register 4 | jz r4 x/ | 6 BadRegister
+digits and a letter | set r0 1x/ | 6 BadNumber
+a number of 20 digits | set r0 99999999999999999999/ | 6 OutOfLimits
+an unknown label | jmp x/ | 6 UnknownLabel
+an unknown label, then a fault | jmp x/foo/ | 7 UnknownInstruction
+an unknown label, then one operand | jmp y/set r0/ | 7 WrongOperands
+two unknown labels | halt//jmp x/jmp y/ | 8 UnknownLabel
+";
+
+#[test]
+fn refused_instructions(rt: HostRuntime) -> Result<(), Fail> {
+    all_refused(&rt, HEADER, INSTRUCTIONS)
+}
+
 #[test]
 fn a_comment_with_a_byte_that_is_not_allowed(rt: HostRuntime) -> Result<(), Fail> {
-    let mut text = HEADER.to_vec(rt.alloc())?;
+    let mut text = lines_of(rt.alloc(), HEADER)?;
     text.extend_from_slice(b"; \xff\nhalt\n")?;
-    assert_eq!(rt;
-        read_job(rt.alloc(), &text).err(),
-        Some(TextFault {
-            line: 6,
-            kind: TextKind::NotAscii
-        })
-    );
+    assert!(rt; is_refused(rt.alloc(), &text, 6, TextKind::NotAscii));
     Ok(())
 }
 
@@ -161,7 +96,7 @@ fn repeated(
     times: u32,
     last: &[u8],
 ) -> Result<Vec<u8>, Fail> {
-    let mut text = HEADER.to_vec(alloc)?;
+    let mut text = lines_of(alloc, HEADER)?;
     text.extend_from_slice(first)?;
     for _ in 0..times {
         text.extend_from_slice(again)?;
@@ -173,13 +108,7 @@ fn repeated(
 #[test]
 fn one_instruction_too_many(rt: HostRuntime) -> Result<(), Fail> {
     let lines = repeated(rt.alloc(), b"", b"halt\n", 4097, b"")?;
-    assert_eq!(rt;
-        read_job(rt.alloc(), &lines).err(),
-        Some(TextFault {
-            line: 4102,
-            kind: TextKind::TooLong
-        })
-    );
+    assert!(rt; is_refused(rt.alloc(), &lines, 4102, TextKind::TooLong));
     let full = repeated(rt.alloc(), b"", b"halt\n", 4096, b"")?;
     assert_eq!(rt; read_job(rt.alloc(), &full).err(), None);
     Ok(())
@@ -188,13 +117,7 @@ fn one_instruction_too_many(rt: HostRuntime) -> Result<(), Fail> {
 #[test]
 fn a_million_digits(rt: HostRuntime) -> Result<(), Fail> {
     let digits = repeated(rt.alloc(), b"set r0 ", b"9", 1_000_000, b"\n")?;
-    assert_eq!(rt;
-        read_job(rt.alloc(), &digits).err(),
-        Some(TextFault {
-            line: 6,
-            kind: TextKind::OutOfLimits
-        })
-    );
+    assert!(rt; is_refused(rt.alloc(), &digits, 6, TextKind::OutOfLimits));
     Ok(())
 }
 
@@ -245,11 +168,11 @@ fn every_instruction(rt: HostRuntime) -> Result<(), Fail> {
 }
 
 /// A header of version 3 up to its rule, whose next line is the sixth.
-const LATER: &[u8] = b"pram 3\ncells 9\nprocs 1\nsteps 1\nrule crew\n";
+const LATER: &str = "pram 3/cells 9/procs 1/steps 1/rule crew/";
 
 #[test]
 fn version_3(rt: HostRuntime) -> Result<(), Fail> {
-    let mut text = LATER.to_vec(rt.alloc())?;
+    let mut text = lines_of(rt.alloc(), LATER)?;
     for part in [
         "array A 2 4\narray .r0 8 1\ninit 1 7 8 9\ninit 0 6\ncode\n",
         "a: add r0 r1 4294967295\neq r0 r1 r2\nshl r0 r1 31\nshr r2 r3 r0\n",
@@ -282,206 +205,69 @@ fn version_3(rt: HostRuntime) -> Result<(), Fail> {
     Ok(())
 }
 
+const LATER_LINES: &str = "\
+an array without a length | array A 2/ | 6 BadHeader
+a register's name | array r3 0 1/ | 6 BadHeader
+a digit first | array 1a 0 1/ | 6 BadHeader
+two dots | array ..a 0 1/ | 6 BadHeader
+a base that is no number | array A x 1/ | 6 BadNumber
+an array of no place | array A 0 0/ | 6 OutOfLimits
+a base past the cells | array A 9 1/ | 6 OutOfLimits
+an end past the cells | array A 2 8/ | 6 OutOfLimits
+a name twice | array A 2 7/array A 0 1/ | 7 BadHeader
+an array after a value | init 0 1/array A 0 1/ | 7 BadHeader
+a value past the cells | init 7 1 2 3 x/ | 6 OutOfLimits
+a value that is none | init 8 x 3/ | 6 BadNumber
+no value | init 8/ | 6 BadHeader
+a cell twice | init 2 1 1 1/init 0 1 1 1/ | 7 BadHeader
+an unknown array | code/ld r0 A r1/ | 7 BadRegister
+an array without an index | array A 0 1/code/st A r0/ | 8 BadRegister
+a first operand that is a number | code/add r0 1 r1/ | 7 BadRegister
+a target that is a number | code/ld 0 r1/ | 7 BadRegister
+a number of 33 bits | code/st r0 4294967296/ | 7 OutOfLimits
+four operands | array A 0 1/code/st A r0 r1 r2/ | 8 WrongOperands
+a jump on a number | code/jz 0 x/ | 7 BadRegister
+";
+
 #[test]
 fn refused_in_version_3(rt: HostRuntime) -> Result<(), Fail> {
-    for (name, lines, line, kind) in [
-        (
-            "an array without a length",
-            "array A 2\n",
-            6,
-            TextKind::BadHeader,
-        ),
-        (
-            "a register's name",
-            "array r3 0 1\n",
-            6,
-            TextKind::BadHeader,
-        ),
-        ("a digit first", "array 1a 0 1\n", 6, TextKind::BadHeader),
-        ("two dots", "array ..a 0 1\n", 6, TextKind::BadHeader),
-        (
-            "a base that is no number",
-            "array A x 1\n",
-            6,
-            TextKind::BadNumber,
-        ),
-        (
-            "an array of no place",
-            "array A 0 0\n",
-            6,
-            TextKind::OutOfLimits,
-        ),
-        (
-            "a base past the cells",
-            "array A 9 1\n",
-            6,
-            TextKind::OutOfLimits,
-        ),
-        (
-            "an end past the cells",
-            "array A 2 8\n",
-            6,
-            TextKind::OutOfLimits,
-        ),
-        (
-            "a name twice",
-            "array A 2 7\narray A 0 1\n",
-            7,
-            TextKind::BadHeader,
-        ),
-        (
-            "an array after a value",
-            "init 0 1\narray A 0 1\n",
-            7,
-            TextKind::BadHeader,
-        ),
-        (
-            "a value past the cells",
-            "init 7 1 2 3 x\n",
-            6,
-            TextKind::OutOfLimits,
-        ),
-        (
-            "a value that is none",
-            "init 8 x 3\n",
-            6,
-            TextKind::BadNumber,
-        ),
-        ("no value", "init 8\n", 6, TextKind::BadHeader),
-        (
-            "a cell twice",
-            "init 2 1 1 1\ninit 0 1 1 1\n",
-            7,
-            TextKind::BadHeader,
-        ),
-        (
-            "an unknown array",
-            "code\nld r0 A r1\n",
-            7,
-            TextKind::BadRegister,
-        ),
-        (
-            "an array without an index",
-            "array A 0 1\ncode\nst A r0\n",
-            8,
-            TextKind::BadRegister,
-        ),
-        (
-            "a first operand that is a number",
-            "code\nadd r0 1 r1\n",
-            7,
-            TextKind::BadRegister,
-        ),
-        (
-            "a target that is a number",
-            "code\nld 0 r1\n",
-            7,
-            TextKind::BadRegister,
-        ),
-        (
-            "a number of 33 bits",
-            "code\nst r0 4294967296\n",
-            7,
-            TextKind::OutOfLimits,
-        ),
-        (
-            "four operands",
-            "array A 0 1\ncode\nst A r0 r1 r2\n",
-            8,
-            TextKind::WrongOperands,
-        ),
-        (
-            "a jump on a number",
-            "code\njz 0 x\n",
-            7,
-            TextKind::BadRegister,
-        ),
-    ] {
-        let mut text = LATER.to_vec(rt.alloc())?;
-        text.extend_from_slice(lines.as_bytes())?;
-        assert_eq!(rt;
-            read_job(rt.alloc(), &text).err(),
-            Some(TextFault { line, kind }),
-            "{name}"
-        );
-    }
-    Ok(())
+    all_refused(&rt, LATER, LATER_LINES)
 }
+
+const LATER_ALONE: &str = "\
+an array | array A 0 1/ | 6 BadHeader
+two values | init 0 1 2/ | 6 BadHeader
+a shift | code/shl r0 r1 r2/ | 7 UnknownInstruction
+a number to add | code/add r0 r1 1/ | 7 BadRegister
+a number as an index | code/ld r0 0/ | 7 BadRegister
+a number to store | code/st r0 0/ | 7 BadRegister
+three operands of st | code/st A r0 r1/ | 7 WrongOperands
+three operands of ld | code/ld r0 A r1/ | 7 WrongOperands
+";
 
 #[test]
 fn version_3_alone(rt: HostRuntime) -> Result<(), Fail> {
-    for (name, lines, line, kind) in [
-        ("an array", "array A 0 1\n", 6, TextKind::BadHeader),
-        ("two values", "init 0 1 2\n", 6, TextKind::BadHeader),
-        (
-            "a shift",
-            "code\nshl r0 r1 r2\n",
-            7,
-            TextKind::UnknownInstruction,
-        ),
-        (
-            "a number to add",
-            "code\nadd r0 r1 1\n",
-            7,
-            TextKind::BadRegister,
-        ),
-        (
-            "a number as an index",
-            "code\nld r0 0\n",
-            7,
-            TextKind::BadRegister,
-        ),
-        (
-            "a number to store",
-            "code\nst r0 0\n",
-            7,
-            TextKind::BadRegister,
-        ),
-        (
-            "three operands of st",
-            "code\nst A r0 r1\n",
-            7,
-            TextKind::WrongOperands,
-        ),
-        (
-            "three operands of ld",
-            "code\nld r0 A r1\n",
-            7,
-            TextKind::WrongOperands,
-        ),
-    ] {
-        let mut text = b"pram 2\ncells 9\nprocs 1\nsteps 1\nrule crew\n".to_vec(rt.alloc())?;
-        text.extend_from_slice(lines.as_bytes())?;
-        assert_eq!(rt;
-            read_job(rt.alloc(), &text).err(),
-            Some(TextFault { line, kind }),
-            "{name}"
-        );
-    }
-    Ok(())
+    all_refused(
+        &rt,
+        "pram 2/cells 9/procs 1/steps 1/rule crew/",
+        LATER_ALONE,
+    )
 }
 
 #[test]
 fn rules(rt: HostRuntime) -> Result<(), Fail> {
-    for (text, rule) in [
+    for (head, rule) in [
+        ("pram 2/cells 1/procs 1/steps 1/rule common/", Rule::Common),
         (
-            "pram 2\ncells 1\nprocs 1\nsteps 1\nrule common\ncode\nhalt\n",
-            Rule::Common,
-        ),
-        (
-            "pram 2\ncells 1\nprocs 1\nsteps 1\nrule priority\ncode\nhalt\n",
+            "pram 2/cells 1/procs 1/steps 1/rule priority/",
             Rule::Priority,
         ),
-        (
-            "pram 2\ncells 1\nprocs 1\nsteps 1\nrule crew\ncode\nhalt\n",
-            Rule::Crew,
-        ),
-        (
-            "pram 1\ncells 1\nprocs 1\nsteps 1\ncode\nhalt\n",
-            Rule::Common,
-        ),
+        ("pram 2/cells 1/procs 1/steps 1/rule crew/", Rule::Crew),
+        ("pram 1/cells 1/procs 1/steps 1/", Rule::Common),
     ] {
-        assert_eq!(rt; read_job(rt.alloc(), text.as_bytes())?.rule(), rule);
+        let mut text = lines_of(rt.alloc(), head)?;
+        text.extend_from_slice(b"code\nhalt\n")?;
+        assert_eq!(rt; read_job(rt.alloc(), &text)?.rule(), rule);
     }
     Ok(())
 }

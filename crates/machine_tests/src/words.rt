@@ -61,15 +61,8 @@ fn layout_of_three_cells(rt: HostRuntime) -> Result<(), Fail> {
     let requests = (layout.request_word(0, 0), layout.request_word(2, 2));
     let positions = (layout.position_word(0), layout.position_word(1));
     assert_eq!(rt; (requests, positions), ((8, 16), (17, 18)));
-    for (place, word) in [
-        (0, 19),
-        (1, 21),
-        (2, 23),
-        (3, 25),
-        (14, 47),
-        (15, 49),
-        (17, 53),
-    ] {
+    let words = [19, 21, 23, 25, 47, 49, 53];
+    for (place, word) in [0, 1, 2, 3, 14, 15, 17].into_iter().zip(words) {
         assert_eq!(rt; layout.place_word(place), word, "place {place}");
     }
     assert_eq!(rt; layout.length(), 55);

@@ -21,7 +21,7 @@ fault_front front back Memory e = e
 and_false : (b c : Bool) → b ≡ true → c ≡ false → (b && c) ≡ false
 and_false b c e f = ap (λ t. t && c) e ∙ f
 
-fault_back : (front back : List Instr) (kind : JobKind) → is_shallow front ≡ true →
+pub fault_back : (front back : List Instr) (kind : JobKind) → is_shallow front ≡ true →
     IsFaultOf back kind → IsFaultOf (front ++ back) kind
 fault_back front back TooDeep s e = shallow_both front back ∙ and_false (is_shallow front) (is_shallow back) s e
 fault_back front back TooLong s e = e

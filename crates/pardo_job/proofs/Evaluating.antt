@@ -57,7 +57,7 @@ none_after memory i front back held e =
 
 -- ---- loads
 
-load_within : (memory : ℕ → ℕ) (i at k : ℕ) (held : Registers) (cells : Array) (operand : Operand) →
+pub load_within : (memory : ℕ → ℕ) (i at k : ℕ) (held : Registers) (cells : Array) (operand : Operand) →
     operand_in held operand ≡ k → k < cells.len →
     after_one memory i (instr.Ld at (Named cells operand)) held
     ≡ Some (put at (memory (cells.base + k)) held)

@@ -43,7 +43,7 @@ last_same {A} (a ∷ xs) (b ∷ ys) x y e =
     let same : xs ≡ ys = rest.0 in
     (cc, rest.1)
 
-taken_of : (at : ℕ) (tree : Tree) → at + takes tree ≤ 3 → taken_by (operand_of at tree) ≡ takes tree
+pub taken_of : (at : ℕ) (tree : Tree) → at + takes tree ≤ 3 → taken_by (operand_of at tree) ≡ takes tree
 taken_of at (number k) few = refl
 taken_of at own few = refl
 taken_of at (loop nest) few = taken_at at (omega arith)

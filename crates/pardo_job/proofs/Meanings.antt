@@ -1,5 +1,5 @@
 -- Laws of the meaning.
-use Rattle.std.proofs.Common.{◌≡◌, ℕ, ◌+◌, ◌==◌, Bool, true, false, ◌&&◌, not, Option, Some, None, refl, ap, ◌∙◌}
+use Rattle.std.proofs.Common.{◌≡◌, ℕ, ◌+◌, ◌==◌, Bool, true, false, ◌&&◌, not, Option, Some, None, refl, sym, ap, ◌∙◌}
 use Rattle.std.proofs.Common.{if◌then◌else◌, unwrap_or}
 use Rattle.std.proofs.Math.Bool.{and-false}
 use Rattle.std.specs.Prelude.{slice_get, is_some}
@@ -25,7 +25,7 @@ loops_are_common program source (loop nest) i j is = refl
 loops_are_common program source (private x) i j is = absurd is
 loops_are_common program source (place array index) i j is =
     ap (option_and_then (λ k. option_map source.cells (cell_of program array k)))
-    (loops_are_common program source index i j is)
+    (ap (value program source i) is ∙ sym (ap (value program source j) is))
 loops_are_common program source (apply op first second) i j is =
     ap (λ v. option_and_then (λ a. option_map (value_of op a) v) (value program source i first))
     (loops_are_common program source second i j is.1)
@@ -139,7 +139,7 @@ nothing_asked program source depth i (EndWhile begin) e = refl
 nothing_asked program source depth i (For nest first last up end) e = refl
 nothing_asked program source depth i (EndFor begin) e = refl
 
-next_at : (program : ProgramData) (source : Source) (line : Line) →
+pub next_at : (program : ProgramData) (source : Source) (line : Line) →
     slice_get program.lines source.at ≡ Some line →
     next program source ≡ after_statement program line.number line.depth line.statement source
 unfolding next
@@ -148,7 +148,7 @@ next_at program source line e = ap (λ o. elim o [
   | Some found ↦ after_statement program found.number found.depth found.statement source
 ]) e
 
-asked_at : (program : ProgramData) (source : Source) (line : Line) (i : ℕ) →
+pub asked_at : (program : ProgramData) (source : Source) (line : Line) (i : ℕ) →
     slice_get program.lines source.at ≡ Some line →
     asked program source i ≡ asked_in program source line.depth line.statement i
 unfolding asked

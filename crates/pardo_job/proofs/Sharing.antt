@@ -7,7 +7,7 @@ use Rattle.pardo_text.specs.Lawful.{AreArrays}
 use Rattle.pardo_text.specs.Program.{ArrayData, shared_cells}
 use Rattle.pardo_job.specs.Layouts.{LayoutData, cells_of}
 
-shared_more : (array : ArrayData) (arrays : List ArrayData) →
+pub shared_more : (array : ArrayData) (arrays : List ArrayData) →
     shared_cells (array ∷ arrays) ≡ length array.start + shared_cells arrays
 shared_more array arrays =
     omega (arith, sum_by-append (λ (a : ArrayData). length a.start) (array ∷ []) arrays)

@@ -1,12 +1,13 @@
 -- The theorem: the job of a program carries its run.
-use Rattle.std.specs.Prelude.{◌≡◌, ℕ, ◌+◌, ◌<◌, ◌≤◌, ◌⊎◌, IsTrue, is_some, slice_index}
+use Rattle.std.specs.Prelude.{◌≡◌, ℕ, ◌+◌, ◌<◌, ◌≤◌, ◌⊎◌, slice_index}
 use Rattle.pram_text.specs.Job.{JobData, IsJob}
 use Rattle.pram_step.specs.Laws.{AllStopped}
-use Rattle.pram_step.specs.Machine.{counter, out_of_range}
+use Rattle.pram_step.specs.Machine.{counter}
 use Rattle.pram_step.specs.Runs.{state_after, IsReached, IsFault}
 use Rattle.pardo_text.specs.Program.{ProgramData}
 use Rattle.pardo_job.specs.Conflicts.{Dispute}
 use Rattle.pardo_job.specs.Layouts.{layout_of}
+use Rattle.pardo_job.specs.Leaving.{GoneIn}
 use Rattle.pardo_job.specs.Meaning.{Source, after}
 use Rattle.pardo_job.specs.Runs.{IsEnd, IsConflict, line_number}
 use Rattle.pardo_job.specs.Runs as source
@@ -20,14 +21,14 @@ ShowsAfter program job at_line t = IsReached job t × Shows program job at_line 
 abbrev pub ComesFrom : JobData → (ℕ → ℕ) → ℕ → ℕ → ℕ → Type 0
 ComesFrom job line_of before i number = line_of (counter job (state_after job before) i) ≡ number
 
--- The end of the job is that of the program.
-pub record EndsAs (program : ProgramData) (job : JobData) (end : Source) : Type 0 where
+-- The end of the job is that of the program; who is gone has left in the line that the program says.
+pub record EndsAs (program : ProgramData) (job : JobData) (line_of : ℕ → ℕ) (end : Source) :
+    Type 0 where
   pub reached : IsReached job job.steps
   pub stopped : AllStopped job (state_after job job.steps)
   pub cells : (cell : ℕ) → cell < (layout_of program).shared →
       slice_index (state_after job job.steps) cell ≡ end.cells cell
-  pub gone : (i : ℕ) → i < program.procs → IsTrue (is_some (end.gone i)) →
-      counter job (state_after job job.steps) i ≡ out_of_range job
+  pub gone : (i : ℕ) → i < program.procs → GoneIn job line_of job.steps i (end.gone i)
 
 -- The job makes so many steps for the lines so far, and its state shows that of the program after
 -- each of them. The job ends with the program, or in its conflict.
@@ -39,7 +40,7 @@ pub record Carries (program : ProgramData) (job : JobData) (line_of : ℕ → �
   pub shows : (n : ℕ) → source.IsReached program n →
       ShowsAfter program job (after program n) (time n)
   pub ends : (n : ℕ) → IsEnd program n →
-      EndsAs program job (after program n) × (job.steps ≤ time n + 1)
+      EndsAs program job line_of (after program n) × (job.steps ≤ time n + 1)
   pub disputes : (n : ℕ) (dispute : Dispute) → IsConflict program n dispute → (before : ℕ) ×
       (time (n + 1) ≡ before + 1) × (job.steps ≡ before + 1)
       × IsFault job (record {

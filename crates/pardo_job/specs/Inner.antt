@@ -1,2 +1,5 @@
 pub mod Emitting
 pub mod Nodes
+pub mod Pieces
+pub mod Listings
+pub mod Endings

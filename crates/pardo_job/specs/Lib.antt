@@ -10,7 +10,9 @@ pub mod Straight
 pub mod Lines
 pub mod Leaves
 pub mod Shows
+pub mod Leaving
 pub mod Carries
+pub mod Compiled
 pub mod Printed
 pub mod Refusals
 pub mod Laws

@@ -4,17 +4,17 @@ use Rattle.std.specs.Prelude.{List, [], ◌∷◌, ◌++◌, length, codes, deci
 use Rattle.std.specs.List.{flat_map, range_with_len}
 use Rattle.pardo_text.specs.Program.{ProgramData, ArrayData}
 use Rattle.pardo_job.specs.Conflicts.{Dispute}
-use Rattle.pardo_job.specs.Meaning.{Source, after}
+use Rattle.pardo_job.specs.Meaning.{after}
 use Rattle.pardo_job.specs.Runs.{IsEnd, IsConflict, line_number}
 
--- the values of an array, each after a blank
-abbrev pub values_of : Source → ArrayData → List ℕ
-values_of end array = flat_map (λ cell. codes " " ++ decimal (end.cells cell))
+-- the values of an array, each after a blank, by what the cells hold
+abbrev pub values_of : (ℕ → ℕ) → ArrayData → List ℕ
+values_of cells array = flat_map (λ cell. codes " " ++ decimal (cells cell))
     (range_with_len array.base (length array.start))
 
 -- `A = 3 4 8 9`
-abbrev pub array_line : Source → ArrayData → List ℕ
-array_line end array = array.name ++ codes " =" ++ values_of end array ++ codes "\n"
+abbrev pub array_line : (ℕ → ℕ) → ArrayData → List ℕ
+array_line cells array = array.name ++ codes " =" ++ values_of cells array ++ codes "\n"
 
 -- `gone processor=7 line=7`
 abbrev pub gone_line : ℕ → Option ℕ → List ℕ
@@ -22,11 +22,11 @@ gone_line i None = []
 gone_line i (Some line) =
     codes "gone processor=" ++ decimal i ++ codes " line=" ++ decimal line ++ codes "\n"
 
--- the arrays, and the processors that are gone
-abbrev pub end_text : ProgramData → ℕ → Source → List ℕ
-end_text program steps end = codes "done steps=" ++ decimal steps ++ codes "\n"
-    ++ flat_map (array_line end) program.arrays
-    ++ flat_map (λ i. gone_line i (end.gone i)) (range_with_len 0 program.procs)
+-- the arrays, by what the cells hold, and the processors that are gone, by their lines
+abbrev pub end_text : ProgramData → ℕ → (ℕ → ℕ) → (ℕ → Option ℕ) → List ℕ
+end_text program steps cells gone = codes "done steps=" ++ decimal steps ++ codes "\n"
+    ++ flat_map (array_line cells) program.arrays
+    ++ flat_map (λ i. gone_line i (gone i)) (range_with_len 0 program.procs)
 
 -- `A[3]`, and of a scalar its name alone
 abbrev pub place_text : ArrayData → ℕ → List ℕ
@@ -52,8 +52,8 @@ conflict_text program line dispute = codes "conflict line=" ++ decimal line
 
 -- the text is the answer of the program, whose job makes so many steps
 abbrev pub IsEndText : ProgramData → ℕ → List ℕ → Type 0
-IsEndText program steps text =
-    (n : ℕ) × IsEnd program n × (text ≡ end_text program steps (after program n))
+IsEndText program steps text = (n : ℕ) × IsEnd program n
+    × (text ≡ end_text program steps (after program n).cells (after program n).gone)
 
 abbrev pub IsConflictText : ProgramData → List ℕ → Type 0
 IsConflictText program text = (n : ℕ) × (dispute : Dispute) × IsConflict program n dispute

@@ -1,14 +1,35 @@
--- How a program is refused that is no job.
-use Rattle.std.specs.Prelude.{◌≡◌, ℕ, ◌+◌, ◌<◌, Bool, false, nat_le, ◌&&◌, IsTrue}
-use Rattle.std.specs.Prelude.{slice_get, Some}
+-- How a text is refused.
+use Rattle.std.specs.Prelude.{◌≡◌, ℕ, ◌+◌, ◌<◌, Bool, true, false, nat_le, ◌&&◌, IsTrue}
+use Rattle.std.specs.Prelude.{List, [], ◌∷◌, ◌++◌, replicate, slice_get, slice_index, Some, Ok}
 use Rattle.pram_text.specs.declared.limits.TheConstants.{MAX_CODE}
-use Rattle.pram_step.specs.Machine.{counter, IsStopped}
+use Rattle.pram_text.specs.Job.{JobData}
+use Rattle.pram_step.specs.Machine.{State, counter, IsStopped}
 use Rattle.pram_step.specs.Runs.{state_after, IsReached}
 use Rattle.pardo_text.specs.declared.statement.Line.{Line}
 use Rattle.pardo_text.specs.Program.{ProgramData}
+use Rattle.pardo_text.specs.Reading.{program_of, IsRefusal as IsTextRefusal}
+use Rattle.pardo_job.specs.declared.fault.JobKind.{JobKind}
+use Rattle.pardo_job.specs.declared.fault.JobKind.TheVariants.{TooDeep, TooLong, Endless, Memory}
+use Rattle.pardo_job.specs.declared.fault.Refusal.{Refusal}
+use Rattle.pardo_job.specs.declared.fault.Refusal.TheVariants.{Text, Job}
 use Rattle.pardo_job.specs.declared.limits.TheConstants.{MAX_STEPS}
-use Rattle.pardo_job.specs.Lines.{line_code, place_of, job_of}
+use Rattle.pardo_job.specs.Lines.{job_of, length_of, line_code, place_of}
 use Rattle.pardo_job.specs.Operations.{is_shallow}
+
+-- ---- lines
+
+-- the numbers of the text's lines that the instructions of these lines came from; the last
+-- instruction, `halt`, is counted to the last line
+abbrev pub numbers_from : ProgramData → ℕ → List Line → List ℕ
+numbers_from program last [] = last ∷ []
+numbers_from program last (line ∷ lines) =
+    replicate (length_of program line) line.number ++ numbers_from program line.number lines
+
+-- those of all instructions; the first one, `pid`, came from no line
+unfoldable pub line_numbers : ProgramData → List ℕ
+line_numbers program = 0 ∷ numbers_from program 0 program.lines
+
+-- ---- lines that are too great
 
 -- three registers are enough for the line
 abbrev pub is_level : ProgramData → Line → Bool
@@ -23,23 +44,42 @@ abbrev pub AreFine : ProgramData → ℕ → Type 0
 AreFine program j = (k : ℕ) (line : Line) → k < j → slice_get program.lines k ≡ Some line →
     IsTrue (is_level program line && is_short program k)
 
--- the line j is the first that is too deep or too long, and this is what it is
-pub record IsTooGreat (program : ProgramData) (j number : ℕ) (deep : Bool) : Type 0 where
+-- this line is the first that is too deep or too long, and whether it is level
+pub record IsTooGreat (program : ProgramData) (number : ℕ) (level : Bool) : Type 0 where
+  pub j : ℕ
   pub line : Line
   pub is_there : slice_get program.lines j ≡ Some line
   pub number_is : number ≡ line.number
   pub before : AreFine program j
-  pub level : is_level program line ≡ deep
-  pub short : (is_level program line && is_short program j) ≡ false
+  pub level_is : is_level program line ≡ level
+  pub unfit : (is_level program line && is_short program j) ≡ false
 
--- Some processor runs after as many steps as are made at most, and the first such one stands at an
--- instruction of this line.
-pub record IsEndless (program : ProgramData) (line_of : ℕ → ℕ) (number : ℕ) : Type 0 where
-  pub reached : IsReached (job_of program 0) MAX_STEPS
+-- ---- refusals
+
+-- the first processor that has not stopped stands at this instruction
+pub record IsFirstRunning (job : JobData) (state : State) (index : ℕ) : Type 0 where
   pub first : ℕ
-  pub is_processor : first < program.procs
-  pub runs : IsStopped (job_of program 0) (state_after (job_of program 0) MAX_STEPS) first → ⊥
-  pub least : (i : ℕ) → i < first →
-      IsStopped (job_of program 0) (state_after (job_of program 0) MAX_STEPS) i
-  pub stands : line_of (counter (job_of program 0)
-      (state_after (job_of program 0) MAX_STEPS) first) ≡ number
+  pub is_processor : first < job.procs
+  pub runs : IsStopped job state first → ⊥
+  pub least : (i : ℕ) → i < first → IsStopped job state i
+  pub stands : counter job state first ≡ index
+
+-- after as many steps as are made at most the program runs, and stands at this line
+pub record IsEndless (program : ProgramData) (number : ℕ) : Type 0 where
+  pub reached : IsReached (job_of program 0) MAX_STEPS
+  pub index : ℕ
+  pub runs : IsFirstRunning (job_of program 0) (state_after (job_of program 0) MAX_STEPS) index
+  pub number_is : number ≡ slice_index (line_numbers program) index
+
+-- what is wrong with a program; memory that ran out is no line's
+abbrev pub IsFault : ProgramData → ℕ → JobKind → Type 0
+IsFault program number TooDeep = IsTooGreat program number false
+IsFault program number TooLong = IsTooGreat program number true
+IsFault program number Endless = IsEndless program number
+IsFault program number Memory = number ≡ 0
+
+-- the text spells no program, or one that is no job
+abbrev pub IsRefusal : List ℕ → Refusal → Type 0
+IsRefusal text (Text fault) = IsTextRefusal text fault
+IsRefusal text (Job fault) = (program : ProgramData) × (program_of text ≡ Ok program)
+    × IsFault program fault.line fault.kind

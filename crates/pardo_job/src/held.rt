@@ -25,25 +25,28 @@ pub(crate) fn taken_by(operand: Operand) -> u8
     }
 }
 
-/// The values at hand, the last one last. Those that were computed are in the registers from 0 on,
-/// in their order.
+/// The values at hand, the last one last. Those that were computed are in the registers from `base`
+/// on, in their order.
 #[derive(Drop)]
 pub(crate) struct Stack {
     pub(crate) values: Vec<Held>,
+    base: u8,
     pub(crate) taken: u8,
-    ghost count: { taken ≡ sum_by (λ held. taken_by held.operand) values.items },
+    ghost count: { taken ≡ base + sum_by (λ held. taken_by held.operand) values.items },
     ghost few: { taken ≤ 3 },
 }
 
 impl Stack {
-    /// No value.
-    pub(crate) fn new(alloc: Global) -> Self
+    /// No value, where the registers below `base` are taken.
+    pub(crate) fn above(alloc: Global, base: u8) -> Self
+        requires { base ≤ 3 }
         ensures values { result.values.items ≡ [] }
-        ensures taken { result.taken ≡ 0 }
+        ensures taken { result.taken ≡ base }
     {
         Stack {
             values: Vec::new(alloc),
-            taken: 0,
+            base,
+            taken: base,
         }
     }
 

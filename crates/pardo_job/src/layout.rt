@@ -113,6 +113,14 @@ impl Layout {
         self.row(self.privates + self.loops + (depth - 1) as u32)
     }
 
+    /// The cells of the mask of the lines in an `if` that stands in so many others.
+    pub(crate) fn inner_mask(&self, depth: usize) -> Array
+        requires { depth < self.now.choices }
+        ensures { result ≡ mask_cells self.now (depth + 1) }
+    {
+        self.row(self.privates + self.loops + depth as u32)
+    }
+
     // The cells of a row.
     fn row(&self, which: u32) -> Array
         requires { which ≤ self.now.privates + self.now.loops + self.now.choices }

@@ -1,12 +1,18 @@
 //! From a program of the language `pardo` to a job of the machine.
 #![tactic(auto)]
 
+mod compiler;
 mod fault;
 mod held;
 pub mod laws;
 mod layout;
 pub mod limits;
+mod lines;
 mod operations;
+mod pieces;
+mod places;
+mod run;
 mod values;
 
+pub use compiler::{Compiled, compile};
 pub use fault::{JobFault, JobKind, Refusal};

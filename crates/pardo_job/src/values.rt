@@ -1,22 +1,46 @@
 //! The code of expressions.
-ghost use Rattle.std.specs.Prelude.{◌≡◌, ◌+◌, ◌++◌, ◌∷◌, [], OnOk, false};
+ghost use Rattle.std.specs.Prelude.{◌≡◌, ◌+◌, ◌≤◌, ◌++◌, ◌∷◌, [], OnOk, IfOk, false};
 ghost use Rattle.pram_text.specs.declared.instr.Instr.TheVariants.{Ld};
 ghost use Rattle.pram_text.specs.declared.instr.Operand.TheVariants.{Register};
 ghost use Rattle.pram_text.specs.declared.instr.Place.TheVariants.{Named};
 ghost use Rattle.pardo_text.specs.declared.expression.Node.TheVariants.{Apply, Place as PlaceOf};
 ghost use Rattle.pardo_job.specs.Inner.Emitting.{Puts};
-ghost use Rattle.pardo_job.specs.Inner.Nodes.{CanTake, Takes};
-ghost use Rattle.pardo_job.specs.Values.{own_load};
+ghost use Rattle.pardo_job.specs.Inner.Nodes.{CanTake, Takes, held_of};
+ghost use Rattle.pardo_job.specs.Lawful.{IsLawful};
+ghost use Rattle.pardo_job.specs.Operations.{taken_by};
+ghost use Rattle.pardo_job.specs.Values.{own_load, takes, value_code};
 
 use crate::fault::JobKind;
-use crate::held::{OWN, Stack};
+use crate::held::{Held, OWN, Stack};
 use crate::layout::Layout;
 use crate::operations::{gives_truth, put, put_operation};
-use pardo_text::{Node, Op};
+use pardo_text::{Expr, Node, Op};
 use pram_text::{Array, Instr, Operand, Place};
+use std::alloc::Global;
 
-/// Takes what a processor's own cell of a row holds to hand.
-pub(crate) fn put_own(code: &mut Vec<Instr>, stack: &mut Stack, row: Array) -> Result<(), JobKind>
+/// The code of an expression, by the registers from `at` on: where its value is.
+pub(crate) fn put_value(
+    code: &mut Vec<Instr>,
+    alloc: Global,
+    layout: &Layout,
+    at: u8,
+    expr: &Expr,
+) -> Result<Held, JobKind>
+    requires at { at ≤ 3 }
+    requires lawful { IsLawful layout.now expr.now }
+    ensures put { Puts code.old.items code.new.items result (value_code layout.now at expr.now) }
+    ensures held { IfOk result (λ held. held ≡ held_of at expr.now) }
+    ensures taken { IfOk result (λ held. taken_by held.operand ≡ takes expr.now) }
+{
+    let mut stack = Stack::above(alloc, at);
+    for node in expr.nodes() {
+        put_node(code, &mut stack, layout, *node)?;
+    }
+    Ok(stack.pop())
+}
+
+// Takes what a processor's own cell of a row holds to hand.
+fn put_own(code: &mut Vec<Instr>, stack: &mut Stack, row: Array) -> Result<(), JobKind>
     ensures put { Puts code.old.items code.new.items result
         (own_load stack.old.taken row ∷ []) }
     ensures held { OnOk result (stack.new.values.items ≡ stack.old.values.items
@@ -46,8 +70,8 @@ fn put_load(
     Ok(())
 }
 
-/// One node more, whose operands are at hand.
-pub(crate) fn put_node(
+// One node more, whose operands are at hand.
+fn put_node(
     code: &mut Vec<Instr>,
     stack: &mut Stack,
     layout: &Layout,

@@ -1,6 +1,10 @@
-//! Tests of texts of `pardo`, by what their crate makes public. They stand apart from it, since a
-//! crate with tests is proved twice.
+//! Tests of `pardo`, its texts and its jobs, by what their crates make public. They stand apart
+//! from them, since a crate with tests is proved twice.
 #![tactic(auto)]
 
+#[cfg(test)]
+mod compiled;
+#[cfg(test)]
+mod programs;
 #[cfg(test)]
 mod text;

@@ -15,7 +15,7 @@ use Rattle.pardo_text.specs.declared.statement.Target.TheVariants as target
 use Rattle.pardo_text.specs.Expression.{Tree, number, own, loop, private, place, apply}
 use Rattle.pardo_text.specs.Expressions.{applied, joined, constant_of, is_zero}
 use Rattle.pardo_text.specs.Lawful.{Bounds, IsTree, IsCommonTree, IsTarget, IsStatement, IsLine}
-use Rattle.pardo_text.specs.Lines.{Word}
+use Rattle.pram_text.specs.Lines.{Word}
 use Rattle.pardo_text.specs.Names.{Names, admits, divides, tree_from}
 use Rattle.pardo_text.specs.Operations.{level_of, is_division, value_of}
 use Rattle.pardo_text.proofs.Ifs.{ok_if}
@@ -154,10 +154,11 @@ keeps_tree b names scope code are = record {
 
 -- ---- expressions that are the same for all processors
 
--- what differs by processor may not stand in the scope
+-- what differs by processor, and an array, may not stand in the scope
 abbrev pub IsCommonScope : Scope → Type 0
 IsCommonScope scope =
     (admits scope thing.Own ≡ false) × ((x : ℕ) → admits scope (thing.Private x) ≡ false)
+    × ((array : ℕ) → admits scope (thing.Array array) ≡ false)
 
 applied_common : (b : Bounds) (op : Op) (first second : Tree) → is_division op ≡ false →
     IsCommonTree b first → IsCommonTree b second → IsCommonTree b (applied op first second)
@@ -170,7 +171,7 @@ bare_common : (b : Bounds) (scope : Scope) (found : Named) → IsCommonScope sco
 bare_common b scope (thing.Constant value) common bare e is = (is, tt)
 bare_common b scope thing.Own common bare e is =
     absurd (let no : false ≡ true = sym common.0 ∙ e in cc)
-bare_common b scope (thing.Scalar array) common bare e is = ((is, omega arith), tt)
+bare_common b scope (thing.Scalar array) common bare e is = ((is, omega arith), refl)
 bare_common b scope (thing.Array array) common bare e is = absurd bare
 bare_common b scope (thing.Private x) common bare e is =
     absurd (let no : false ≡ true = sym (common.1 x) ∙ e in cc)
@@ -191,7 +192,7 @@ pub keeps_common : (b : Bounds) (names : Names) (scope : Scope) → divides scop
 keeps_common b names scope code common are = record {
   numbers = λ value few. (few, tt);
   bare = λ word found e f is. bare_common b scope found common is f (are word found e);
-  placed = λ word array index e f p. ((are word (thing.Array array) e, p.0), p.1);
+  placed = λ word array index e f p. absurd (let no : false ≡ true = sym (common.2 array) ∙ f in cc);
   joins = λ op first second p q. joined_common b scope op first second code p q;
   pairs = λ op first second e p q. applied_common b op first second (before_no_division op e) p q;
 }

@@ -21,10 +21,10 @@ use Rattle.pardo_text.specs.Code.{while_line, way_at, for_line, else_of, end_of,
 use Rattle.pardo_text.specs.Drafts.{Draft, cells_of, fitting, with_line, with_block, with_loop}
 use Rattle.pardo_text.specs.Drafts.{without, with_end}
 use Rattle.pardo_text.specs.Expression.{Tree}
-use Rattle.pardo_text.specs.Expressions.{new_name, after_assign, after_equals, after_close_index}
+use Rattle.pardo_text.specs.Expressions.{new_name, rest_after}
 use Rattle.pardo_text.specs.Expressions.{indexed, expression_at}
 use Rattle.pardo_text.specs.Lawful.{Bounds, IsTree, IsCommonTree, IsTarget, IsStatement, masks_of}
-use Rattle.pardo_text.specs.Lines.{Word}
+use Rattle.pram_text.specs.Lines.{Word}
 use Rattle.pardo_text.specs.Names.{Names, divides}
 use Rattle.pardo_text.specs.Program.{shared_cells}
 use Rattle.pardo_text.specs.Tokens.{Token, name, symbol}
@@ -36,6 +36,7 @@ use Rattle.pardo_text.proofs.LawDrafts.{more_kept, line_kept, block_kept, loop_k
 use Rattle.pardo_text.proofs.LawDrafts.{without_kept, end_kept, ended_at_length}
 use Rattle.pardo_text.proofs.LawHeader.{ended_kept, one_longer}
 use Rattle.pardo_text.proofs.LawTrees.{expression_kept}
+use Rattle.pardo_text.specs.declared.part.Mark.TheVariants as mark
 
 -- ---- expressions
 
@@ -69,10 +70,10 @@ common_whole_kept b names scope tokens code common are =
     (λ tree p. ended_kept (IsCommonTree b) tree.0 tree.1 p)
 
 bound_is_common : IsCommonScope Bound
-bound_is_common = (refl, λ x. refl)
+bound_is_common = (refl, λ x. refl, λ array. refl)
 
 uniform_is_common : IsCommonScope Uniform
-uniform_is_common = (refl, λ x. refl)
+uniform_is_common = (refl, λ x. refl, λ array. refl)
 
 -- ---- assignments
 
@@ -83,7 +84,7 @@ place_kept b names array None few are = tt
 place_kept b names array (Some inside) few are =
     ok_bind (expression_at names Any inside) _ (λ read. IsTree b read.0)
     (λ read. IsTarget b read.0) (read_kept b names Any inside refl are)
-    (λ index p. ok_after (after_close_index index.1) _ (λ read. IsTarget b read.0) (λ rest. (few, p)))
+    (λ index p. ok_after (rest_after mark.CloseIndex index.1) _ (λ read. IsTarget b read.0) (λ rest. (few, p)))
 
 bare_kept : (b : Bounds) (to : Target) (tokens : List Token) → IsTarget b to →
     IfOk (bare_target to tokens) (λ read. IsTarget b read.0)
@@ -114,7 +115,7 @@ unfolding assignment_at
 assignment_kept b names word tokens are =
     ok_bind (target_of names (names word) tokens) _ (λ read. IsTarget b read.0) (IsAssignment b)
     (target_kept b names word (names word) tokens refl are) (λ to p.
-    ok_after (after_assign to.1) _ (IsAssignment b) (λ after.
+    ok_after (rest_after mark.Assign to.1) _ (IsAssignment b) (λ after.
     ok_bind (whole_at names Any after) _ (IsTree b) (IsAssignment b)
     (whole_kept b names Any after refl are) (λ value q. ((p, q), refl))))
 
@@ -244,7 +245,7 @@ for_kept : (n : ℕ) (d : Draft) (tokens : List Token) → 0 < d.procs → IsLaw
 unfolding for_line
 for_kept n d tokens some is =
     ok_after (new_name d.names tokens) _ IsLawful (λ word.
-    ok_after (after_equals word.1) _ IsLawful (λ after.
+    ok_after (rest_after mark.Equals word.1) _ IsLawful (λ after.
     ok_bind (expression_at d.names Bound after) _ (λ read. IsCommonTree (bounds_in d) read.0) IsLawful
     (common_kept (bounds_in d) d.names Bound after refl bound_is_common is.0.names) (λ first p.
     ok_after (way_at first.1) _ IsLawful (λ way.

@@ -22,13 +22,13 @@ use Rattle.pardo_text.specs.Code.{while_line, way_at, for_line, else_of, end_of,
 use Rattle.pardo_text.specs.Drafts.{Draft, empty, cells_of, fitting, with_line, with_block, with_loop}
 use Rattle.pardo_text.specs.Drafts.{without, with_end, with_name, with_array, with_private}
 use Rattle.pardo_text.specs.Expression.{Tree}
-use Rattle.pardo_text.specs.Expressions.{new_name, after_assign, after_equals, after_less, indexed}
+use Rattle.pardo_text.specs.Expressions.{new_name, rest_after, indexed}
 use Rattle.pardo_text.specs.Expressions.{expression_at, fixed_at}
 use Rattle.pardo_text.specs.Header.{version_line, rule_named, rule_line, const_line, procs_line}
 use Rattle.pardo_text.specs.Header.{length_at, shared_line, private_start, private_line, code_line}
 use Rattle.pardo_text.specs.Header.{header_line}
 use Rattle.pardo_text.specs.Laws.{ProgramsAreNested}
-use Rattle.pardo_text.specs.Lines.{Word, lines_of, is_allowed, said_in}
+use Rattle.pram_text.specs.Lines.{Word, lines_of, is_allowed, said_in}
 use Rattle.pardo_text.specs.Names.{Names}
 use Rattle.pardo_text.specs.Nested.{IsNested, Stands, opened_by, around, loop_begin, loop_end}
 use Rattle.pardo_text.specs.Nested.{loops_of, EndsAreTied, Leads}
@@ -42,6 +42,7 @@ use Rattle.pardo_text.proofs.LawHeader.{ended_kept}
 use Rattle.pardo_text.proofs.LawLawful.{on_line_kept, and_then_kept}
 use Rattle.pardo_text.proofs.LawOpen.{IsCode, IsLeft, AreOpen, no_code, open_push, open_more, loop_left}
 use Rattle.pardo_text.proofs.LawTied.{end_at, leads_last, tied_push, Among, begins_push, begins_last}
+use Rattle.pardo_text.specs.declared.part.Mark.TheVariants as mark
 
 -- what a draft says of its code
 abbrev Code : Draft → Type 0
@@ -67,7 +68,7 @@ const_code : (d : Draft) (tokens : List Token) → Code d → IfOk (const_line d
 unfolding const_line
 const_code d tokens is =
     ok_after (new_name d.names tokens) _ Code (λ word.
-    ok_after (after_equals word.1) _ Code (λ after.
+    ok_after (rest_after mark.Equals word.1) _ Code (λ after.
     ok_after (fixed_at d.names 0 most after) _ Code (λ value.
     ended_kept Code (with_name word.0 (thing.Constant value.0) d) value.1 is)))
 
@@ -76,7 +77,7 @@ unfolding procs_line
 procs_code d tokens is =
     ok_if (d.procs == 0) _ _ Code (λ _.
     ok_after (new_name d.names tokens) _ Code (λ word.
-    ok_after (after_less word.1) _ Code (λ after.
+    ok_after (rest_after mark.Less word.1) _ Code (λ after.
     ok_after (fixed_at d.names 1 MAX_PROCS after) _ Code (λ procs.
     ended_kept Code (with_name word.0 thing.Own (record d { procs = procs.0 })) procs.1 is))))
     (λ _. tt)
@@ -152,7 +153,7 @@ assignment_is : (names : Names) (word : Word) (tokens : List Token) →
 unfolding assignment_at
 assignment_is names word tokens =
     ok_after (target_of names (names word) tokens) _ IsAssignment (λ to.
-    ok_after (after_assign to.1) _ IsAssignment (λ after.
+    ok_after (rest_after mark.Assign to.1) _ IsAssignment (λ after.
     ok_after (whole_at names Any after) _ IsAssignment (λ value. (to.0, value, refl))))
 
 assigned : (n : ℕ) (d : Draft) (to : Target) (value : Tree) → Code d →
@@ -203,7 +204,7 @@ for_code : (n : ℕ) (d : Draft) (tokens : List Token) → Code d → IfOk (for_
 unfolding for_line
 for_code n d tokens is =
     ok_after (new_name d.names tokens) _ Code (λ word.
-    ok_after (after_equals word.1) _ Code (λ after.
+    ok_after (rest_after mark.Equals word.1) _ Code (λ after.
     ok_after (expression_at d.names Bound after) _ Code (λ first.
     ok_after (way_at first.1) _ Code (λ way.
     ok_after (whole_at d.names Bound way.1) _ Code (λ last.

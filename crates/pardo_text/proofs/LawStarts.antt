@@ -11,7 +11,7 @@ use Rattle.pardo_text.specs.declared.names.Scope.TheVariants.{Fixed}
 use Rattle.pardo_text.specs.declared.operation.Op.{Op}
 use Rattle.pardo_text.specs.Expression.{Tree, number, own, loop, private, place, apply}
 use Rattle.pardo_text.specs.Expressions.{ended, fixed_at, limited, fixed_value, expression_at}
-use Rattle.pardo_text.specs.Expressions.{after_comma, after_equals}
+use Rattle.pardo_text.specs.Expressions.{rest_after}
 use Rattle.pardo_text.specs.Lawful.{AreNumbers}
 use Rattle.pardo_text.specs.Names.{Names}
 use Rattle.pardo_text.specs.Operations.{is_division}
@@ -21,6 +21,7 @@ use Rattle.pardo_text.specs.Values.{values_next, after_dots, filled, start_at}
 use Rattle.pardo_text.proofs.Ifs.{ok_bind, ok_after, ok_if}
 use Rattle.pardo_text.proofs.LawBounds.{IsStart}
 use Rattle.pardo_text.proofs.LawValues.{value_small}
+use Rattle.pardo_text.specs.declared.part.Mark.TheVariants as mark
 
 -- a number within its limits
 abbrev pub Between : ℕ → ℕ → ℕ × List Token → Type 0
@@ -105,7 +106,7 @@ after_kept : (more : List Token → Result (List ℕ × Bool) PardoKind) (value 
     IfOk (values_after more value rest) AreSome
 after_kept more value [] few kept = (omega arith, one_number value few)
 after_kept more value (token ∷ tokens) few kept =
-    ok_after (after_comma (token ∷ tokens)) _ AreSome
+    ok_after (rest_after mark.Comma (token ∷ tokens)) _ AreSome
     (λ rest. next_kept more value rest (after_dots rest) few kept)
 
 in_kept : (names : Names) (turns : ℕ) (tokens : List Token) →
@@ -139,7 +140,7 @@ unfolding start_at
 starts_kept names places [] =
     (length-replicate places 0, All-replicate (λ v. v < 2 ^ 32) places 0 (omega arith))
 starts_kept names places (token ∷ tokens) =
-    ok_after (after_equals (token ∷ tokens)) _ (AreSoMany places) (λ rest.
+    ok_after (rest_after mark.Equals (token ∷ tokens)) _ (AreSoMany places) (λ rest.
     ok_bind (values_in names (length rest) rest) _ AreSome (AreSoMany places)
     (in_kept names (length rest) rest)
     (λ values p. filled_kept places values.0 values.1 p.0 p.1))

@@ -1,5 +1,4 @@
 pub mod Postfix
-pub mod Digits
 pub mod Runs
 pub mod Turns
 pub mod Left
@@ -7,7 +6,6 @@ pub mod Chains
 pub mod Depths
 pub mod Known
 pub mod Finished
-pub mod Splitting
 pub mod Judged
 pub mod Stacks
 pub mod Starts
@@ -28,3 +26,4 @@ pub mod LawCode
 pub mod LawTied
 pub mod LawOpen
 pub mod LawNesting
+pub mod LawFors

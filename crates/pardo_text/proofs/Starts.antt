@@ -4,12 +4,13 @@ use Rattle.std.proofs.Common.{◌++◌, length, is_some, unwrap_or, Option, Some
 use Rattle.std.proofs.Common.{refl, sym, ap, ◌∙◌, arith, append_assoc}
 use Rattle.pardo_text.specs.declared.fault.PardoKind.{PardoKind}
 use Rattle.pardo_text.specs.declared.fault.PardoKind.TheVariants.{BadLine}
-use Rattle.pardo_text.specs.Expressions.{ended, fixed_at, after_comma}
+use Rattle.pardo_text.specs.Expressions.{ended, fixed_at, rest_after}
 use Rattle.pardo_text.specs.Inner.Values.{after_values}
 use Rattle.pardo_text.specs.Names.{Names}
 use Rattle.pardo_text.specs.Reads.{◌>>=◌}
 use Rattle.pardo_text.specs.Tokens.{Token}
 use Rattle.pardo_text.specs.Values.{most, values_in, values_after, values_next, after_dots}
+use Rattle.pardo_text.specs.declared.part.Mark.TheVariants as mark
 
 -- ---- options and ends
 
@@ -52,7 +53,7 @@ value_alone more value (token ∷ tokens) e = absurd (omega arith)
 
 value_comma : (more : List Token → Result (List ℕ × Bool) PardoKind) (value : ℕ)
     (rest : List Token) → 0 < length rest → values_after more value rest
-    ≡ (after_comma rest >>= λ after. values_next more value after (after_dots after))
+    ≡ (rest_after mark.Comma rest >>= λ after. values_next more value after (after_dots after))
 value_comma more value [] lt = absurd (omega arith)
 value_comma more value (token ∷ tokens) lt = refl
 
@@ -78,7 +79,7 @@ take_last names n i value front new tokens rest lt e f g =
 
 pub take_comma : (names : Names) (n i value : ℕ) (front : List ℕ) (tokens rest : List Token)
     (kind : PardoKind) → i < n → fixed_at names 0 most tokens ≡ Ok (value, rest) →
-    0 < length rest → after_comma rest ≡ Err kind →
+    0 < length rest → rest_after mark.Comma rest ≡ Err kind →
     after_values front (values_in names (n - i) tokens) ≡ Err kind
 take_comma names n i value front tokens rest kind lt e f g =
     rw (value_first names n i tokens lt, e, value_comma _ value rest f, g) refl
@@ -86,7 +87,7 @@ take_comma names n i value front tokens rest kind lt e f g =
 pub take_end : (names : Names) (n i value : ℕ) (front new : List ℕ)
     (tokens rest after end : List Token) → i < n →
     fixed_at names 0 most tokens ≡ Ok (value, rest) → 0 < length rest →
-    after_comma rest ≡ Ok after → after_dots after ≡ Some end → Ok (tt {0}) ≡ ended (tt {0}) end →
+    rest_after mark.Comma rest ≡ Ok after → after_dots after ≡ Some end → Ok (tt {0}) ≡ ended (tt {0}) end →
     new ≡ front ++ value ∷ [] →
     after_values front (values_in names (n - i) tokens) ≡ Ok (new, true)
 take_end names n i value front new tokens rest after end lt e f g h k new_is =
@@ -96,7 +97,7 @@ take_end names n i value front new tokens rest after end lt e f g h k new_is =
 pub take_left : (names : Names) (n i value : ℕ) (front : List ℕ)
     (tokens rest after end : List Token) (kind : PardoKind) → i < n →
     fixed_at names 0 most tokens ≡ Ok (value, rest) → 0 < length rest →
-    after_comma rest ≡ Ok after → after_dots after ≡ Some end → Err kind ≡ ended (tt {0}) end →
+    rest_after mark.Comma rest ≡ Ok after → after_dots after ≡ Some end → Err kind ≡ ended (tt {0}) end →
     after_values front (values_in names (n - i) tokens) ≡ Err kind
 take_left names n i value front tokens rest after end kind lt e f g h k =
     rw (value_first names n i tokens lt, e, value_comma _ value rest f, g)
@@ -113,7 +114,7 @@ after_values-onto front new value (Err kind) e = refl
 pub take_more : (names : Names) (n i value : ℕ) (front new : List ℕ)
     (tokens rest after end : List Token) → i < n →
     fixed_at names 0 most tokens ≡ Ok (value, rest) → 0 < length rest →
-    after_comma rest ≡ Ok after → after_dots after ≡ None → end ≡ after →
+    rest_after mark.Comma rest ≡ Ok after → after_dots after ≡ None → end ≡ after →
     new ≡ front ++ value ∷ [] → after_values front (values_in names (n - i) tokens)
     ≡ after_values new (values_in names (n - (i + 1)) end)
 take_more names n i value front new tokens rest after end lt e f g h same new_is =

@@ -18,12 +18,13 @@ use Rattle.pardo_text.specs.declared.symbol.Symbol.TheVariants as the
 use Rattle.pardo_text.specs.Drafts.{Draft, fitting, with_line, with_block, with_loop, without}
 use Rattle.pardo_text.specs.Drafts.{with_end}
 use Rattle.pardo_text.specs.Expression.{Tree, number as constant}
-use Rattle.pardo_text.specs.Expressions.{Read, after_assign, after_close_index, after_equals}
+use Rattle.pardo_text.specs.Expressions.{Read, rest_after}
 use Rattle.pardo_text.specs.Expressions.{indexed, ended, new_name, expression_at}
-use Rattle.pardo_text.specs.Lines.{Word}
+use Rattle.pram_text.specs.Lines.{Word}
 use Rattle.pardo_text.specs.Names.{Names}
 use Rattle.pardo_text.specs.Reads.{◌>>=◌}
 use Rattle.pardo_text.specs.Tokens.{Token, name, symbol}
+use Rattle.pardo_text.specs.declared.part.Mark.TheVariants as mark
 
 -- an expression to the end of the line
 unfoldable pub whole_at : Names → Scope → List Token → Result Tree PardoKind
@@ -37,7 +38,7 @@ abbrev pub place_of : Names → ℕ → Option (List Token) → Read Target
 place_of names array None = Err WrongKind
 place_of names array (Some inside) = do
   index ← expression_at names Any inside
-  rest ← after_close_index index.1
+  rest ← rest_after mark.CloseIndex index.1
   Ok (target.Array array index.0, rest)
 
 -- a target without an index
@@ -57,7 +58,7 @@ target_of names (Some other) tokens = Err WrongKind
 unfoldable pub assignment_at : Names → Word → List Token → Result Statement PardoKind
 assignment_at names word tokens = do
   place ← target_of names (names word) tokens
-  after ← after_assign place.1
+  after ← rest_after mark.Assign place.1
   value ← whole_at names Any after
   Ok (statement.Assign place.0 value)
 
@@ -86,7 +87,7 @@ way_at _ = Err BadLine
 unfoldable pub for_line : ℕ → Draft → List Token → Result Draft PardoKind
 for_line number draft tokens = do
   word ← new_name draft.names tokens
-  after ← after_equals word.1
+  after ← rest_after mark.Equals word.1
   first ← expression_at draft.names Bound after
   way ← way_at first.1
   last ← whole_at draft.names Bound way.1

@@ -15,11 +15,13 @@ use Rattle.pardo_text.specs.declared.operation.Op.{Op}
 use Rattle.pardo_text.specs.declared.operation.Op.TheVariants as op
 use Rattle.pardo_text.specs.declared.symbol.Symbol.TheVariants as the
 use Rattle.pardo_text.specs.Expression.{Tree, number, place, apply}
-use Rattle.pardo_text.specs.Lines.{Word}
+use Rattle.pram_text.specs.Lines.{Word}
 use Rattle.pardo_text.specs.Names.{Names, admits, divides, tree_from}
 use Rattle.pardo_text.specs.Operations.{level_of, is_division, value_of, comparisons, loosest}
 use Rattle.pardo_text.specs.Reads.{◌>>=◌}
 use Rattle.pardo_text.specs.Tokens.{Token, name, number as literal, symbol}
+use Rattle.pardo_text.specs.declared.part.Mark.{Mark}
+use Rattle.pardo_text.specs.declared.part.Mark.TheVariants as mark
 
 -- a part of a line, and the tokens after it
 abbrev pub Read : Type 0 → Type 0
@@ -27,33 +29,16 @@ Read A = Result (A × List Token) PardoKind
 
 -- ---- single tokens
 
-abbrev pub after_open : List Token → Result (List Token) PardoKind
-after_open (symbol the.Open ∷ rest) = Ok rest
-after_open _ = Err BadLine
-
-abbrev pub after_close : List Token → Result (List Token) PardoKind
-after_close (symbol the.Close ∷ rest) = Ok rest
-after_close _ = Err BadLine
-
-abbrev pub after_comma : List Token → Result (List Token) PardoKind
-after_comma (symbol the.Comma ∷ rest) = Ok rest
-after_comma _ = Err BadLine
-
-abbrev pub after_close_index : List Token → Result (List Token) PardoKind
-after_close_index (symbol the.CloseIndex ∷ rest) = Ok rest
-after_close_index _ = Err BadLine
-
-abbrev pub after_assign : List Token → Result (List Token) PardoKind
-after_assign (symbol the.Assign ∷ rest) = Ok rest
-after_assign _ = Err BadLine
-
-abbrev pub after_equals : List Token → Result (List Token) PardoKind
-after_equals (symbol (the.Operator op.Eq) ∷ rest) = Ok rest
-after_equals _ = Err BadLine
-
-abbrev pub after_less : List Token → Result (List Token) PardoKind
-after_less (symbol (the.Operator op.Lt) ∷ rest) = Ok rest
-after_less _ = Err BadLine
+-- what is after this mark, which has to come next
+abbrev pub rest_after : Mark → List Token → Result (List Token) PardoKind
+rest_after mark.Open (symbol the.Open ∷ rest) = Ok rest
+rest_after mark.Close (symbol the.Close ∷ rest) = Ok rest
+rest_after mark.Comma (symbol the.Comma ∷ rest) = Ok rest
+rest_after mark.CloseIndex (symbol the.CloseIndex ∷ rest) = Ok rest
+rest_after mark.Assign (symbol the.Assign ∷ rest) = Ok rest
+rest_after mark.Equals (symbol (the.Operator op.Eq) ∷ rest) = Ok rest
+rest_after mark.Less (symbol (the.Operator op.Lt) ∷ rest) = Ok rest
+rest_after mark tokens = Err BadLine
 
 -- what follows the `[` after a name, if one follows
 abbrev pub indexed : List Token → Option (List Token)
@@ -116,25 +101,25 @@ literal_at value rest =
 abbrev pub bracketed_at : Inner → Scope → List Token → Read Tree
 bracketed_at inner scope tokens = do
   tree ← inner scope tokens
-  rest ← after_close tree.1
+  rest ← rest_after mark.Close tree.1
   Ok (tree.0, rest)
 
 -- what follows `min` or `max`
 abbrev pub pair_at : Inner → Scope → Op → List Token → Read Tree
 pair_at inner scope op tokens = do
-  opened ← after_open tokens
+  opened ← rest_after mark.Open tokens
   first ← inner scope opened
-  between ← after_comma first.1
+  between ← rest_after mark.Comma first.1
   second ← inner scope between
-  rest ← after_close second.1
+  rest ← rest_after mark.Close second.1
   Ok (applied op first.0 second.0, rest)
 
 -- what follows `lg`
 abbrev pub log_at : Inner → List Token → Read Tree
 log_at inner tokens = do
-  opened ← after_open tokens
+  opened ← rest_after mark.Open tokens
   tree ← inner Fixed opened
-  rest ← after_close tree.1
+  rest ← rest_after mark.Close tree.1
   Ok (number (log_of (fixed_value tree.0)), rest)
 
 -- what follows the `[` after the name of an array
@@ -142,7 +127,7 @@ abbrev pub place_at : Inner → Scope → ℕ → Option (List Token) → Read T
 place_at inner scope array None = Err WrongKind
 place_at inner scope array (Some tokens) = do
   index ← inner scope tokens
-  rest ← after_close_index index.1
+  rest ← rest_after mark.CloseIndex index.1
   Ok (place array index.0, rest)
 
 -- An array has an index, and nothing else has one.

@@ -2,6 +2,5 @@
 pub mod Tokens
 pub mod Names
 pub mod Nodes
-pub mod LinesAfter
 pub mod Values
 pub mod Drafts

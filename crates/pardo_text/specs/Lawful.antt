@@ -29,13 +29,14 @@ IsTree b (private x) = x < b.privates
 IsTree b (place array index) = (array < b.arrays) × IsTree b index
 IsTree b (apply op first second) = (is_division op ≡ false) × IsTree b first × IsTree b second
 
--- No own number and no private variable stands in it, so its value is one for all processors.
+-- No own number and no private variable stands in it, so its value is one for all processors; and
+-- of arrays only scalars, which have no place but the first, so it has a value.
 abbrev pub IsCommon : Tree → Type 0
 IsCommon (number value) = Unit {0}
 IsCommon own = ⊥
 IsCommon (loop nest) = Unit {0}
 IsCommon (private x) = ⊥
-IsCommon (place array index) = IsCommon index
+IsCommon (place array index) = index ≡ number 0
 IsCommon (apply op first second) = IsCommon first × IsCommon second
 
 -- what a loop depends on

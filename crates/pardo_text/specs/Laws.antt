@@ -1,7 +1,7 @@
 -- What the laws say of texts.
-use Rattle.std.specs.Prelude.{◌≡◌, ◌⊎◌, ℕ, ◌+◌, ◌≤◌, ◌<◌, ◌^◌, ◌==◌, List, [], ◌∷◌, ◌++◌}
-use Rattle.std.specs.Prelude.{length, count_by, IsTrue, IfOk, Some, Result, Ok, Err}
-use Rattle.std.specs.List.{list_all, join_with_byte}
+use Rattle.std.specs.Prelude.{◌≡◌, ◌⊎◌, ℕ, ◌+◌, ◌≤◌, ◌<◌, ◌^◌, List, [], ◌∷◌, ◌++◌}
+use Rattle.std.specs.Prelude.{length, IsTrue, IfOk, Some, Result, Ok, Err}
+use Rattle.std.specs.List.{list_all}
 use Rattle.pardo_text.specs.declared.fault.PardoFault.{PardoFault}
 use Rattle.pardo_text.specs.declared.fault.PardoKind.{PardoKind}
 use Rattle.pardo_text.specs.declared.limits.TheConstants.{MAX_CELLS, MAX_PROCS, MAX_OPEN}
@@ -10,7 +10,8 @@ use Rattle.pardo_text.specs.Drafts.{Draft, empty}
 use Rattle.pardo_text.specs.Expression.{number}
 use Rattle.pardo_text.specs.Expressions.{expression_at, log_of}
 use Rattle.pardo_text.specs.Lawful.{IsProgram}
-use Rattle.pardo_text.specs.Lines.{lines_of, is_allowed, is_blank, said_in}
+use Rattle.pram_text.specs.Laws.{HasOtherLine}
+use Rattle.pram_text.specs.Lines.{lines_of, is_allowed, is_blank, said_in}
 use Rattle.pardo_text.specs.Names.{Names}
 use Rattle.pardo_text.specs.Nested.{IsNested}
 use Rattle.pardo_text.specs.Program.{ProgramData}
@@ -21,16 +22,6 @@ use Rattle.pardo_text.specs.Tokens.{Token, token_at, tokens_of}
 -- cells, processors and open brackets
 abbrev pub LimitsAre : Type 0
 LimitsAre = (MAX_CELLS ≡ 65536) × (MAX_PROCS ≡ 1024) × (MAX_OPEN ≡ 32)
-
--- ---- lines
-
--- the lines, joined by line feeds, are the text
-abbrev pub LinesAreJoined : Type 0
-LinesAreJoined = (text : List ℕ) → join_with_byte 10 (lines_of text) ≡ text
-
--- one line more than line feeds
-abbrev pub LinesAreCounted : Type 0
-LinesAreCounted = (text : List ℕ) → length (lines_of text) ≡ count_by (λ byte. byte == 10) text + 1
 
 -- ---- tokens
 
@@ -75,13 +66,6 @@ abbrev pub EmptyLinesSayNothing : Type 0
 EmptyLinesSayNothing = (number : ℕ) (draft : Draft) (line : List ℕ) →
     IsTrue (list_all is_allowed line) → tokens_of (said_in line) ≡ Ok [] →
     with_text_line number draft line ≡ Ok draft
-
--- `other` is `text` with another line in the place of this one
-pub record HasOtherLine (text other line other_line : List ℕ) : Type 0 where
-  pub before : List (List ℕ)
-  pub after : List (List ℕ)
-  pub lines : lines_of text ≡ before ++ line ∷ after
-  pub other_lines : lines_of other ≡ before ++ other_line ∷ after
 
 -- Texts whose lines say the same are the same program, or have the same fault.
 abbrev pub LinesAreWhatTheySay : Type 0

@@ -1,4 +1,3 @@
-pub mod Lines
 pub mod Operations
 pub mod Expression
 pub mod Reads

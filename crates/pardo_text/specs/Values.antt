@@ -7,11 +7,12 @@ use Rattle.pardo_text.specs.declared.fault.PardoKind.TheVariants.{BadLine, OutOf
 use Rattle.pardo_text.specs.declared.operation.Op.{Op}
 use Rattle.pardo_text.specs.declared.symbol.Symbol.TheVariants as the
 use Rattle.pardo_text.specs.Expression.{Tree, number, own, loop, private, place, apply}
-use Rattle.pardo_text.specs.Expressions.{ended, fixed_at, after_comma, after_equals}
+use Rattle.pardo_text.specs.Expressions.{ended, fixed_at, rest_after}
 use Rattle.pardo_text.specs.Names.{Names}
 use Rattle.pardo_text.specs.Operations.{is_division, value_of}
 use Rattle.pardo_text.specs.Reads.{◌>>=◌}
 use Rattle.pardo_text.specs.Tokens.{Token, symbol}
+use Rattle.pardo_text.specs.declared.part.Mark.TheVariants as mark
 
 -- the greatest number of 32 bits
 abbrev pub most : ℕ
@@ -63,7 +64,7 @@ abbrev pub values_after : (List Token → Result (List ℕ × Bool) PardoKind) �
     Result (List ℕ × Bool) PardoKind
 values_after more value [] = Ok (value ∷ [], false)
 values_after more value (token ∷ tokens) = do
-  rest ← after_comma (token ∷ tokens)
+  rest ← rest_after mark.Comma (token ∷ tokens)
   values_next more value rest (after_dots rest)
 
 -- at most so many values to the end of the line, and whether `...` ends them
@@ -85,6 +86,6 @@ filled places values fills =
 unfoldable pub start_at : Names → ℕ → List Token → Result (List ℕ) PardoKind
 start_at names places [] = Ok (replicate places 0)
 start_at names places (token ∷ tokens) = do
-  rest ← after_equals (token ∷ tokens)
+  rest ← rest_after mark.Equals (token ∷ tokens)
   values ← values_in names (length rest) rest
   filled places values.0 values.1

@@ -106,20 +106,6 @@ impl Arrays {
         }
     }
 
-    /// How many arrays there are.
-    pub(crate) fn len(&self) -> usize
-        ensures { result ≡ length self.now }
-    {
-        self.arrays.len()
-    }
-
-    /// How many cells they have.
-    pub(crate) fn cells(&self) -> usize
-        ensures { result ≡ shared_cells self.now }
-    {
-        self.cells
-    }
-
     /// One array more, unless they then have too many cells.
     pub(crate) fn push(
         &mut self,
@@ -141,6 +127,20 @@ impl Arrays {
         self.arrays.push(Array::new(name, is_scalar, base, start))?;
         self.cells = cells;
         Ok(())
+    }
+
+    /// How many arrays there are.
+    pub(crate) fn len(&self) -> usize
+        ensures { result ≡ length self.now }
+    {
+        self.arrays.len()
+    }
+
+    /// How many cells they have.
+    pub(crate) fn cells(&self) -> usize
+        ensures { result ≡ shared_cells self.now }
+    {
+        self.cells
     }
 
     /// The arrays, in their order.

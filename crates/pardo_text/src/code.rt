@@ -11,7 +11,7 @@ use crate::expression::Expr;
 use crate::fault::PardoKind;
 use crate::names::{Named, Names, Scope};
 use crate::parse::expression;
-use crate::part::{after_assign, after_close_index, after_equals, ended, indexed, new_name};
+use crate::part::{Mark, ended, expect, indexed, new_name};
 use crate::statement::{Statement, Target};
 use crate::symbol::Symbol;
 use crate::token::Token;
@@ -85,7 +85,7 @@ impl<'t> Draft<'t> {
             (for_line number (draft_of self.old) tokens.old) }
     {
         let name = new_name(&self.names, tokens)?;
-        after_equals(tokens)?;
+        expect(Mark::Equals, tokens)?;
         let first = expression(self.alloc, &self.names, Scope::Bound, tokens)?;
         let up = way(tokens)?;
         let last = whole(self.alloc, &self.names, Scope::Bound, tokens)?;
@@ -172,29 +172,29 @@ fn assignment(
     ensures { Gives (λ said. said) result
         (assignment_at (names_in names.now) name.now tokens.old) }
 {
-    let target = target(alloc, names, name, tokens)?;
-    after_assign(tokens)?;
+    let target = target(alloc, names, names.get(name).copied(), tokens)?;
+    expect(Mark::Assign, tokens)?;
     let value = whole(alloc, names, Scope::Any, tokens)?;
     Ok(Statement::Assign(target, value))
 }
 
-// Reads what an assignment to this name goes to.
+// Reads what an assignment to this thing goes to, which a name stands for.
 fn target(
     alloc: Global,
     names: &Names<'_>,
-    name: &[u8],
+    thing: Option<Named>,
     tokens: &mut Cursor<'_, '_>,
 ) -> Result<Target, PardoKind>
     ensures { Gives (λ place. (place, tokens.new)) result
-        (target_of (names_in names.now) (names_in names.now name.now) tokens.old) }
+        (target_of (names_in names.now) thing tokens.old) }
 {
-    let Some(thing) = names.get(name) else {
+    let Some(thing) = thing else {
         return Err(PardoKind::UnknownName);
     };
-    match (*thing, indexed(tokens)) {
+    match (thing, indexed(tokens)) {
         (Named::Array(array), true) => {
             let index = expression(alloc, names, Scope::Any, tokens)?;
-            after_close_index(tokens)?;
+            expect(Mark::CloseIndex, tokens)?;
             Ok(Target::Array(array, index))
         }
         (Named::Scalar(array), false) => Ok(Target::Array(array, Expr::number(alloc, 0)?)),

@@ -4,6 +4,13 @@ ghost use Rattle.pardo_text.specs.declared.fault.PardoKind.TheVariants.{Memory};
 
 use std::alloc::{AllocError, AllocFailed};
 
+/// The first bad line of a text, counted from 1, and what is wrong with it.
+#[derive(Clone, Copy, Debug, PartialEq, Eq)]
+pub struct PardoFault {
+    pub line: u64,
+    pub kind: PardoKind,
+}
+
 /// What is wrong with a line.
 #[derive(Clone, Copy, Debug, PartialEq, Eq)]
 pub enum PardoKind {
@@ -41,25 +48,18 @@ pub enum PardoKind {
     Memory,
 }
 
-/// The first bad line of a text, counted from 1, and what is wrong with it.
-#[derive(Clone, Copy, Debug, PartialEq, Eq)]
-pub struct PardoFault {
-    pub line: u64,
-    pub kind: PardoKind,
+impl<T: Drop> From<AllocFailed<T>> for PardoKind {
+    ghost from_gives = { λ _ kind. kind ≡ Memory };
+
+    fn from(_failed: AllocFailed<T>) -> PardoKind {
+        PardoKind::Memory
+    }
 }
 
 impl From<AllocError> for PardoKind {
     ghost from_gives = { λ _ kind. kind ≡ Memory };
 
     fn from(_error: AllocError) -> PardoKind {
-        PardoKind::Memory
-    }
-}
-
-impl<T: Drop> From<AllocFailed<T>> for PardoKind {
-    ghost from_gives = { λ _ kind. kind ≡ Memory };
-
-    fn from(_failed: AllocFailed<T>) -> PardoKind {
         PardoKind::Memory
     }
 }

@@ -12,11 +12,12 @@ use crate::fault::PardoKind;
 use crate::limits::{MAX_CELLS, MAX_PROCS};
 use crate::names::{Named, Names, Scope};
 use crate::parse::{expression, fixed};
-use crate::part::{after_close_index, after_equals, after_less, ended, indexed, new_name};
+use crate::part::{Mark, ended, expect, indexed, new_name};
 use crate::program::Rule;
 use crate::symbol::Symbol;
-use crate::token::{Token, is_word};
+use crate::token::Token;
 use crate::value::{start_values, values_for};
+use pram_text::is_word;
 use std::alloc::Global;
 
 impl<'t> Draft<'t> {
@@ -39,6 +40,22 @@ impl<'t> Draft<'t> {
         }
     }
 
+    /// Reads a header line after the first two.
+    #[tactic(auto, unfolding(crate::specs::Header::header_line))]
+    pub(crate) fn take_header(&mut self, tokens: &mut Cursor<'_, 't>) -> Result<(), PardoKind>
+        ensures { Gives (λ _. draft_of self.new) result
+            (header_line (draft_of self.old) tokens.old) }
+    {
+        match tokens.next() {
+            Some(Token::Symbol(Symbol::Const)) => self.take_const(tokens),
+            Some(Token::Symbol(Symbol::Procs)) => self.take_procs(tokens),
+            Some(Token::Symbol(Symbol::Shared)) => self.take_shared(tokens),
+            Some(Token::Symbol(Symbol::Private)) => self.take_private(tokens),
+            Some(Token::Symbol(Symbol::Code)) => self.begin_code(tokens),
+            _ => Err(PardoKind::BadHeader),
+        }
+    }
+
     /// Reads `rule NAME`.
     #[tactic(auto, unfolding(crate::specs::Header::rule_line))]
     pub(crate) fn take_rule(&mut self, tokens: &mut Cursor<'_, 't>) -> Result<(), PardoKind>
@@ -55,22 +72,6 @@ impl<'t> Draft<'t> {
         }
     }
 
-    /// Reads a header line after these two.
-    #[tactic(auto, unfolding(crate::specs::Header::header_line))]
-    pub(crate) fn take_header(&mut self, tokens: &mut Cursor<'_, 't>) -> Result<(), PardoKind>
-        ensures { Gives (λ _. draft_of self.new) result
-            (header_line (draft_of self.old) tokens.old) }
-    {
-        match tokens.next() {
-            Some(Token::Symbol(Symbol::Const)) => self.take_const(tokens),
-            Some(Token::Symbol(Symbol::Procs)) => self.take_procs(tokens),
-            Some(Token::Symbol(Symbol::Shared)) => self.take_shared(tokens),
-            Some(Token::Symbol(Symbol::Private)) => self.take_private(tokens),
-            Some(Token::Symbol(Symbol::Code)) => self.begin_code(tokens),
-            _ => Err(PardoKind::BadHeader),
-        }
-    }
-
     // Reads what follows `const`.
     #[tactic(auto, unfolding(crate::specs::Header::const_line))]
     fn take_const(&mut self, tokens: &mut Cursor<'_, 't>) -> Result<(), PardoKind>
@@ -78,7 +79,7 @@ impl<'t> Draft<'t> {
             (const_line (draft_of self.old) tokens.old) }
     {
         let name = new_name(&self.names, tokens)?;
-        after_equals(tokens)?;
+        expect(Mark::Equals, tokens)?;
         let value = fixed(self.alloc, &self.names, 0, u32::MAX, tokens)?;
         ended(tokens)?;
         self.add_name(name, Named::Constant(value))?;
@@ -95,7 +96,7 @@ impl<'t> Draft<'t> {
             return Err(PardoKind::BadHeader);
         }
         let name = new_name(&self.names, tokens)?;
-        after_less(tokens)?;
+        expect(Mark::Less, tokens)?;
         let procs = fixed(self.alloc, &self.names, 1, MAX_PROCS, tokens)?;
         ended(tokens)?;
         self.add_name(name, Named::Own)?;
@@ -111,7 +112,7 @@ impl<'t> Draft<'t> {
     {
         let name = new_name(&self.names, tokens)?;
         let places = places_of(self.alloc, &self.names, tokens)?;
-        let start = start_values(self.alloc, &self.names, places.unwrap_or(1), tokens)?;
+        let start = start_values(self.alloc, places.unwrap_or(1), &self.names, tokens)?;
         self.add_array(name, places.is_none(), start)
     }
 
@@ -171,7 +172,7 @@ fn places_of(
         return Ok(None);
     }
     let places = fixed(alloc, names, 1, MAX_CELLS, tokens)?;
-    after_close_index(tokens)?;
+    expect(Mark::CloseIndex, tokens)?;
     Ok(Some(places))
 }
 
@@ -187,7 +188,7 @@ fn private_start(
     if tokens.len() == 0 {
         return Ok(Expr::number(alloc, 0)?);
     }
-    after_equals(tokens)?;
+    expect(Mark::Equals, tokens)?;
     let expr = expression(alloc, names, Scope::Start, tokens)?;
     ended(tokens)?;
     Ok(expr)

@@ -1,6 +1,6 @@
 //! Laws of the text: they show that the definitions mean what is meant.
 //! Nothing happens when they are called.
-ghost use Rattle.pardo_text.specs.Laws.{LimitsAre, LinesAreJoined, LinesAreCounted};
+ghost use Rattle.pardo_text.specs.Laws.{LimitsAre};
 ghost use Rattle.pardo_text.specs.Laws.{TokensAreLongest, LgIsLeast, ConstantsAreNumbers};
 ghost use Rattle.pardo_text.specs.Laws.{CommentsSayNothing, IndentationSaysNothing};
 ghost use Rattle.pardo_text.specs.Laws.{EmptyLinesSayNothing, LinesAreWhatTheySay};
@@ -10,13 +10,6 @@ ghost use Rattle.pardo_text.specs.Laws.{ProgramsAreNested};
 /// The limits by their numbers.
 pub fn limits_are()
     ensures { LimitsAre }
-{}
-
-/// The lines of a text, joined by line feeds, are the text, and there is one more of them than
-/// line feeds.
-pub fn lines_are_joined_by_line_feeds()
-    ensures joined { LinesAreJoined }
-    ensures count { LinesAreCounted }
 {}
 
 /// A line begins with no longer token than the one that is taken.

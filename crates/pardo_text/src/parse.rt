@@ -15,7 +15,7 @@ use crate::fault::PardoKind;
 use crate::limits::MAX_OPEN;
 use crate::names::{Named, Names, Scope};
 use crate::operation::Op;
-use crate::part::{after_close, after_close_index, after_comma, after_open, indexed};
+use crate::part::{Mark, expect, indexed};
 use crate::symbol::Symbol;
 use crate::token::Token;
 use std::alloc::Global;
@@ -29,6 +29,9 @@ pub(crate) struct Around<'n, 't> {
     /// How many brackets may still be opened.
     pub(crate) brackets: usize,
 }
+
+// An expression that was read, or what is wrong.
+type Parsed = Result<Expr, PardoKind>;
 
 // The level of comparisons, which take two operands alone, and that of whole expressions.
 const COMPARISONS: u8 = 3;
@@ -78,7 +81,7 @@ pub(crate) fn fixed(
 
 // Reads what stands within a bracket.
 #[cycle(operand)]
-fn within(around: Around<'_, '_>, tokens: &mut Cursor<'_, '_>) -> Result<Expr, PardoKind>
+fn within(around: Around<'_, '_>, tokens: &mut Cursor<'_, '_>) -> Parsed
     ensures { Gives (λ expr. (expr, tokens.new)) result (within_at (names_in around.entry.names.now)
         around.entry.brackets around.entry.scope tokens.old) }
 {
@@ -90,11 +93,7 @@ fn within(around: Around<'_, '_>, tokens: &mut Cursor<'_, '_>) -> Result<Expr, P
 
 // Reads an expression of this level: a chain of those of the level below, or an operand.
 #[cycle(operand)]
-fn leveled(
-    around: Around<'_, '_>,
-    level: u8,
-    tokens: &mut Cursor<'_, '_>,
-) -> Result<Expr, PardoKind>
+fn leveled(around: Around<'_, '_>, level: u8, tokens: &mut Cursor<'_, '_>) -> Parsed
     ensures { Gives (λ expr. (expr, tokens.new)) result
         (level_at (operand_at (names_in around.entry.names.now)
         (within_at (names_in around.entry.names.now) around.entry.brackets)) level
@@ -109,12 +108,7 @@ fn leveled(
 
 // Reads the operations of a level after the first operand.
 #[cycle(operand)]
-fn chain(
-    around: Around<'_, '_>,
-    level: u8,
-    first: Expr,
-    tokens: &mut Cursor<'_, '_>,
-) -> Result<Expr, PardoKind>
+fn chain(around: Around<'_, '_>, level: u8, first: Expr, tokens: &mut Cursor<'_, '_>) -> Parsed
     requires { 0 < level }
     ensures { Gives (λ expr. (expr, tokens.new)) result
         (chained (level_at (operand_at (names_in around.entry.names.now)
@@ -163,7 +157,7 @@ fn operator(level: u8, tokens: &mut Cursor<'_, '_>) -> Option<Op>
 
 // The operation of two expressions, if it may stand here.
 #[tactic(auto, unfolding(crate::specs::Expressions::joined))]
-fn join(around: Around<'_, '_>, op: Op, first: Expr, second: Expr) -> Result<Expr, PardoKind>
+fn join(around: Around<'_, '_>, op: Op, first: Expr, second: Expr) -> Parsed
     ensures { Gives (λ expr. expr) result (joined around.entry.scope op first second) }
 {
     if op.is_division() {
@@ -180,7 +174,7 @@ fn join(around: Around<'_, '_>, op: Op, first: Expr, second: Expr) -> Result<Exp
 // Reads an operand.
 #[cycle(operand)]
 #[tactic(auto, unfolding(crate::specs::Expressions::operand_at))]
-fn operand(around: Around<'_, '_>, tokens: &mut Cursor<'_, '_>) -> Result<Expr, PardoKind>
+fn operand(around: Around<'_, '_>, tokens: &mut Cursor<'_, '_>) -> Parsed
     ensures { Gives (λ expr. (expr, tokens.new)) result
         (operand_at (names_in around.entry.names.now)
         (within_at (names_in around.entry.names.now) around.entry.brackets)
@@ -197,7 +191,7 @@ fn operand(around: Around<'_, '_>, tokens: &mut Cursor<'_, '_>) -> Result<Expr, 
 }
 
 // A number.
-fn literal(alloc: Global, value: u64) -> Result<Expr, PardoKind>
+fn literal(alloc: Global, value: u64) -> Parsed
     ensures { (rest : List Part) → Gives (λ expr. (expr, rest)) result (literal_at value rest) }
 {
     if value <= u64::from(u32::MAX) {
@@ -209,35 +203,35 @@ fn literal(alloc: Global, value: u64) -> Result<Expr, PardoKind>
 
 // Reads what stands between `(` and `)`, after the `(`.
 #[cycle(operand)]
-fn bracketed(around: Around<'_, '_>, tokens: &mut Cursor<'_, '_>) -> Result<Expr, PardoKind>
+fn bracketed(around: Around<'_, '_>, tokens: &mut Cursor<'_, '_>) -> Parsed
     ensures { Gives (λ expr. (expr, tokens.new)) result
         (bracketed_at (within_at (names_in around.entry.names.now) around.entry.brackets)
         around.entry.scope tokens.old) }
 {
     let expr = within(around, tokens)?;
-    after_close(tokens)?;
+    expect(Mark::Close, tokens)?;
     Ok(expr)
 }
 
 // Reads what stands after `min` or `max`.
 #[cycle(operand)]
-fn pair(around: Around<'_, '_>, op: Op, tokens: &mut Cursor<'_, '_>) -> Result<Expr, PardoKind>
+fn pair(around: Around<'_, '_>, op: Op, tokens: &mut Cursor<'_, '_>) -> Parsed
     requires { level_of op ≡ 0 }
     ensures { Gives (λ expr. (expr, tokens.new)) result
         (pair_at (within_at (names_in around.entry.names.now) around.entry.brackets)
         around.entry.scope op tokens.old) }
 {
-    after_open(tokens)?;
+    expect(Mark::Open, tokens)?;
     let first = within(around, tokens)?;
-    after_comma(tokens)?;
+    expect(Mark::Comma, tokens)?;
     let second = within(around, tokens)?;
-    after_close(tokens)?;
+    expect(Mark::Close, tokens)?;
     Ok(first.applied(around.alloc, op, second)?)
 }
 
 // Reads what stands after `lg`.
 #[cycle(operand)]
-fn logarithm(around: Around<'_, '_>, tokens: &mut Cursor<'_, '_>) -> Result<Expr, PardoKind>
+fn logarithm(around: Around<'_, '_>, tokens: &mut Cursor<'_, '_>) -> Parsed
     ensures { Gives (λ expr. (expr, tokens.new)) result
         (log_at (within_at (names_in around.entry.names.now) around.entry.brackets) tokens.old) }
 {
@@ -245,9 +239,9 @@ fn logarithm(around: Around<'_, '_>, tokens: &mut Cursor<'_, '_>) -> Result<Expr
         scope: Scope::Fixed,
         ..around
     };
-    after_open(tokens)?;
+    expect(Mark::Open, tokens)?;
     let expr = within(fixed, tokens)?;
-    after_close(tokens)?;
+    expect(Mark::Close, tokens)?;
     let value = log_of(expr.constant().unwrap_or(0));
     Ok(Expr::number(around.alloc, value)?)
 }
@@ -262,11 +256,7 @@ fn log_of(value: u32) -> u32
 
 // Reads what follows a name, if it may stand here.
 #[cycle(operand)]
-fn named(
-    around: Around<'_, '_>,
-    name: &[u8],
-    tokens: &mut Cursor<'_, '_>,
-) -> Result<Expr, PardoKind>
+fn named(around: Around<'_, '_>, name: &[u8], tokens: &mut Cursor<'_, '_>) -> Parsed
     ensures { Gives (λ expr. (expr, tokens.new)) result
         (named_at (within_at (names_in around.entry.names.now) around.entry.brackets)
         around.entry.scope (names_in around.entry.names.now name.now) tokens.old) }
@@ -280,11 +270,7 @@ fn named(
 
 // What a name says, with the index after it if it is an array.
 #[cycle(operand)]
-fn used(
-    around: Around<'_, '_>,
-    thing: Named,
-    tokens: &mut Cursor<'_, '_>,
-) -> Result<Expr, PardoKind>
+fn used(around: Around<'_, '_>, thing: Named, tokens: &mut Cursor<'_, '_>) -> Parsed
     ensures { Gives (λ expr. (expr, tokens.new)) result
         (used_at (within_at (names_in around.entry.names.now) around.entry.brackets)
         around.entry.scope thing tokens.old) }
@@ -292,7 +278,7 @@ fn used(
     match (thing, indexed(tokens)) {
         (Named::Array(array), true) => {
             let index = within(around, tokens)?;
-            after_close_index(tokens)?;
+            expect(Mark::CloseIndex, tokens)?;
             Ok(index.place_of(array)?)
         }
         (Named::Array(_), false) | (_, true) => Err(PardoKind::WrongKind),

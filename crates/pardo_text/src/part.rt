@@ -1,8 +1,7 @@
 //! Single tokens of a line.
 ghost use Rattle.std.specs.Prelude.{◌≡◌, Ok, is_some, unwrap_or};
-ghost use Rattle.pardo_text.specs.Expressions.{after_open, after_close, after_comma};
-ghost use Rattle.pardo_text.specs.Expressions.{after_close_index, after_assign, after_equals};
-ghost use Rattle.pardo_text.specs.Expressions.{after_less, indexed, ended, new_name};
+ghost use Rattle.pardo_text.specs.Expressions.{rest_after, indexed, ended, new_name};
+ghost use Rattle.pardo_text.specs.Values.{after_dots};
 ghost use Rattle.pardo_text.specs.Inner.Tokens.{Gives};
 ghost use Rattle.pardo_text.specs.Inner.Names.{names_in};
 
@@ -13,72 +12,30 @@ use crate::operation::Op;
 use crate::symbol::Symbol;
 use crate::token::Token;
 
-/// Reads a `(`.
-pub(crate) fn after_open(tokens: &mut Cursor<'_, '_>) -> Result<(), PardoKind>
-    ensures { Gives (λ _. tokens.new) result (after_open tokens.old) }
-{
-    match tokens.next() {
-        Some(Token::Symbol(Symbol::Open)) => Ok(()),
-        _ => Err(PardoKind::BadLine),
-    }
+/// A symbol that has to come next.
+#[derive(Clone, Copy)]
+pub(crate) enum Mark {
+    Open,
+    Close,
+    CloseIndex,
+    Comma,
+    Assign,
+    Equals,
+    Less,
 }
 
-/// Reads a `)`.
-pub(crate) fn after_close(tokens: &mut Cursor<'_, '_>) -> Result<(), PardoKind>
-    ensures { Gives (λ _. tokens.new) result (after_close tokens.old) }
+/// Reads this mark.
+pub(crate) fn expect(mark: Mark, tokens: &mut Cursor<'_, '_>) -> Result<(), PardoKind>
+    ensures { Gives (λ _. tokens.new) result (rest_after mark tokens.old) }
 {
-    match tokens.next() {
-        Some(Token::Symbol(Symbol::Close)) => Ok(()),
-        _ => Err(PardoKind::BadLine),
-    }
-}
-
-/// Reads a `,`.
-pub(crate) fn after_comma(tokens: &mut Cursor<'_, '_>) -> Result<(), PardoKind>
-    ensures { Gives (λ _. tokens.new) result (after_comma tokens.old) }
-{
-    match tokens.next() {
-        Some(Token::Symbol(Symbol::Comma)) => Ok(()),
-        _ => Err(PardoKind::BadLine),
-    }
-}
-
-/// Reads a `]`.
-pub(crate) fn after_close_index(tokens: &mut Cursor<'_, '_>) -> Result<(), PardoKind>
-    ensures { Gives (λ _. tokens.new) result (after_close_index tokens.old) }
-{
-    match tokens.next() {
-        Some(Token::Symbol(Symbol::CloseIndex)) => Ok(()),
-        _ => Err(PardoKind::BadLine),
-    }
-}
-
-/// Reads a `:=`.
-pub(crate) fn after_assign(tokens: &mut Cursor<'_, '_>) -> Result<(), PardoKind>
-    ensures { Gives (λ _. tokens.new) result (after_assign tokens.old) }
-{
-    match tokens.next() {
-        Some(Token::Symbol(Symbol::Assign)) => Ok(()),
-        _ => Err(PardoKind::BadLine),
-    }
-}
-
-/// Reads a `=`.
-pub(crate) fn after_equals(tokens: &mut Cursor<'_, '_>) -> Result<(), PardoKind>
-    ensures { Gives (λ _. tokens.new) result (after_equals tokens.old) }
-{
-    match tokens.next() {
-        Some(Token::Symbol(Symbol::Operator(Op::Eq))) => Ok(()),
-        _ => Err(PardoKind::BadLine),
-    }
-}
-
-/// Reads a `<`.
-pub(crate) fn after_less(tokens: &mut Cursor<'_, '_>) -> Result<(), PardoKind>
-    ensures { Gives (λ _. tokens.new) result (after_less tokens.old) }
-{
-    match tokens.next() {
-        Some(Token::Symbol(Symbol::Operator(Op::Lt))) => Ok(()),
+    match (mark, tokens.next()) {
+        (Mark::Open, Some(Token::Symbol(Symbol::Open)))
+        | (Mark::Close, Some(Token::Symbol(Symbol::Close)))
+        | (Mark::CloseIndex, Some(Token::Symbol(Symbol::CloseIndex)))
+        | (Mark::Comma, Some(Token::Symbol(Symbol::Comma)))
+        | (Mark::Assign, Some(Token::Symbol(Symbol::Assign)))
+        | (Mark::Equals, Some(Token::Symbol(Symbol::Operator(Op::Eq))))
+        | (Mark::Less, Some(Token::Symbol(Symbol::Operator(Op::Lt)))) => Ok(()),
         _ => Err(PardoKind::BadLine),
     }
 }
@@ -90,6 +47,20 @@ pub(crate) fn indexed(tokens: &mut Cursor<'_, '_>) -> bool
 {
     match tokens.peek() {
         Some(Token::Symbol(Symbol::OpenIndex)) => {
+            tokens.next();
+            true
+        }
+        _ => false,
+    }
+}
+
+/// Reads the `...` that ends values, if it follows.
+pub(crate) fn dots(tokens: &mut Cursor<'_, '_>) -> bool
+    ensures found { result ≡ is_some (after_dots tokens.old) }
+    ensures rest { tokens.new ≡ unwrap_or (after_dots tokens.old) tokens.old }
+{
+    match tokens.peek() {
+        Some(Token::Symbol(Symbol::Dots)) => {
             tokens.next();
             true
         }

@@ -1,7 +1,5 @@
 //! Reads a text line by line.
-ghost use Rattle.std.specs.Prelude.{◌≡◌, ◌≢◌, ◌<◌, ◌∷◌, Ok, IfOk, IfErr, IfSome, length};
-ghost use Rattle.pardo_text.specs.Inner.LinesAfter.{lines_after};
-ghost use Rattle.pardo_text.specs.Lines.{lines_of};
+ghost use Rattle.std.specs.Prelude.{◌≡◌, ◌≢◌, Ok, IfOk, IfErr};
 ghost use Rattle.pardo_text.specs.Inner.Drafts.{draft_of};
 ghost use Rattle.pardo_text.specs.Inner.Tokens.{Gives};
 ghost use Rattle.pardo_text.specs.Reading.{IsRefusal, program_of, with_text_line};
@@ -10,45 +8,29 @@ use crate::cursor::Cursor;
 use crate::draft::{Draft, Stage};
 use crate::fault::{PardoFault, PardoKind};
 use crate::program::Program;
-use crate::token::{Token, is_lawful, take_tokens};
-use memchr::memchr;
+use crate::token::{Token, take_tokens};
+use pram_text::{TextLines, is_lawful};
 use std::alloc::Global;
 
 /// The program that a text spells, or the first line that is wrong, and what is wrong with it.
 ///
-/// The time is linear in the text and in the number of start values; each name adds a search
-/// among those that are known.
+/// The time is linear in the text and in the number of start values, but for private variables,
+/// whose expression is worked out once for each processor; each name adds a search among those that
+/// are known.
 pub fn read_program(alloc: Global, text: &[u8]) -> Result<Program, PardoFault>
     ensures program { IfOk result (λ program. program_of text.now ≡ Ok program) }
     ensures refused { IfErr result (IsRefusal text.now) }
 {
     let mut draft = Draft::new(alloc);
     let mut tokens = Vec::new(alloc);
-    let mut number = 0;
-    let mut rest = Some(text);
-    while let Some(below) = rest {
-        let (line, after) = first_line(below);
-        number += 1;
-        if let Err(kind) = take_line(&mut draft, &mut tokens, number, line) {
-            return Err(refusal(number, kind));
-        }
-        rest = after;
-    }
-    draft.finish().map_err(|kind| refusal(number, kind))
-}
-
-// The first line, and what is after its line feed, if it has one.
-fn first_line(text: &[u8]) -> (&[u8], Option<&[u8]>)
-    ensures lines { lines_of text.now ≡ result.0.now ∷ lines_after result.1 }
-    ensures shorter { IfSome result.1 (λ rest. length rest.now < length text.now) }
-{
-    match memchr(b'\n', text) {
-        None => (text, None),
-        Some(end) => {
-            let (line, rest) = text.split_at(end);
-            (line, Some(&rest[1..]))
+    let mut lines = TextLines::new(text);
+    while let Some(line) = lines.take_line() {
+        if let Err(kind) = take_line(&mut draft, &mut tokens, lines.number(), line) {
+            return Err(refusal(lines.number(), kind));
         }
     }
+    let last = lines.number();
+    draft.finish().map_err(|kind| refusal(last, kind))
 }
 
 // The fault of a line. Out of memory it is no line's.

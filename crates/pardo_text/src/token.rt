@@ -1,17 +1,17 @@
 //! The tokens of a line.
 ghost use Rattle.std.specs.Prelude.{◌≡◌, ◌<◌, ◌||◌, ◌==◌, not, length, IfSome};
 ghost use Rattle.std.specs.Char.{is_ascii_digit, is_ascii_alphabetic, is_ascii_alphanumeric};
-ghost use Rattle.std.specs.List.{position, AllPass, list_all};
+ghost use Rattle.std.specs.List.{position};
 ghost use Rattle.std.specs.Option.{option_map};
-ghost use Rattle.std.specs.Str.{bytes_eq};
-ghost use Rattle.pardo_text.specs.Lines.{is_blank, is_allowed, said_in};
+ghost use Rattle.pram_text.specs.Lines.{said_in};
 ghost use Rattle.pardo_text.specs.Tokens.{begins_name, is_of_name, run_len, keywords, marks};
-ghost use Rattle.pardo_text.specs.Tokens.{word_by, mark_by, token_at, tokens_of, number_of};
+ghost use Rattle.pardo_text.specs.Tokens.{word_by, mark_by, token_at, tokens_of};
 ghost use Rattle.pardo_text.specs.Inner.Tokens.{plain, plain_all, Gives};
 
 use crate::fault::PardoKind;
 use crate::operation::Op;
 use crate::symbol::Symbol;
+use pram_text::{is_blank, is_word, value_of};
 
 /// The next part of a line.
 #[derive(Clone, Copy)]
@@ -21,13 +21,6 @@ pub(crate) enum Token<'t> {
     /// The number that digits spell, or the greatest `u64` where it is greater.
     Number(u64),
     Symbol(Symbol),
-}
-
-// What stands between tokens.
-fn blank(byte: u8) -> bool
-    ensures { result ≡ is_blank byte }
-{
-    byte == b' ' || byte == b'\t' || byte == b'\r'
 }
 
 fn may_begin_name(byte: u8) -> bool
@@ -54,27 +47,6 @@ fn number_end(line: &[u8]) -> Option<usize>
     ensures { result ≡ position (λ byte. not (is_ascii_digit byte)) line.now }
 {
     line.iter().position(|byte| !byte.is_ascii_digit())
-}
-
-// The number that digits spell, or the greatest `u64` where it is greater.
-fn number_of(digits: &[u8]) -> u64
-    requires { AllPass is_ascii_digit digits.now }
-    ensures { result ≡ number_of digits.now }
-{
-    let mut value: u64 = 0;
-    for &digit in digits {
-        value = value
-            .saturating_mul(10)
-            .saturating_add(u64::from(digit - b'0'));
-    }
-    value
-}
-
-/// Whether the word is this one.
-pub(crate) fn is_word(word: &[u8], name: &str) -> bool
-    ensures { result ≡ bytes_eq word.now name.now }
-{
-    word == name.as_bytes()
 }
 
 // The keyword or the name that a word is.
@@ -171,7 +143,7 @@ fn next_token(line: &[u8]) -> Option<(Token<'_>, &[u8])>
         Some((word_token(word), rest))
     } else if first.is_ascii_digit() {
         let (digits, rest) = line.split_at(number_end(line).unwrap_or(line.len()));
-        Some((Token::Number(number_of(digits)), rest))
+        Some((Token::Number(value_of(digits)), rest))
     } else {
         mark_token(line)
     }
@@ -184,7 +156,7 @@ pub(crate) fn take_tokens<'t>(line: &'t [u8], tokens: &mut Vec<Token<'t>>) -> Re
     tokens.clear();
     let mut rest = said(line);
     while let Some((first, after)) = rest.split_first() {
-        if blank(*first) {
+        if is_blank(*first) {
             rest = after;
         } else {
             let Some((token, after)) = next_token(rest) else {
@@ -209,24 +181,4 @@ fn comment_start(line: &[u8]) -> Option<usize>
     ensures { result ≡ position (λ byte. byte == 59) line.now }
 {
     line.iter().position(|&byte| byte == b';')
-}
-
-/// Whether every byte may stand in a text. It looks at all of them, so that many are judged at
-/// once.
-pub(crate) fn is_lawful(line: &[u8]) -> bool
-    ensures { result ≡ list_all is_allowed line.now }
-{
-    let mut lawful = true;
-    for &byte in line {
-        lawful &= allowed(byte);
-    }
-    lawful
-}
-
-// What may stand in a text.
-#[tactic(auto, unfolding(crate::specs::Lines::is_allowed))]
-fn allowed(byte: u8) -> bool
-    ensures { result ≡ is_allowed byte }
-{
-    byte == b'\t' || byte == b'\r' || (b' ' <= byte && byte <= b'~')
 }

@@ -1,7 +1,7 @@
 //! Start values.
-ghost use Rattle.std.specs.Prelude.{◌≡◌, ◌<◌, [], length, is_some, unwrap_or, reverse, drop};
+ghost use Rattle.std.specs.Prelude.{◌≡◌, ◌<◌, [], length, reverse, drop};
 ghost use Rattle.pardo_text.specs.Values.{quotient_of, value_for, values_for, filled, start_at};
-ghost use Rattle.pardo_text.specs.Values.{values_in, after_dots};
+ghost use Rattle.pardo_text.specs.Values.{values_in};
 ghost use Rattle.pardo_text.specs.Inner.Names.{names_in};
 ghost use Rattle.pardo_text.specs.Inner.Tokens.{Gives};
 ghost use Rattle.pardo_text.specs.Inner.Values.{after_values, stepped, top_of};
@@ -12,9 +12,7 @@ use crate::fault::PardoKind;
 use crate::names::Names;
 use crate::operation::Op;
 use crate::parse::fixed;
-use crate::part::{after_comma, after_equals, ended};
-use crate::symbol::Symbol;
-use crate::token::Token;
+use crate::part::{Mark, dots, ended, expect};
 use std::alloc::Global;
 
 /// The values of an expression for so many processors.
@@ -83,8 +81,8 @@ fn quotient(op: Op, a: u32, b: u32) -> Result<u32, PardoKind>
 #[tactic(auto, unfolding(crate::specs::Values::start_at))]
 pub(crate) fn start_values(
     alloc: Global,
-    names: &Names<'_>,
     places: u32,
+    names: &Names<'_>,
     tokens: &mut Cursor<'_, '_>,
 ) -> Result<Vec<u32>, PardoKind>
     ensures { Gives (λ values. values.items) result
@@ -93,7 +91,7 @@ pub(crate) fn start_values(
     if tokens.len() == 0 {
         return Ok(vec![in alloc; 0; places as usize]?);
     }
-    after_equals(tokens)?;
+    expect(Mark::Equals, tokens)?;
     let mut values = Vec::new(alloc);
     let fills = take_values(names, tokens, &mut values)?;
     fill(places as usize, fills, &mut values)?;
@@ -115,27 +113,13 @@ fn take_values(
         if tokens.len() == 0 {
             return Ok(false);
         }
-        after_comma(tokens)?;
+        expect(Mark::Comma, tokens)?;
         if dots(tokens) {
             ended(tokens)?;
             return Ok(true);
         }
     }
     Err(PardoKind::BadLine)
-}
-
-// Reads the `...` that ends the values, if it follows.
-fn dots(tokens: &mut Cursor<'_, '_>) -> bool
-    ensures found { result ≡ is_some (after_dots tokens.old) }
-    ensures rest { tokens.new ≡ unwrap_or (after_dots tokens.old) tokens.old }
-{
-    match tokens.peek() {
-        Some(Token::Symbol(Symbol::Dots)) => {
-            tokens.next();
-            true
-        }
-        _ => false,
-    }
 }
 
 // As many values as places, or fewer if the last one fills the rest.

@@ -25,7 +25,7 @@ use Rattle.pram_text.specs.declared.instr.Rule.{Rule}
 use Rattle.pram_text.specs.declared.instr.Rule.TheVariants.{Common, Priority, Crew}
 use Rattle.pram_words.specs.declared.layout.Form.{Form}
 use Rattle.pram_words.specs.declared.layout.Form.TheVariants.{Compact, Wide}
-use Rattle.pram_words.specs.Words.{LayoutData}
+use Rattle.pram_words.specs.Words.{LayoutData, layout_data}
 use Rattle.pram_board.specs.declared.task.Task.{Task}
 
 -- ---- rules
@@ -210,14 +210,8 @@ layout_parts layout =
     (layout.form, (layout.leaves, (layout.cells, (layout.procs, (layout.workers, layout.claims)))))
 
 abbrev pub layout_from : LayoutParts → LayoutData
-layout_from (form, (leaves, (cells, (procs, (workers, claims))))) = record {
-  form = form;
-  leaves = leaves;
-  cells = cells;
-  procs = procs;
-  workers = workers;
-  claims = claims;
-}
+layout_from (form, (leaves, (cells, (procs, (workers, claims))))) =
+    layout_data form leaves cells procs workers claims
 
 abbrev pub coded_layout : Coded LayoutData
 coded_layout =

@@ -6,10 +6,18 @@ ghost use Rattle.pram_step.specs.Machine.{start};
 ghost use Rattle.pram_step.specs.Runs.{IsReached, IsStateAfter, state_after};
 
 use crate::looks::{count_running, counter_in, first_naming_none, first_running, some_is_lost};
-use crate::moment::Moment;
-use pram_step::{Arrival, State, go_to, laws, make_step};
+use pram_step::{Arrival, Moment, State, go_to, laws, make_step};
 use pram_text::Job;
 use std::alloc::{AllocError, Global};
+
+/// What became of the processors.
+#[derive(Clone, Copy, Debug, PartialEq, Eq)]
+pub struct Fates {
+    /// How they are at the end; nothing where a step was against the rule.
+    pub end: Option<End>,
+    /// The first one that named a cell that there is not.
+    pub lost: Option<Lost>,
+}
 
 /// How the processors are after all steps.
 #[derive(Clone, Copy, Debug, PartialEq, Eq)]
@@ -29,15 +37,6 @@ pub struct Lost {
     pub index: u32,
 }
 
-/// What became of the processors.
-#[derive(Clone, Copy, Debug, PartialEq, Eq)]
-pub struct Fates {
-    /// How they are at the end; nothing where a step was against the rule.
-    pub end: Option<End>,
-    /// The first one that named a cell that there is not.
-    pub lost: Option<Lost>,
-}
-
 /// What becomes of the processors of a job in so many steps, or in those before its first conflict.
 ///
 /// It takes the time of the steps on the plain machine. Only where all processors have stopped, or
@@ -48,11 +47,7 @@ pub fn fates_after(alloc: Global, job: &Job, steps: u32) -> Result<Fates, AllocE
 {
     match go_to(alloc, job, steps, steps)? {
         Arrival::Reached(state) => {
-            let moment = Moment {
-                job,
-                state: &state,
-                made: steps,
-            };
+            let moment = Moment::new(job, &state, steps);
             let end = end_of(alloc, &moment)?;
             let lost = first_lost(alloc, &moment)?;
             Ok(Fates {
@@ -63,11 +58,7 @@ pub fn fates_after(alloc: Global, job: &Job, steps: u32) -> Result<Fates, AllocE
         Arrival::Disputed(fault) => {
             let made = fault.step - 1;
             let state = state_after(alloc, job, made)?;
-            let moment = Moment {
-                job,
-                state: &state,
-                made,
-            };
+            let moment = Moment::new(job, &state, made);
             let lost = first_lost(alloc, &moment)?;
             Ok(Fates { end: None, lost })
         }
@@ -113,11 +104,7 @@ fn stopping_step(alloc: Global, last: &Moment<'_>) -> Result<u32, AllocError>
     let job = last.job;
     let mut state = State::start(alloc, job)?;
     for made in 0..last.made {
-        let moment = Moment {
-            job,
-            state: &state,
-            made,
-        };
+        let moment = Moment::new(job, &state, made);
         if first_running(&moment).is_none() {
             return Ok(made);
         }
@@ -138,11 +125,7 @@ fn first_lost(alloc: Global, last: &Moment<'_>) -> Result<Option<Lost>, AllocErr
     }
     let mut state = State::start(alloc, job)?;
     for made in 0..last.made {
-        let moment = Moment {
-            job,
-            state: &state,
-            made,
-        };
+        let moment = Moment::new(job, &state, made);
         if let Some(processor) = first_naming_none(&moment) {
             return Ok(Some(Lost {
                 step: made + 1,

@@ -4,7 +4,6 @@
 mod fates;
 pub mod laws;
 mod looks;
-mod moment;
 mod told;
 
 pub use fates::{End, Fates, Lost, fates_after};

@@ -7,8 +7,7 @@ ghost use Rattle.pram_fates.specs.Inner.Losses.{SomeIsLost};
 ghost use Rattle.pram_step.specs.Machine.{out_of_range, counter as counter_of};
 ghost use Rattle.pram_step.specs.Runs.{state_after};
 
-use crate::moment::Moment;
-use pram_step::{counter, laws, request_after};
+use pram_step::{Moment, counter, laws, request_after};
 
 /// The counter of a processor.
 pub(crate) fn counter_in(moment: &Moment<'_>, processor: u32) -> u32
@@ -78,22 +77,25 @@ pub(crate) fn first_naming_none(moment: &Moment<'_>) -> Option<u32>
         (AllName moment.now.job.now (state_after moment.now.job.now moment.now.made))
         (IsFirstNaming moment.now.job.now (state_after moment.now.job.now moment.now.made)) }
 {
+    let outside = out_of_range(moment);
     for processor in 0..moment.job.procs() {
-        if names_none(moment, processor) {
+        if names_none(moment, processor, outside) {
             return Some(processor);
         }
     }
     None
 }
 
-// Whether a processor names a cell that there is not in the step after the moment.
-fn names_none(moment: &Moment<'_>, processor: u32) -> bool
-    requires { processor < moment.now.job.now.procs }
+// Whether a processor names a cell that there is not in the step after the moment: its counter is
+// then this one.
+fn names_none(moment: &Moment<'_>, processor: u32, outside: u32) -> bool
+    requires processor { processor < moment.now.job.now.procs }
+    requires outside { outside ≡ out_of_range moment.now.job.now }
     ensures { IsTrue result ↔ NamesNone moment.now.job.now
         (state_after moment.now.job.now moment.now.made) processor }
 {
     is_running(moment, processor)
-        && request_after(moment.job, moment.state, processor).next == out_of_range(moment)
+        && request_after(moment.job, moment.state, processor).next == outside
 }
 
 // The counter that says that an address was out of range.

@@ -1,6 +1,6 @@
 -- Rows that are written one after the other, and buffers whose front is written.
 use Rattle.std.proofs.Common.{arith, ◌≡◌, ◌≢◌, ◌⊎◌, ℕ, zero, suc, ◌+◌, ◌-◌, ◌<◌, ◌≤◌}
-use Rattle.std.proofs.Common.{List, [], ◌∷◌, length, take, slice_get, slice_set}
+use Rattle.std.proofs.Common.{List, [], ◌∷◌, length, take, drop, slice_get, slice_set}
 use Rattle.std.proofs.Common.{Some, refl, sym, ap, subst, ◌∙◌, inl, inr, ◌==◌}
 use Rattle.std.proofs.lemmas.Bool.{cases_Bool, cases_lt, eqb-true, eqb-false}
 use Rattle.std.proofs.lemmas.List.{drop-set-lt, length-take-le}
@@ -20,8 +20,9 @@ use Rattle.pram_page.specs.declared.requests.RequestRow.{RequestRow}
 use Rattle.pram_page.specs.declared.rows.EventRow.{EventRow}
 use Rattle.pram_page.specs.declared.scene.Scene.{Scene}
 use Rattle.pram_page.specs.declared.text.Refusal.TheVariants.{NoJob, TextTooLong, Memory}
-use Rattle.pram_page.specs.Findings.{IsKeptBehind, count_written, told_of, told_written}
-use Rattle.pram_page.specs.Requests.{AreRequestsAfter, IsKeptBehindRequests}
+use Rattle.pram_page.specs.Findings.{IsKeptAsFound, IsKeptBehind, count_written, told_of}
+use Rattle.pram_page.specs.Findings.{told_written}
+use Rattle.pram_page.specs.Requests.{AreRequestsAfter}
 use Rattle.pram_page.specs.Scenes.{IsNoted, bodies_told, hindered_as, words_told}
 
 pub set_same : {X : Type 0} (xs : List X) (n : ℕ) (x : X) → n < length xs →
@@ -71,6 +72,20 @@ pub kept_set : {X : Type 0} (n : ℕ) (old now : List X) (i : ℕ) (x : X) → i
     IsKeptBehind n old now → IsKeptBehind n old (slice_set now i x)
 kept_set n old now i x below kept = drop-set-lt n now i x below ∙ kept
 
+-- one element more
+drop_one : {X : Type 0} (n : ℕ) (xs : List X) → drop (suc n) xs ≡ drop 1 (drop n xs)
+drop_one zero xs = refl
+drop_one (suc n) [] = refl
+drop_one (suc n) (x ∷ xs) = drop_one n xs
+
+pub kept_more : {X : Type 0} (n : ℕ) (old now : List X) (x : X) → IsKeptBehind n old now →
+    IsKeptBehind (n + 1) old (slice_set now n x)
+kept_more n old now x kept =
+    let one : suc n ≡ n + 1 = omega arith in
+    drop-set-lt (n + 1) now n x (omega arith)
+    ∙ subst (λ (m : ℕ). drop m now ≡ drop m old) one
+    (drop_one n now ∙ ap (drop 1) kept ∙ sym (drop_one n old))
+
 -- as is told
 count_told : (f : Finding) → told_written (told_of f) ≡ count_written f
 count_told (Done step count) = refl
@@ -90,37 +105,38 @@ pub kept_as_told : {X : Type 0} (f : Finding) (told : Told) (old now : List X) �
 kept_as_told f told old now is kept =
     subst (λ (n : ℕ). IsKeptBehind n old now) (sym (ap told_written is ∙ count_told f)) kept
 
-pub kept_as_requests : (f : Finding) (told : Told) (old now : List RequestRow) → told ≡ told_of f →
-    IsKeptBehindRequests old now f → told.code ≢ MEMORY → IsKeptBehind (told_written told) old now
-kept_as_requests (Done step count) told old now is kept some =
+pub kept_as_found : {X : Type 0} (f : Finding) (told : Told) (old now : List X) →
+    told ≡ told_of f → IsKeptAsFound old now f → told.code ≢ MEMORY →
+    IsKeptBehind (told_written told) old now
+kept_as_found (Done step count) told old now is kept some =
     kept_as_told (Done step count) told old now is kept
-kept_as_requests (Conflict fault count) told old now is kept some =
+kept_as_found (Conflict fault count) told old now is kept some =
     kept_as_told (Conflict fault count) told old now is kept
-kept_as_requests (Unfinished step) told old now is kept some =
+kept_as_found (Unfinished step) told old now is kept some =
     kept_as_told (Unfinished step) told old now is kept
-kept_as_requests (NoRoom needed) told old now is kept some =
+kept_as_found (NoRoom needed) told old now is kept some =
     kept_as_told (NoRoom needed) told old now is kept
-kept_as_requests NoStep told old now is kept some = kept_as_told NoStep told old now is kept
-kept_as_requests TooFar told old now is kept some = kept_as_told TooFar told old now is kept
-kept_as_requests BadWorkers told old now is kept some = kept_as_told BadWorkers told old now is kept
-kept_as_requests (BadEvent number) told old now is kept some =
+kept_as_found NoStep told old now is kept some = kept_as_told NoStep told old now is kept
+kept_as_found TooFar told old now is kept some = kept_as_told TooFar told old now is kept
+kept_as_found BadWorkers told old now is kept some = kept_as_told BadWorkers told old now is kept
+kept_as_found (BadEvent number) told old now is kept some =
     kept_as_told (BadEvent number) told old now is kept
-kept_as_requests (Refused (NoJob fault)) told old now is kept some =
+kept_as_found (Refused (NoJob fault)) told old now is kept some =
     kept_as_told (Refused (NoJob fault)) told old now is kept
-kept_as_requests (Refused TextTooLong) told old now is kept some =
+kept_as_found (Refused TextTooLong) told old now is kept some =
     kept_as_told (Refused TextTooLong) told old now is kept
-kept_as_requests (Refused Memory) told old now is kept some =
+kept_as_found (Refused Memory) told old now is kept some =
     absurd (some (ap (λ (t : Told). t.code) is))
 
 pub requests_kept : (job : JobData) (t : ℕ) (old rows : List RequestRow) (f : Finding) →
     AreRequestsAfter job t rows f → IsKeptBehind job.procs old rows →
-    IsKeptBehindRequests old rows f
+    IsKeptAsFound old rows f
 requests_kept job t old rows (Done step count) requests kept =
     subst (λ (n : ℕ). IsKeptBehind n old rows) (sym requests.2) kept
 requests_kept job t old rows (Conflict fault count) requests kept =
     subst (λ (n : ℕ). IsKeptBehind n old rows) (sym requests.2) kept
 requests_kept job t old rows (Refused refusal) requests kept =
-    subst (λ r. IsKeptBehindRequests old rows (Refused r)) (sym requests) tt
+    subst (λ r. IsKeptAsFound old rows (Refused r)) (sym requests) tt
 requests_kept job t old rows (Unfinished step) requests kept = absurd requests
 requests_kept job t old rows (NoRoom needed) requests kept = absurd requests
 requests_kept job t old rows NoStep requests kept = absurd requests

@@ -2,3 +2,7 @@ mod Buffers
 mod Playing
 mod Fitting
 mod Loads
+mod Counting
+mod Lasts
+mod Moments
+mod ReadCells

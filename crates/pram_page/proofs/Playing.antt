@@ -35,7 +35,7 @@ use Rattle.pram_page.specs.Answers.{AreLawful, AreRead, AreReadsFound}
 use Rattle.pram_page.specs.Events.{AreKnown, BoardAfter, IsBoardAfter, IsHindered}
 use Rattle.pram_page.specs.Events.{IsHinderedFrom, IsKnown, IsMade, IsNotMade, IsRunFrom}
 use Rattle.pram_page.specs.Events.{act_of, effect_by, moved, run_from, run_of}
-use Rattle.pram_page.specs.Scenes.{AreShown, IsBoardTold, IsNoted, IsScene}
+use Rattle.pram_page.specs.Scenes.{AreShown, IsBoardTold, IsNoted, IsScene, IsWatched}
 use Rattle.pram_page.specs.Scenes.{count_shown, event_row, row_with}
 use Rattle.pram_page.proofs.Buffers.{nat_cases, set_other, set_same}
 use Rattle.pram_page.proofs.Loads.{lawful_rows, same_cells}
@@ -277,26 +277,34 @@ pub memory_out : (text : List ℕ) (workers : ℕ) (events : List Event) (h : Hi
     h ≡ Refused Memory → IsHindered text workers events h
 memory_out text workers events h is = subst (IsHindered text workers events) (sym is) tt
 
-pub scene_text : (text : List ℕ) (workers : ℕ)
-    (events : List Event) (from : ℕ) (rows : List EventRow) (words : List WordRow)
-    (bodies : List BodyRow) (told : Scene) (s now : WorldData) →
+pub watched_text : (text : List ℕ) (workers : ℕ) (events : List Event) (from : ℕ)
+    (rows : List EventRow) (s now : WorldData) →
     IsBoardAfter text workers [] s → ((r : Run) → r.world ≡ s → IsRunFrom r events now) →
     ((r : Run) → r.world ≡ s → AreShown r events from rows) →
-    IsBoardTold now (count_shown (length events) from (length rows)) words bodies told →
-    IsScene text workers events from rows words bodies told
-scene_text text workers events from rows words bodies told s now board run shown is =
+    IsWatched text workers events from rows now
+watched_text text workers events from rows s now board run shown =
     let r = begun board.0 Compact workers in
-    let at : r.world ≡ s = sym board.2.run.world in
-    inl (
+    let at : r.world ≡ s = sym board.2.run.world in (
       board.0,
       board.1,
       (
-        now,
         board_run text workers events board.0 now board.1 board.2.some board.2.most (run r at),
         shown r at,
-        is,
       ),
     )
+
+pub board_watched : (text : List ℕ) (workers : ℕ) (events : List Event) (from : ℕ)
+    (rows : List EventRow) (s : WorldData) → IsWatched text workers events from rows s →
+    IsBoardAfter text workers events s
+board_watched text workers events from rows s watched = (watched.0, watched.1, watched.2.0)
+
+pub scene_watched : (text : List ℕ) (workers : ℕ) (events : List Event) (from : ℕ)
+    (rows : List EventRow) (words : List WordRow) (bodies : List BodyRow) (told : Scene)
+    (s : WorldData) → IsWatched text workers events from rows s →
+    IsBoardTold s (count_shown (length events) from (length rows)) words bodies told →
+    IsScene text workers events from rows words bodies told
+scene_watched text workers events from rows words bodies told s watched is =
+    inl (watched.0, watched.1, (s, watched.2.0, watched.2.1, is))
 
 -- ---- the cells as readers get them
 

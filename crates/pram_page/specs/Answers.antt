@@ -92,11 +92,18 @@ abbrev pub AreAllRead : JobData → WorldData → Record → ℕ → ℕ → Lis
 AreAllRead job world made step count rows =
     (step ≡ 0) × (count ≡ job.cells) × AreRead world rows × AreLawful job world made rows
 
+-- of a board: they are told, or there is no room for them
+abbrev pub AreReadsTold : WorldData → List ReadRow → List ReadRow → Finding → Type 0
+AreReadsTold world old rows (Done step count) =
+    (step ≡ 0) × (count ≡ world.job.cells) × AreRead world rows
+AreReadsTold world old rows (NoRoom needed) = (needed ≡ world.job.cells) × (length old < needed)
+AreReadsTold world old rows _ = ⊥
+
 abbrev pub AreReadsFound
     : List ℕ → ℕ → List Event → List ReadRow → List ReadRow → Finding → Type 0
 AreReadsFound text workers events old rows (Done step count) =
     OfJob text (λ job. (world : WorldData) × BoardAfter workers events world job
     × AreAllRead job world (run_of job workers events).made step count rows)
 AreReadsFound text workers events old rows (NoRoom needed) =
-    OfWorld text workers events (λ world. (needed ≡ world.job.cells) × (length old < needed))
+    OfWorld text workers events (λ world. AreReadsTold world old rows (NoRoom needed))
 AreReadsFound text workers events old rows finding = IsNoBoard text workers events finding

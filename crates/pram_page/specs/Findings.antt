@@ -7,6 +7,7 @@ use Rattle.pram_page.specs.declared.finding.Finding.TheVariants.{Done, Conflict,
 use Rattle.pram_page.specs.declared.finding.Finding.TheVariants.{NoStep, TooFar, BadWorkers}
 use Rattle.pram_page.specs.declared.finding.Finding.TheVariants.{BadEvent, Refused}
 use Rattle.pram_page.specs.declared.finding.Told.{Told}
+use Rattle.pram_page.specs.declared.text.Refusal.TheVariants.{Memory}
 use Rattle.pram_page.specs.Texts.{refused_as}
 
 -- a code and a count alone
@@ -64,3 +65,8 @@ told_written told = if told.code == DONE || told.code == CONFLICT then told.coun
 -- what lies after the first so many elements is as it was
 abbrev pub IsKeptBehind : {X : Type 0} → ℕ → List X → List X → Type 0
 IsKeptBehind count old new = drop count new ≡ drop count old
+
+-- after what is told nothing is written; out of memory the buffer may be written
+abbrev pub IsKeptAsFound : {X : Type 0} → List X → List X → Finding → Type 0
+IsKeptAsFound old new (Refused Memory) = Unit {0}
+IsKeptAsFound old new finding = IsKeptBehind (count_written finding) old new

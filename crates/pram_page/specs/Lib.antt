@@ -5,3 +5,7 @@ pub mod Requests
 pub mod Events
 pub mod Scenes
 pub mod Answers
+pub mod Fates
+pub mod Costs
+pub mod Steps
+pub mod Last

@@ -1,5 +1,6 @@
 -- What is told of the plain machine.
 use Rattle.std.specs.Prelude.{◌≡◌, ℕ, ◌<◌, ◌≤◌, List, length, take}
+use Rattle.pram_text.specs.Job.{JobData}
 use Rattle.pram_step.specs.declared.answer.RunAnswer.TheVariants as answer
 use Rattle.pram_step.specs.Machine.{place_count}
 use Rattle.pram_step.specs.Runs.{IsReached, IsStateAfter, IsFirstConflict, IsAnswer}
@@ -26,14 +27,21 @@ IsAnswerFound text most old cells _ = ⊥
 
 -- ---- the state after t steps: the front of the buffer holds the places
 
+-- of a job that reaches it: it is told, or there is no room for it
+abbrev pub IsStateTold : JobData → ℕ → List ℕ → List ℕ → Finding → Type 0
+IsStateTold job t old places (Done step count) =
+    (step ≡ t) × (t ≤ job.steps) × (count ≡ place_count job)
+    × IsStateAfter job t (take count places)
+IsStateTold job t old places (NoRoom needed) = (needed ≡ place_count job) × (length old < needed)
+IsStateTold job t old places _ = ⊥
+
 abbrev pub IsStateFound : List ℕ → ℕ → ℕ → List ℕ → List ℕ → Finding → Type 0
 IsStateFound text t most old places (Done step count) =
-    OfJob text (λ job. (step ≡ t) × (t ≤ job.steps) × (count ≡ place_count job)
-    × IsStateAfter job t (take count places))
+    OfJob text (λ job. IsStateTold job t old places (Done step count))
 IsStateFound text t most old places (Conflict fault count) =
     OfJob text (λ job. (count ≡ 0) × IsFirstConflict job fault × (fault.step ≤ t))
 IsStateFound text t most old places (NoRoom needed) =
-    OfJob text (λ job. (needed ≡ place_count job) × (length old < needed))
+    OfJob text (λ job. IsStateTold job t old places (NoRoom needed))
 IsStateFound text t most old places NoStep = OfJob text (λ job. job.steps < t)
 IsStateFound text t most old places TooFar = OfJob text (λ job. (most < t) × IsReached job most)
 IsStateFound text t most old places (Refused refusal) = IsRefused text refusal

@@ -15,7 +15,6 @@ use Rattle.pram_page.specs.declared.requests.RequestRow.{RequestRow}
 use Rattle.pram_page.specs.declared.requests.Target.{Target}
 use Rattle.pram_page.specs.declared.text.Refusal.TheVariants.{Memory}
 use Rattle.pram_page.specs.Texts.{OfJob, IsRefused}
-use Rattle.pram_page.specs.Findings.{IsKeptBehind, count_written}
 
 -- 0 where a counter is an instruction's index, 1 where the processor has halted, 2 where an address
 -- was out of range
@@ -81,6 +80,12 @@ AreRequestsAfter job t rows (Conflict fault count) =
 AreRequestsAfter job t rows (Refused refusal) = refusal ≡ Memory
 AreRequestsAfter job t rows _ = ⊥
 
+-- of a job that reaches that state: they are told, or there is no room for them, or no step more
+abbrev pub AreRequestsTold : JobData → ℕ → List RequestRow → List RequestRow → Finding → Type 0
+AreRequestsTold job t old rows (NoRoom needed) = (needed ≡ job.procs) × (length old < needed)
+AreRequestsTold job t old rows NoStep = job.steps ≤ t
+AreRequestsTold job t old rows finding = AreRequestsAfter job t rows finding
+
 -- the first conflict comes before this step
 abbrev pub IsDisputedBefore : JobData → ℕ → Fault → ℕ → Type 0
 IsDisputedBefore job t fault count =
@@ -94,13 +99,9 @@ AreRequestsFound text t most old rows (Conflict fault count) =
     OfJob text (λ job. AreRequestsAfter job t rows (Conflict fault count)
     ⊎ IsDisputedBefore job t fault count)
 AreRequestsFound text t most old rows (NoRoom needed) =
-    OfJob text (λ job. (needed ≡ job.procs) × (length old < needed))
-AreRequestsFound text t most old rows NoStep = OfJob text (λ job. job.steps ≤ t)
+    OfJob text (λ job. AreRequestsTold job t old rows (NoRoom needed))
+AreRequestsFound text t most old rows NoStep =
+    OfJob text (λ job. AreRequestsTold job t old rows NoStep)
 AreRequestsFound text t most old rows TooFar = OfJob text (λ job. (most < t) × IsReached job most)
 AreRequestsFound text t most old rows (Refused refusal) = IsRefused text refusal
 AreRequestsFound text t most old rows _ = ⊥
-
--- after the rows that are told nothing is written; out of memory the rows may be written
-abbrev pub IsKeptBehindRequests : List RequestRow → List RequestRow → Finding → Type 0
-IsKeptBehindRequests old rows (Refused Memory) = Unit {0}
-IsKeptBehindRequests old rows finding = IsKeptBehind (count_written finding) old rows

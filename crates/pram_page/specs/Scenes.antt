@@ -270,6 +270,13 @@ glance_of world shown = record no_scene {
   conflict = conflict world.layout world.words;
 }
 
+-- the board of a text after events is this world, and what they did is told
+abbrev pub IsWatched
+    : List ℕ → ℕ → List Event → ℕ → List EventRow → WorldData → Type 0
+IsWatched text workers events from rows world =
+    OfJob text (λ job. BoardAfter workers events world job
+    × AreShown (begun job Compact workers) events from rows)
+
 -- the front of the buffers holds the words and the bodies
 abbrev pub AreWords : WorldData → List WordRow → Type 0
 AreWords world words =

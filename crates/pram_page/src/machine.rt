@@ -1,9 +1,9 @@
-//! The states of the plain machine.
+//! The answer of a job.
 ghost use Rattle.std.specs.Bool.{OnFalse};
 ghost use Rattle.std.specs.Prelude.{◌≡◌, ◌≤◌, ◌↔◌, IfOk, IsTrue, length, take};
 ghost use Rattle.pram_step.specs.Arrivals.{IsArrival};
 ghost use Rattle.pram_page.specs.Findings.{IsKeptBehind, IsToldOf, count_written, told_written};
-ghost use Rattle.pram_page.specs.Moments.{IsStateFound, IsAnswerFound};
+ghost use Rattle.pram_page.specs.Moments.{IsAnswerFound};
 
 use crate::finding::{Finding, Told, tell};
 use crate::text::{Refusal, take_job};
@@ -25,23 +25,6 @@ pub extern "C" fn pram_page_answer(
     ensures behind { IsKeptBehind (told_written told.new) cells.old cells.new }
 {
     *told = tell(answer(alloc, text, most, cells));
-}
-
-/// Tells the state after so many steps: the cells, then four registers a processor, then a counter
-/// a processor; or the conflict that comes before it. At most `most` steps are made.
-#[unsafe(no_mangle)]
-pub extern "C" fn pram_page_state(
-    alloc: Global,
-    text: &[u8],
-    step: u32,
-    most: u32,
-    places: &mut [u32],
-    told: &mut Told,
-)
-    ensures told { IsToldOf (IsStateFound text.now step most places.old places.new) told.new }
-    ensures behind { IsKeptBehind (told_written told.new) places.old places.new }
-{
-    *told = tell(state(alloc, text, step, most, places));
 }
 
 fn answer(alloc: Global, text: &[u8], most: u32, cells: &mut [u32]) -> Finding
@@ -68,33 +51,6 @@ fn answer(alloc: Global, text: &[u8], most: u32, cells: &mut [u32]) -> Finding
                 Finding::NoRoom {
                     needed: count as u64,
                 }
-            }
-        }
-    }
-}
-
-fn state(alloc: Global, text: &[u8], step: u32, most: u32, places: &mut [u32]) -> Finding
-    ensures found { IsStateFound text.now step most places.old places.new result }
-    ensures behind { IsKeptBehind (count_written result) places.old places.new }
-{
-    laws::states_have_all_places();
-    let job = match take_job(alloc, text) {
-        Ok(job) => job,
-        Err(refusal) => return Finding::Refused(refusal),
-    };
-    if step > job.steps() {
-        return Finding::NoStep;
-    }
-    match go_to(alloc, &job, step, most) {
-        Err(_) => Finding::Refused(Refusal::Memory),
-        Ok(Arrival::TooFar) => Finding::TooFar,
-        Ok(Arrival::Disputed(fault)) => Finding::Conflict { fault, count: 0 },
-        Ok(Arrival::Reached(state)) => {
-            let count = state.places().len() as u64;
-            if copy(state.places(), places) {
-                Finding::Done { step, count }
-            } else {
-                Finding::NoRoom { needed: count }
             }
         }
     }

@@ -35,7 +35,7 @@ fn outcome(alloc: Global, text: &[u8], workers: u32, events: &[Event], cells: &m
 {
     let world = match after(alloc, text, workers, events) {
         Ok(world) => world,
-        Err(hindrance) => return hindered(hindrance),
+        Err(hindrance) => return no_board(hindrance),
     };
     match world.outcome() {
         Err(_) => Finding::Refused(Refusal::Memory),
@@ -56,7 +56,7 @@ fn outcome(alloc: Global, text: &[u8], workers: u32, events: &[Event], cells: &m
 }
 
 /// Why there is no board.
-pub(crate) fn hindered(hindrance: Hindrance) -> Finding
+pub(crate) fn no_board(hindrance: Hindrance) -> Finding
     ensures { result ≡ finding_of hindrance }
 {
     match hindrance {

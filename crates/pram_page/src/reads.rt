@@ -1,14 +1,10 @@
 //! The cells of a board as readers get them.
 ghost use Rattle.std.specs.Prelude.{◌≡◌, ◌<◌, ◌≤◌, length};
-ghost use Rattle.pram_page.specs.Answers.{AreRead, AreReadsFound, read_in};
-ghost use Rattle.pram_page.specs.Findings.{IsKeptBehind, IsToldOf, count_written, told_written};
+ghost use Rattle.pram_page.specs.Answers.{AreRead, AreReadsTold, read_in};
+ghost use Rattle.pram_page.specs.Findings.{IsKeptBehind, count_written};
 
-use crate::board::Event;
-use crate::finding::{Finding, Told, tell};
-use crate::outcome::hindered;
-use crate::scene::after;
+use crate::finding::Finding;
 use pram_world::World;
-use std::alloc::Global;
 use walkx::{ReadOp, Reader, Reading};
 
 /// What a reader of a cell answers: it held this value after this step.
@@ -19,43 +15,17 @@ pub struct ReadRow {
     pub value: u32,
 }
 
-/// Tells what a reader of each cell answers that makes its loads after the events, and before any
-/// further one: each is a lawful read.
-#[unsafe(no_mangle)]
-pub extern "C" fn pram_page_reads(
-    alloc: Global,
-    text: &[u8],
-    workers: u32,
-    events: &[Event],
-    cells: &mut [ReadRow],
-    told: &mut Told,
-)
-    ensures told { IsToldOf (AreReadsFound text.now workers events.now cells.old cells.new)
-        told.new }
-    ensures behind { IsKeptBehind (told_written told.new) cells.old cells.new }
-{
-    *told = tell(reads(alloc, text, workers, events, cells));
-}
-
-fn reads(
-    alloc: Global,
-    text: &[u8],
-    workers: u32,
-    events: &[Event],
-    cells: &mut [ReadRow],
-) -> Finding
-    ensures found { AreReadsFound text.now workers events.now cells.old cells.new result }
+/// Tells what a reader of each cell answers that makes its loads on this board, before any further
+/// event.
+pub(crate) fn reads(world: &World, cells: &mut [ReadRow]) -> Finding
+    ensures read { AreReadsTold world.now cells.old cells.new result }
     ensures behind { IsKeptBehind (count_written result) cells.old cells.new }
 {
-    let world = match after(alloc, text, workers, events) {
-        Ok(world) => world,
-        Err(hindrance) => return hindered(hindrance),
-    };
     let count = u64::from(world.job().cells());
     if cells.len() < world.job().cells() as usize {
         return Finding::NoRoom { needed: count };
     }
-    write_reads(&world, cells);
+    write_reads(world, cells);
     Finding::Done { step: 0, count }
 }
 

@@ -1,20 +1,16 @@
 //! What the processors ask for in a step.
-ghost use Rattle.std.specs.Prelude.{◌≡◌, ◌≢◌, ℕ, ◌<◌, ◌≤◌, IfSome, length};
+ghost use Rattle.std.specs.Prelude.{◌≡◌, ℕ, ◌<◌, ◌≤◌, IfSome, length};
 ghost use Rattle.pram_step.specs.Machine.{IsDataPlace, counter as counter_of, place_count};
 ghost use Rattle.pram_step.specs.Machine.{register as register_of};
 ghost use Rattle.pram_step.specs.Runs.{IsStateAfter};
-ghost use Rattle.pram_page.specs.declared.codes.TheConstants.{MEMORY};
-ghost use Rattle.pram_page.specs.Findings.{IsKeptBehind, IsToldOf, told_written};
-ghost use Rattle.pram_page.specs.Requests.{AreRequestsAfter, AreRequestsFound, AreRows};
-ghost use Rattle.pram_page.specs.Requests.{IsKeptBehindRequests};
+ghost use Rattle.pram_page.specs.Findings.{IsKeptAsFound, IsKeptBehind};
+ghost use Rattle.pram_page.specs.Requests.{AreRequestsAfter, AreRequestsTold, AreRows};
 ghost use Rattle.pram_page.specs.Requests.{cell_in, cell_part, held_part, row_in, status_of};
 ghost use Rattle.pram_page.specs.Requests.{target_of};
 
-use crate::finding::{Finding, Told, tell};
-use crate::text::{Refusal, take_job};
-use pram_step::{
-    Arrival, Sources, State, cell_read, counter, go_to, laws, make_step, request_after, sources_of,
-};
+use crate::finding::Finding;
+use crate::text::Refusal;
+use pram_step::{Sources, State, cell_read, counter, laws, make_step, request_after, sources_of};
 use pram_text::Job;
 use std::alloc::Global;
 
@@ -44,33 +40,21 @@ pub struct Target {
     pub value: u32,
 }
 
-/// Tells what each processor asks for in the step after these, and whether that step is against
-/// the rule, and where. At most `most` steps are made, and none where the rows have no room.
-#[unsafe(no_mangle)]
-pub extern "C" fn pram_page_requests(
+/// Tells what each processor asks for in this state, which the job reaches after so many steps, and
+/// whether the next step is against the rule.
+pub(crate) fn requests(
     alloc: Global,
-    text: &[u8],
+    job: &Job,
     step: u32,
-    most: u32,
+    state: State,
     rows: &mut [RequestRow],
-    told: &mut Told,
-)
-    ensures told { IsToldOf (AreRequestsFound text.now step most rows.old rows.new) told.new }
-    ensures behind { told.new.code ≢ MEMORY
-        → IsKeptBehind (told_written told.new) rows.old rows.new }
+) -> Finding
+    requires reached { IsStateAfter job.now step state }
+    requires within { step ≤ job.now.steps }
+    ensures requests { AreRequestsTold job.now step rows.old rows.new result }
+    ensures behind { IsKeptAsFound rows.old rows.new result }
 {
-    *told = tell(requests(alloc, text, step, most, rows));
-}
-
-fn requests(alloc: Global, text: &[u8], step: u32, most: u32, rows: &mut [RequestRow]) -> Finding
-    ensures found { AreRequestsFound text.now step most rows.old rows.new result }
-    ensures behind { IsKeptBehindRequests rows.old rows.new result }
-{
-    let job = match take_job(alloc, text) {
-        Ok(job) => job,
-        Err(refusal) => return Finding::Refused(refusal),
-    };
-    if step >= job.steps() {
+    if step == job.steps() {
         return Finding::NoStep;
     }
     if rows.len() < job.procs() as usize {
@@ -78,12 +62,7 @@ fn requests(alloc: Global, text: &[u8], step: u32, most: u32, rows: &mut [Reques
             needed: u64::from(job.procs()),
         };
     }
-    match go_to(alloc, &job, step, most) {
-        Err(_) => Finding::Refused(Refusal::Memory),
-        Ok(Arrival::TooFar) => Finding::TooFar,
-        Ok(Arrival::Disputed(fault)) => Finding::Conflict { fault, count: 0 },
-        Ok(Arrival::Reached(state)) => tell_requests(alloc, &job, step, state, rows),
-    }
+    tell_requests(alloc, job, step, state, rows)
 }
 
 // The requests in this state, and whether they agree.

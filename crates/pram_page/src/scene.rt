@@ -2,13 +2,17 @@
 ghost use Rattle.std.specs.Prelude.{◌≡◌, ℕ, ◌-◌, ◌≤◌, IfErr, IfOk, OnErr, length};
 ghost use Rattle.pram_world.specs.Runs.{Run};
 ghost use Rattle.pram_page.specs.Events.{IsBoardAfter, IsHindered, IsHinderedFrom, IsRunFrom};
-ghost use Rattle.pram_page.specs.Findings.{IsKeptBehind};
-ghost use Rattle.pram_page.specs.Scenes.{AreShown, IsBoardTold, IsNoted, IsScene, bodies_told};
-ghost use Rattle.pram_page.specs.Scenes.{glance_of, hindered_as, row_with, words_told};
+ghost use Rattle.pram_page.specs.Answers.{AreReadsFound};
+ghost use Rattle.pram_page.specs.Findings.{IsKeptBehind, IsToldOf, told_written};
+ghost use Rattle.pram_page.specs.Scenes.{AreShown, IsBoardTold, IsNoted, IsScene, IsWatched};
+ghost use Rattle.pram_page.specs.Scenes.{bodies_told, glance_of, hindered_as, row_with, words_told};
 
 use crate::board::{Event, Hindrance, make, open};
 use crate::bodies::{BodyRow, write_bodies};
 use crate::codes::{BAD_EVENT, BAD_WORKERS, DONE, NO_ROOM};
+use crate::finding::{Told, tell};
+use crate::outcome::no_board;
+use crate::reads::{ReadRow, reads};
 use crate::rows::{EventRow, event_row};
 use crate::text::{Refusal, Refused, tell_refusal};
 use crate::words::{WordRow, write_words};
@@ -36,7 +40,8 @@ pub struct Scene {
 }
 
 /// Tells the board after the events: its words, its bodies, and, from event `from` on, what as many
-/// events did as `rows` has room for.
+/// events did as `rows` has room for. And tells what a reader of each cell answers that makes its
+/// loads then: each is a lawful read.
 #[unsafe(no_mangle)]
 pub extern "C" fn pram_page_scene(
     alloc: Global,
@@ -48,12 +53,17 @@ pub extern "C" fn pram_page_scene(
     words: &mut [WordRow],
     bodies: &mut [BodyRow],
     told: &mut Scene,
+    cells: &mut [ReadRow],
+    read: &mut Told,
 )
     ensures scene { IsScene text.now workers events.now from rows.new words.new bodies.new
         told.new }
     ensures rows { IsKeptBehind (length events.now - from) rows.old rows.new }
     ensures words { IsKeptBehind (words_told told.new) words.old words.new }
     ensures bodies { IsKeptBehind (bodies_told told.new) bodies.old bodies.new }
+    ensures read { IsToldOf (AreReadsFound text.now workers events.now cells.old cells.new)
+        read.new }
+    ensures cells { IsKeptBehind (told_written read.new) cells.old cells.new }
 {
     let query = Query {
         text,
@@ -61,10 +71,20 @@ pub extern "C" fn pram_page_scene(
         events,
         from,
     };
-    *told = match show(alloc, &query, rows, words, bodies) {
-        Ok(scene) => scene,
-        Err(hindrance) => hindered(hindrance),
-    };
+    match watched(alloc, &query, rows) {
+        Err(hindrance) => {
+            *told = hindered(hindrance);
+            *read = tell(no_board(hindrance));
+        }
+        Ok(world) => {
+            let shown = rows.len().min(events.len().saturating_sub(from));
+            *read = tell(reads(&world, cells));
+            *told = match tell_board(&world, shown, words, bodies) {
+                Ok(scene) => scene,
+                Err(hindrance) => hindered(hindrance),
+            };
+        }
+    }
 }
 
 const NO_SCENE: Scene = Scene {
@@ -116,21 +136,13 @@ struct Query<'a> {
     from: usize,
 }
 
-fn show(
-    alloc: Global,
-    query: &Query<'_>,
-    rows: &mut [EventRow],
-    words: &mut [WordRow],
-    bodies: &mut [BodyRow],
-) -> Result<Scene, Hindrance>
-    ensures shown { IfOk result (λ told. IsScene query.now.text.now query.now.workers
-        query.now.events.now query.now.from rows.new words.new bodies.new told) }
+// The board that is asked for, and what its events did.
+fn watched(alloc: Global, query: &Query<'_>, rows: &mut [EventRow]) -> Result<World, Hindrance>
+    ensures watched { IfOk result (λ world. IsWatched query.now.text.now query.now.workers
+        query.now.events.now query.now.from rows.new world) }
     ensures hindered { IfErr result
         (λ h. IsHindered query.now.text.now query.now.workers query.now.events.now h) }
     ensures rows { IsKeptBehind (length query.now.events.now - query.now.from) rows.old rows.new }
-    ensures words { IfOk result (λ told. IsKeptBehind (words_told told) words.old words.new) }
-    ensures bodies { IfOk result (λ told. IsKeptBehind (bodies_told told) bodies.old bodies.new) }
-    ensures kept { OnErr result ((words.new ≡ words.old) × (bodies.new ≡ bodies.old)) }
 {
     let (events, from) = (query.events, query.from);
     let mut world = match open(alloc, query.text, query.workers) {
@@ -139,13 +151,7 @@ fn show(
     };
     match watch(&mut world, events, from, rows) {
         Err(hindrance) => Err(hindrance),
-        Ok(()) => {
-            let shown = rows.len().min(events.len().saturating_sub(from));
-            match tell_board(&world, shown, words, bodies) {
-                Ok(scene) => Ok(scene),
-                Err(hindrance) => Err(hindrance),
-            }
-        }
+        Ok(()) => Ok(world),
     }
 }
 
@@ -266,12 +272,14 @@ pub(crate) fn after(
     ensures after { IfOk result (λ world. IsBoardAfter text.now workers events.now world) }
     ensures hindered { IfErr result (λ h. IsHindered text.now workers events.now h) }
 {
-    let mut world = match open(alloc, text, workers) {
-        Ok(world) => world,
-        Err(hindrance) => return Err(hindrance),
+    let query = Query {
+        text,
+        workers,
+        events,
+        from: 0,
     };
-    match watch(&mut world, events, 0, &mut []) {
-        Ok(()) => Ok(world),
+    match watched(alloc, &query, &mut []) {
+        Ok(world) => Ok(world),
         Err(hindrance) => Err(hindrance),
     }
 }

@@ -5,13 +5,18 @@ use crate::codes::{
     BAD_EVENT, BAD_WORKERS, CONFLICT, DONE, NO_JOB, NO_ROOM, NO_STEP, TEXT_MOST, TEXT_TOO_LONG,
     TOO_FAR, UNFINISHED,
 };
+use crate::cost::{CostTold, MeetingRow, pram_page_cost};
+use crate::fates::{EndRow, FatesTold, LostRow, pram_page_fates};
 use crate::finding::Told;
-use crate::machine::{pram_page_answer, pram_page_state};
+use crate::last::{LastRow, pram_page_last};
+use crate::machine::pram_page_answer;
+use crate::moment::pram_page_moment;
 use crate::outcome::pram_page_outcome;
-use crate::reads::{ReadRow, pram_page_reads};
-use crate::requests::{RequestRow, pram_page_requests};
+use crate::reads::ReadRow;
+use crate::requests::RequestRow;
 use crate::rows::EventRow;
 use crate::scene::{Scene, pram_page_scene};
+use crate::steps::{StepRow, pram_page_steps};
 use crate::text::{Judgement, pram_page_judge};
 use crate::words::WordRow;
 use std::test::Fail;
@@ -95,37 +100,23 @@ fn an_answer_is_told(rt: HostRuntime) -> Result<(), Fail> {
 }
 
 #[test]
-fn a_state_is_told(rt: HostRuntime) -> Result<(), Fail> {
-    let mut places = [0; 12];
-    let mut told = NOTHING;
-    pram_page_state(rt.alloc(), SWAP.as_bytes(), 4, 100, &mut places, &mut told);
-    assert_eq!(rt; (told.code, told.step, told.count), (DONE, 4, 12));
-    assert_eq!(rt; places, [7, 9, 0, 1, 9, 0, 1, 0, 7, 0, 4, 4]);
-    pram_page_state(rt.alloc(), SWAP.as_bytes(), 6, 100, &mut places, &mut told);
-    assert_eq!(rt; told.code, NO_STEP);
-    let mut few = [0; 3];
-    pram_page_state(rt.alloc(), SWAP.as_bytes(), 5, 100, &mut few, &mut told);
-    assert_eq!(rt; (told.code, told.count), (NO_ROOM, 12));
-    pram_page_state(
+fn a_moment_is_told(rt: HostRuntime) -> Result<(), Fail> {
+    let mut places = [0; 13];
+    let mut rows = [NO_ROW; 3];
+    let (mut told, mut asked) = (NOTHING, NOTHING);
+    pram_page_moment(
         rt.alloc(),
-        DISPUTED.as_bytes(),
-        5,
-        9,
+        SWAP.as_bytes(),
+        3,
+        100,
         &mut places,
         &mut told,
+        &mut rows,
+        &mut asked,
     );
-    assert_eq!(rt; (told.code, told.step, told.count), (CONFLICT, 5, 0));
-    pram_page_state(rt.alloc(), SWAP.as_bytes(), 5, 4, &mut places, &mut told);
-    assert_eq!(rt; told.code, TOO_FAR);
-    Ok(())
-}
-
-#[test]
-fn requests_are_told(rt: HostRuntime) -> Result<(), Fail> {
-    let mut rows = [NO_ROW; 4];
-    let mut told = NOTHING;
-    pram_page_requests(rt.alloc(), SWAP.as_bytes(), 3, 100, &mut rows, &mut told);
-    assert_eq!(rt; (told.code, told.count), (DONE, 2));
+    assert_eq!(rt; (told.code, told.step, told.count), (DONE, 3, 12));
+    assert_eq!(rt; places, [7, 9, 0, 1, 0, 0, 1, 0, 0, 0, 3, 3, 0]);
+    assert_eq!(rt; (asked.code, asked.count), (DONE, 2));
     let loads = RequestRow {
         counter: 3,
         status: 0,
@@ -136,16 +127,62 @@ fn requests_are_told(rt: HostRuntime) -> Result<(), Fail> {
         value: 9,
         next: 4,
     };
-    assert_eq!(rt; rows[0], loads);
-    pram_page_requests(
+    assert_eq!(rt; (rows[0], rows[2]), (loads, NO_ROW));
+    // After the last step nothing is asked for.
+    pram_page_moment(
+        rt.alloc(),
+        SWAP.as_bytes(),
+        5,
+        100,
+        &mut places,
+        &mut told,
+        &mut rows,
+        &mut asked,
+    );
+    assert_eq!(rt; (told.code, told.step, asked.code), (DONE, 5, NO_STEP));
+    assert_eq!(rt; (places[0], places[1]), (9, 7));
+    pram_page_moment(
+        rt.alloc(),
+        SWAP.as_bytes(),
+        6,
+        100,
+        &mut places,
+        &mut told,
+        &mut rows,
+        &mut asked,
+    );
+    assert_eq!(rt; (told.code, asked.code), (NO_STEP, NO_STEP));
+    pram_page_moment(
+        rt.alloc(),
+        SWAP.as_bytes(),
+        5,
+        4,
+        &mut places,
+        &mut told,
+        &mut rows,
+        &mut asked,
+    );
+    assert_eq!(rt; (told.code, asked.code), (TOO_FAR, TOO_FAR));
+    Ok(())
+}
+
+#[test]
+fn moments_of_a_conflict_are_told(rt: HostRuntime) -> Result<(), Fail> {
+    let mut places = [0; 25];
+    let mut rows = [NO_ROW; 4];
+    let (mut told, mut asked) = (NOTHING, NOTHING);
+    pram_page_moment(
         rt.alloc(),
         DISPUTED.as_bytes(),
         4,
         100,
-        &mut rows,
+        &mut places,
         &mut told,
+        &mut rows,
+        &mut asked,
     );
-    assert_eq!(rt; (told.code, told.step, told.count), (CONFLICT, 5, 4));
+    assert_eq!(rt; (told.code, told.step, told.count), (DONE, 4, 25));
+    assert_eq!(rt; (asked.code, asked.step, asked.count), (CONFLICT, 5, 4));
     let stores = RequestRow {
         counter: 4,
         status: 0,
@@ -157,7 +194,207 @@ fn requests_are_told(rt: HostRuntime) -> Result<(), Fail> {
         next: 5,
     };
     assert_eq!(rt; rows[3], stores);
-    pram_page_requests(
+    pram_page_moment(
+        rt.alloc(),
+        DISPUTED.as_bytes(),
+        5,
+        9,
+        &mut places,
+        &mut told,
+        &mut rows,
+        &mut asked,
+    );
+    assert_eq!(rt; (told.code, told.step, told.count), (CONFLICT, 5, 0));
+    assert_eq!(rt; (asked.code, asked.step, asked.count), (CONFLICT, 5, 0));
+    // Each list is told where it has room.
+    let mut few = [6; 1];
+    pram_page_moment(
+        rt.alloc(),
+        DISPUTED.as_bytes(),
+        3,
+        9,
+        &mut few,
+        &mut told,
+        &mut rows,
+        &mut asked,
+    );
+    assert_eq!(rt; (told.code, told.count, asked.code), (NO_ROOM, 25, DONE));
+    assert_eq!(rt; few, [6]);
+    pram_page_moment(
+        rt.alloc(),
+        DISPUTED.as_bytes(),
+        3,
+        9,
+        &mut places,
+        &mut told,
+        &mut [],
+        &mut asked,
+    );
+    assert_eq!(rt; (told.code, asked.code, asked.count), (DONE, NO_ROOM, 4));
+    Ok(())
+}
+
+// Processor 1 names a cell that there is not in step 3, the last one.
+const LEAVING: &str = "pram 1\ncells 2\nprocs 2\nsteps 3\ncode\n\
+    pid r0\nadd r1 r0 r0\nst r1 r0\nhalt\n";
+
+const NO_END: EndRow = EndRow {
+    line: 0,
+    kind: 0,
+    count: 0,
+    first: 0,
+    step: 0,
+};
+
+const NONE_LOST: LostRow = LostRow {
+    line: 0,
+    step: 0,
+    processor: 0,
+};
+
+const NO_FATES: FatesTold = FatesTold {
+    code: 99,
+    fault: 0,
+    line: 0,
+    end: NO_END,
+    lost: NONE_LOST,
+};
+
+#[test]
+fn fates_are_told(rt: HostRuntime) -> Result<(), Fail> {
+    let mut told = NO_FATES;
+    pram_page_fates(rt.alloc(), LEAVING.as_bytes(), &mut told);
+    let runs = EndRow {
+        line: 9,
+        kind: 1,
+        count: 1,
+        ..NO_END
+    };
+    let lost = LostRow {
+        line: 8,
+        step: 3,
+        processor: 1,
+    };
+    assert_eq!(rt; (told.code, told.end, told.lost), (DONE, runs, lost));
+    pram_page_fates(rt.alloc(), SWAP.as_bytes(), &mut told);
+    let stopped = EndRow {
+        kind: 2,
+        step: 5,
+        ..NO_END
+    };
+    assert_eq!(rt;
+        (told.code, told.end, told.lost),
+        (DONE, stopped, NONE_LOST)
+    );
+    pram_page_fates(rt.alloc(), DISPUTED.as_bytes(), &mut told);
+    assert_eq!(rt; (told.code, told.end, told.lost), (DONE, NO_END, NONE_LOST));
+    pram_page_fates(rt.alloc(), b"pram 1\ncells 0\n", &mut told);
+    assert_eq!(rt; (told.code, told.fault, told.line), (NO_JOB, 4, 2));
+    Ok(())
+}
+
+const NO_MEETING: MeetingRow = MeetingRow {
+    step: 0,
+    cell: 0,
+    first: 0,
+    second: 0,
+};
+
+const NO_COST: CostTold = CostTold {
+    code: 99,
+    fault: 0,
+    line: 0,
+    executed: 0,
+    steps: 0,
+    procs: 0,
+    most: 0,
+    reading: 0,
+    writing: 0,
+    needs: 0,
+    same_read: NO_MEETING,
+    same_write: NO_MEETING,
+    other_value: NO_MEETING,
+};
+
+#[test]
+fn a_cost_is_told(rt: HostRuntime) -> Result<(), Fail> {
+    let mut told = NO_COST;
+    pram_page_cost(rt.alloc(), SWAP.as_bytes(), &mut told);
+    let cheap = CostTold {
+        code: DONE,
+        executed: 10,
+        steps: 5,
+        procs: 2,
+        most: 2,
+        reading: 1,
+        writing: 1,
+        ..NO_COST
+    };
+    assert_eq!(rt; told, cheap);
+    // The disputed step is one of those that count, and no weaker model accepts it.
+    pram_page_cost(rt.alloc(), DISPUTED.as_bytes(), &mut told);
+    let both = MeetingRow {
+        step: 5,
+        cell: 4,
+        first: 1,
+        second: 3,
+    };
+    let disputed = CostTold {
+        code: DONE,
+        executed: 18,
+        steps: 5,
+        procs: 4,
+        most: 4,
+        reading: 1,
+        writing: 1,
+        needs: 3,
+        same_write: both,
+        other_value: both,
+        ..NO_COST
+    };
+    assert_eq!(rt; told, disputed);
+    pram_page_cost(rt.alloc(), b"pram 1\ncells 0\n", &mut told);
+    assert_eq!(rt; (told.code, told.fault, told.line), (NO_JOB, 4, 2));
+    Ok(())
+}
+
+const IDLE: StepRow = StepRow {
+    running: 0,
+    reading: 0,
+    writing: 0,
+};
+
+#[test]
+fn steps_are_told(rt: HostRuntime) -> Result<(), Fail> {
+    let mut rows = [IDLE; 3];
+    let mut told = NOTHING;
+    pram_page_steps(rt.alloc(), SWAP.as_bytes(), 3, 100, &mut rows, &mut told);
+    assert_eq!(rt; (told.code, told.step, told.count), (DONE, 5, 2));
+    let load = StepRow {
+        running: 2,
+        reading: 2,
+        writing: 0,
+    };
+    let store = StepRow {
+        running: 2,
+        reading: 0,
+        writing: 2,
+    };
+    assert_eq!(rt; rows, [load, store, IDLE]);
+    let mut one = [IDLE];
+    pram_page_steps(rt.alloc(), SWAP.as_bytes(), 3, 100, &mut one, &mut told);
+    assert_eq!(rt; (told.code, told.step, told.count), (DONE, 4, 1));
+    pram_page_steps(
+        rt.alloc(),
+        DISPUTED.as_bytes(),
+        4,
+        100,
+        &mut rows,
+        &mut told,
+    );
+    assert_eq!(rt; (told.code, told.step, told.count), (CONFLICT, 5, 1));
+    assert_eq!(rt; rows[0], store);
+    pram_page_steps(
         rt.alloc(),
         DISPUTED.as_bytes(),
         5,
@@ -165,12 +402,44 @@ fn requests_are_told(rt: HostRuntime) -> Result<(), Fail> {
         &mut rows,
         &mut told,
     );
+    assert_eq!(rt; (told.code, told.step, told.count), (CONFLICT, 5, 0));
+    pram_page_steps(rt.alloc(), SWAP.as_bytes(), 6, 100, &mut rows, &mut told);
     assert_eq!(rt; told.code, NO_STEP);
-    // The room is looked at before any step is made.
-    let mut few = [NO_ROW; 3];
-    pram_page_requests(rt.alloc(), DISPUTED.as_bytes(), 4, 0, &mut few, &mut told);
+    pram_page_steps(rt.alloc(), SWAP.as_bytes(), 3, 2, &mut rows, &mut told);
+    assert_eq!(rt; told.code, TOO_FAR);
+    Ok(())
+}
+
+const NEVER: LastRow = LastRow { step: 0, index: 0 };
+
+#[test]
+fn what_was_executed_last_is_told(rt: HostRuntime) -> Result<(), Fail> {
+    let mut rows = [NEVER; 5];
+    let mut told = NOTHING;
+    pram_page_last(
+        rt.alloc(),
+        DISPUTED.as_bytes(),
+        5,
+        100,
+        &mut rows,
+        &mut told,
+    );
+    assert_eq!(rt; (told.code, told.step, told.count), (CONFLICT, 5, 4));
+    let halts = LastRow { step: 4, index: 5 };
+    let stores = LastRow { step: 5, index: 4 };
+    assert_eq!(rt; rows, [halts, stores, halts, stores, NEVER]);
+    pram_page_last(rt.alloc(), SWAP.as_bytes(), 3, 100, &mut rows, &mut told);
+    assert_eq!(rt; (told.code, told.step, told.count), (DONE, 3, 2));
+    let subtracts = LastRow { step: 3, index: 2 };
+    assert_eq!(rt; rows, [subtracts, subtracts, halts, stores, NEVER]);
+    pram_page_last(rt.alloc(), SWAP.as_bytes(), 0, 100, &mut rows, &mut told);
+    assert_eq!(rt; (told.code, rows[0], rows[1]), (DONE, NEVER, NEVER));
+    pram_page_last(rt.alloc(), SWAP.as_bytes(), 6, 100, &mut rows, &mut told);
+    assert_eq!(rt; told.code, NO_STEP);
+    let mut few = [NEVER; 3];
+    pram_page_last(rt.alloc(), DISPUTED.as_bytes(), 4, 0, &mut few, &mut told);
     assert_eq!(rt; (told.code, told.count), (NO_ROOM, 4));
-    pram_page_requests(rt.alloc(), DISPUTED.as_bytes(), 4, 0, &mut rows, &mut told);
+    pram_page_last(rt.alloc(), DISPUTED.as_bytes(), 4, 3, &mut rows, &mut told);
     assert_eq!(rt; told.code, TOO_FAR);
     Ok(())
 }
@@ -234,7 +503,7 @@ fn a_scene_is_told(rt: HostRuntime) -> Result<(), Fail> {
     let mut rows = [NO_EVENT; 2];
     let mut words = [NO_WORD; 20];
     let mut bodies = [NO_BODY; 1];
-    let mut told = NO_SCENE;
+    let (mut told, mut read) = (NO_SCENE, NOTHING);
     pram_page_scene(
         rt.alloc(),
         COUNTER.as_bytes(),
@@ -245,6 +514,8 @@ fn a_scene_is_told(rt: HostRuntime) -> Result<(), Fail> {
         &mut words,
         &mut bodies,
         &mut told,
+        &mut [],
+        &mut read,
     );
     assert_eq!(rt;
         (told.code, told.rows, told.leaves, told.finished),
@@ -309,7 +580,7 @@ fn a_loss_a_twin_and_a_return_are_told(rt: HostRuntime) -> Result<(), Fail> {
     let mut rows = [NO_EVENT; 4];
     let mut words = [NO_WORD; 18];
     let mut bodies = [NO_BODY; 3];
-    let mut told = NO_SCENE;
+    let (mut told, mut read) = (NO_SCENE, NOTHING);
     pram_page_scene(
         rt.alloc(),
         COUNTER.as_bytes(),
@@ -320,6 +591,8 @@ fn a_loss_a_twin_and_a_return_are_told(rt: HostRuntime) -> Result<(), Fail> {
         &mut words,
         &mut bodies,
         &mut told,
+        &mut [],
+        &mut read,
     );
     assert_eq!(rt; (told.code, told.rows, told.bodies), (DONE, 4, 2));
     // The body that is lost makes no step.
@@ -351,6 +624,8 @@ fn a_loss_a_twin_and_a_return_are_told(rt: HostRuntime) -> Result<(), Fail> {
         &mut words,
         &mut bodies,
         &mut told,
+        &mut [],
+        &mut read,
     );
     assert_eq!(rt; told.rows, 1);
     assert_eq!(rt; rows[0], no_step(0, 1, bodies[1]));
@@ -360,7 +635,7 @@ fn a_loss_a_twin_and_a_return_are_told(rt: HostRuntime) -> Result<(), Fail> {
 
 #[test]
 fn bad_sizes_have_codes_of_their_own(rt: HostRuntime) -> Result<(), Fail> {
-    let mut told = NO_SCENE;
+    let (mut told, mut read) = (NO_SCENE, NOTHING);
     for workers in [0, 65, u32::MAX] {
         pram_page_scene(
             rt.alloc(),
@@ -372,6 +647,8 @@ fn bad_sizes_have_codes_of_their_own(rt: HostRuntime) -> Result<(), Fail> {
             &mut [],
             &mut [],
             &mut told,
+            &mut [],
+            &mut read,
         );
         assert_eq!(rt;
             told,
@@ -397,6 +674,8 @@ fn bad_sizes_have_codes_of_their_own(rt: HostRuntime) -> Result<(), Fail> {
             &mut [],
             &mut [],
             &mut told,
+            &mut [],
+            &mut read,
         );
         assert_eq!(rt;
             told,
@@ -421,11 +700,14 @@ fn bad_sizes_have_codes_of_their_own(rt: HostRuntime) -> Result<(), Fail> {
         &mut words,
         &mut bodies,
         &mut told,
+        &mut [],
+        &mut read,
     );
     assert_eq!(rt;
         (told.code, told.words, told.bodies, told.rows),
         (NO_ROOM, 18, 1, 0)
     );
+    assert_eq!(rt; (read.code, read.count), (NO_ROOM, 1));
     assert_eq!(rt;
         (rows, words, bodies),
         ([NO_EVENT; 1], [NO_WORD; 17], [NO_BODY; 1])
@@ -442,30 +724,40 @@ fn no_scene() -> Scene {
 
 #[test]
 fn reads_are_told(rt: HostRuntime) -> Result<(), Fail> {
-    let events = [GO; 53];
-    let mut cells = [ReadRow { step: 0, value: 0 }];
-    let mut told = NOTHING;
-    pram_page_reads(
+    let mut cells = [ReadRow { step: 0, value: 0 }; 2];
+    let (mut told, mut read) = (NO_SCENE, NOTHING);
+    // Without room for the board, too.
+    pram_page_scene(
         rt.alloc(),
         COUNTER.as_bytes(),
         1,
-        &events,
-        &mut cells,
+        &[GO; 53],
+        53,
+        &mut [],
+        &mut [],
+        &mut [],
         &mut told,
+        &mut cells,
+        &mut read,
     );
-    assert_eq!(rt; (told.code, told.count), (DONE, 1));
-    assert_eq!(rt; cells[0], ReadRow { step: 1, value: 4 });
-    pram_page_reads(rt.alloc(), COUNTER.as_bytes(), 1, &[], &mut [], &mut told);
-    assert_eq!(rt; (told.code, told.count), (NO_ROOM, 1));
-    pram_page_reads(
+    assert_eq!(rt; (told.code, read.code, read.count), (NO_ROOM, DONE, 1));
+    let first = ReadRow { step: 1, value: 4 };
+    assert_eq!(rt; cells, [first, ReadRow { step: 0, value: 0 }]);
+    pram_page_scene(
         rt.alloc(),
         COUNTER.as_bytes(),
         1,
         &[TWIN, Event { kind: 2, body: 2 }],
-        &mut cells,
+        0,
+        &mut [],
+        &mut [],
+        &mut [],
         &mut told,
+        &mut cells,
+        &mut read,
     );
-    assert_eq!(rt; (told.code, told.count), (BAD_EVENT, 1));
+    assert_eq!(rt; (told.code, told.at), (BAD_EVENT, 1));
+    assert_eq!(rt; (read.code, read.count), (BAD_EVENT, 1));
     Ok(())
 }
 

@@ -9,8 +9,8 @@ use pram_text::{Array, Instr, Operand, Operands, Place};
 use std::alloc::{AllocError, Global};
 
 /// The instruction as a text spells it, with one blank between its words. A jump names the index
-/// that it goes to, counted from 0: the label that a text had for it is not kept. Nor is the name of
-/// an array: its first and its last cell stand there, as `8..11`.
+/// that it goes to, counted from 0: the label that a text had for it is not kept. Nor is the name
+/// of an array: its first and its last cell stand there, as `8..11`.
 pub fn instruction_text(alloc: Global, instr: Instr) -> Result<String, AllocError>
     ensures { IfOk result (λ text. string_bytes text ≡ instruction_text instr) }
 {

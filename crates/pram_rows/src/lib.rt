@@ -2,7 +2,6 @@
 #![tactic(auto)]
 
 mod instruction;
-mod moment;
 mod print;
 mod row;
 mod window;

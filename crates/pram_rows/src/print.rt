@@ -8,10 +8,9 @@ ghost use Rattle.pram_rows.specs.Inner.Printing.{TakesBut};
 ghost use Rattle.pram_rows.specs.Rows.{rows_text, step_lines};
 ghost use Rattle.pram_rows.specs.Shown.{BeginsSteps, TakesSteps, last_step};
 
-use crate::moment::Moment;
 use crate::row::push_rows;
 use crate::window::Window;
-use pram_step::{Arrival, RunAnswer, State, go_to, make_step, plain_answer};
+use pram_step::{Arrival, Moment, RunAnswer, State, go_to, make_step, plain_answer};
 use pram_streams::{PrintFault, Sink, put};
 use pram_text::Job;
 use std::alloc::{AllocError, Global};

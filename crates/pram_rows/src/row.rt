@@ -9,10 +9,9 @@ ghost use Rattle.pram_rows.specs.Rows.{instruction_at, row_line, rows_in};
 ghost use Rattle.pram_rows.specs.Rows.{stop_word, target_text, value_text};
 
 use crate::instruction::instruction_text;
-use crate::moment::Moment;
 use csv::{Error, Writer};
 use itoa::Buffer;
-use pram_step::{counter, laws, request_after};
+use pram_step::{Moment, counter, laws, request_after};
 use pram_text::Job;
 use std::alloc::{AllocError, Global};
 use std::io::Write;

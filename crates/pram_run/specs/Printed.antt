@@ -11,7 +11,7 @@ kind_word Store = codes "store"
 kind_word Max = codes "max"
 kind_word Swap = codes "swap"
 
--- the line of a row
+-- the line of a row, with the tick in front
 abbrev pub row_line : ℕ → TraceRow → List ℕ
 row_line tick row = decimal tick ++ codes "," ++ decimal row.worker ++ codes ","
     ++ kind_word row.kind ++ codes "," ++ decimal row.word ++ codes ","

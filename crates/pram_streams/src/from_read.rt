@@ -19,9 +19,9 @@ impl<R: Read> FromRead<R> {
         ensures bytes { ⟦<FromRead<R> as Source>⟧.remaining result ≡ R.remaining reader }
     {
         FromRead {
+            reason: Reason::Unknown,
             reader,
             has_failed: false,
-            reason: Reason::Unknown,
         }
     }
 }

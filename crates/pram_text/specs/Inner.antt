@@ -2,5 +2,4 @@
 pub mod Words
 pub mod Statement
 pub mod Reading
-pub mod LinesAfter
 pub mod Ahead

@@ -15,14 +15,8 @@ pub record JobData : Type 0 where
   pub code : List Instr
 
 abbrev pub job_data : Rule → ℕ → ℕ → ℕ → List ℕ → List Instr → JobData
-job_data rule cells procs steps init code = record {
-  rule = rule;
-  cells = cells;
-  procs = procs;
-  steps = steps;
-  init = init;
-  code = code;
-}
+job_data rule cells procs steps init code =
+    record { rule = rule; cells = cells; procs = procs; steps = steps; init = init; code = code }
 
 -- what a processor of so many cells and of a code of this length may do
 abbrev pub IsInstr : ℕ → ℕ → Instr → Type 0

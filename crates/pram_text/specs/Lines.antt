@@ -25,9 +25,13 @@ abbrev pub is_filled : {X : Type 0} → List X → Bool
 is_filled [] = false
 is_filled (first ∷ rest) = true
 
--- The words lie between the blanks before the first semicolon.
+-- what stands before the first semicolon
+abbrev pub said_in : List ℕ → List ℕ
+said_in line = before_first (λ byte. byte == 59) line
+
+-- The words lie between the blanks of what is said.
 unfoldable pub words_of : List ℕ → Line
-words_of line = filter is_filled (slice_split is_blank (before_first (λ byte. byte == 59) line))
+words_of line = filter is_filled (slice_split is_blank (said_in line))
 
 -- the lines that have words
 abbrev pub worded : List (List ℕ) → List Line

@@ -105,7 +105,8 @@ pub record SpellsCode (scope : Scope) (body : List Line) (code : List Instr) : T
   pub said : map (λ line. instr_of scope (index_of body) (unlabelled line)) body
       ≡ map (λ instr. Ok instr) code
 
--- Version 1 has the rule common, and no line for it; the others have one line, which names the rule.
+-- Version 1 has the rule common, and no line for it; the others have one line, which names the
+-- rule.
 abbrev pub SpellsRule : ℕ → Rule → List Line → Type 0
 SpellsRule (suc zero) rule lines = (lines ≡ []) × (rule ≡ Common)
 SpellsRule version rule lines = (line : Line) × (lines ≡ line ∷ []) × (rule_of line ≡ Ok rule)

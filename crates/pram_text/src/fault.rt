@@ -19,8 +19,8 @@ pub enum TextKind {
     UnknownInstruction,
     /// The number of operands is wrong.
     WrongOperands,
-    /// An operand that must be a register is none of `r0` to `r3`; or, in version 3, one that must be
-    /// a register or a number is neither, or one that must name an array names none.
+    /// An operand that must be a register is none of `r0` to `r3`; or, in version 3, one that must
+    /// be a register or a number is neither, or one that must name an array names none.
     BadRegister,
     /// An earlier line defined the label.
     DuplicateLabel,

@@ -1,7 +1,8 @@
 //! Laws of the text: they show that the definitions mean what is meant.
 //! Nothing happens when they are called.
 ghost use Rattle.pram_text.specs.Laws.{BlanksSayNothing, CommentsSayNothing, FaultIsWithin};
-ghost use Rattle.pram_text.specs.Laws.{InstructionsHaveLines, JobOrFault, LimitsAre, LinesAreCounted, LinesAreJoined};
+ghost use Rattle.pram_text.specs.Laws.{InstructionsHaveLines, JobOrFault, LimitsAre};
+ghost use Rattle.pram_text.specs.Laws.{LinesAreCounted, LinesAreJoined};
 ghost use Rattle.pram_text.specs.Laws.{OneFault, OneJob};
 ghost use Rattle.pram_text.specs.Laws.{SpelledBearsNothing, SpelledJobIsLawful};
 ghost use Rattle.pram_text.specs.Laws.{UnknownLabelComesLast, WordlessLinesAreSkipped};

@@ -15,10 +15,14 @@ mod program;
 mod reader;
 mod start;
 mod statement;
+mod text_lines;
 mod words;
 
 pub use fault::{TextFault, TextKind};
 pub use instr::{Array, Instr, Operand, Operands, Place, Rule};
 pub use job::Job;
 pub use lines::instruction_line;
+pub use numbers::value_of;
 pub use reader::read_job;
+pub use text_lines::TextLines;
+pub use words::{is_blank, is_lawful, is_word};

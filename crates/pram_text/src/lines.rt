@@ -1,13 +1,12 @@
-//! The lines of a text, and those that have instructions.
-ghost use Rattle.std.specs.Prelude.{◌≡◌, ◌≢◌, ◌∷◌, ◌<◌, length, IfSome};
+//! The lines of a text that have instructions.
+ghost use Rattle.std.specs.Prelude.{◌≡◌, ◌≢◌};
 ghost use Rattle.pram_text.specs.Inner.Ahead.{SkipsLine};
-ghost use Rattle.pram_text.specs.Inner.LinesAfter.{lines_after};
 ghost use Rattle.pram_text.specs.InstructionLines.{line_of};
-ghost use Rattle.pram_text.specs.Lines.{lines_of, words_of};
+ghost use Rattle.pram_text.specs.Lines.{words_of};
 
 use crate::header::is_code_line;
+use crate::text_lines::TextLines;
 use crate::words::has_words;
-use memchr::memchr;
 
 /// How many lines with words come before the line `code`.
 const HEADER: u32 = 4;
@@ -50,32 +49,14 @@ pub fn instruction_line(text: &[u8], index: u32) -> u64
     ensures { result ≡ line_of text.now index }
 {
     let mut ahead = Ahead::Header(HEADER);
-    let mut number = 0;
-    let mut rest = Some(text);
-    while let Some(below) = rest {
-        let (line, after) = first_line(below);
-        number += 1;
+    let mut lines = TextLines::new(text);
+    while let Some(line) = lines.take_line() {
         if has_words(line) {
             if ahead == Ahead::Body(0) {
-                return number;
+                return lines.number();
             }
             ahead = ahead.after(line, index);
         }
-        rest = after;
     }
     0
-}
-
-/// The first line, and what is after its line feed, if it has one.
-pub(crate) fn first_line(text: &[u8]) -> (&[u8], Option<&[u8]>)
-    ensures lines { lines_of text.now ≡ result.0.now ∷ lines_after result.1 }
-    ensures shorter { IfSome result.1 (λ rest. length rest.now < length text.now) }
-{
-    match memchr(b'\n', text) {
-        None => (text, None),
-        Some(end) => {
-            let (line, rest) = text.split_at(end);
-            (line, Some(&rest[1..]))
-        }
-    }
 }

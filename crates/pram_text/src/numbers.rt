@@ -20,8 +20,8 @@ pub(crate) fn is_numeric(word: &[u8]) -> bool
     !word.is_empty() && all_digits(word)
 }
 
-// The number that digits spell, or the greatest `u64` where it is larger.
-fn value_of(digits: &[u8]) -> u64
+/// The number that digits spell, or the greatest `u64` where it is larger.
+pub fn value_of(digits: &[u8]) -> u64
     requires { AllPass is_ascii_digit digits.now }
     ensures { result ≡ min (digits_value 10 digits.now) (2 ^ 64 - 1) }
 {

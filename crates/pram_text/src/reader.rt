@@ -1,8 +1,6 @@
 //! Reads a text line by line.
-ghost use Rattle.std.specs.Prelude.{◌≡◌, ◌≢◌, ◌≤◌, ◌<◌, ℕ, [], ◌∷◌, List};
-ghost use Rattle.std.specs.Prelude.{IfOk, IfErr, IfSome, length, vec_len};
-ghost use Rattle.pram_text.specs.Lines.{Line, lines_of, words_of};
-ghost use Rattle.pram_text.specs.Inner.LinesAfter.{lines_after};
+ghost use Rattle.std.specs.Prelude.{◌≡◌, ◌≢◌, ◌≤◌, ℕ, [], List, IfOk, IfErr, vec_len};
+ghost use Rattle.pram_text.specs.Lines.{Line, words_of};
 ghost use Rattle.pram_text.specs.Inner.Reading.{Finishes, Holds, HoldsAt};
 ghost use Rattle.pram_text.specs.Inner.Reading.{TakesLine, TakesWords, numbers_of};
 ghost use Rattle.pram_text.specs.Text.{IsRefusal, Spells};
@@ -11,10 +9,10 @@ use crate::fault::{TextFault, TextKind};
 use crate::head::{Head, Next};
 use crate::header::is_code_line;
 use crate::job::Job;
-use crate::lines::first_line;
 use crate::program::Program;
 use crate::start::{Setup, start_values};
 use crate::statement::Names;
+use crate::text_lines::TextLines;
 use crate::words::{has_words, is_lawful};
 use std::alloc::Global;
 
@@ -27,17 +25,13 @@ pub fn read_job(alloc: Global, text: &[u8]) -> Result<Job, TextFault>
     ensures bears { IfErr result (λ fault. IsRefusal text.now fault.line fault.kind) }
 {
     let mut reader = Reader::new(alloc);
-    let mut number = 0;
-    let mut rest = Some(text);
-    while let Some(below) = rest {
-        let (line, after) = first_line(below);
-        number += 1;
-        if let Err(kind) = reader.take(number, line) {
-            return Err(refusal(number, kind));
+    let mut lines = TextLines::new(text);
+    while let Some(line) = lines.take_line() {
+        if let Err(kind) = reader.take(lines.number(), line) {
+            return Err(refusal(lines.number(), kind));
         }
-        rest = after;
     }
-    reader.finish(number)
+    reader.finish(lines.number())
 }
 
 // The fault of a line. Out of memory it is no line's.

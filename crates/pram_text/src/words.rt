@@ -6,8 +6,8 @@ ghost use Rattle.pram_text.specs.Lines.{is_allowed, is_blank, is_filled, words_o
 ghost use Rattle.pram_text.specs.Inner.Words.{ends_word, one_of, two_of, three_of, four_of};
 ghost use Rattle.pram_text.specs.Inner.Words.{two_first_of};
 
-// What stands between words.
-fn blank(byte: u8) -> bool
+/// Whether the byte is a blank, which stands between words.
+pub fn is_blank(byte: u8) -> bool
     ensures { result ≡ is_blank byte }
 {
     byte == b' ' || byte == b'\t' || byte == b'\r'
@@ -25,14 +25,14 @@ fn allowed(byte: u8) -> bool
 fn word_start(line: &[u8]) -> Option<usize>
     ensures { result ≡ position (λ b. not (is_blank b)) line.now }
 {
-    line.iter().position(|&byte| !blank(byte))
+    line.iter().position(|&byte| !is_blank(byte))
 }
 
 // Where the first blank or semicolon stands.
 fn word_end(line: &[u8]) -> Option<usize>
     ensures { result ≡ position ends_word line.now }
 {
-    line.iter().position(|&byte| blank(byte) || byte == b';')
+    line.iter().position(|&byte| is_blank(byte) || byte == b';')
 }
 
 /// The first word of a line, and the rest of the line after it.
@@ -107,7 +107,7 @@ pub(crate) fn two_first_words(line: &[u8]) -> Option<(&[u8], &[u8], &[u8])>
 }
 
 /// Whether the word is this one.
-pub(crate) fn is_word(word: &[u8], name: &str) -> bool
+pub fn is_word(word: &[u8], name: &str) -> bool
     ensures { result ≡ bytes_eq word.now name.now }
 {
     word == name.as_bytes()
@@ -115,7 +115,7 @@ pub(crate) fn is_word(word: &[u8], name: &str) -> bool
 
 /// Whether every byte may stand in a text. It looks at all of them, so that many are judged at
 /// once.
-pub(crate) fn is_lawful(line: &[u8]) -> bool
+pub fn is_lawful(line: &[u8]) -> bool
     ensures { result ≡ list_all is_allowed line.now }
 {
     let mut lawful = true;

@@ -11,7 +11,8 @@ fn told<R: AllocGlobal>(rt: &R, text: &str, steps: u32) -> Result<String, Fail> 
 }
 
 const ODD_ONES_GO_ROUND: &str = "pram 1\ncells 1\nprocs 4\nsteps 9\ncode\n\
-    pid r0\nset r1 1\nand r2 r0 r1\n\n; the even ones leave\njz r2 end\nround: jmp round\nend: halt\n";
+    pid r0\nset r1 1\nand r2 r0 r1\n\n; the even ones leave\njz r2 end\nround: jmp round\n\
+    end: halt\n";
 
 const SECOND_IS_LOST: &str = "pram 1\ncells 2\nprocs 4\nsteps 9\ninit 0 5\n code ; and so on\n\
     pid r0\nld r1 r0\nst r0 r1\n";

@@ -5,14 +5,16 @@
 #[cfg(test)]
 mod cost;
 #[cfg(test)]
-mod devices;
-#[cfg(test)]
 mod fates;
+#[cfg(test)]
+mod named;
 #[cfg(test)]
 mod plan;
 #[cfg(test)]
 mod printed;
 #[cfg(test)]
 mod rows;
+#[cfg(test)]
+mod texts;
 #[cfg(test)]
 mod transfer;

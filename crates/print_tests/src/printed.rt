@@ -1,5 +1,5 @@
 //! What an answer looks like.
-use crate::devices::Trickle;
+use failing_devices::Trickle;
 use pram_step::{Cells, Fault, RunAnswer};
 use pram_streams::{IntoWrite, PrintFault, print_answer};
 use std::test::Fail;

@@ -1,5 +1,5 @@
 //! What is taken from a source and put into a sink.
-use crate::devices::{Drip, Trickle};
+use failing_devices::{Drip, Trickle};
 use pram_streams::{FromRead, IntoWrite, MOST, PrintFault, TakeFault, put, take};
 use std::test::Fail;
 

@@ -71,6 +71,13 @@ impl Model for Plan {
 }
 
 impl Plan {
+    /// How many workers the plan is for.
+    pub fn workers(&self) -> u32
+        ensures { result ≡ self.now.workers }
+    {
+        self.workers
+    }
+
     /// The plan with no row, which takes no memory.
     pub fn empty(alloc: Global, workers: u32) -> Plan
         ensures { result ≡ record { workers = workers; rows = [] } }
@@ -82,13 +89,6 @@ impl Plan {
         ensures { result ≡ record { workers = workers; rows = rows.items } }
     {
         Plan { workers, rows }
-    }
-
-    /// How many workers the plan is for.
-    pub fn workers(&self) -> u32
-        ensures { result ≡ self.now.workers }
-    {
-        self.workers
     }
 
     /// The rows, in their order.

@@ -1,9 +1,10 @@
 -- What callers of the code carry from call to call: the worker or reader goes with the board, and
 -- its code stands where it does.
-use Rattle.std.specs.Prelude.{◌≡◌, ◌<◌, Option, Some, None, []}
+use Rattle.std.specs.Prelude.{◌≡◌, ℕ, ◌<◌, Option, Some, None, []}
 use Rattle.pram_text.specs.Job.{JobData}
 use Rattle.pram_words.specs.Words.{LayoutData}
 use Rattle.walkx.specs.declared.operation.Op.{Op}
+use Rattle.walkx.specs.Records.{Record, Knows}
 use Rattle.walkx.specs.Walk.{Walking, Fits, IsGoing, ask_of}
 use Rattle.walkx.specs.Inner.Workers.{WorkerData}
 use Rattle.walkx.specs.Inner.Glances.{ReaderData, StandsAt}
@@ -16,6 +17,15 @@ IsHeldAt job layout worker (Some op) = op ≡ ask_of job layout worker
 pub record Serves (job : JobData) (layout : LayoutData) (worker : WorkerData) : Type 0 where
   pub fits : Fits job layout worker.walking
   pub held : IsHeldAt job layout worker.walking worker.held_op
+
+-- A worker of this number that stands so from the start: it serves on every board that it is a
+-- worker of, and every record knows it.
+pub record IsNew (number : ℕ) (walking : Walking) (worker : WorkerData) : Type 0 where
+  pub value : worker.walking ≡ walking
+  pub serves : (job : JobData) (layout : LayoutData) → number < layout.workers →
+      Serves job layout worker
+  pub known : (job : JobData) (layout : LayoutData) (past : Record) →
+      Knows job layout past worker.walking
 
 pub record Follows (layout : LayoutData) (reader : ReaderData) : Type 0 where
   pub cell : reader.looking.cell < layout.cells

@@ -18,8 +18,7 @@ use crate::steps::Steps;
 #[inline(always)]
 pub(crate) fn back<S: Steps>(steps: &mut S, post: &Post) -> Result<Next, Stopped>
     requires here { IsHere (S.stands post.now) steps.old (back_of post.now) }
-    ensures reaches { Reaches (S.stands post.now) steps.old (back_of post.now) then_of steps.new
-        result }
+    ensures { Reaches (S.stands post.now) steps.old (back_of post.now) then_of steps.new result }
 {
     let found = steps.make(position_look(post))?;
     Ok(at_node(post, found))

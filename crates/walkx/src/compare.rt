@@ -24,14 +24,9 @@ pub(crate) fn report_if<S: Steps>(steps: &mut S, leaf: &Leaf, conflict: bool) ->
     Ok(())
 }
 
-/// A value is compared with what a place holds.
+// A value is compared with what a place holds.
 #[inline(always)]
-pub(crate) fn compare_place<S: Steps>(
-    steps: &mut S,
-    leaf: &Leaf,
-    place: u32,
-    value: u32,
-) -> Result<(), Left>
+fn compare_place<S: Steps>(steps: &mut S, leaf: &Leaf, place: u32, value: u32) -> Result<(), Left>
     requires place { place < places_of leaf.now.layout }
     requires next { IsNext (S.stands leaf.now) steps.old (compares_place leaf.now place value) }
     ensures plays { Plays (S.stands leaf.now) steps.old (compares_place leaf.now place value)

@@ -39,7 +39,7 @@ impl Worker {
     ghost use Rattle.walkx.specs.Playing.{ComesTo, IsPlayable, op_after, come_to, hearing};
     ghost use Rattle.walkx.specs.Playing.{stand_of};
     ghost use Rattle.walkx.specs.Records.{Record, Knows};
-    ghost use Rattle.walkx.specs.Serving.{Serves};
+    ghost use Rattle.walkx.specs.Serving.{IsNew, Serves};
     ghost use Rattle.walkx.specs.Turns.{beginning, turn_begun};
     ghost use Rattle.walkx.specs.Walk.{AsksAdmitted, HearsAdmitted, IsBoard, IsLayoutOf};
     ghost use Rattle.walkx.specs.Walk.{IsStepOn, ask_of, come_back, end_of, rest_of, script_of};
@@ -47,20 +47,14 @@ impl Worker {
 
     /// Worker w, at its first leaf.
     pub fn start(w: u32) -> Worker
-        ensures value { result.walking ≡ started w }
-        ensures serves { (job : JobData) (y : LayoutData) → w < y.workers → Serves job y result }
-        ensures known { (job : JobData) (y : LayoutData) (r : Record) →
-            Knows job y r result.walking }
+        ensures { IsNew w (started w) result }
     {
         Worker::about_to(w, Activity::Begin)
     }
 
     /// Worker w, come back: it will stand where its position word says.
     pub fn back(w: u32) -> Worker
-        ensures value { result.walking ≡ come_back w }
-        ensures serves { (job : JobData) (y : LayoutData) → w < y.workers → Serves job y result }
-        ensures known { (job : JobData) (y : LayoutData) (r : Record) →
-            Knows job y r result.walking }
+        ensures { IsNew w (come_back w) result }
     {
         Worker::about_to(w, Activity::Back)
     }

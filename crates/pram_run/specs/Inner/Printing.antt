@@ -1,4 +1,4 @@
--- Records written by csv, one after the other, and rows that are put into a sink.
+-- Records that csv writes, and rows that were passed on to a sink.
 use Rattle.std.specs.Prelude.{◌≡◌, ◌+◌, ◌++◌, ℕ, List, Option, length, false}
 use Rattle.std.specs.Io.KnownBytes.{Appends}
 use Rattle.csv.specs.Writing.{default_writer, fields_written, has_written, writer_setup}

@@ -101,7 +101,8 @@ TakesStart later cells inits line (Err kind) start = kind ≢ Memory →
 
 -- What was read of a line is what the definitions say of it.
 abbrev pub ReadsArray : ℕ → Line → Result (Bor (List ℕ) × Array) TextKind → Type 0
-ReadsArray cells line result = array_of cells line ≡ (result >>= λ read. Ok (names read.0.now read.1))
+ReadsArray cells line result =
+    array_of cells line ≡ (result >>= λ read. Ok (names read.0.now read.1))
 
 abbrev pub ReadsInit : Bool → ℕ → Line → Result (ℕ × Bor (List ℕ)) TextKind → Type 0
 ReadsInit later cells line result =

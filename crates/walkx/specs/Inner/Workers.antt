@@ -8,11 +8,11 @@ use Rattle.walkx.specs.Doing as doing
 use Rattle.walkx.specs.Walk.{Walking}
 
 abbrev pub doing_in : Activity → Doing
-doing_in activity.Back = doing.Back
-doing_in activity.Begin = doing.Begin
-doing_in (activity.Turn phase) = doing.Turn phase
-doing_in (activity.Part phase rank) = doing.Part phase rank
 doing_in (activity.Over end) = doing.Over end
+doing_in (activity.Part phase rank) = doing.Part phase rank
+doing_in (activity.Turn phase) = doing.Turn phase
+doing_in activity.Begin = doing.Begin
+doing_in activity.Back = doing.Back
 
 -- a worker, and the operation that it is held at; none at the start of a script
 pub record WorkerData : Type 0 where

@@ -5,8 +5,8 @@ use Rattle.pardo_text.specs.Tokens.{run_len}
 use Rattle.pardo_text.proofs.Runs.{run_passes}
 use Rattle.pardo_text.proofs.token.next_token.Goals as goal
 
-pub number_of-requires : goal.number_of-requires
-number_of-requires c =
+pub value_of-requires : goal.value_of-requires
+value_of-requires c =
     let line = c.args.line.now in
     let front : c.split_at-then-is_ascii_digit.result.0.now ≡ take (run_len is_ascii_digit line) line =
     c.split_at-then-is_ascii_digit.ensures.front

@@ -13,15 +13,15 @@ loop-first-init c = (
   rw (c.clear.ensures.items, c.said-rest.ensures) (sym (preceded-nil _)),
 )
 
-pub loop-first-preserved-then-blank : goal.loop-first-preserved-then-blank
-loop-first-preserved-then-blank c =
+pub loop-first-preserved-then-is_blank : goal.loop-first-preserved-then-is_blank
+loop-first-preserved-then-is_blank c =
     let held = c.loop-first.invariant in
     let here : c.loop-first.rest.now ≡ c.in-Some.first.now ∷ c.in-Some.after.now =
     c.in-Some.ensures.cases.0 in
     let few : length (c.in-Some.first.now ∷ c.in-Some.after.now) ≤ held.0 =
     omega (arith, ap length here) in
     let next = tokens_in-blank held.0 c.in-Some.first.now c.in-Some.after.now few
-    (sym c.blank.ensures ∙ c.if-blank.true) in (
+    (sym c.is_blank.ensures ∙ c.if-is_blank.true) in (
       next.0,
       next.1,
       held.2 ∙ ap (λ rest. preceded (plain_all c.loop-first.tokens.items) (tokens_in held.0 rest)) here
@@ -40,7 +40,7 @@ loop-first-preserved c =
     ap token_at (sym here) ∙ sym c.in-Some-next_token.ensures.token in
     let next = tokens_in-token held.0 c.in-Some.first.now c.in-Some.after.now
     (plain c.in-Some-next_token.token, c.in-Some-next_token.after.now) few
-    (sym c.blank.ensures ∙ c.if-blank.false) found (omega (arith, ap length here, c.in-Some-next_token.ensures.shorter)) in (
+    (sym c.is_blank.ensures ∙ c.if-is_blank.false) found (omega (arith, ap length here, c.in-Some-next_token.ensures.shorter)) in (
       next.0,
       next.1,
       held.2 ∙ ap (λ rest. preceded (plain_all c.loop-first.tokens.items) (tokens_in held.0 rest)) here

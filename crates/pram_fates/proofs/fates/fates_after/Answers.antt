@@ -13,4 +13,6 @@ returns-in_ok-lost-in-Disputed c =
     let found = arrived_disputed c.args.job.now c.args.steps c.args.steps _ c.in-Disputed.fault
     c.in-Disputed.is c.in_ok-state.ensures in
     fates_disputed c.args.job.now c.args.steps _ c.in-Disputed.fault c.in_ok-lost-in-Disputed.lost
-    found.0 found.1 refl c.in_ok-lost-in-Disputed.ensures
+    found.0 found.1 refl
+    (rw (c.new-moment-in-Disputed.ensures.job, c.new-moment-in-Disputed.ensures.made) at
+    c.in_ok-lost-in-Disputed.ensures)

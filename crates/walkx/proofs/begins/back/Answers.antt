@@ -24,11 +24,9 @@ pub returns : goal.returns
 returns g c =
     let at = c.args.post.now in
     record {
-      reaches = record {
-        on = λ from here.
-            moved (g.S.Steps.stands at) from _ _ _
-            (ap (λ (t : Then). ends t) (sym c.at_node.ensures))
-            (rw c.position_look.ensures.value at
-            (c.in_ok-found.ensures.on at from (λ n. ends (begins n))) here);
-      };
+      on = λ from here.
+          moved (g.S.Steps.stands at) from _ _ _
+          (ap (λ (t : Then). ends t) (sym c.at_node.ensures))
+          (rw c.position_look.ensures.value at
+          (c.in_ok-found.ensures.on at from (λ n. ends (begins n))) here);
     }

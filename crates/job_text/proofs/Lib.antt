@@ -1,0 +1,14 @@
+pub mod Plain
+pub mod Lines
+pub mod Numbers
+pub mod Header
+pub mod Naming
+pub mod Inits
+pub mod Entries
+pub mod Instructions
+pub mod Labels
+pub mod ReadBack
+pub mod Landing
+pub mod Once
+pub mod Streaming
+pub mod Cutting

@@ -1,0 +1,10 @@
+//! A job printed as a text of version 3, which is read back as that job.
+#![tactic(auto)]
+
+mod arrays;
+mod code;
+pub mod laws;
+mod print;
+mod runs;
+
+pub use print::print_text;

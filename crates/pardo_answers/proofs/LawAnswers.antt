@@ -1,0 +1,178 @@
+-- What is printed of a job is the answer of the program that it carries.
+use Rattle.std.proofs.Common.{◌≡◌, ℕ, zero, suc, ◌+◌, ◌-◌, ◌<◌, ◌≤◌, List, [], ◌∷◌, ◌++◌}
+use Rattle.std.proofs.Common.{Option, Some, None, codes, decimal, get_or, length, take, refl, sym}
+use Rattle.std.proofs.Common.{ap, ap₂, subst, inl, inr, ◌∙◌, arith}
+use Rattle.std.specs.List.{flat_map, range_with_len}
+use Rattle.std.specs.Prelude.{slice_index}
+use Rattle.std.proofs.lemmas.List.{get_or-take}
+use Rattle.std.proofs.lemmas.List.Sums.{sum_by-cons}
+use Rattle.std.proofs.lemmas.Bool.{cases_order}
+use Rattle.pram_text.specs.Job.{JobData, IsJob}
+use Rattle.pram_step.specs.declared.answer.Fault.{Fault}
+use Rattle.pram_step.specs.declared.answer.RunAnswer.TheVariants.{Final, Conflict, Unfinished}
+use Rattle.pram_step.specs.Machine.{State, IsStopped, counter, out_of_range}
+use Rattle.pram_step.specs.Runs.{IsFault, IsStateAfter, state_after}
+use Rattle.pram_step.proofs.LawCounters.{stopped_processor}
+use Rattle.pram_step.proofs.LawAnswer.{conflict_ends, one_conflict}
+use Rattle.pardo_text.specs.Lawful.{AreArrays}
+use Rattle.pardo_text.specs.Program.{ArrayData, ProgramData, shared_cells}
+use Rattle.pardo_job.specs.Conflicts.{Dispute}
+use Rattle.pardo_job.specs.Layouts.{cell_count, layout_of}
+use Rattle.pardo_job.specs.Leaving.{GoneIn, Leaves}
+use Rattle.pardo_job.specs.Lines.{job_of}
+use Rattle.pardo_job.specs.Meaning.{after}
+use Rattle.pardo_job.specs.Printed.{array_line, conflict_text, end_text, gone_line, values_of}
+use Rattle.pardo_job.specs.Runs.{IsConflict, IsEnd, line_number}
+use Rattle.pardo_answers.specs.declared.ended.Lines.{Lines}
+use Rattle.pardo_answers.specs.Ends.{EndsIn, gone_in}
+use Rattle.pardo_answers.specs.Laws.{PrintedAnswersAreThePrograms, IsCarrying}
+use Rattle.pardo_answers.specs.Named.{dispute_of}
+
+-- ---- texts that agree where they are told
+
+flat_map-range_same : (f g : ℕ → List ℕ) (a n : ℕ) → ((k : ℕ) → a ≤ k → k < a + n → f k ≡ g k) →
+    flat_map f (range_with_len a n) ≡ flat_map g (range_with_len a n)
+flat_map-range_same f g a zero same = refl
+flat_map-range_same f g a (suc n) same =
+    ap₂ (λ (x y : List ℕ). x ++ y) (same a (omega arith) (omega arith))
+    (flat_map-range_same f g (a + 1) n (λ k least most. same k (omega arith) (omega arith)))
+
+-- arrays by cells that hold the same
+arrays_same : (cells other : ℕ → ℕ) (arrays : List ArrayData) (base : ℕ) → AreArrays arrays base →
+    ((cell : ℕ) → cell < base + shared_cells arrays → cells cell ≡ other cell) →
+    flat_map (array_line cells) arrays ≡ flat_map (array_line other) arrays
+arrays_same cells other [] base are same = refl
+arrays_same cells other (array ∷ arrays) base are same =
+    let whole : shared_cells (array ∷ arrays) ≡ length array.start + shared_cells arrays =
+    sum_by-cons (λ (x : ArrayData). length x.start) array arrays in
+    let base_is = are.0 in
+    let values : values_of cells array ≡ values_of other array =
+    flat_map-range_same (λ cell. codes " " ++ decimal (cells cell))
+    (λ cell. codes " " ++ decimal (other cell)) array.base (length array.start)
+    (λ k least most. ap (λ (v : ℕ). codes " " ++ decimal v)
+    (same k (omega (arith, whole, base_is)))) in
+    ap₂ (λ (x y : List ℕ). x ++ y)
+    (ap (λ (v : List ℕ). array.name ++ codes " =" ++ v ++ codes "\n") values)
+    (arrays_same cells other arrays (base + length array.start) are.3
+    (λ cell low. same cell (omega (arith, whole))))
+
+-- ---- lines in which processors leave
+
+module _ (job : JobData) (line_of : ℕ → ℕ) (is_job : IsJob job) (i : ℕ) (within : i < job.procs) where
+  -- once gone, for good
+  gone_on : (t later : ℕ) → t ≤ later → counter job (state_after job t) i ≡ out_of_range job →
+      counter job (state_after job later) i ≡ out_of_range job
+  gone_on t later le gone =
+      let e : t + (later - t) ≡ later = omega arith in
+      let past : IsStopped job (state_after job t) i = omega (arith, gone) in
+      subst (λ (n : ℕ). counter job (state_after job n) i ≡ out_of_range job) e
+      ((stopped_processor job t (later - t) i is_job within past).0 ∙ gone)
+
+  -- one leaves once
+  one_step : (t number other : ℕ) (a : Leaves job line_of t i number)
+      (b : Leaves job line_of t i other) → a.before < b.before → ⊥
+  one_step t number other a b earlier =
+      b.was_there (gone_on (a.before + 1) b.before (omega arith) a.is_gone)
+
+  one_line : (t : ℕ) (line other : Option ℕ) → GoneIn job line_of t i line →
+      GoneIn job line_of t i other → line ≡ other
+  one_line t None None there too = refl
+  one_line t None (Some other) there leaves =
+      let within_t = leaves.within in
+      absurd (there (gone_on (leaves.before + 1) t (omega arith) leaves.is_gone))
+  one_line t (Some number) None leaves there =
+      let within_t = leaves.within in
+      absurd (there (gone_on (leaves.before + 1) t (omega arith) leaves.is_gone))
+  one_line t (Some number) (Some other) a b = elim (cases_order a.before b.before) [
+    | inl same ↦ ap Some (sym a.comes
+        ∙ ap (λ (n : ℕ). line_of (counter job (state_after job n) i)) same ∙ b.comes)
+    | inr (inl lt) ↦ absurd (one_step t number other a b lt)
+    | inr (inr gt) ↦ absurd (one_step t other number b a gt)
+  ]
+
+-- ---- both ends
+
+shared_is : (program : ProgramData) → (layout_of program).shared ≡ shared_cells program.arrays
+unfolding layout_of
+shared_is program = refl
+
+-- the job has the shared cells
+shared_fits : (program : ProgramData) (job : JobData) → job ≡ job_of program job.steps →
+    (layout_of program).shared ≤ job.cells
+unfolding job_of
+shared_fits program job made =
+    let cells : job.cells ≡ cell_count (layout_of program) = ap (λ (j : JobData). j.cells) made in
+    omega (arith, cells)
+
+procs_are : (program : ProgramData) (job : JobData) → job ≡ job_of program job.steps →
+    job.procs ≡ program.procs
+unfolding job_of
+procs_are program job made = ap (λ (j : JobData). j.procs) made
+
+module _ (program : ProgramData) (job : JobData) (line_of : ℕ → ℕ) (lines : Lines)
+    (c : IsCarrying program job line_of) (ends : EndsIn job line_of lines) (n : ℕ) where
+  -- the text of the end
+  end_same : (cells : List ℕ) (state : State) → IsStateAfter job job.steps state →
+      cells ≡ take job.cells state → IsEnd program n →
+      end_text program job.steps (slice_index cells) (gone_in lines.gone.items)
+      ≡ end_text program job.steps (after program n).cells (after program n).gone
+  end_same cells state is_after are is_end =
+      let shared = shared_is program in
+      let fits = shared_fits program job c.made in
+      let procs = procs_are program job c.made in
+      let held : (cell : ℕ) → cell < 0 + shared_cells program.arrays →
+      slice_index cells cell ≡ (after program n).cells cell = λ cell low.
+      ap (λ (l : List ℕ). get_or l cell 0) are
+      ∙ get_or-take job.cells state cell 0 (omega (arith, shared, fits))
+      ∙ ap (λ (s : State). get_or s cell 0) is_after.state
+      ∙ (c.carries.ends n is_end).0.cells cell (omega (arith, shared)) in
+      let left : (i : ℕ) → 0 ≤ i → i < 0 + program.procs →
+      gone_line i (gone_in lines.gone.items i) ≡ gone_line i ((after program n).gone i) =
+      λ i least low. ap (gone_line i) (one_line job line_of c.carries.job_is i
+      (omega (arith, procs)) job.steps _ _
+      (ends.gone is_after.reached i (omega (arith, procs)))
+      ((c.carries.ends n is_end).0.gone i (omega arith))) in
+      ap₂ (λ (x y : List ℕ). codes "done steps=" ++ decimal job.steps ++ codes "\n" ++ x ++ y)
+      (arrays_same (slice_index cells) (after program n).cells program.arrays 0 c.lawful.arrays held)
+      (flat_map-range_same (λ i. gone_line i (gone_in lines.gone.items i))
+      (λ i. gone_line i ((after program n).gone i)) 0 program.procs left)
+
+  -- and that of a conflict
+  conflict_same : (fault : Fault) (dispute : Dispute) → IsFault job fault →
+      IsConflict program n dispute →
+      conflict_text program lines.disputed (dispute_of fault)
+      ≡ conflict_text program (line_number program (after program n)) dispute
+  conflict_same fault dispute is conflict =
+      let d = c.carries.disputes n dispute conflict in
+      let here = ends.disputed fault is in
+      let same = one_conflict job fault _ is.first d.3.first in
+      let step : fault.step ≡ d.0 + 1 = ap (λ (f : Fault). f.step) same in
+      let first : fault.first ≡ dispute.first = ap (λ (f : Fault). f.first) same in
+      let before : here.before ≡ d.0 = omega (arith, here.step, step) in
+      let line : lines.disputed ≡ line_number program (after program n) = sym here.comes
+      ∙ ap₂ (λ (t i : ℕ). line_of (counter job (state_after job t) i)) before first ∙ d.4 in
+      ap₂ (conflict_text program) line (ap dispute_of same)
+
+pub printed_answers_are_the_programs : PrintedAnswersAreThePrograms
+printed_answers_are_the_programs program job line_of (Final cells) lines c is ends = elim c.carries.over.1 [
+  | inl is_end ↦ inl (
+    c.carries.over.0,
+    is_end,
+    end_same program job line_of lines c ends c.carries.over.0 cells is.0 is.1 is.2 is_end,
+  )
+  | inr (dispute, conflict) ↦
+      let d = c.carries.disputes c.carries.over.0 dispute conflict in
+      absurd (conflict_ends job _ job.steps d.3.first d.3.within is.1.reached)
+]
+printed_answers_are_the_programs program job line_of (Conflict fault) lines c is ends =
+    elim c.carries.over.1 [
+      | inl is_end ↦ absurd (conflict_ends job fault job.steps is.first is.within
+          (c.carries.ends c.carries.over.0 is_end).0.reached)
+      | inr (dispute, conflict) ↦ inr (
+        c.carries.over.0,
+        dispute,
+        conflict,
+        conflict_same program job line_of lines c ends c.carries.over.0 fault dispute is conflict,
+      )
+    ]
+printed_answers_are_the_programs program job line_of (Unfinished step) lines c is ends = absurd is

@@ -1,0 +1,5 @@
+pub mod Ranges
+pub mod Leaving
+pub mod Ending
+pub mod Cells
+pub mod LawAnswers

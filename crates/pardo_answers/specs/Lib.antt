@@ -1,0 +1,5 @@
+pub mod Language
+pub mod Ends
+pub mod Named
+pub mod Laws
+pub mod Inner

@@ -1,0 +1,13 @@
+//! Whether a text is a program of the language `pardo`, and the answer of a program by the names
+//! and lines of its text.
+#![tactic(auto)]
+
+mod ended;
+mod language;
+pub mod laws;
+mod print;
+mod text;
+
+pub use ended::{Ended, Lines, plain_end};
+pub use language::is_program;
+pub use print::{Names, print_named};

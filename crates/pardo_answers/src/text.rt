@@ -1,0 +1,92 @@
+//! Names and numbers as text.
+ghost use Rattle.std.specs.Prelude.{◌≡◌, ◌≤◌, ◌++◌, decimal, slice_index, OnOk};
+ghost use Rattle.std.specs.List.{flat_map};
+ghost use Rattle.pardo_job.specs.Printed.{array_line, cell_text, has_cell, place_text, values_of};
+
+use itoa::Buffer;
+use pardo_text::Array;
+use std::alloc::AllocError;
+
+/// A number after a label.
+pub(crate) fn push_labelled(text: &mut Vec<u8>, label: &[u8], number: u64) -> Result<(), AllocError>
+    ensures { OnOk result (text.new.items ≡ text.old.items ++ label.now ++ decimal number) }
+{
+    let mut buffer = Buffer::new();
+    text.extend_from_slice(label)?;
+    text.extend_from_slice(buffer.format(number).as_bytes())
+}
+
+/// The lines of shared arrays, of which these are the cells. Past the cells there are zeros.
+pub(crate) fn push_arrays(
+    text: &mut Vec<u8>,
+    arrays: &[Array],
+    cells: &[u32],
+) -> Result<(), AllocError>
+    ensures { OnOk result (text.new.items ≡ text.old.items
+        ++ flat_map (array_line (slice_index cells.now)) arrays.now) }
+{
+    for array in arrays {
+        push_array(text, array, cells)?;
+    }
+    Ok(())
+}
+
+fn push_array(text: &mut Vec<u8>, array: &Array, cells: &[u32]) -> Result<(), AllocError>
+    ensures { OnOk result (text.new.items ≡ text.old.items
+        ++ array_line (slice_index cells.now) array.now) }
+{
+    text.extend_from_slice(array.name())?;
+    text.extend_from_slice(b" =")?;
+    push_values(text, array, cells)?;
+    text.push(b'\n')?;
+    Ok(())
+}
+
+fn push_values(text: &mut Vec<u8>, array: &Array, cells: &[u32]) -> Result<(), AllocError>
+    ensures { OnOk result (text.new.items ≡ text.old.items
+        ++ values_of (slice_index cells.now) array.now) }
+{
+    for offset in 0..array.start().len() {
+        let cell = array.base().saturating_add(offset);
+        push_labelled(text, b" ", u64::from(value_at(cells, cell)))?;
+    }
+    Ok(())
+}
+
+// What a cell holds.
+fn value_at(cells: &[u32], cell: usize) -> u32
+    ensures { result ≡ slice_index cells.now cell }
+{
+    cells.get(cell).copied().unwrap_or(0)
+}
+
+/// The place of a shared cell.
+pub(crate) fn push_cell(text: &mut Vec<u8>, arrays: &[Array], cell: usize) -> Result<(), AllocError>
+    ensures { OnOk result (text.new.items ≡ text.old.items ++ cell_text arrays.now cell) }
+{
+    for array in arrays {
+        if has_cell(array, cell) {
+            return push_place(text, array, cell);
+        }
+    }
+    Ok(())
+}
+
+fn has_cell(array: &Array, cell: usize) -> bool
+    ensures { result ≡ has_cell array.now cell }
+{
+    let base = array.base();
+    base <= cell && cell - base < array.start().len()
+}
+
+fn push_place(text: &mut Vec<u8>, array: &Array, cell: usize) -> Result<(), AllocError>
+    requires { array.now.base ≤ cell }
+    ensures { OnOk result (text.new.items ≡ text.old.items ++ place_text array.now cell) }
+{
+    text.extend_from_slice(array.name())?;
+    if !array.is_scalar() {
+        push_labelled(text, b"[", (cell - array.base()) as u64)?;
+        text.push(b']')?;
+    }
+    Ok(())
+}

@@ -1,0 +1,42 @@
+-- What the compiler makes of a program: the job of the definitions, with the steps of its run.
+use Rattle.std.specs.Prelude.{◌≡◌, ℕ, ◌+◌, ◌<◌, ◌⊎◌, true, List, slice_get, Some}
+use Rattle.pram_text.specs.Job.{JobData, IsJob}
+use Rattle.pram_step.specs.declared.answer.Fault.{Fault}
+use Rattle.pram_step.specs.Laws.{AllStopped}
+use Rattle.pram_step.specs.Runs.{state_after, IsReached, IsFirstConflict}
+use Rattle.pardo_text.specs.declared.statement.Line.{Line}
+use Rattle.pardo_text.specs.Program.{ProgramData}
+use Rattle.pardo_job.specs.Lines.{job_of, place_of, length_of}
+use Rattle.pardo_job.specs.Refusals.{is_level}
+
+-- a job, and for each of its instructions the line of the text that it came from
+pub record CompiledData : Type 0 where
+  pub job : JobData
+  pub numbers : List ℕ
+
+-- all processors have stopped after the job's last step, and not before
+pub record Stops (job : JobData) : Type 0 where
+  pub reached : IsReached job job.steps
+  pub stopped : AllStopped job (state_after job job.steps)
+  pub runs : (t : ℕ) → t < job.steps → AllStopped job (state_after job t) → ⊥
+
+-- or that step is the first in conflict
+abbrev pub IsWhole : JobData → Type 0
+IsWhole job = Stops job ⊎ ((fault : Fault) × IsFirstConflict job fault × (fault.step ≡ job.steps))
+
+-- each instruction of a line has the line's number in the text
+abbrev pub AreNumbers : ProgramData → (ℕ → ℕ) → Type 0
+AreNumbers program line_of = (j k : ℕ) (line : Line) → slice_get program.lines j ≡ Some line →
+    k < length_of program line → line_of (place_of program j + k) ≡ line.number
+
+-- three registers are enough for each line
+abbrev pub AreLevel : ProgramData → Type 0
+AreLevel program = (j : ℕ) (line : Line) → slice_get program.lines j ≡ Some line →
+    is_level program line ≡ true
+
+pub record IsCompiled (program : ProgramData) (job : JobData) (line_of : ℕ → ℕ) : Type 0 where
+  pub job_is : IsJob job
+  pub made : job ≡ job_of program job.steps
+  pub level : AreLevel program
+  pub numbers : AreNumbers program line_of
+  pub whole : IsWhole job

@@ -1,0 +1,252 @@
+-- Laws of the meaning: what the rule changes, and what is written.
+use Rattle.std.proofs.Common.{◌≡◌, ◌≢◌, ℕ, zero, suc, ◌<◌, ◌≤◌, ◌==◌, ◌⊎◌, Bool, true, false, Option, Some, None}
+use Rattle.std.proofs.Common.{refl, sym, ap, ◌∙◌, subst, inl, inr, ⊎_elim, arith, if◌then◌else◌, unwrap_or}
+use Rattle.std.specs.Prelude.{slice_get}
+use Rattle.std.specs.Option.{option_or}
+use Rattle.std.proofs.lemmas.Bool.{cases_lt, cases_eq}
+use Rattle.std.proofs.lemmas.Option.{none-some, some_pair_parts}
+use Rattle.pardo_text.specs.declared.program.Rule.{Rule}
+use Rattle.pardo_text.specs.declared.program.Rule.TheVariants.{Common, Priority, Crew}
+use Rattle.pardo_text.specs.declared.statement.Line.{Line}
+use Rattle.pardo_text.specs.declared.statement.Statement.{Statement}
+use Rattle.pardo_text.specs.declared.statement.Statement.TheVariants.{Assign, If, Else, EndIf}
+use Rattle.pardo_text.specs.declared.statement.Statement.TheVariants.{While, EndWhile, For, EndFor}
+use Rattle.pardo_text.specs.declared.statement.Target.TheVariants.{Private, Array as Shared}
+use Rattle.pardo_text.specs.Program.{ProgramData}
+use Rattle.pardo_job.specs.Conflicts.{Agrees, Clashes, Dispute, Forbids, Writes, asked}
+use Rattle.pardo_job.specs.Laws.{by_rule, RuleChangesNoState, CrewIsAccepted, AnyWriterCounts, UnwrittenIsKept, OneDispute}
+use Rattle.pardo_job.specs.Meaning.{Source, after, next, after_statement, asked_in, first_below, given_to, loop_ended, statement_at}
+use Rattle.pardo_job.specs.Meaning.{common_value, has_none}
+use Rattle.pardo_job.specs.Runs.{IsOver}
+use Rattle.pardo_job.proofs.Meanings.{next_at, asked_at}
+use Rattle.pardo_law.specs.Theorem.{RuleChangesNoRun}
+use Rattle.pardo_law.proofs.Running.{first_none, given_is, given_of, given_none}
+
+-- ---- rules
+
+pub rule_changes_no_state : RuleChangesNoState
+unfolding next
+rule_changes_no_state program rule source = refl
+
+pub same_after : RuleChangesNoRun
+unfolding after
+same_after program rule zero = refl
+same_after program rule (suc n) = ap (next (by_rule rule program)) (same_after program rule n)
+    ∙ rule_changes_no_state program rule (after program n)
+
+same_asked : (program : ProgramData) (rule : Rule) (source : Source) (i : ℕ) →
+    asked (by_rule rule program) source i ≡ asked program source i
+unfolding asked
+same_asked program rule source i = refl
+
+writes_same : (program : ProgramData) (rule other : Rule) (source : Source) (cell i v : ℕ) →
+    Writes (by_rule rule program) source cell i v → Writes (by_rule other program) source cell i v
+writes_same program rule other source cell i v w =
+    (w.0, same_asked program other source i ∙ sym (same_asked program rule source i) ∙ w.1)
+
+-- two writes that another rule forbids are of two processors
+apart : (rule : Rule) (program : ProgramData) (source : Source) (cell i j v w : ℕ) →
+    Writes (by_rule rule program) source cell i v → Writes (by_rule rule program) source cell j w →
+    Forbids rule i v j w → i ≢ j
+apart Common program source cell i j v w a b forbidden same =
+    forbidden (some_pair_parts cell cell v w (sym a.1 ∙ ap (asked (by_rule Common program) source) same ∙ b.1)).1
+apart Priority program source cell i j v w a b forbidden same = forbidden
+apart Crew program source cell i j v w a b forbidden same = forbidden same
+
+crew_agrees : (program : ProgramData) (rule : Rule) (source : Source) → Agrees (by_rule Crew program) source →
+    Agrees (by_rule rule program) source
+crew_agrees program rule source agrees cell i j c = agrees cell i j (record {
+  value = c.value;
+  other = c.other;
+  writes = writes_same program rule Crew source cell i c.value c.writes;
+  writes_too = writes_same program rule Crew source cell j c.other c.writes_too;
+  forbidden = apart rule program source cell i j c.value c.other c.writes c.writes_too c.forbidden;
+})
+
+pub crew_is_accepted : CrewIsAccepted
+crew_is_accepted program rule n reached earlier lt =
+    let here = reached earlier lt in
+    let same : after (by_rule Crew program) earlier ≡ after (by_rule rule program) earlier =
+    same_after program Crew earlier ∙ sym (same_after program rule earlier) in (
+      λ over. here.0 (subst (IsOver program) (sym same) over),
+      crew_agrees program rule (after (by_rule rule program) earlier)
+          (subst (Agrees (by_rule Crew program)) same here.1),
+    )
+
+-- ---- writers
+
+-- what the first one gives
+record HasFirst (n : ℕ) (f : ℕ → Option ℕ) : Type 0 where
+  writer : ℕ
+  value : ℕ
+  low : writer < n
+  gives : f writer ≡ Some value
+  first : first_below n f ≡ Some value
+
+first_more : (n : ℕ) (f : ℕ → Option ℕ) → HasFirst n f → HasFirst (suc n) f
+first_more n f is = record {
+  writer = is.writer;
+  value = is.value;
+  low = let lt = is.low in omega arith;
+  gives = is.gives;
+  first = ap (λ o. option_or o (f n)) is.first;
+}
+
+-- there is one, or nobody gives anything
+first_or_none : (n : ℕ) (f : ℕ → Option ℕ) → HasFirst n f ⊎ ((i : ℕ) → i < n → f i ≡ None)
+first_or_none zero f = inr (λ i lt. absurd (omega arith))
+first_or_none (suc n) f = ⊎_elim
+    (λ is. inl (first_more n f is))
+    (λ none. by_last (f n) refl none)
+    (first_or_none n f)
+  where
+    by_last : (o : Option ℕ) → f n ≡ o → ((i : ℕ) → i < n → f i ≡ None) → HasFirst (suc n) f ⊎ ((i : ℕ) → i < suc n → f i ≡ None)
+    by_last (Some v) e none = inl (record {
+      writer = n;
+      value = v;
+      low = omega arith;
+      gives = e;
+      first = ap (λ o. option_or o (f n)) (first_none n f none) ∙ e;
+    })
+    by_last None e none = inr (λ i lt. ⊎_elim (λ (low : i < n). none i low)
+        (λ (high : n ≤ i). let same : i ≡ n = omega arith in ap f same ∙ e) (cases_lt i n))
+
+-- a cell after a line
+abbrev written_in : ProgramData → Source → ℕ → Statement → ℕ → ℕ
+written_in program source depth statement cell =
+    unwrap_or (first_below program.procs (λ i. given_to cell (asked_in program source depth statement i))) (source.cells cell)
+
+if_cells : (b : Bool) (x y : Source) (cell v : ℕ) → x.cells cell ≡ v → y.cells cell ≡ v → (if b then x else y).cells cell ≡ v
+if_cells true x y cell v p q = p
+if_cells false x y cell v p q = q
+
+loop_cells_same : (program : ProgramData) (begin cell : ℕ) (opener : Statement) (source : Source) →
+    (loop_ended program begin opener source).cells cell ≡ source.cells cell
+loop_cells_same program begin cell (For nest first last up end) source =
+    if_cells (source.loops nest == common_value program source last) _ _ cell (source.cells cell) refl refl
+loop_cells_same program begin cell (Assign target tree) source = refl
+loop_cells_same program begin cell (If tree) source = refl
+loop_cells_same program begin cell Else source = refl
+loop_cells_same program begin cell EndIf source = refl
+loop_cells_same program begin cell (While tree end) source = refl
+loop_cells_same program begin cell (EndWhile line) source = refl
+loop_cells_same program begin cell (EndFor line) source = refl
+
+none_given : (program : ProgramData) (source : Source) (cell : ℕ) →
+    source.cells cell ≡ unwrap_or (first_below program.procs (λ i. given_to cell None)) (source.cells cell)
+none_given program source cell =
+    sym (ap (λ o. unwrap_or o (source.cells cell)) (first_none program.procs (λ i. given_to cell None) (λ i lt. refl)))
+
+cells_after : (program : ProgramData) (text_line depth cell : ℕ) (statement : Statement) (source : Source) →
+    (after_statement program text_line depth statement source).cells cell ≡ written_in program source depth statement cell
+cells_after program text_line depth cell (Assign (Private x) tree) source = none_given program source cell
+cells_after program text_line depth cell (Assign (Shared array index) tree) source = refl
+cells_after program text_line depth cell (If tree) source = none_given program source cell
+cells_after program text_line depth cell Else source = none_given program source cell
+cells_after program text_line depth cell EndIf source = none_given program source cell
+cells_after program text_line depth cell (While tree end) source =
+    if_cells (common_value program source tree == 0) _ _ cell (source.cells cell) refl refl ∙ none_given program source cell
+cells_after program text_line depth cell (EndWhile begin) source = none_given program source cell
+cells_after program text_line depth cell (For nest first last up end) source =
+    if_cells (has_none up (common_value program source first) (common_value program source last)) _ _ cell (source.cells cell) refl refl
+    ∙ none_given program source cell
+cells_after program text_line depth cell (EndFor begin) source =
+    loop_cells_same program begin cell (statement_at program begin) source ∙ none_given program source cell
+
+module _ (program : ProgramData) (source : Source) (line : Line) (is : slice_get program.lines source.at ≡ Some line) where
+  abbrev given : ℕ → ℕ → Option ℕ
+  given cell i = given_to cell (asked_in program source line.depth line.statement i)
+
+  cells_next : (cell : ℕ) → (next program source).cells cell ≡ unwrap_or (first_below program.procs (given cell)) (source.cells cell)
+  cells_next cell = ap (λ (s : Source). s.cells cell) (next_at program source line is)
+      ∙ cells_after program line.number line.depth cell line.statement source
+
+  writes_of : (cell i v : ℕ) → i < program.procs → given cell i ≡ Some v → Writes program source cell i v
+  writes_of cell i v lt e = (lt, asked_at program source line i is ∙ given_is cell v (asked_in program source line.depth line.statement i) e)
+
+  of_writes : (cell i v : ℕ) → Writes program source cell i v → given cell i ≡ Some v
+  of_writes cell i v w = given_of cell v (asked_in program source line.depth line.statement i) (sym (asked_at program source line i is) ∙ w.1)
+
+  -- nobody writes to it
+  pub kept_by : (cell : ℕ) → ((i v : ℕ) → Writes program source cell i v → ⊥) → (next program source).cells cell ≡ source.cells cell
+  kept_by cell none = cells_next cell ∙ ap (λ o. unwrap_or o (source.cells cell))
+      (first_none program.procs (given cell) (λ i lt. given_none cell (asked_in program source line.depth line.statement i)
+      (λ v e. none i v (lt, asked_at program source line i is ∙ e))))
+
+  -- any writer's value, where the writers agree
+  pub any_by : (cell i v : ℕ) → Writes program source cell i v →
+      ((j w : ℕ) → Writes program source cell j w → w ≡ v) → (next program source).cells cell ≡ v
+  any_by cell i v w same = ⊎_elim
+      (λ (first : HasFirst program.procs (given cell)). cells_next cell
+      ∙ ap (λ o. unwrap_or o (source.cells cell)) first.first
+      ∙ same first.writer first.value (writes_of cell first.writer first.value first.low first.gives))
+      (λ none. absurd (none-some v (sym (none i w.0) ∙ of_writes cell i v w)))
+      (first_or_none program.procs (given cell))
+
+no_line_asks : (program : ProgramData) (source : Source) (i cell v : ℕ) → slice_get program.lines source.at ≡ None →
+    asked program source i ≡ Some (cell, v) → ⊥
+unfolding asked
+no_line_asks program source i cell v e is = none-some (cell, v)
+    (sym (ap (λ (o : Option Line). elim o as (λ (x : Option Line). Option (ℕ × ℕ)) [
+      | None ↦ None
+      | Some line ↦ asked_in program source line.depth line.statement i
+    ]) e) ∙ is)
+
+no_line_next : (program : ProgramData) (source : Source) → slice_get program.lines source.at ≡ None → next program source ≡ source
+unfolding next
+no_line_next program source e = ap (λ (o : Option Line). elim o as (λ (x : Option Line). Source) [
+  | None ↦ source
+  | Some line ↦ after_statement program line.number line.depth line.statement source
+]) e
+
+pub unwritten_is_kept : UnwrittenIsKept
+unwritten_is_kept program source cell none = by_line (slice_get program.lines source.at) refl
+  where
+    by_line : (o : Option Line) → slice_get program.lines source.at ≡ o → (next program source).cells cell ≡ source.cells cell
+    by_line None e = ap (λ (s : Source). s.cells cell) (no_line_next program source e)
+    by_line (Some line) e = kept_by program source line e cell none
+
+-- two writers that agree write the same
+same_value : (rule : Rule) (program : ProgramData) (source : Source) (cell i j v w : ℕ) → rule ≢ Priority →
+    (Forbids rule j w i v → ⊥) → Writes program source cell i v → Writes program source cell j w → w ≡ v
+same_value Common program source cell i j v w not_priority agree a b = ⊎_elim (λ same. same)
+    (λ ne. absurd (agree ne)) (cases_eq w v)
+same_value Priority program source cell i j v w not_priority agree a b = absurd (not_priority refl)
+same_value Crew program source cell i j v w not_priority agree a b = ⊎_elim
+    (λ (same : j ≡ i). (some_pair_parts cell cell w v (sym b.1 ∙ ap (asked program source) same ∙ a.1)).1)
+    (λ ne. absurd (agree ne)) (cases_eq j i)
+
+pub any_writer_counts : AnyWriterCounts
+any_writer_counts program source cell i v agrees not_priority w = by_line (slice_get program.lines source.at) refl
+  where
+    by_line : (o : Option Line) → slice_get program.lines source.at ≡ o → (next program source).cells cell ≡ v
+    by_line None e = absurd (no_line_asks program source i cell v e w.1)
+    by_line (Some line) e = any_by program source line e cell i v w
+        (λ j x b. same_value program.rule program source cell i j v x not_priority
+        (λ forbidden. agrees cell j i (record { value = x; other = v; writes = b; writes_too = w; forbidden = forbidden })) w b)
+
+-- ---- disputes
+
+abbrev dispute_at : ℕ → ℕ → ℕ → Dispute
+dispute_at cell first second = record { cell = cell; first = first; second = second }
+
+dispute_same : (a b c x y z : ℕ) → a ≡ x → b ≡ y → c ≡ z →
+    dispute_at a b c ≡ dispute_at x y z
+dispute_same a b c x y z e f g = λ k. dispute_at (e k) (f k) (g k)
+
+pub one_dispute : OneDispute
+one_dispute program source dispute other d o =
+    let cell : dispute.cell ≡ other.cell =
+    (let p = d.least_cell other.cell other.first other.second o.clash in
+    let q = o.least_cell dispute.cell dispute.first dispute.second d.clash in omega arith) in
+    let first : dispute.first ≡ other.first =
+    (let p = d.least_first other.first o.clash.value (subst (λ c. Writes program source c other.first o.clash.value) (sym cell) o.clash.writes) in
+    let q = o.least_first dispute.first d.clash.value (subst (λ c. Writes program source c dispute.first d.clash.value) cell d.clash.writes) in omega arith) in
+    let second : dispute.second ≡ other.second =
+    (let p = d.least_second other.second
+    (subst (λ c. Clashes program source c dispute.first other.second) (sym cell)
+    (subst (λ x. Clashes program source other.cell x other.second) (sym first) o.clash)) in
+    let q = o.least_second dispute.second
+    (subst (λ c. Clashes program source c other.first dispute.second) cell
+    (subst (λ x. Clashes program source dispute.cell x dispute.second) first d.clash)) in omega arith) in
+    dispute_same dispute.cell dispute.first dispute.second other.cell other.first other.second cell first second

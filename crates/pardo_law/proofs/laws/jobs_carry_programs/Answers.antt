@@ -1,0 +1,5 @@
+use Rattle.pardo_law.proofs.Theorem.{jobs_carry_programs}
+use Rattle.pardo_law.proofs.laws.jobs_carry_programs.Goals as goal
+
+pub returns : goal.returns
+returns c = jobs_carry_programs

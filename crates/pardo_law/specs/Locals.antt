@@ -1,0 +1,173 @@
+-- What one processor does by itself: where it stands, and what its registers hold.
+use Rattle.std.specs.Prelude.{◌≡◌, ℕ, suc, ◌+◌, ◌<◌, ◌==◌, nat_lt, if◌then◌else◌}
+use Rattle.std.specs.Prelude.{List, [], ◌∷◌, unwrap_or}
+use Rattle.std.specs.Option.{option_and_then}
+use Rattle.std.specs.Prelude.{length, slice_get, slice_index, Option, Some, None}
+use Rattle.pram_text.specs.declared.instr.Instr.{Instr}
+use Rattle.pram_text.specs.declared.instr.Instr.TheVariants.{Ld, St, Jz, Jmp, Halt}
+use Rattle.pram_text.specs.declared.instr.Place.TheVariants.{Cell, Named}
+use Rattle.pram_text.specs.Job.{JobData, IsJob}
+use Rattle.pram_step.specs.Instructions.{request_in}
+use Rattle.pram_step.specs.Machine.{State, register, counter, out_of_range, halted, place_count}
+use Rattle.pram_step.specs.Runs.{state_after, IsReached}
+use Rattle.pram_step.specs.Steps.{Forbids, next_state}
+use Rattle.pardo_text.specs.Expression.{Tree}
+use Rattle.pardo_job.specs.Layouts.{LayoutData}
+use Rattle.pardo_job.specs.Lines.{idle}
+use Rattle.pardo_job.specs.Meaning.{first_below, given_to}
+use Rattle.pardo_job.specs.Straight.{Registers, operand_in, after_one, after_all}
+use Rattle.pardo_job.specs.Values.{value_code}
+
+-- ---- what a state holds
+
+-- Its place in the code and its registers; none for a processor that named a place that there is
+-- not, which stays so.
+abbrev pub Local : Type 0
+Local = Option (ℕ × Registers)
+
+abbrev pub memory_of : JobData → State → ℕ → ℕ
+memory_of job state cell = if nat_lt cell job.cells then slice_index state cell else 0
+
+abbrev pub registers_of : JobData → State → ℕ → Registers
+registers_of job state i which = if nat_lt which 4 then register job state i which else 0
+
+abbrev pub IsLocal : JobData → State → ℕ → Local → Type 0
+IsLocal job state i None = counter job state i ≡ out_of_range job
+IsLocal job state i (Some local) =
+    (counter job state i ≡ local.0) × (registers_of job state i ≡ local.1)
+
+-- ---- what it does
+
+abbrev pub standing_at : ℕ → Option Registers → Local
+standing_at at None = None
+standing_at at (Some held) = Some (at, held)
+
+abbrev pub after_instr : JobData → (ℕ → ℕ) → ℕ → ℕ → Registers → Instr → Local
+after_instr job memory i at held (St (Named array index) value) =
+    if nat_lt (operand_in held index) array.len then Some (at + 1, held) else None
+after_instr job memory i at held (Jz register index) =
+    Some (if held register == 0 then index else at + 1, held)
+after_instr job memory i at held (Jmp index) = Some (index, held)
+after_instr job memory i at held Halt = Some (halted job, held)
+after_instr job memory i at held instr = standing_at (at + 1) (after_one memory i instr held)
+
+-- behind the code it stays
+abbrev pub after_fetched : JobData → (ℕ → ℕ) → ℕ → ℕ → Registers → Option Instr → Local
+after_fetched job memory i at held None = Some (at, held)
+after_fetched job memory i at held (Some instr) = after_instr job memory i at held instr
+
+abbrev pub next_local : JobData → (ℕ → ℕ) → ℕ → Local → Local
+next_local job memory i None = None
+next_local job memory i (Some local) =
+    after_fetched job memory i local.0 local.1 (slice_get job.code local.0)
+
+-- the cell that it stores to, and the value
+abbrev pub store_by : Registers → Instr → Option (ℕ × ℕ)
+store_by held (St (Named array index) value) = if nat_lt (operand_in held index) array.len
+    then Some (array.base + operand_in held index, operand_in held value) else None
+store_by held instr = None
+
+abbrev pub store_at : Registers → Option Instr → Option (ℕ × ℕ)
+store_at held None = None
+store_at held (Some instr) = store_by held instr
+
+abbrev pub store_of : JobData → Local → Option (ℕ × ℕ)
+store_of job None = None
+store_of job (Some local) = store_at local.1 (slice_get job.code local.0)
+
+-- ---- in a step of all
+
+-- cells are named by arrays alone
+abbrev pub IsNamed : Instr → Type 0
+IsNamed (Ld target (Cell index)) = ⊥
+IsNamed (St (Cell index) value) = ⊥
+IsNamed instr = Unit {0}
+
+abbrev pub IsNamedAt : JobData → Local → Type 0
+IsNamedAt job None = Unit {0}
+IsNamedAt job (Some local) =
+    (instr : Instr) → slice_get job.code local.0 ≡ Some instr → IsNamed instr
+
+-- after a step the processor is there where it went by itself, and it wrote what it stored alone
+pub record Follows (job : JobData) (state : State) (i : ℕ) (local : Local) (store : Option (ℕ × ℕ)) :
+    Type 0 where
+  pub local_is : IsLocal job (next_state job state) i local
+  pub wrote : (cell value : ℕ) → cell < job.cells →
+      (request_in job state i).put ≡ Some (cell, value) → store ≡ Some (cell, value)
+  pub stored : (cell value : ℕ) → cell < job.cells →
+      store ≡ Some (cell, value) → (request_in job state i).put ≡ Some (cell, value)
+
+-- Each processor does in a step what it does by itself, with the memory before.
+abbrev pub EachByItself : Type 0
+EachByItself = (job : JobData) (state : State) (i : ℕ) (local : Local) → IsJob job →
+    length state ≡ place_count job → i < job.procs → IsLocal job state i local →
+    IsNamedAt job local →
+    Follows job state i (next_local job (memory_of job state) i local) (store_of job local)
+
+-- After t steps, none of which is in conflict, memory is this, and each processor is there.
+pub record Standing (job : JobData) (t : ℕ) (memory : ℕ → ℕ) (locals : ℕ → Local) : Type 0 where
+  pub reached : IsReached job t
+  pub memory_is : memory_of job (state_after job t) ≡ memory
+  pub locals_are : (i : ℕ) → i < job.procs → IsLocal job (state_after job t) i (locals i)
+
+-- ---- straight code
+
+-- it gives a register a value, and stores and jumps nowhere
+abbrev pub IsStraight : Instr → Type 0
+IsStraight (Ld target (Cell index)) = ⊥
+IsStraight (St at value) = ⊥
+IsStraight (Jz at index) = ⊥
+IsStraight (Jmp index) = ⊥
+IsStraight Halt = ⊥
+IsStraight _ = Unit {0}
+
+abbrev pub AreStraight : List Instr → Type 0
+AreStraight [] = Unit {0}
+AreStraight (one ∷ code) = IsStraight one × AreStraight code
+
+-- the code of the job has this code at a place
+abbrev pub StandsAt : JobData → ℕ → List Instr → Type 0
+StandsAt job at [] = Unit {0}
+StandsAt job at (one ∷ code) = (slice_get job.code at ≡ Some one) × StandsAt job (at + 1) code
+
+-- Processors that stand before straight code stand after it so many steps later, with what it
+-- leaves in their registers, or are out of range; and memory is what it was.
+abbrev pub StraightCodeRuns : Type 0
+StraightCodeRuns = (job : JobData) (t at : ℕ) (memory : ℕ → ℕ) (code : List Instr)
+    (held : ℕ → Option Registers) → IsJob job → AreStraight code → StandsAt job at code →
+    Standing job t memory (λ i. standing_at at (held i)) →
+    Standing job (t + length code) memory
+    (λ i. standing_at (at + length code) (option_and_then (after_all memory i code) (held i)))
+
+-- the code of an expression stores and jumps nowhere
+abbrev pub ExpressionsAreStraight : Type 0
+ExpressionsAreStraight = (layout : LayoutData) (at : ℕ) (tree : Tree) →
+    AreStraight (value_code layout at tree)
+
+-- Steps that do nothing keep all that processors have.
+abbrev pub IdlingStays : Type 0
+IdlingStays = (job : JobData) (t at count : ℕ) (memory : ℕ → ℕ) (held : ℕ → Registers) →
+    IsJob job → StandsAt job at (idle at count) → Standing job t memory (λ i. Some (at, held i)) →
+    Standing job (t + count) memory (λ i. Some (at + count, held i))
+
+-- ---- stores
+
+-- no two of them are against the rule
+abbrev pub StoresAgree : JobData → (ℕ → Option (ℕ × ℕ)) → Type 0
+StoresAgree job stores = (cell i j v w : ℕ) → i < job.procs → j < job.procs →
+    stores i ≡ Some (cell, v) → stores j ≡ Some (cell, w) → Forbids job.rule i v j w → ⊥
+
+-- what a cell holds after these stores: each takes the value of its least writer
+abbrev pub after_stores : ℕ → (ℕ → Option (ℕ × ℕ)) → (ℕ → ℕ) → ℕ → ℕ
+after_stores procs stores memory cell =
+    unwrap_or (first_below procs (λ i. given_to cell (stores i))) (memory cell)
+
+-- A step in which processors store as the rule allows.
+abbrev pub StoresAreMade : Type 0
+StoresAreMade = (job : JobData) (t : ℕ) (memory : ℕ → ℕ) (locals : ℕ → Local) → IsJob job →
+    Standing job t memory locals →
+    ((i : ℕ) → i < job.procs → IsNamedAt job (locals i)) →
+    StoresAgree job (λ i. store_of job (locals i)) →
+    (now : ℕ → ℕ) × Standing job (suc t) now (λ i. next_local job memory i (locals i))
+    × ((cell : ℕ) → cell < job.cells →
+    now cell ≡ after_stores job.procs (λ i. store_of job (locals i)) memory cell)

@@ -1,0 +1,81 @@
+//! The laws of code that carries the meaning: each function does nothing, and says to a proof that
+//! its law holds.
+ghost use Rattle.pardo_job.specs.Laws.{AnyWriterCounts, CrewIsAccepted, OneDispute};
+ghost use Rattle.pardo_job.specs.Laws.{RuleChangesNoState, UnwrittenIsKept};
+ghost use Rattle.pardo_law.specs.Locals.{EachByItself, ExpressionsAreStraight, IdlingStays};
+ghost use Rattle.pardo_law.specs.Locals.{StoresAreMade, StraightCodeRuns};
+ghost use Rattle.pardo_law.specs.Theorem.{AnswersAreThePrograms, JobsCarryPrograms};
+ghost use Rattle.pardo_law.specs.Theorem.{RuleChangesNoRun, RunsEndOnce};
+
+/// What the compiler makes of a program carries its run: the job's states show those of the
+/// program line by line, and it ends as the program does, or in its first conflict.
+pub fn jobs_carry_programs()
+    ensures { JobsCarryPrograms }
+{}
+
+/// A run of a program ends once, and in one way.
+pub fn runs_end_once()
+    ensures { RunsEndOnce }
+{}
+
+/// The answer of the job that the compiler makes of a program is the program's: its shared cells at
+/// the end, or its first conflict.
+pub fn answers_are_the_programs()
+    ensures { AnswersAreThePrograms }
+{}
+
+/// In a step each processor does what its instruction makes of its own registers and of memory.
+pub fn each_by_itself()
+    ensures { EachByItself }
+{}
+
+/// The code of an expression holds no store and no jump.
+pub fn expressions_are_straight()
+    ensures { ExpressionsAreStraight }
+{}
+
+/// Straight code of all processors takes a step for each instruction, and leaves memory as it is.
+pub fn straight_code_runs()
+    ensures { StraightCodeRuns }
+{}
+
+/// Where stores agree with the rule each cell takes the value of its least writer.
+pub fn stores_are_made()
+    ensures { StoresAreMade }
+{}
+
+/// The steps that stand in a line for those that its mask does not have do nothing.
+pub fn idling_stays()
+    ensures { IdlingStays }
+{}
+
+/// The rule says which lines agree, and changes no state.
+pub fn rule_changes_no_state()
+    ensures { RuleChangesNoState }
+{}
+
+/// A run that rule crew accepts every rule accepts.
+pub fn crew_is_accepted()
+    ensures { CrewIsAccepted }
+{}
+
+/// No order of processors matters: but for rule priority, a cell holds what any of its writers
+/// gave it.
+pub fn any_writer_counts()
+    ensures { AnyWriterCounts }
+{}
+
+/// A cell that nobody writes keeps its value.
+pub fn unwritten_is_kept()
+    ensures { UnwrittenIsKept }
+{}
+
+/// A line has one dispute at most.
+pub fn one_dispute()
+    ensures { OneDispute }
+{}
+
+/// By every rule the states of a run are the same, as far as there are some.
+pub fn rule_changes_no_run()
+    ensures { RuleChangesNoRun }
+{}

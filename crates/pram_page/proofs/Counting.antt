@@ -1,0 +1,45 @@
+-- How many numbers from 0 on pass a test.
+use Rattle.std.proofs.Common.{arith, ◌≡◌, ℕ, ◌+◌, ◌≤◌, Bool, true}
+use Rattle.std.proofs.Common.{false, cond, [], ◌∷◌, ◌++◌, ap}
+use Rattle.std.proofs.Common.{length, refl, subst}
+use Rattle.std.specs.Prelude.{count_by, filter}
+use Rattle.std.specs.List.{range_with_len}
+use Rattle.std.proofs.lemmas.List.Sums.{count_by-le-length, length-filter, sum_by-append}
+use Rattle.std.proofs.lemmas.List.FromFn.{length-range_with_len}
+use Rattle.pram_page.specs.declared.steps.StepRow.{StepRow}
+use Rattle.pram_cost.proofs.Runners.{range-more}
+
+-- one number more
+pub count_more : (p : ℕ → Bool) (n : ℕ) →
+    count_by p (range_with_len 0 (n + 1)) ≡ count_by p (range_with_len 0 n) + cond (p n) 1 0
+count_more p n =
+    let test : ℕ → ℕ = λ i. cond (p i) 1 0 in
+    let whole : count_by p (range_with_len 0 (n + 1))
+    ≡ count_by p (range_with_len 0 n ++ (0 + n) ∷ []) = ap (count_by p) (range-more 0 n) in
+    let parts : count_by p (range_with_len 0 n ++ (0 + n) ∷ [])
+    ≡ count_by p (range_with_len 0 n) + (0 + cond (p (0 + n)) 1 0) =
+    sum_by-append test (range_with_len 0 n) ((0 + n) ∷ []) in
+    let here : 0 + n ≡ n = omega arith in
+    let last : cond (p (0 + n)) 1 0 ≡ cond (p n) 1 0 = ap test here in
+    omega (arith, whole, parts, last)
+
+pub count_few : (p : ℕ → Bool) (n : ℕ) → count_by p (range_with_len 0 n) ≤ n
+count_few p n = omega (arith, count_by-le-length p (range_with_len 0 n), length-range_with_len 0 n)
+
+-- those that pass, as a list
+pub count_passing : (p : ℕ → Bool) (n : ℕ) →
+    length (filter p (range_with_len 0 n)) ≡ count_by p (range_with_len 0 n)
+count_passing p n = length-filter p (range_with_len 0 n)
+
+pub one_few : (b : Bool) → cond b 1 0 ≤ 1
+one_few true = omega arith
+one_few false = omega arith
+
+-- a row is its three numbers
+pub row_is : (row : StepRow) (a b c : ℕ) → row.running ≡ a → row.reading ≡ b → row.writing ≡ c →
+    row ≡ record { running = a; reading = b; writing = c }
+row_is row a b c running reading writing =
+    subst (λ (n : ℕ). row ≡ record { running = n; reading = b; writing = c }) running
+    (subst (λ (n : ℕ). row ≡ record { running = row.running; reading = n; writing = c }) reading
+    (subst (λ (n : ℕ). row
+    ≡ record { running = row.running; reading = row.reading; writing = n }) writing refl))

@@ -1,0 +1,69 @@
+-- What is told of costs.
+use Rattle.std.specs.Prelude.{◌≡◌, ◌⊎◌, ℕ, List, Option, Some, None}
+use Rattle.pram_cost.specs.declared.cost.Cost.{Cost}
+use Rattle.pram_cost.specs.declared.meeting.Meeting.{Meeting}
+use Rattle.pram_cost.specs.declared.pram.Pram.{Pram}
+use Rattle.pram_cost.specs.Costs.{IsCost}
+use Rattle.pram_cost.specs.Models.{IsNeeded, strength}
+use Rattle.pram_text.specs.Job.{JobData}
+use Rattle.pram_page.specs.declared.codes.TheConstants.{DONE}
+use Rattle.pram_page.specs.declared.cost.CostTold.{CostTold}
+use Rattle.pram_page.specs.declared.cost.MeetingRow.{MeetingRow}
+use Rattle.pram_page.specs.declared.text.Refusal.{Refusal}
+use Rattle.pram_page.specs.Texts.{IsRefused, OfJob, refused_as}
+
+abbrev pub meeting_row : Option Meeting → MeetingRow
+meeting_row None = record { step = 0; cell = 0; first = 0; second = 0 }
+meeting_row (Some meeting) = record {
+  step = meeting.step;
+  cell = meeting.cell;
+  first = meeting.first;
+  second = meeting.second;
+}
+
+-- a cost, and the weakest model that accepts all steps
+abbrev pub cost_row : Cost → Pram → CostTold
+cost_row cost pram = record {
+  code = DONE;
+  fault = 0;
+  line = 0;
+  executed = cost.work.executed;
+  steps = cost.steps;
+  procs = cost.procs;
+  most = cost.work.most;
+  reading = cost.work.reading;
+  writing = cost.work.writing;
+  needs = strength pram;
+  same_read = meeting_row cost.meetings.same_read;
+  same_write = meeting_row cost.meetings.same_write;
+  other_value = meeting_row cost.meetings.other_value;
+}
+
+abbrev pub no_cost : Refusal → CostTold
+no_cost refusal = record {
+  code = (refused_as refusal).code;
+  fault = (refused_as refusal).fault;
+  line = (refused_as refusal).line;
+  executed = 0;
+  steps = 0;
+  procs = 0;
+  most = 0;
+  reading = 0;
+  writing = 0;
+  needs = 0;
+  same_read = meeting_row None;
+  same_write = meeting_row None;
+  other_value = meeting_row None;
+}
+
+-- what the run of a job costs, with the model that it needs
+abbrev pub IsCostOfRun : JobData → CostTold → Type 0
+IsCostOfRun job told =
+    (cost : Cost) × IsCost job cost × (pram : Pram) × IsNeeded job cost.steps pram
+    × (told ≡ cost_row cost pram)
+
+-- what the run of the text's job costs, or why there is none
+abbrev pub IsCostTold : List ℕ → CostTold → Type 0
+IsCostTold text told =
+    OfJob text (λ job. IsCostOfRun job told)
+    ⊎ ((refusal : Refusal) × IsRefused text refusal × (told ≡ no_cost refusal))

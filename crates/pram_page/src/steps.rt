@@ -1,0 +1,122 @@
+//! What steps do: how many processors run, and how many go to cells.
+ghost use Rattle.std.specs.Prelude.{◌≡◌, ◌≢◌, ℕ, ◌≤◌, if◌then◌else◌};
+ghost use Rattle.pram_step.specs.Runs.{IsStateAfter};
+ghost use Rattle.pram_page.specs.declared.codes.TheConstants.{MEMORY};
+ghost use Rattle.pram_page.specs.Findings.{IsKeptAsFound, IsKeptBehind, IsToldOf, told_written};
+ghost use Rattle.pram_page.specs.Steps.{AreStepsAfter, AreStepsFound, step_row};
+
+use crate::finding::{Finding, Told, tell};
+use crate::text::{Refusal, take_job};
+use pram_cost::{is_running, read_of, write_of};
+use pram_step::{Arrival, State, go_to, laws, make_step};
+use pram_text::Job;
+use std::alloc::Global;
+
+/// How many processors run in a step, how many of them read a cell, and how many write one.
+#[repr(C)]
+#[derive(Clone, Copy, Debug, PartialEq, Eq)]
+pub struct StepRow {
+    pub running: u32,
+    pub reading: u32,
+    pub writing: u32,
+}
+
+/// Tells what the steps after these do, a row each: as many as there is room for, up to the last
+/// one, or up to the first conflict, that one too. At most `most` steps are made before them.
+#[unsafe(no_mangle)]
+pub extern "C" fn pram_page_steps(
+    alloc: Global,
+    text: &[u8],
+    from: u32,
+    most: u32,
+    rows: &mut [StepRow],
+    told: &mut Told,
+)
+    ensures told { IsToldOf (AreStepsFound text.now from most rows.old rows.new) told.new }
+    ensures behind { told.new.code ≢ MEMORY
+        → IsKeptBehind (told_written told.new) rows.old rows.new }
+{
+    *told = tell(steps(alloc, text, from, most, rows));
+}
+
+fn steps(alloc: Global, text: &[u8], from: u32, most: u32, rows: &mut [StepRow]) -> Finding
+    ensures found { AreStepsFound text.now from most rows.old rows.new result }
+    ensures behind { IsKeptAsFound rows.old rows.new result }
+{
+    let job = match take_job(alloc, text) {
+        Ok(job) => job,
+        Err(refusal) => return Finding::Refused(refusal),
+    };
+    if from > job.steps() {
+        return Finding::NoStep;
+    }
+    match go_to(alloc, &job, from, most) {
+        Err(_) => Finding::Refused(Refusal::Memory),
+        Ok(Arrival::TooFar) => Finding::TooFar,
+        Ok(Arrival::Disputed(fault)) => Finding::Conflict { fault, count: 0 },
+        Ok(Arrival::Reached(state)) => tell_steps(alloc, &job, from, state, rows),
+    }
+}
+
+// What the steps after this state do.
+fn tell_steps(
+    alloc: Global,
+    job: &Job,
+    from: u32,
+    mut state: State,
+    rows: &mut [StepRow],
+) -> Finding
+    requires reached { IsStateAfter job.now from state }
+    requires within { from ≤ job.now.steps }
+    ensures steps { AreStepsAfter job.now from rows.old rows.new result }
+    ensures behind { IsKeptAsFound rows.old rows.new result }
+{
+    job.limits_hold();
+    let count = rows.len().min((job.steps() - from) as usize) as u32;
+    for made in 0..count {
+        rows[made as usize] = row(job, &state);
+        match make_step(alloc, job, &mut state, from + made) {
+            Ok(None) => {}
+            Ok(Some(fault)) => {
+                return Finding::Conflict {
+                    fault,
+                    count: u64::from(made) + 1,
+                };
+            }
+            Err(_) => return Finding::Refused(Refusal::Memory),
+        }
+    }
+    Finding::Done {
+        step: from + count,
+        count: u64::from(count),
+    }
+}
+
+// What the step after a state does.
+fn row(job: &Job, state: &State) -> StepRow
+    requires { (t : ℕ) × IsStateAfter job.now t state.now }
+    ensures { result ≡ step_row job.now state.now }
+{
+    job.limits_hold();
+    laws::states_have_all_places();
+    let mut row = StepRow {
+        running: 0,
+        reading: 0,
+        writing: 0,
+    };
+    for processor in 0..job.procs() {
+        row = StepRow {
+            running: row.running + one_if(is_running(job, state, processor)),
+            reading: row.reading + one_if(read_of(job, state, processor).is_some()),
+            writing: row.writing + one_if(write_of(job, state, processor).is_some()),
+        };
+    }
+    row
+}
+
+// 1 where it holds.
+fn one_if(holds: bool) -> u32
+    ensures { result ≡ (if holds then 1 else 0) }
+{
+    if holds { 1 } else { 0 }
+}

@@ -1,0 +1,133 @@
+//! What the answer of a program looks like, and which texts are programs.
+use failing_devices::Trickle;
+use pardo_answers::{Lines, Names, is_program, plain_end, print_named};
+use pardo_text::read_program;
+use pram_step::RunAnswer;
+use pram_streams::{IntoWrite, PrintFault};
+use pram_text::read_job;
+use std::alloc::Global;
+use std::test::Fail;
+
+/// The header of programs of an array and a scalar, after the rule.
+const NAMES: &str = "procs i < 4\nshared A[3] = 5, ...\nshared found\ncode\n";
+
+/// The same of their jobs.
+const CELLS: &str = "array A 0 3\narray found 3 1\ninit 0 5 5 5 0\ncode\n";
+
+// What is printed of a program: its rule and code, and the steps and code of its job, with the
+// lines that its instructions come from.
+fn told(
+    alloc: Global,
+    rule: &str,
+    program: &str,
+    steps: u32,
+    job: &str,
+    numbers: &[u64],
+) -> Result<Vec<u8>, Fail> {
+    let program = format!(in alloc; "pardo 1\nrule {rule}\n{NAMES}{program}")?;
+    let job = format!(in alloc;
+        "pram 3\ncells 4\nprocs 4\nsteps {steps}\nrule {rule}\n{CELLS}{job}"
+    )?;
+    let program = read_program(alloc, program.as_bytes())?;
+    let job = read_job(alloc, job.as_bytes())?;
+    let ended = plain_end(alloc, &job, numbers)?;
+    let mut sink = IntoWrite::new(Vec::new(alloc));
+    let names = Names {
+        program: &program,
+        steps: job.steps(),
+        lines: &ended.lines,
+    };
+    print_named(alloc, &mut sink, &names, &ended.answer)?;
+    Ok(sink.into_inner())
+}
+
+#[test]
+fn arrays_by_name_and_who_left(rt: HostRuntime) -> Result<(), Fail> {
+    let told = told(
+        rt.alloc(),
+        "priority",
+        "A[i] := 2 * i\nfound := 9\n",
+        5,
+        "pid r3\nmul r0 r3 2\nst A r3 r0\nst found 0 9\nhalt\n",
+        &[0, 7, 7, 8, 8],
+    )?;
+    assert_eq!(rt;
+        told.as_slice(),
+        b"done steps=5\nA = 0 2 4\nfound = 9\ngone processor=3 line=7\n".as_slice()
+    );
+    Ok(())
+}
+
+#[test]
+fn a_conflict_by_line_and_place(rt: HostRuntime) -> Result<(), Fail> {
+    let told = told(
+        rt.alloc(),
+        "common",
+        "A[0] := 1\nA[1 + (i >> 1)] := i\n",
+        5,
+        "pid r3\nst A 0 1\nshr r0 r3 1\nadd r0 r0 1\nst A r0 r3\nhalt\n",
+        &[0, 7, 8, 8, 8, 8],
+    )?;
+    assert_eq!(rt;
+        told.as_slice(),
+        b"conflict line=8 place=A[1] processors=0,1\n".as_slice()
+    );
+    Ok(())
+}
+
+#[test]
+fn a_scalar_by_its_name_alone(rt: HostRuntime) -> Result<(), Fail> {
+    let told = told(
+        rt.alloc(),
+        "crew",
+        "found := 1\n",
+        2,
+        "pid r3\nst found 0 1\nhalt\n",
+        &[0, 7, 7],
+    )?;
+    assert_eq!(rt;
+        told.as_slice(),
+        b"conflict line=7 place=found processors=0,1\n".as_slice()
+    );
+    Ok(())
+}
+
+#[test]
+fn a_beginning_where_the_sink_fails(rt: HostRuntime) -> Result<(), Fail> {
+    let alloc = rt.alloc();
+    let program = read_program(alloc, b"pardo 1\nrule crew\nprocs i < 1\ncode\nif 0\nend\n")?;
+    let lines = Lines {
+        gone: Vec::new(alloc),
+        disputed: 0,
+    };
+    let names = Names {
+        program: &program,
+        steps: 3,
+        lines: &lines,
+    };
+    let text = "unfinished step=2\n".as_bytes();
+    for pushes in 0..text.len() {
+        let mut sink = Trickle::new(alloc, pushes);
+        let printed = print_named(alloc, &mut sink, &names, &RunAnswer::Unfinished { step: 2 });
+        assert_eq!(rt; printed, Err(PrintFault::Device));
+        assert_eq!(rt; sink.taken.as_slice(), &text[..pushes]);
+    }
+    Ok(())
+}
+
+#[test]
+fn the_first_word_decides_what_a_text_is(rt: HostRuntime) {
+    for (text, is) in [
+        ("pardo 1\n", true),
+        ("; a comment\n\n\t pardo 1 ; and one more\n", true),
+        ("pardo", true),
+        ("pardo;1", true),
+        ("pram 1\npardo 1\n", false),
+        ("pardo1\n", false),
+        ("Pardo 1\n", false),
+        (";pardo 1\n", false),
+        ("", false),
+    ] {
+        assert_eq!(rt; is_program(text.as_bytes()), is, "{text}");
+    }
+}

@@ -1,0 +1,49 @@
+// What the run costs, and the model that it needs.
+import { byId, fit, make, setText } from './dom.js';
+import { grouped } from './numbers.js';
+
+export const MODELS = ['EREW', 'CREW', 'CRCW common', 'CRCW priority'];
+const MEETS = ['read', 'write', 'write different values to'];
+
+const NUMBERS = [
+  ['steps', ({ steps }) => steps],
+  ['processors', ({ procs }) => procs],
+  ['their product', ({ steps, procs }) => steps * procs],
+  ['instructions executed', ({ executed }) => executed],
+  ['most processors at work', ({ most }) => most],
+  ['steps with a read', ({ reading }) => reading],
+  ['steps with a write', ({ writing }) => writing],
+];
+
+const makeNumber = (k) => make('div', {}, make('dt', {}, NUMBERS[k][0]), make('dd'));
+
+function meetingInWords({ step, cell, first, second }, model) {
+  return `Not ${MODELS[model]}: in step ${grouped(step)} processors ${first} and ${second} ` +
+    `${MEETS[model]} cell ${cell}.`;
+}
+
+// `onStep` hears the step to go to.
+export function openCosts(onStep) {
+  const list = byId('cost-numbers');
+  const reasons = byId('cost-reasons');
+  const makeReason = () => make('li', {}, make('button', {
+    type: 'button', class: 'to-moment', click: ({ target }) => onStep(Number(target.value)),
+  }));
+
+  return {
+    show(cost) {
+      byId('costs').hidden = cost === undefined;
+      if (!cost) return;
+      fit(list, NUMBERS.length, makeNumber).forEach((part, k) =>
+        setText(part.lastChild, grouped(NUMBERS[k][1](cost))));
+      setText(byId('cost-model'), `This run needs ${MODELS[cost.needs]}.`);
+      const ruling = cost.meetings.flatMap((meeting, model) =>
+        (meeting.step > 0 ? [{ meeting, model }] : []));
+      fit(reasons, ruling.length, makeReason).forEach((item, k) => {
+        const { meeting, model } = ruling[k];
+        item.firstChild.value = meeting.step - 1;
+        setText(item.firstChild, meetingInWords(meeting, model));
+      });
+    },
+  };
+}

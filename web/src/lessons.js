@@ -1,0 +1,123 @@
+// A tour, exercises and puzzles: a menu, and a panel over the page.
+import { readAddress } from './address.js';
+import { MODELS } from './costs.js';
+import { byId, make, onClick, setDisabled, setHidden, setText } from './dom.js';
+import { EXERCISES, isOf, startOf } from './exercises.js';
+import { judgeExercise } from './judge.js';
+import { counted } from './numbers.js';
+import { PUZZLES, judgePuzzle } from './puzzles.js';
+import { TOUR } from './tour.js';
+
+const group = (label, options) => make('optgroup', { label }, ...options);
+
+const optionsOf = (kind, list) => list.map(({ number, title }) =>
+  make('option', { value: `${kind} ${number}` }, `${number}: ${title}`));
+
+function taskInWords({ task, procs, steps, model }) {
+  return `${task} ${counted(procs, 'processor')}, at most ${counted(steps, 'step')}, ` +
+    `${MODELS[model]}. Judge tries your code on inputs that you do not see.`;
+}
+
+class Lessons {
+  constructor(app) {
+    Object.assign(this, { app, lesson: undefined, stop: 0 });
+    const menu = byId('lesson');
+    menu.append(make('option', { value: 'tour 1' }, 'A tour: losing a worker'),
+      group('Exercises', optionsOf('exercise', EXERCISES)),
+      group('Find a schedule', optionsOf('puzzle', PUZZLES)));
+    menu.addEventListener('change', () => this.choose(menu.value));
+    onClick('lesson-back', () => this.moveBy(-1));
+    onClick('lesson-on', () => this.moveBy(1));
+    onClick('lesson-anew', () => this.begin(true));
+    onClick('judge', () => this.judge());
+    onClick('lesson-try', () => app.choose(this.given, undefined, `${this.name}, this input`));
+    onClick('lesson-close', () => this.close());
+  }
+
+  get list() {
+    return { tour: TOUR, exercise: EXERCISES, puzzle: PUZZLES }[this.kind];
+  }
+
+  get name() {
+    const kind = { tour: 'Tour', exercise: 'Exercise', puzzle: 'Find a schedule' }[this.kind];
+    return `${kind} ${this.stop + 1}`;
+  }
+
+  choose(value) {
+    const [kind, number] = value.split(' ');
+    this.kind = kind;
+    this.stop = Number(number) - 1;
+    if (kind === '') this.close();
+    else this.begin();
+  }
+
+  close() {
+    byId('lesson').value = '';
+    byId('lesson-panel').hidden = true;
+    byId('lesson').focus();
+  }
+
+  moveBy(count) {
+    const at = this.stop + count;
+    if (at < 0 || at >= this.list.length) return;
+    this.stop = at;
+    byId('lesson').value = this.kind === 'tour' ? 'tour 1' : `${this.kind} ${at + 1}`;
+    this.begin();
+  }
+
+  // Shows the panel, and what the lesson begins with.
+  begin(isAnew = false) {
+    const lesson = this.list[this.stop];
+    setText(byId('lesson-title'), `${this.name} of ${this.list.length}: ${lesson.title}`);
+    setText(byId('lesson-text'), this.kind === 'exercise' ? taskInWords(lesson) : lesson.task);
+    byId('lesson-panel').hidden = false;
+    setHidden(byId('judge'), this.kind === 'tour');
+    setDisabled(byId('lesson-back'), this.stop === 0);
+    setDisabled(byId('lesson-on'), this.stop === this.list.length - 1);
+    this.say({ isRight: false, said: '' });
+    if (this.kind === 'exercise') this.write(lesson, isAnew);
+    else this.visit(lesson.address);
+  }
+
+  // An exercise that was begun goes on. One that is only looked at is no program of one's own yet.
+  write(exercise, isAnew) {
+    const { app } = this;
+    const begun = isAnew ? undefined : app.drafts.list.find(({ text }) => isOf(exercise, text));
+    const text = begun?.text ?? startOf(exercise);
+    if (app.view !== 'lockstep') app.turnTo('lockstep');
+    app.choose(text, begun?.number, this.name);
+  }
+
+  async visit(address) {
+    const { app } = this;
+    app.showAddress(await readAddress(address, app.examples));
+    app.link.push();
+  }
+
+  judge() {
+    const { app } = this;
+    const lesson = this.list[this.stop];
+    if (!app.job) this.say({ isRight: false, said: 'Not yet: the program has a fault.' });
+    else if (this.kind === 'exercise') this.say(judgeExercise(app.core, lesson, app.text));
+    else this.say(judgePuzzle(lesson, app.views.workers.board, this.outcome()));
+  }
+
+  // What the board answers after all acts.
+  outcome() {
+    const { core, text, job, schedule } = this.app;
+    const events = schedule.events.upTo(schedule.length);
+    return core.outcome(text, job, schedule.workers, events);
+  }
+
+  say({ isRight, said, given }) {
+    this.given = given;
+    setText(byId('lesson-said'), said);
+    byId('lesson-said').className = isRight ? 'said right' : 'said';
+    setHidden(byId('lesson-said'), said === '');
+    setHidden(byId('lesson-try'), given === undefined);
+  }
+}
+
+export function openLessons(app) {
+  return new Lessons(app);
+}

@@ -1,0 +1,61 @@
+// A plot of the steps: how many processors are at work, how many read a cell, how many write one.
+import { byId, makeSvg, setAttribute, setText } from './dom.js';
+import { grouped } from './numbers.js';
+
+const HEIGHT = 100;
+const PARTS = [
+  { name: 'running', left: 0, width: 1 },
+  { name: 'reading', left: 0.1, width: 0.4 },
+  { name: 'writing', left: 0.5, width: 0.4 },
+];
+
+// Bars of one kind, as one path.
+function barsOf(list, procs, { name, left, width }) {
+  return list.map((row, k) => {
+    const height = (HEIGHT * row[name]) / procs;
+    return row[name] === 0 ? '' : `M${k + left} ${HEIGHT}v${-height}h${width}v${height}z`;
+  }).join('');
+}
+
+function stepInWords(step, row) {
+  if (!row) return '';
+  return `Step ${grouped(step + 1)}: ${grouped(row.running)} at work, ${
+    grouped(row.reading)} read a cell, ${grouped(row.writing)} write one.`;
+}
+
+// `onStep` hears the step to go to.
+export function openPlot(onStep) {
+  const plot = byId('plot');
+  const slider = byId('plot-step');
+  const paths = PARTS.map(({ name }) => makeSvg('path', { class: `bars ${name}` }));
+  const now = makeSvg('rect', { class: 'now', y: 0, width: 1, height: HEIGHT });
+  plot.append(...paths, now);
+  let shown = { first: 0, list: [] };
+
+  plot.addEventListener('click', (event) => {
+    const { left, width } = plot.getBoundingClientRect();
+    const at = Math.floor(((event.clientX - left) / width) * shown.list.length);
+    onStep(shown.first + Math.max(0, Math.min(at, shown.list.length - 1)));
+  });
+  slider.addEventListener('input', () => onStep(Number(slider.value)));
+
+  return {
+    // The steps about the one that is shown, if they are told.
+    show(step, last, procs, told) {
+      slider.max = last;
+      slider.value = step;
+      setAttribute(slider, 'aria-valuetext', `after step ${step} of ${last}`);
+      if (!told) return;
+      const { first, list } = told;
+      if (list !== shown.list) {
+        setAttribute(plot, 'viewBox', `0 0 ${Math.max(list.length, 1)} ${HEIGHT}`);
+        paths.forEach((path, k) => path.setAttribute('d', barsOf(list, procs, PARTS[k])));
+      }
+      shown = told;
+      setAttribute(now, 'x', step - first);
+      setText(byId('plot-said'), stepInWords(step, list[step - first]));
+      setText(byId('plot-range'), list.length === 0 ? '' :
+        `steps ${grouped(first + 1)} to ${grouped(first + list.length)}`);
+    },
+  };
+}

@@ -1,0 +1,191 @@
+// What a lecture needs: ends, costs, the plot of the steps, exercises, puzzles and the tour.
+import { count, focused, has, is, isShown, open, page, text, valueOf, write } from './drive.js';
+import { NO_SCHEDULES, SCHEDULES, SOLUTIONS, TOO_SLOW, TOO_STRONG } from './solutions.js';
+
+const LEAVING = 'pram 1\ncells 2\nprocs 2\nsteps 3\ncode\n' +
+  'pid r0\nadd r1 r0 r0\nst r1 r0\nhalt\n';
+
+export async function testEndsInWords() {
+  await open('#example=maximum');
+  await has('all have stopped', '#ends', 'All had stopped after step 20.');
+  await write(LEAVING);
+  await has('who still runs', '#ends', 'It ended with 1 processor still running (P0 in line 9).');
+  await has('who is lost', '#ends', 'Processor 1 stopped in step 3 at line 8: no such cell.');
+  await page.click('#step-end');
+  await has('at the end', '#plain-said', 'the job ends after 3 steps. It ended with 1 processor');
+  await has('what it executed last', '#processors tr.stopped',
+    'no such cell in step 3, 8: st r1 r0');
+  await page.choose('#example', 'conflict');
+  await has('a conflict', '#answer', 'a conflict in step 4');
+  is('has no end', await text('#ends'), '');
+}
+
+export async function testCosts() {
+  await open('#example=maximum');
+  await has('the model', '#cost-model', 'This run needs CRCW common.');
+  is('its numbers', await page.evaluate(`[...document.querySelectorAll('#cost-numbers dd')]
+    .map((one) => one.textContent).join(' ')`), '20 16 320 312 16 3 2');
+  await has('a reason', '#cost-reasons li:nth-child(2)',
+    'Not CREW: in step 15 processors 4 and 12 write cell 1.');
+  await page.click('#cost-reasons li:nth-child(2) button');
+  is('a click goes to the step', await valueOf('#step'), '14');
+  await page.choose('#example', 'sum');
+  await has('a weaker model', '#cost-model', 'This run needs');
+}
+
+export async function testPlot() {
+  await open('#example=maximum');
+  await has('the first step', '#plot-said', 'Step 1: 16 at work, 0 read a cell, 0 write one.');
+  is('all steps', await text('#plot-range'), 'steps 1 to 20');
+  await page.click('#plot');
+  const step = Number(await valueOf('#step'));
+  is('a click in the middle', step === 9 || step === 10 || step, true);
+  await has('says that step', '#plot-said', `Step ${step + 1}: 16 at work`);
+  await page.evaluate('document.getElementById("plot-step").focus()');
+  await page.press('ArrowRight');
+  is('keys go on', await valueOf('#step'), `${step + 1}`);
+  const now = await page.evaluate('document.querySelector("#plot .now").getAttribute("x")');
+  is('the step is marked', now, `${step + 1}`);
+  await page.click('#step-end');
+  is('nothing comes after the end', await text('#plot-said'), '');
+}
+
+// The text in the editor, with this code in place of its own.
+const withCode = async (code) =>
+  `${(await valueOf('#text')).split('\ncode\n', 1)[0]}\ncode\n${code}\n`;
+
+async function judged(what, wanted) {
+  await page.click('#judge');
+  await has(what, '#lesson-said', wanted);
+}
+
+export async function testExercises() {
+  await open();
+  is('a program that stays', await valueOf('#example'), 'maximum');
+  for (const [k, solution] of SOLUTIONS.entries()) {
+    await page.choose('#lesson', `exercise ${k + 1}`);
+    await has(`exercise ${k + 1}`, '#lesson-title', `Exercise ${k + 1} of 10`);
+    await judged(`its beginning is no solution: ${k + 1}`, 'Not yet: on input ');
+    await write(await withCode(solution));
+    await judged(`a solution of exercise ${k + 1}`, 'Right on all ');
+    is('it is shown as right', await count('#lesson-said.right'), 1);
+  }
+  await page.choose('#lesson', 'exercise 1');
+  is('what was begun goes on', (await valueOf('#text')).endsWith(`${SOLUTIONS[0]}\n`), true);
+  await page.click('#lesson-anew');
+  is('or begins anew', (await valueOf('#text')).includes(SOLUTIONS[0]), false);
+}
+
+export async function testWrongSolutions() {
+  await open();
+  for (const [[k, code], wanted] of [[TOO_SLOW, 'after 40 steps; wanted is'],
+    [TOO_STRONG, 'it needs CREW, since processors 0 and 1 meet at cell 0 in step 2']]) {
+    await page.choose('#lesson', `exercise ${k + 1}`);
+    await page.click('#lesson-anew');
+    await write(await withCode(code));
+    await judged(`wrong in exercise ${k + 1}`, wanted);
+  }
+  await page.click('#lesson-try');
+  await has('the input that is wrong', '#answer', 'done after 40 steps');
+  await page.click('#undo-text');
+  await page.choose('#lesson', 'exercise 2');
+  await write('pram 1\n');
+  await judged('no program', 'Not yet: the program has a fault.');
+}
+
+// A program of one's own stays beside exercises that are looked at.
+export async function testExercisesKeepDrafts() {
+  await open();
+  await page.evaluate('localStorage.clear()');
+  await open();
+  await write(`; mine too\n${LEAVING}`);
+  const own = await count('#example optgroup:first-child option');
+  for (let k = 1; k <= 10; k += 1) await page.choose('#lesson', `exercise ${k}`);
+  is('looking keeps nothing', await count('#example optgroup:first-child option'), own + 1);
+  await has('an exercise has its name', '#example option:checked', 'Exercise 10');
+  is('one’s own is there', await page.evaluate(`[...document.querySelectorAll('#example option')]
+    .some((one) => one.textContent === 'your own: mine too')`), true);
+}
+
+const START = '#example=sum&view=workers&workers=3';
+
+async function hasActs(acts) {
+  await page.evaluate(`location.hash = ${JSON.stringify(`${START}&acts=${acts}`)}`);
+  await page.until(`!document.getElementById('moment-said').textContent.startsWith('0')`);
+}
+
+export async function testPuzzles() {
+  await open();
+  for (const [k, acts] of SCHEDULES.entries()) {
+    await page.choose('#lesson', `puzzle ${k + 1}`);
+    await page.until('document.getElementById("moment-said").textContent === "0 of 0"');
+    await judged(`nothing solves puzzle ${k + 1}`, 'Not yet: no such thing happened.');
+    await hasActs(NO_SCHEDULES[k]);
+    await judged(`almost a solution of puzzle ${k + 1}`, 'Not yet: no such thing happened.');
+    await page.choose('#lesson', `puzzle ${k + 1}`);
+    await hasActs(acts);
+    await judged(`a solution of puzzle ${k + 1}`, 'Solved, in ');
+  }
+}
+
+// The first puzzle by clicks alone.
+export async function testPuzzleByClicks() {
+  await open();
+  await page.choose('#lesson', 'puzzle 1');
+  await page.until('document.getElementById("moment-said").textContent === "0 of 0"');
+  await page.click('#all-1');
+  for (const card of [2, 3]) await page.click(`#cards li:nth-child(${card}) [data-action=lose]`);
+  await page.click('#to-end');
+  await has('it ends', '#outcome', 'Done: the same answer');
+  await judged('and is solved', 'Solved, in ');
+}
+
+const STOPS = [
+  ['#plain-said', 'After step 0 of 40'], ['#plain-said', 'After step 10 of 40'],
+  ['#moment-said', '0 of 0'], ['#moment-said', '180 of 180'],
+  ['#cards li:nth-child(3) h4', 'worker 2, lost'], ['#outcome', 'Finished: 1 of 40 steps.'],
+  ['#steps li', 'worker 2 wakes, as if no time had passed'],
+  ['#steps li', 'worker 2 comes back, knowing nothing'],
+  ['#cards li:nth-child(2) h4', 'worker 1, lost'],
+];
+
+export async function testTour() {
+  await page.resize(1024, 768);
+  await open();
+  await page.choose('#lesson', 'tour 1');
+  for (const [k, [selector, wanted]] of STOPS.entries()) {
+    if (k > 0) await page.click('#lesson-on');
+    await has(`stop ${k + 1}`, '#lesson-title', `Tour ${k + 1} of 9`);
+    await has(`what stop ${k + 1} shows`, selector, wanted);
+    const bottom = await page.evaluate(`scrollY + Math.max(...['#cards', '#lockstep .picture']
+      .map((one) => document.querySelector(one).getBoundingClientRect().bottom))`);
+    is(`stop ${k + 1} within 1024 x 768`, bottom <= 768 || bottom, true);
+    if (k === 4) await page.sightPicture('tour');
+  }
+  is('the focus stays where nothing comes next', await focused(), 'lesson-on');
+  await page.click('#to-end');
+  await has('the end', '#outcome', 'Done: the same answer');
+  await page.click('#lesson-back');
+  await has('one stop back', '#lesson-title', 'Tour 8 of 9');
+  await page.click('#lesson-close');
+  is('closed', await isShown('#lesson-panel'), false);
+  is('with the focus in its menu', await focused(), 'lesson');
+  await page.resize(1280, 900);
+}
+
+// What the stop on sleep says: worker 2 finds all done, and changes nothing at its leaf.
+export async function testTourTellsTheTruth() {
+  await open();
+  await page.choose('#lesson', 'tour 1');
+  for (let k = 1; k < 5; k += 1) await page.click('#lesson-on');
+  await has('written', '#steps li:nth-child(2)',
+    'worker 2 swaps the older word of r0 of processor 3');
+  for (let k = 0; k < 10; k += 1) await page.click('#all-1');
+  await has('the others are there', '#steps', 'walks to the leaf of processor 3');
+  for (let k = 0; k < 2; k += 1) await page.click('#lesson-on');
+  await page.until('document.getElementById("steps").textContent.includes("wakes")');
+  for (let k = 0; k < 6; k += 1) await page.click('#cards li:nth-child(3) [data-action=step]');
+  await has('raised already', '#steps li', 'finds the leaf of processor 3 raised already');
+  is('nothing changed', await page.evaluate(`[...document.querySelectorAll('#steps li')].slice(0, 6)
+    .every((one) => !one.classList.contains('changes'))`), true);
+}
