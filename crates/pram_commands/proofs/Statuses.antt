@@ -17,7 +17,7 @@ use Rattle.pram_commands.specs.Inputs.{Reading, Taking}
 use Rattle.pram_commands.specs.Line.{command_of}
 use Rattle.pram_commands.specs.Served.{Served}
 use Rattle.pram_commands.specs.declared.fault.CommandFault.{CommandFault}
-use Rattle.pram_commands.specs.declared.fault.CommandFault.TheVariants.{Text, Plan, OutsideCell}
+use Rattle.pram_commands.specs.declared.fault.CommandFault.TheVariants.{Text, Program, Plan, OutsideCell}
 use Rattle.pram_commands.specs.declared.fault.CommandFault.TheVariants.{OutsideStep}
 use Rattle.pram_commands.specs.declared.fault.CommandFault.TheVariants.{JobDevice, PlanDevice}
 use Rattle.pram_commands.specs.declared.fault.CommandFault.TheVariants.{OutDevice, JobTooLarge}
@@ -39,6 +39,8 @@ record IsFaultStatus (n : ℕ) : Type 0 where
 
 fault-status : (f : CommandFault) → IsFaultStatus (fault_status f)
 fault-status (Text line kind) =
+    record { least = omega arith; most = omega arith; other = λ e. omega (arith, e) }
+fault-status (Program refusal) =
     record { least = omega arith; most = omega arith; other = λ e. omega (arith, e) }
 fault-status (Plan row kind) =
     record { least = omega arith; most = omega arith; other = λ e. omega (arith, e) }
