@@ -1,7 +1,8 @@
 -- The code of every operation computes its value.
 use Rattle.std.proofs.Common.{◌≡◌, ℕ, zero, suc, ◌+◌, ◌^◌, ◌<◌, ◌≤◌, ◌⊎◌, ◌==◌, nat_lt}
 use Rattle.std.proofs.Common.{Bool, true, false, List, [], ◌++◌, refl, sym, ap, ◌∙◌, subst}
-use Rattle.std.proofs.Common.{inl, inr, ⊎_elim, arith, append_assoc, append-nil, ◌&&◌, ◌||◌, not, nat_le}
+use Rattle.std.proofs.Common.{inl, inr, ⊎_elim, arith, append_assoc, append-nil, ◌&&◌, ◌||◌, not}
+use Rattle.std.proofs.Common.{nat_le}
 use Rattle.std.specs.Prelude.{bit_or, bit_and}
 use Rattle.std.proofs.lemmas.Nat.{le_or_l, le_or_r}
 use Rattle.std.proofs.lemmas.Bool.{lt-ltb, le-ltb, cases_lt}
@@ -49,16 +50,24 @@ bit_truth true = inr refl
 bit_truth false = inl refl
 
 truths_and : (a b : ℕ) → IsTruth a → IsTruth b → bit_and a b ≡ bit (not (a == 0) && not (b == 0))
-truths_and a b (inl p) (inl q) = ap (λ x. bit_and x b) p ∙ ap (bit_and 0) q ∙ sym (ap (λ x. bit (not (x == 0) && not (b == 0))) p)
-truths_and a b (inl p) (inr q) = ap (λ x. bit_and x b) p ∙ ap (bit_and 0) q ∙ sym (ap (λ x. bit (not (x == 0) && not (b == 0))) p)
-truths_and a b (inr p) (inl q) = ap (λ x. bit_and x b) p ∙ ap (bit_and 1) q ∙ sym (ap (λ x. bit (not (x == 0) && not (b == 0))) p ∙ ap (λ y. bit (not (y == 0))) q)
-truths_and a b (inr p) (inr q) = ap (λ x. bit_and x b) p ∙ ap (bit_and 1) q ∙ sym (ap (λ x. bit (not (x == 0) && not (b == 0))) p ∙ ap (λ y. bit (not (y == 0))) q)
+truths_and a b (inl p) (inl q) = ap (λ x. bit_and x b) p ∙ ap (bit_and 0) q ∙
+    sym (ap (λ x. bit (not (x == 0) && not (b == 0))) p)
+truths_and a b (inl p) (inr q) = ap (λ x. bit_and x b) p ∙ ap (bit_and 0) q ∙
+    sym (ap (λ x. bit (not (x == 0) && not (b == 0))) p)
+truths_and a b (inr p) (inl q) = ap (λ x. bit_and x b) p ∙ ap (bit_and 1) q ∙
+    sym (ap (λ x. bit (not (x == 0) && not (b == 0))) p ∙ ap (λ y. bit (not (y == 0))) q)
+truths_and a b (inr p) (inr q) = ap (λ x. bit_and x b) p ∙ ap (bit_and 1) q ∙
+    sym (ap (λ x. bit (not (x == 0) && not (b == 0))) p ∙ ap (λ y. bit (not (y == 0))) q)
 
 truths_or : (a b : ℕ) → IsTruth a → IsTruth b → bit_or a b ≡ bit (not (a == 0) || not (b == 0))
-truths_or a b (inl p) (inl q) = ap (λ x. bit_or x b) p ∙ ap (bit_or 0) q ∙ sym (ap (λ x. bit (not (x == 0) || not (b == 0))) p ∙ ap (λ y. bit (not (y == 0))) q)
-truths_or a b (inl p) (inr q) = ap (λ x. bit_or x b) p ∙ ap (bit_or 0) q ∙ sym (ap (λ x. bit (not (x == 0) || not (b == 0))) p ∙ ap (λ y. bit (not (y == 0))) q)
-truths_or a b (inr p) (inl q) = ap (λ x. bit_or x b) p ∙ ap (bit_or 1) q ∙ sym (ap (λ x. bit (not (x == 0) || not (b == 0))) p)
-truths_or a b (inr p) (inr q) = ap (λ x. bit_or x b) p ∙ ap (bit_or 1) q ∙ sym (ap (λ x. bit (not (x == 0) || not (b == 0))) p)
+truths_or a b (inl p) (inl q) = ap (λ x. bit_or x b) p ∙ ap (bit_or 0) q ∙
+    sym (ap (λ x. bit (not (x == 0) || not (b == 0))) p ∙ ap (λ y. bit (not (y == 0))) q)
+truths_or a b (inl p) (inr q) = ap (λ x. bit_or x b) p ∙ ap (bit_or 0) q ∙
+    sym (ap (λ x. bit (not (x == 0) || not (b == 0))) p ∙ ap (λ y. bit (not (y == 0))) q)
+truths_or a b (inr p) (inl q) = ap (λ x. bit_or x b) p ∙ ap (bit_or 1) q ∙
+    sym (ap (λ x. bit (not (x == 0) || not (b == 0))) p)
+truths_or a b (inr p) (inr q) = ap (λ x. bit_or x b) p ∙ ap (bit_or 1) q ∙
+    sym (ap (λ x. bit (not (x == 0) || not (b == 0))) p)
 
 is_not_zero : (a : ℕ) → 0 < a → (a == 0) ≡ false
 is_not_zero a lt = grind arith
@@ -70,7 +79,8 @@ either_value (suc a) b =
     ap (λ t. bit (bit t == 0)) (is_not_zero (bit_or (suc a) b) (omega (arith, le_or_l (suc a) b)))
     ∙ sym (ap (λ t. bit (not t || not (b == 0))) (is_not_zero (suc a) (omega arith)))
 either_value zero (suc b) =
-    ap (λ t. bit (bit t == 0)) (is_not_zero (bit_or zero (suc b)) (omega (arith, le_or_r zero (suc b))))
+    ap (λ t. bit (bit t == 0)) (is_not_zero (bit_or zero (suc b))
+    (omega (arith, le_or_r zero (suc b))))
     ∙ sym (ap (λ t. bit (not t)) (is_not_zero (suc b) (omega arith)))
 
 -- ---- operands
@@ -109,22 +119,26 @@ native_of op memory i at a b held first second is c shallow =
     (first_apart at first second c.second_at) (second_apart at first second c.first_at)
     c.first_is c.second_is shallow
 
-negated_of : (op : Op) (memory : ℕ → ℕ) (i at a b result : ℕ) (held : Registers) (first second : Operand) →
+negated_of : (op : Op) (memory : ℕ → ℕ) (i at a b result : ℕ) (held : Registers)
+    (first second : Operand) →
     IsNative op → Operands at i a b held first second → bit (value_of op a b == 0) ≡ result →
     is_shallow (native at op first second ++ negation at) ≡ true →
     Computes memory i held at (native at op first second ++ negation at) result
 negated_of op memory i at a b result held first second is c e shallow =
     subst (λ v. Computes memory i held at (native at op first second ++ negation at) v) e
     (computes_negation memory i held at (value_of op a b) (native at op first second) c.below
-    (native_of op memory i at a b held first second is c (shallow_front (native at op first second) (negation at) shallow)))
+    (native_of op memory i at a b held first second is c
+    (shallow_front (native at op first second) (negation at) shallow)))
 
 -- what is to be shown of an operation
-abbrev pub ComputesOperation : Op → Bool → (ℕ → ℕ) → ℕ → ℕ → ℕ → ℕ → Registers → Operand → Operand → Type 0
+abbrev pub ComputesOperation : Op → Bool → (ℕ → ℕ) → ℕ → ℕ → ℕ → ℕ → Registers → Operand → Operand →
+    Type 0
 ComputesOperation op are_truths memory i at a b held first second =
     is_shallow (operation_code at op are_truths first second) ≡ true →
     Computes memory i held at (operation_code at op are_truths first second) (value_of op a b)
 
-and_of : (are_truths : Bool) (memory : ℕ → ℕ) (i at a b : ℕ) (held : Registers) (first second : Operand) →
+and_of : (are_truths : Bool) (memory : ℕ → ℕ) (i at a b : ℕ) (held : Registers)
+    (first second : Operand) →
     Operands at i a b held first second → (are_truths ≡ true → IsTruth a × IsTruth b) →
     ComputesOperation And are_truths memory i at a b held first second
 unfolding operation_code value_of
@@ -136,12 +150,14 @@ and_of false memory i at a b held first second c truths shallow =
     computes_conjunction memory i at a b held first second c.below c.first_at c.second_at
     c.first_is c.second_is shallow
 
-or_of : (are_truths : Bool) (memory : ℕ → ℕ) (i at a b : ℕ) (held : Registers) (first second : Operand) →
+or_of : (are_truths : Bool) (memory : ℕ → ℕ) (i at a b : ℕ) (held : Registers)
+    (first second : Operand) →
     Operands at i a b held first second → (are_truths ≡ true → IsTruth a × IsTruth b) →
     ComputesOperation Or are_truths memory i at a b held first second
 unfolding operation_code value_of
 or_of true memory i at a b held first second c truths shallow =
-    let none : native at BitOr first second ++ [] ≡ native at BitOr first second = append-nil (native at BitOr first second) in
+    let none : native at BitOr first second ++ [] ≡ native at BitOr first second =
+    append-nil (native at BitOr first second) in
     subst (λ code. Computes memory i held at code (bit (not (a == 0) || not (b == 0)))) (sym none)
     (subst (λ v. Computes memory i held at (native at BitOr first second) v)
     (truths_or a b (truths refl).0 (truths refl).1)
@@ -151,7 +167,8 @@ or_of false memory i at a b held first second c truths shallow =
     let joined : (code ++ negation at) ++ negation at ≡ code ++ (negation at ++ negation at) =
     append_assoc code (negation at) (negation at) in
     subst (λ all. Computes memory i held at all (bit (not (a == 0) || not (b == 0)))) joined
-    (subst (λ v. Computes memory i held at ((code ++ negation at) ++ negation at) v) (either_value a b)
+    (subst (λ v. Computes memory i held at ((code ++ negation at) ++ negation at) v)
+    (either_value a b)
     (computes_negation memory i held at (bit (bit_or a b == 0)) (code ++ negation at) c.below
     (negated_of BitOr memory i at a b (bit (bit_or a b == 0)) held first second tt c refl
     (shallow_front (code ++ negation at) (negation at) (ap is_shallow joined ∙ shallow)))))
@@ -192,7 +209,8 @@ computes_operation BitXor t memory i at a b held first second plain c truths sha
 computes_operation Eq t memory i at a b held first second plain c truths shallow =
     native_of Eq memory i at a b held first second tt c shallow
 computes_operation Ne t memory i at a b held first second plain c truths shallow =
-    negated_of Eq memory i at a b (bit (not (a == b))) held first second tt c (zero_of_bit (a == b)) shallow
+    negated_of Eq memory i at a b (bit (not (a == b))) held first second tt c (zero_of_bit (a == b))
+    shallow
 computes_operation Lt t memory i at a b held first second plain c truths shallow =
     native_of Lt memory i at a b held first second tt c shallow
 computes_operation Le t memory i at a b held first second plain c truths shallow =

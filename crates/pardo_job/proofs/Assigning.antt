@@ -1,6 +1,7 @@
 -- Straight pieces of lines that work on two expressions, or on one in a register.
 use Rattle.std.proofs.Common.{◌≡◌, ℕ, ◌+◌, Bool, true, false, List, [], ◌++◌, Option, Some, None}
-use Rattle.std.proofs.Common.{refl, sym, ap, ◌∙◌, subst, inl, inr, arith, if◌then◌else◌, append-nil, append_assoc}
+use Rattle.std.proofs.Common.{refl, sym, ap, ◌∙◌, subst, inl, inr, arith, if◌then◌else◌, append-nil}
+use Rattle.std.proofs.Common.{append_assoc}
 use Rattle.pram_text.specs.declared.instr.Instr.{Instr}
 use Rattle.pram_text.specs.declared.instr.Operand.{Operand}
 use Rattle.pram_text.specs.declared.instr.Operand.TheVariants.{Register}
@@ -23,7 +24,8 @@ use Rattle.pardo_job.proofs.Operating.{computes_native}
 use Rattle.pardo_job.proofs.Choices.{IsAt}
 use Rattle.pardo_job.proofs.Applying.{first_apart, second_apart}
 use Rattle.pardo_job.proofs.Below.{value_below}
-use Rattle.pardo_job.proofs.Evaluating.{Evaluated, EvaluatesTo, evaluates, none_after, operand_at, operand_taken}
+use Rattle.pardo_job.proofs.Evaluating.{Evaluated, EvaluatesTo, evaluates, none_after, operand_at}
+use Rattle.pardo_job.proofs.Evaluating.{operand_taken}
 
 -- ---- two expressions, one after the other
 
@@ -40,7 +42,8 @@ pub record HasBoth (memory : ℕ → ℕ) (i : ℕ) (held : Registers) (layout :
   pub keeps : now 3 ≡ held 3
 
 -- none where one of the two has no value
-abbrev pub BothTo : (ℕ → ℕ) → ℕ → Registers → LayoutData → Tree → Tree → Option ℕ → Option ℕ → Type 0
+abbrev pub BothTo : (ℕ → ℕ) → ℕ → Registers → LayoutData → Tree → Tree → Option ℕ → Option ℕ →
+    Type 0
 BothTo memory i held layout first second None b =
     after_all memory i (both_code layout first second) held ≡ None
 BothTo memory i held layout first second (Some a) None =
@@ -65,13 +68,16 @@ both_from : (memory : ℕ → ℕ) (i : ℕ) (held : Registers) (layout : Layout
 both_from memory i held layout first second None b own_i c d =
     none_after memory i (value_code layout 0 first) (value_code layout (takes first) second) held c
 both_from memory i held layout first second (Some a) None own_i c d =
-    after_front memory i (value_code layout 0 first) (value_code layout (takes first) second) held c.now c.runs
+    after_front memory i (value_code layout 0 first) (value_code layout (takes first) second) held
+    c.now c.runs
     ∙ d c.now (c.keeps 3 (inr refl) ∙ own_i)
 both_from memory i held layout first second (Some a) (Some b) own_i c d =
-    let e : Evaluated memory i c.now layout (takes first) second b = d c.now (c.keeps 3 (inr refl) ∙ own_i) in
+    let e : Evaluated memory i c.now layout (takes first) second b =
+    d c.now (c.keeps 3 (inr refl) ∙ own_i) in
     record {
       now = e.now;
-      runs = after_front memory i (value_code layout 0 first) (value_code layout (takes first) second) held c.now c.runs ∙ e.runs;
+      runs = after_front memory i (value_code layout 0 first)
+          (value_code layout (takes first) second) held c.now c.runs ∙ e.runs;
       first_is = first_stays first c.now e.now e.keeps ∙ c.gives;
       second_is = e.gives;
       keeps = e.keeps 3 (inr refl) ∙ c.keeps 3 (inr refl);
@@ -82,12 +88,15 @@ pub both_evaluate : (program : ProgramData) (layout : LayoutData) (source : Sour
     (i : ℕ) → Sees program layout source memory i → (first second : Tree) (held : Registers) →
     held 3 ≡ i → IsLawful layout first → IsLawful layout second →
     is_shallow (both_code layout first second) ≡ true →
-    BothTo memory i held layout first second (value program source i first) (value program source i second)
+    BothTo memory i held layout first second (value program source i first)
+    (value program source i second)
 both_evaluate program layout source memory i sees first second held own_i is is_too shallow =
-    both_from memory i held layout first second (value program source i first) (value program source i second) own_i
+    both_from memory i held layout first second (value program source i first)
+    (value program source i second) own_i
     (evaluates program layout source memory i sees first 0 held own_i is
     (shallow_front (value_code layout 0 first) (value_code layout (takes first) second) shallow))
-    (λ now now_i. evaluates program layout source memory i sees second (takes first) now now_i is_too
+    (λ now now_i. evaluates program layout source memory i sees second (takes first) now now_i
+    is_too
     (shallow_back (value_code layout 0 first) (value_code layout (takes first) second) shallow))
 
 -- ---- the condition of a loop
@@ -111,7 +120,8 @@ ready memory i v register layout tree held is c = record {
 }
 
 -- The code of a `while` leaves the value of its condition in the register that is tested.
-pub while_evaluates : (memory : ℕ → ℕ) (i v : ℕ) (layout : LayoutData) (tree : Tree) (held : Registers) →
+pub while_evaluates : (memory : ℕ → ℕ) (i v : ℕ) (layout : LayoutData) (tree : Tree)
+    (held : Registers) →
     Evaluated memory i held layout 0 tree v →
     HasIn memory i held (while_code layout tree) (register_of 0 (operand_of 0 tree)) v
 unfolding while_code
@@ -122,8 +132,10 @@ while_evaluates memory i v layout (number k) held c = record {
   keeps = put_other 0 k 3 held (λ e. omega arith);
 }
 while_evaluates memory i v layout own held c = ready memory i v 3 layout own held refl c
-while_evaluates memory i v layout (loop nest) held c = ready memory i v 0 layout (loop nest) held refl c
-while_evaluates memory i v layout (private x) held c = ready memory i v 0 layout (private x) held refl c
+while_evaluates memory i v layout (loop nest) held c =
+    ready memory i v 0 layout (loop nest) held refl c
+while_evaluates memory i v layout (private x) held c =
+    ready memory i v 0 layout (private x) held refl c
 while_evaluates memory i v layout (place array index) held c =
     ready memory i v 0 layout (place array index) held refl c
 while_evaluates memory i v layout (apply op first second) held c =
@@ -144,12 +156,16 @@ compares : (memory : ℕ → ℕ) (i a b : ℕ) (up : Bool) (first second : Oper
     operand_in held second ≡ b → is_shallow (native 0 (order_of up) first second) ≡ true →
     Computes memory i held 0 (native 0 (order_of up) first second) (value_of (order_of up) a b)
 compares memory i a b true first second held p q e f shallow =
-    computes_native memory i 0 a b first second held op.Gt tt (first_apart 0 first second q) (second_apart 0 first second p) e f shallow
+    computes_native memory i 0 a b first second held op.Gt tt (first_apart 0 first second q)
+    (second_apart 0 first second p) e f shallow
 compares memory i a b false first second held p q e f shallow =
-    computes_native memory i 0 a b first second held op.Lt tt (first_apart 0 first second q) (second_apart 0 first second p) e f shallow
+    computes_native memory i 0 a b first second held op.Lt tt (first_apart 0 first second q)
+    (second_apart 0 first second p) e f shallow
 
-pub none_evaluates : (memory : ℕ → ℕ) (i a b : ℕ) (layout : LayoutData) (up : Bool) (first last : Tree) (held : Registers) →
-    HasBoth memory i held layout first last a b → is_shallow (none_code layout up first last) ≡ true →
+pub none_evaluates : (memory : ℕ → ℕ) (i a b : ℕ) (layout : LayoutData) (up : Bool)
+    (first last : Tree) (held : Registers) →
+    HasBoth memory i held layout first last a b → is_shallow (none_code layout up first last) ≡
+    true →
     HasIn memory i held (none_code layout up first last) 0 (bit (has_none up a b))
 unfolding none_code
 none_evaluates memory i a b layout up first last held c shallow =
@@ -159,12 +175,15 @@ none_evaluates memory i a b layout up first last held c shallow =
     let y : Operand = operand_of (takes first) last in
     let back : List Instr = native 0 (order_of up) x y in
     let rest : is_shallow (middle ++ back) ≡ true = shallow_back front (middle ++ back) shallow in
-    let taken : 0 + taken_by x ≡ takes first = omega (arith, operand_taken 0 first (λ one. omega arith)) in
+    let taken : 0 + taken_by x ≡ takes first =
+    omega (arith, operand_taken 0 first (λ one. omega arith)) in
     let second_at : IsAt (takes first) y =
-    operand_at (takes first) last (λ one. value_below layout (takes first) last one (shallow_front middle back rest)) in
+    operand_at (takes first) last (λ one. value_below layout (takes first) last one
+    (shallow_front middle back rest)) in
     let d : Computes memory i c.now 0 back (value_of (order_of up) a b) =
     compares memory i a b up x y c.now (operand_at 0 first (λ one. omega arith))
-    (subst (λ n. IsAt n y) (sym taken) second_at) c.first_is c.second_is (shallow_back middle back rest) in
+    (subst (λ n. IsAt n y) (sym taken) second_at) c.first_is c.second_is
+    (shallow_back middle back rest) in
     record {
       now = d.now;
       runs = ap (λ code. after_all memory i code held) (sym (append_assoc front middle back))

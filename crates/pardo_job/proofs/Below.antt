@@ -12,12 +12,14 @@ use Rattle.pardo_text.specs.declared.operation.Op.TheVariants.{BitAnd, BitOr, Bi
 use Rattle.pardo_text.specs.declared.operation.Op.TheVariants.{Lt, Le, Gt, Ge, And, Or, Min, Max}
 use Rattle.pardo_text.specs.Expression.{Tree, number, own, loop, private, place, apply}
 use Rattle.pardo_job.specs.Layouts.{LayoutData, private_cells, loop_cells, array_cells}
-use Rattle.pardo_job.specs.Operations.{native, in_order, is_turned, choice, conjunction, operation_code}
+use Rattle.pardo_job.specs.Operations.{native, in_order, is_turned, choice, conjunction}
+use Rattle.pardo_job.specs.Operations.{operation_code}
 use Rattle.pardo_job.specs.Operations.{taken_by, is_shallow, negation, register_code}
 use Rattle.pardo_job.specs.Operations.{register_of, instruction_of, zero_test, tested_in, copy_code}
 use Rattle.pardo_job.specs.Operations.{first_chosen, second_chosen}
 use Rattle.pardo_job.specs.Values.{value_code, takes, operand_of, is_truth, own_load}
-use Rattle.pardo_job.proofs.Shallow.{shallow_front, shallow_back, shallow_target, instruction_target}
+use Rattle.pardo_job.proofs.Shallow.{shallow_front, shallow_back, shallow_target}
+use Rattle.pardo_job.proofs.Shallow.{instruction_target}
 use Rattle.pardo_job.proofs.Choices.{test_shallow}
 
 in_order_below : (at : ℕ) (op : Op) (first second : Operand) →
@@ -29,7 +31,8 @@ in_order_below at op first second shallow =
     (shallow_target one [] (shallow_back (register_code spare first) (one ∷ []) shallow))
 
 either_below : (at : ℕ) (op : Op) (first second : Operand) (turned : Bool) →
-    is_shallow (if turned then in_order at op second first else in_order at op first second) ≡ true →
+    is_shallow (if turned then in_order at op second first else in_order at op first second) ≡
+    true →
     at < 3
 either_below at op first second true shallow = in_order_below at op second first shallow
 either_below at op first second false shallow = in_order_below at op first second shallow
@@ -37,7 +40,8 @@ either_below at op first second false shallow = in_order_below at op first secon
 native_below : (at : ℕ) (op : Op) (first second : Operand) →
     is_shallow (native at op first second) ≡ true → at < 3
 unfolding native
-native_below at op first second shallow = either_below at op first second (is_turned op first) shallow
+native_below at op first second shallow =
+    either_below at op first second (is_turned op first) shallow
 
 native_front : (at : ℕ) (op : Op) (first second : Operand) (back : List Instr) →
     is_shallow (native at op first second ++ back) ≡ true → at < 3
@@ -49,7 +53,8 @@ choice_below : (at : ℕ) (op : Op) (first second : Operand) →
 unfolding choice
 choice_below at op first second shallow =
     let less : at + 1 + taken_by (second_chosen first second) < 3 =
-    test_shallow at op (copy_code at (first_chosen first second)) (second_chosen first second) shallow in
+    test_shallow at op (copy_code at (first_chosen first second)) (second_chosen first second)
+    shallow in
     omega arith
 
 conjunction_below : (at : ℕ) (first second : Operand) →
@@ -61,7 +66,8 @@ conjunction_below at first second shallow =
     let back : List Instr = instr.Or at t (Register u) ∷ negation at in
     shallow_target (instr.Or at t (Register u)) (negation at)
     (shallow_back (zero_test (at + 1) second) back
-    (shallow_back (zero_test (at + taken_by second) first) (zero_test (at + 1) second ++ back) shallow))
+    (shallow_back (zero_test (at + taken_by second) first) (zero_test (at + 1) second ++ back)
+    shallow))
 
 and_below : (at : ℕ) (t : Bool) (first second : Operand) →
     is_shallow (operation_code at And t first second) ≡ true → at < 3
@@ -110,6 +116,7 @@ value_below layout at (apply op first second) takes_one shallow =
     let up : ℕ = at + takes first in
     let last : List Instr = operation_code at op (is_truth first && is_truth second)
     (operand_of at first) (operand_of up second) in
-    operation_below op at (is_truth first && is_truth second) (operand_of at first) (operand_of up second)
+    operation_below op at (is_truth first && is_truth second) (operand_of at first)
+    (operand_of up second)
     (shallow_back (value_code layout up second) last
     (shallow_back (value_code layout at first) (value_code layout up second ++ last) shallow))

@@ -66,7 +66,8 @@ blends memory i at test a b c second held lt ne other ha hc hb =
           ∙ ap (λ v. (((a + (2 ^ 32 - b)) % 2 ^ 32 * c) % 2 ^ 32 + v) % 2 ^ 32) is_b;
       keeps = λ which kept.
           let apart : which ≢ at = not_kept at at (omega arith) lt which kept in
-          put_other at z which h2 apart ∙ put_other at y which h1 apart ∙ put_other at x which held apart;
+          put_other at z which h2 apart ∙ put_other at y which h1 apart ∙
+          put_other at x which held apart;
     }
 
 pub blended_one : (a b : ℕ) → a < 2 ^ 32 → b < 2 ^ 32 → blended a b 1 ≡ a
@@ -85,27 +86,33 @@ test_other : (at : ℕ) (second : Operand) → (IsNext at second) → at + 1 + t
     IsOther (at + 1 + taken_by second) second
 test_other at (Number number) next lt = tt
 test_other at (Register register) (inl next) lt = λ same.
-    let one : taken_by (Register register) ≡ 1 = ap (λ b. if b then 1 else 0) (lt-ltb register 3 next.1) in
+    let one : taken_by (Register register) ≡ 1 =
+    ap (λ b. if b then 1 else 0) (lt-ltb register 3 next.1) in
     let is : register ≡ at + 1 = next.0 in
     omega arith
 test_other at (Register register) (inr own) lt = λ same. omega arith
 
 at_other : (at : ℕ) (second : Operand) → IsNext at second → at < 3 → IsOther at second
 at_other at (Number number) next lt = tt
-at_other at (Register register) (inl next) lt = λ same. let is : register ≡ at + 1 = next.0 in omega arith
+at_other at (Register register) (inl next) lt = λ same. let is : register ≡ at + 1 = next.0 in
+    omega arith
 at_other at (Register register) (inr own) lt = λ same. omega arith
 
 least_blended : (a b : ℕ) → a < 2 ^ 32 → b < 2 ^ 32 → blended a b (bit (nat_lt a b)) ≡ min a b
 least_blended a b la lb = ⊎_elim
-    (λ (lt : a < b). ap (λ t. blended a b (bit t)) (lt-ltb a b lt) ∙ blended_one a b la lb ∙ omega arith)
-    (λ (le : b ≤ a). ap (λ t. blended a b (bit t)) (le-ltb a b le) ∙ blended_none a b lb ∙ omega arith)
+    (λ (lt : a < b). ap (λ t. blended a b (bit t)) (lt-ltb a b lt) ∙ blended_one a b la lb ∙
+    omega arith)
+    (λ (le : b ≤ a). ap (λ t. blended a b (bit t)) (le-ltb a b le) ∙ blended_none a b lb ∙
+    omega arith)
     (cases_lt a b)
 
 greatest_blended : (a b : ℕ) → a < 2 ^ 32 → b < 2 ^ 32 →
     blended a b (bit (bit (nat_lt a b) == 0)) ≡ max a b
 greatest_blended a b la lb = ⊎_elim
-    (λ (lt : a < b). ap (λ t. blended a b (bit (bit t == 0))) (lt-ltb a b lt) ∙ blended_none a b lb ∙ omega arith)
-    (λ (le : b ≤ a). ap (λ t. blended a b (bit (bit t == 0))) (le-ltb a b le) ∙ blended_one a b la lb ∙ omega arith)
+    (λ (lt : a < b). ap (λ t. blended a b (bit (bit t == 0))) (lt-ltb a b lt) ∙ blended_none a b lb
+    ∙ omega arith)
+    (λ (le : b ≤ a). ap (λ t. blended a b (bit (bit t == 0))) (le-ltb a b le) ∙
+    blended_one a b la lb ∙ omega arith)
     (cases_lt a b)
 
 -- after code that changes one register that is not kept
@@ -131,9 +138,12 @@ least_chosen memory i at a b second held next at_lt lt la lb ha hb =
     let c : ℕ = bit (nat_lt (held at) (operand_in held second)) in
     let ne : test ≢ at = λ same. omega arith in
     let ne_too : at ≢ test = λ same. omega arith in
-    let is_c : c ≡ bit (nat_lt a b) = ap (λ v. bit (nat_lt v (operand_in held second))) ha ∙ ap (λ v. bit (nat_lt a v)) hb in
-    computes_after memory i at test c (min a b) (instr.Lt test at second ∷ []) (blend_code at test second) held (omega arith) lt refl
-    (subst (λ v. Computes memory i (put test c held) at (blend_code at test second) v) (ap (blended a b) is_c ∙ least_blended a b la lb)
+    let is_c : c ≡ bit (nat_lt a b) = ap (λ v. bit (nat_lt v (operand_in held second))) ha ∙
+    ap (λ v. bit (nat_lt a v)) hb in
+    computes_after memory i at test c (min a b) (instr.Lt test at second ∷ [])
+    (blend_code at test second) held (omega arith) lt refl
+    (subst (λ v. Computes memory i (put test c held) at (blend_code at test second) v)
+    (ap (blended a b) is_c ∙ least_blended a b la lb)
     (blends memory i at test a b c second (put test c held) at_lt ne (at_other at second next at_lt)
     (put_other test c at held ne_too ∙ ha) (put_same test c held)
     (operand_other test c held second (test_other at second next lt) ∙ hb)))
@@ -149,11 +159,17 @@ greatest_chosen memory i at a b second held next at_lt lt la lb ha hb =
     let d : ℕ = bit (h1 test == 0) in
     let ne : test ≢ at = λ same. omega arith in
     let ne_too : at ≢ test = λ same. omega arith in
-    let is_c : c ≡ bit (nat_lt a b) = ap (λ v. bit (nat_lt v (operand_in held second))) ha ∙ ap (λ v. bit (nat_lt a v)) hb in
-    let is_d : d ≡ bit (bit (nat_lt a b) == 0) = ap (λ v. bit (v == 0)) (put_same test c held ∙ is_c) in
-    computes_after memory i at test c (max a b) (instr.Lt test at second ∷ []) (instr.Eq test test (Number 0) ∷ blend_code at test second) held (omega arith) lt refl
-    (computes_after memory i at test d (max a b) (instr.Eq test test (Number 0) ∷ []) (blend_code at test second) h1 (omega arith) lt refl
-    (subst (λ v. Computes memory i (put test d h1) at (blend_code at test second) v) (ap (blended a b) is_d ∙ greatest_blended a b la lb)
+    let is_c : c ≡ bit (nat_lt a b) = ap (λ v. bit (nat_lt v (operand_in held second))) ha ∙
+    ap (λ v. bit (nat_lt a v)) hb in
+    let is_d : d ≡ bit (bit (nat_lt a b) == 0) =
+    ap (λ v. bit (v == 0)) (put_same test c held ∙ is_c) in
+    computes_after memory i at test c (max a b) (instr.Lt test at second ∷ [])
+    (instr.Eq test test (Number 0) ∷ blend_code at test second) held (omega arith) lt refl
+    (computes_after memory i at test d (max a b) (instr.Eq test test (Number 0) ∷ [])
+    (blend_code at test second) h1 (omega arith) lt refl
+    (subst (λ v. Computes memory i (put test d h1) at (blend_code at test second) v)
+    (ap (blended a b) is_d ∙ greatest_blended a b la lb)
     (blends memory i at test a b d second (put test d h1) at_lt ne (at_other at second next at_lt)
     (put_other test d at h1 ne_too ∙ put_other test c at held ne_too ∙ ha) (put_same test d h1)
-    (operand_other test d h1 second (test_other at second next lt) ∙ operand_other test c held second (test_other at second next lt) ∙ hb))))
+    (operand_other test d h1 second (test_other at second next lt) ∙
+    operand_other test c held second (test_other at second next lt) ∙ hb))))

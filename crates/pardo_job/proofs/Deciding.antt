@@ -1,5 +1,6 @@
 -- Straight pieces of lines.
-use Rattle.std.proofs.Common.{◌≡◌, ℕ, ◌==◌, Bool, true, false, not, List, [], ◌++◌, Option, Some, None}
+use Rattle.std.proofs.Common.{◌≡◌, ℕ, ◌==◌, Bool, true, false, not, List, [], ◌++◌, Option, Some}
+use Rattle.std.proofs.Common.{None}
 use Rattle.std.proofs.Common.{refl, sym, ap, ◌∙◌, inl, inr, if◌then◌else◌, append-nil}
 use Rattle.std.specs.Option.{option_and_then}
 use Rattle.pram_text.specs.declared.instr.Instr.{Instr}
@@ -24,7 +25,8 @@ use Rattle.pardo_job.proofs.Evaluating.{Evaluated, EvaluatesTo, evaluates}
 
 -- a value tested twice for 0
 bit_of_value : (v : ℕ) → bit (bit (v == 0) == 0) ≡ bit (not (v == 0))
-bit_of_value v = elim (v == 0) as (λ t. bit (bit t == 0) ≡ bit (not t)) [ true ↦ refl | false ↦ refl ]
+bit_of_value v = elim (v == 0) as (λ t. bit (bit t == 0) ≡ bit (not t))
+    [ true ↦ refl | false ↦ refl ]
 
 truth_of_value : (v : ℕ) → IsTruth v → v ≡ bit (not (v == 0))
 truth_of_value v (inl none) = none ∙ sym (ap (λ x. bit (not (x == 0))) none)
@@ -69,25 +71,30 @@ tested_twice memory i v tree held e shallow =
     let front : List Instr = native 0 op.Eq (operand_of 0 tree) (Number 0) in
     let back : List Instr = native 0 op.Eq (Register 0) (Number 0) in
     let c : Computes memory i held 0 front (value_of op.Eq v 0) =
-    computes_native memory i 0 v 0 (operand_of 0 tree) (Number 0) held op.Eq tt (tree_apart tree) (zero_apart tree) e refl (shallow_front front back shallow) in
+    computes_native memory i 0 v 0 (operand_of 0 tree) (Number 0) held op.Eq tt (tree_apart tree)
+    (zero_apart tree) e refl (shallow_front front back shallow) in
     let d : Computes memory i c.now 0 back (value_of op.Eq (value_of op.Eq v 0) 0) =
-    computes_native memory i 0 (value_of op.Eq v 0) 0 (Register 0) (Number 0) c.now op.Eq tt tt (inl refl) c.gives refl (shallow_back front back shallow) in
+    computes_native memory i 0 (value_of op.Eq v 0) 0 (Register 0) (Number 0) c.now op.Eq tt tt
+    (inl refl) c.gives refl (shallow_back front back shallow) in
     record {
       now = d.now;
       runs = after_front memory i front back held c.now c.runs ∙ d.runs;
-      gives = d.gives ∙ equals_zero (value_of op.Eq v 0) ∙ ap (λ x. bit (x == 0)) (equals_zero v) ∙ bit_of_value v;
+      gives = d.gives ∙ equals_zero (value_of op.Eq v 0) ∙ ap (λ x. bit (x == 0)) (equals_zero v) ∙
+          bit_of_value v;
       keeps = d.keeps 3 (inr refl) ∙ c.keeps 3 (inr refl);
     }
 
 -- the code after the value, by whether that is a truth
-decides_after : (memory : ℕ → ℕ) (i v : ℕ) (layout : LayoutData) (tree : Tree) (held : Registers) (t : Bool) →
+decides_after : (memory : ℕ → ℕ) (i v : ℕ) (layout : LayoutData) (tree : Tree) (held : Registers)
+    (t : Bool) →
     is_truth tree ≡ t → Evaluated memory i held layout 0 tree v →
     is_shallow (value_code layout 0 tree ++ (if t then [] else twice tree)) ≡ true →
     Decides memory i held (value_code layout 0 tree ++ (if t then [] else twice tree)) v
 decides_after memory i v layout tree held true is c shallow = record {
   now = c.now;
   runs = ap (λ code. after_all memory i code held) (append-nil (value_code layout 0 tree)) ∙ c.runs;
-  gives = sym (ap (operand_in c.now) (truth_operand tree is)) ∙ c.gives ∙ truth_of_value v (c.truth is);
+  gives = sym (ap (operand_in c.now) (truth_operand tree is)) ∙ c.gives ∙
+      truth_of_value v (c.truth is);
   keeps = c.keeps 3 (inr refl);
 }
 decides_after memory i v layout tree held false is c shallow =
@@ -95,12 +102,14 @@ decides_after memory i v layout tree held false is c shallow =
     (shallow_back (value_code layout 0 tree) (twice tree) shallow) in
     record {
       now = d.now;
-      runs = after_front memory i (value_code layout 0 tree) (twice tree) held c.now c.runs ∙ d.runs;
+      runs = after_front memory i (value_code layout 0 tree) (twice tree) held c.now c.runs ∙
+          d.runs;
       gives = d.gives;
       keeps = d.keeps ∙ c.keeps 3 (inr refl);
     }
 
-condition_from : (memory : ℕ → ℕ) (i : ℕ) (layout : LayoutData) (tree : Tree) (held : Registers) (v : Option ℕ) →
+condition_from : (memory : ℕ → ℕ) (i : ℕ) (layout : LayoutData) (tree : Tree) (held : Registers)
+    (v : Option ℕ) →
     EvaluatesTo memory i held layout 0 tree v → is_shallow (condition_code layout tree) ≡ true →
     DecidesTo memory i held (condition_code layout tree) v
 unfolding condition_code
@@ -110,7 +119,8 @@ condition_from memory i layout tree held None e shallow =
 condition_from memory i layout tree held (Some v) c shallow =
     decides_after memory i v layout tree held (is_truth tree) refl c shallow
 
-condition_front : (layout : LayoutData) (tree : Tree) → is_shallow (condition_code layout tree) ≡ true →
+condition_front : (layout : LayoutData) (tree : Tree) → is_shallow (condition_code layout tree) ≡
+    true →
     is_shallow (value_code layout 0 tree) ≡ true
 unfolding condition_code
 condition_front layout tree shallow =
@@ -120,4 +130,5 @@ condition_front layout tree shallow =
 pub conditions_decide : ConditionsDecide
 conditions_decide program layout source memory i tree held sees own_i is shallow =
     condition_from memory i layout tree held (value program source i tree)
-    (evaluates program layout source memory i sees tree 0 held own_i is (condition_front layout tree shallow)) shallow
+    (evaluates program layout source memory i sees tree 0 held own_i is
+    (condition_front layout tree shallow)) shallow

@@ -1,5 +1,6 @@
 -- Code after code, as functions put it.
-use Rattle.std.proofs.Common.{◌≡◌, Bool, true, false, ◌&&◌, List, [], ◌++◌, Result, Ok, Err, refl, sym, ap, ◌∙◌, append_assoc, append-nil}
+use Rattle.std.proofs.Common.{◌≡◌, Bool, true, false, ◌&&◌, List, [], ◌++◌, Result, Ok, Err, refl}
+use Rattle.std.proofs.Common.{sym, ap, ◌∙◌, append_assoc, append-nil}
 use Rattle.std.proofs.lemmas.List.Folds.{list_all-append}
 use Rattle.pram_text.specs.declared.instr.Instr.{Instr}
 use Rattle.pardo_job.specs.declared.fault.JobKind.{JobKind}
@@ -8,7 +9,8 @@ use Rattle.pardo_job.specs.Inner.Emitting.{Puts, IsFaultOf}
 use Rattle.pardo_job.specs.Operations.{is_shallow, target_of}
 use Rattle.std.proofs.Common.{nat_lt}
 
-pub shallow_both : (front back : List Instr) → is_shallow (front ++ back) ≡ (is_shallow front && is_shallow back)
+pub shallow_both : (front back : List Instr) → is_shallow (front ++ back) ≡
+    (is_shallow front && is_shallow back)
 shallow_both front back = list_all-append (λ one. nat_lt (target_of one) 3) front back
 
 pub fault_front : (front back : List Instr) (kind : JobKind) → IsFaultOf front kind →
@@ -23,12 +25,14 @@ and_false b c e f = ap (λ t. t && c) e ∙ f
 
 pub fault_back : (front back : List Instr) (kind : JobKind) → is_shallow front ≡ true →
     IsFaultOf back kind → IsFaultOf (front ++ back) kind
-fault_back front back TooDeep s e = shallow_both front back ∙ and_false (is_shallow front) (is_shallow back) s e
+fault_back front back TooDeep s e = shallow_both front back ∙
+    and_false (is_shallow front) (is_shallow back) s e
 fault_back front back TooLong s e = e
 fault_back front back Endless s e = e
 fault_back front back Memory s e = e
 
-pub puts_then : {A B : Type 0} (old mid new front back : List Instr) (x : A) (r : Result B JobKind) →
+pub puts_then : {A B : Type 0} (old mid new front back : List Instr) (x : A)
+    (r : Result B JobKind) →
     Puts old mid (Ok x) front → Puts mid new r back → Puts old new r (front ++ back)
 puts_then old mid new front back x (Ok y) p q = record {
   all = q.all ∙ ap (λ l. l ++ back) p.all ∙ append_assoc old front back;

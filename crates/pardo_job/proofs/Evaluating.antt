@@ -1,7 +1,8 @@
 -- The code of an expression leaves its value in its register, and keeps what was taken; where there
 -- is no value it names a place that there is not.
 use Rattle.std.proofs.Common.{◌≡◌, ℕ, ◌+◌, ◌^◌, ◌<◌, ◌≤◌, nat_lt, Bool, true, false, ◌&&◌}
-use Rattle.std.proofs.Common.{List, [], ◌∷◌, ◌++◌, length, Option, Some, None, refl, sym, ap, ◌∙◌, subst, inl, inr, arith, if◌then◌else◌}
+use Rattle.std.proofs.Common.{List, [], ◌∷◌, ◌++◌, length, Option, Some, None, refl, sym, ap, ◌∙◌}
+use Rattle.std.proofs.Common.{subst, inl, inr, arith, if◌then◌else◌}
 use Rattle.std.specs.Option.{option_map, option_and_then}
 use Rattle.std.proofs.lemmas.Bool.{lt-ltb, le-ltb}
 use Rattle.pram_text.specs.declared.instr.Array.{Array}
@@ -20,7 +21,8 @@ use Rattle.pardo_job.specs.Leaves.{LeavesTo, ExpressionsAreEvaluated}
 use Rattle.pardo_job.specs.Meaning.{Source, value, cell_of}
 use Rattle.pardo_job.specs.Operations.{operation_code, is_shallow, taken_by}
 use Rattle.pardo_job.specs.Sees.{Sees}
-use Rattle.pardo_job.specs.Straight.{Registers, put, operand_in, after_one, after_all, IsKept, Computes}
+use Rattle.pardo_job.specs.Straight.{Registers, put, operand_in, after_one, after_all, IsKept}
+use Rattle.pardo_job.specs.Straight.{Computes}
 use Rattle.pardo_job.specs.Values.{value_code, takes, operand_of, is_truth, own_load}
 use Rattle.pardo_job.proofs.Straight.{put_same, put_other, after_append, after_front}
 use Rattle.pardo_job.proofs.Shallow.{shallow_front, shallow_back}
@@ -57,20 +59,24 @@ none_after memory i front back held e =
 
 -- ---- loads
 
-pub load_within : (memory : ℕ → ℕ) (i at k : ℕ) (held : Registers) (cells : Array) (operand : Operand) →
+pub load_within : (memory : ℕ → ℕ) (i at k : ℕ) (held : Registers) (cells : Array)
+    (operand : Operand) →
     operand_in held operand ≡ k → k < cells.len →
     after_one memory i (instr.Ld at (Named cells operand)) held
     ≡ Some (put at (memory (cells.base + k)) held)
 load_within memory i at k held cells operand e lt =
     ap (λ x. if nat_lt x cells.len then Some (put at (memory (cells.base + x)) held) else None) e
-    ∙ ap (λ t. if t then Some (put at (memory (cells.base + k)) held) else None) (lt-ltb k cells.len lt)
+    ∙ ap (λ t. if t then Some (put at (memory (cells.base + k)) held) else None)
+    (lt-ltb k cells.len lt)
 
-load_outside : (memory : ℕ → ℕ) (i at k : ℕ) (held : Registers) (cells : Array) (operand : Operand) →
+load_outside : (memory : ℕ → ℕ) (i at k : ℕ) (held : Registers) (cells : Array)
+    (operand : Operand) →
     operand_in held operand ≡ k → cells.len ≤ k →
     after_one memory i (instr.Ld at (Named cells operand)) held ≡ None
 load_outside memory i at k held cells operand e le =
     ap (λ x. if nat_lt x cells.len then Some (put at (memory (cells.base + x)) held) else None) e
-    ∙ ap (λ t. if t then Some (put at (memory (cells.base + k)) held) else None) (le-ltb k cells.len le)
+    ∙ ap (λ t. if t then Some (put at (memory (cells.base + k)) held) else None)
+    (le-ltb k cells.len le)
 
 kept_put : (at v : ℕ) (held : Registers) → at < 3 → (which : ℕ) → IsKept at which →
     put at v held which ≡ held which
@@ -101,7 +107,8 @@ place_found program layout source memory i at array k index held sees is lt c No
 place_found program layout source memory i at array k index held sees is lt c (Some cell) e =
     let load : Instr = instr.Ld at (Named (array_cells layout array) (operand_of at index)) in
     let cells : Array = array_cells layout array in
-    let w : (k < cells.len) × (cells.base + k ≡ cell) × (memory cell ≡ source.cells cell) = sees.within array k cell e in
+    let w : (k < cells.len) × (cells.base + k ≡ cell) × (memory cell ≡ source.cells cell) =
+    sees.within array k cell e in
     let v : ℕ = memory (cells.base + k) in
     record {
       now = put at v c.now;
@@ -116,7 +123,8 @@ place_found program layout source memory i at array k index held sees is lt c (S
 
 place_evaluates : (program : ProgramData) (layout : LayoutData) (source : Source) (memory : ℕ → ℕ)
     (i at array : ℕ) (index : Tree) (held : Registers) → Sees program layout source memory i →
-    array < length layout.arrays → at < 3 → (k : Option ℕ) → EvaluatesTo memory i held layout at index k →
+    array < length layout.arrays → at < 3 → (k : Option ℕ) →
+    EvaluatesTo memory i held layout at index k →
     EvaluatesTo memory i held layout at (place array index)
     (option_and_then (λ k. option_map source.cells (cell_of program array k)) k)
 place_evaluates program layout source memory i at array index held sees is lt None e =
@@ -184,8 +192,13 @@ apply_evaluates memory i at op first second layout held a b plain own_i shallow 
     let last : is_shallow back ≡ true = shallow_back middle back rest in
     let lt : at < 3 = operation_below op at t x y last in
     let taken : taken_by x ≡ takes first = operand_taken at first (λ one. lt) in
-    let second_lt : takes second ≡ 1 → up < 3 = λ one. value_below layout up second one (shallow_front middle back rest) in
-    let truths : t ≡ true → IsTruth a × IsTruth b = λ e. (c.truth (both_truths (is_truth first) (is_truth second) e).0, d.truth (both_truths (is_truth first) (is_truth second) e).1) in
+    let second_lt : takes second ≡ 1 → up < 3 =
+    λ one. value_below layout up second one (shallow_front middle back rest) in
+    let truths : t ≡ true → IsTruth a × IsTruth b =
+    λ e. (
+      c.truth (both_truths (is_truth first) (is_truth second) e).0,
+      d.truth (both_truths (is_truth first) (is_truth second) e).1,
+    ) in
     let operands : Operands at i a b d.now x y = record {
       below = lt;
       own = d.keeps 3 (inr refl) ∙ c.keeps 3 (inr refl) ∙ own_i;
@@ -203,7 +216,8 @@ apply_evaluates memory i at op first second layout held a b plain own_i shallow 
       runs = after_front memory i front (middle ++ back) held c.now c.runs
           ∙ after_front memory i middle back c.now d.now d.runs ∙ e.runs;
       gives = e.gives;
-      keeps = λ which kept. e.keeps which kept ∙ d.keeps which (more_kept at (takes first) which kept)
+      keeps = λ which kept. e.keeps which kept ∙
+          d.keeps which (more_kept at (takes first) which kept)
           ∙ c.keeps which kept;
       fits = value_fits op a b plain c.fits d.fits;
       truth = λ is. truth_value op t a b is truths;
@@ -218,9 +232,11 @@ apply_values : (memory : ℕ → ℕ) (i at : ℕ) (op : Op) (first second : Tre
     (option_and_then (λ x. option_map (value_of op x) b) a)
 apply_values memory i at op first second layout held plain own_i shallow None b c d =
     none_after memory i (value_code layout at first) (value_code layout (at + takes first) second
-    ++ operation_code at op (is_truth first && is_truth second) (operand_of at first) (operand_of (at + takes first) second)) held c
+    ++ operation_code at op (is_truth first && is_truth second) (operand_of at first)
+    (operand_of (at + takes first) second)) held c
 apply_values memory i at op first second layout held plain own_i shallow (Some a) None c d =
-    let back : List Instr = operation_code at op (is_truth first && is_truth second) (operand_of at first) (operand_of (at + takes first) second) in
+    let back : List Instr = operation_code at op (is_truth first && is_truth second)
+    (operand_of at first) (operand_of (at + takes first) second) in
     let middle : List Instr = value_code layout (at + takes first) second in
     after_front memory i (value_code layout at first) (middle ++ back) held c.now c.runs
     ∙ none_after memory i middle back c.now (d c.now (c.keeps 3 (inr refl) ∙ own_i))
@@ -230,13 +246,15 @@ apply_values memory i at op first second layout held plain own_i shallow (Some a
 
 -- ---- expressions
 
-leaf_loaded : (memory : ℕ → ℕ) (i at v : ℕ) (held : Registers) (layout : LayoutData) (tree : Tree) (cells : Array) →
+leaf_loaded : (memory : ℕ → ℕ) (i at v : ℕ) (held : Registers) (layout : LayoutData) (tree : Tree)
+    (cells : Array) →
     value_code layout at tree ≡ own_load at cells ∷ [] → operand_of at tree ≡ Register at →
     is_truth tree ≡ false → at < 3 → held 3 ≡ i → i < cells.len → memory (cells.base + i) ≡ v →
     v < 2 ^ 32 → Evaluated memory i held layout at tree v
 leaf_loaded memory i at v held layout tree cells code is plain lt own_i less m fits = record {
   now = put at v held;
-  runs = ap (λ c. after_all memory i c held) code ∙ own_loaded memory i at v held cells lt own_i less m;
+  runs = ap (λ c. after_all memory i c held) code ∙
+      own_loaded memory i at v held cells lt own_i less m;
   gives = ap (operand_in (put at v held)) is ∙ put_same at v held;
   keeps = kept_put at v held lt;
   fits = fits;
@@ -260,35 +278,43 @@ evaluates program layout source memory i sees own at held own_i is shallow = rec
   runs = refl;
   gives = own_i;
   keeps = λ which kept. refl;
-  fits = let lt : i < layout.procs = sees.is_processor in let few : layout.procs ≤ 1024 = sees.few in omega arith;
+  fits = let lt : i < layout.procs = sees.is_processor in let few : layout.procs ≤ 1024 =
+      sees.few in omega arith;
   truth = λ no. no_truth no;
 }
 evaluates program layout source memory i sees (loop nest) at held own_i is shallow =
     let m : memory ((loop_cells layout nest).base + i) ≡ source.loops nest = sees.loops nest is in
-    leaf_loaded memory i at (source.loops nest) held layout (loop nest) (loop_cells layout nest) refl refl refl
+    leaf_loaded memory i at (source.loops nest) held layout (loop nest) (loop_cells layout nest)
+    refl refl refl
     (value_below layout at (loop nest) refl shallow) own_i sees.is_processor m
     (subst (λ x. x < 2 ^ 32) m (sees.fits ((loop_cells layout nest).base + i)))
 evaluates program layout source memory i sees (private x) at held own_i is shallow =
     let m : memory ((private_cells layout x).base + i) ≡ source.privates x i = sees.privates x is in
-    leaf_loaded memory i at (source.privates x i) held layout (private x) (private_cells layout x) refl refl refl
+    leaf_loaded memory i at (source.privates x i) held layout (private x) (private_cells layout x)
+    refl refl refl
     (value_below layout at (private x) refl shallow) own_i sees.is_processor m
     (subst (λ v. v < 2 ^ 32) m (sees.fits ((private_cells layout x).base + i)))
 evaluates program layout source memory i sees (place array index) at held own_i is shallow =
     place_evaluates program layout source memory i at array index held sees is.0
     (value_below layout at (place array index) refl shallow) (value program source i index)
     (evaluates program layout source memory i sees index at held own_i is.1
-    (shallow_front (value_code layout at index) (instr.Ld at (Named (array_cells layout array) (operand_of at index)) ∷ []) shallow))
+    (shallow_front (value_code layout at index)
+    (instr.Ld at (Named (array_cells layout array) (operand_of at index)) ∷ []) shallow))
 evaluates program layout source memory i sees (apply op first second) at held own_i is shallow =
     let middle : List Instr = value_code layout (at + takes first) second in
-    let back : List Instr = operation_code at op (is_truth first && is_truth second) (operand_of at first) (operand_of (at + takes first) second) in
+    let back : List Instr = operation_code at op (is_truth first && is_truth second)
+    (operand_of at first) (operand_of (at + takes first) second) in
     apply_values memory i at op first second layout held is.0 own_i shallow
     (value program source i first) (value program source i second)
     (evaluates program layout source memory i sees first at held own_i is.1.0
     (shallow_front (value_code layout at first) (middle ++ back) shallow))
-    (λ now now_i. evaluates program layout source memory i sees second (at + takes first) now now_i is.1.1
-    (shallow_front middle back (shallow_back (value_code layout at first) (middle ++ back) shallow)))
+    (λ now now_i. evaluates program layout source memory i sees second (at + takes first) now now_i
+    is.1.1
+    (shallow_front middle back (shallow_back (value_code layout at first) (middle ++ back)
+    shallow)))
 
-left : (memory : ℕ → ℕ) (i at : ℕ) (held : Registers) (layout : LayoutData) (tree : Tree) (v : Option ℕ) →
+left : (memory : ℕ → ℕ) (i at : ℕ) (held : Registers) (layout : LayoutData) (tree : Tree)
+    (v : Option ℕ) →
     EvaluatesTo memory i held layout at tree v → LeavesTo memory i held layout at tree v
 left memory i at held layout tree None e = e
 left memory i at held layout tree (Some v) c = record {

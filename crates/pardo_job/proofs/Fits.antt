@@ -1,5 +1,6 @@
 -- Values fit 32 bits.
-use Rattle.std.proofs.Common.{◌≡◌, ℕ, ◌+◌, ◌-◌, ◌*◌, ◌%◌, ◌/◌, ◌^◌, ◌<◌, ◌≤◌, ◌==◌, nat_lt, nat_le, Bool, true, false}
+use Rattle.std.proofs.Common.{◌≡◌, ℕ, ◌+◌, ◌-◌, ◌*◌, ◌%◌, ◌/◌, ◌^◌, ◌<◌, ◌≤◌, ◌==◌, nat_lt, nat_le}
+use Rattle.std.proofs.Common.{Bool, true, false}
 use Rattle.std.proofs.Common.{arith, if◌then◌else◌, ◌&&◌, ◌||◌, not}
 use Rattle.std.proofs.Math.Nat.{div-le_self}
 use Rattle.std.proofs.lemmas.Nat.{and_le_l, or_of_32, xor_of_32}
@@ -32,7 +33,8 @@ value_fits Sub a b plain la lb = remainder_fits (a + (2 ^ 32 - b))
 value_fits Mul a b plain la lb = remainder_fits (a * b)
 value_fits Div a b plain la lb = absurd (let no : true ≡ false = plain in cc)
 value_fits Rem a b plain la lb = absurd (let no : true ≡ false = plain in cc)
-value_fits Shl a b plain la lb = choice_fits (nat_lt b 32) ((a * 2 ^ b) % 2 ^ 32) (remainder_fits (a * 2 ^ b))
+value_fits Shl a b plain la lb =
+    choice_fits (nat_lt b 32) ((a * 2 ^ b) % 2 ^ 32) (remainder_fits (a * 2 ^ b))
 value_fits Shr a b plain la lb = choice_fits (nat_lt b 32) (a / 2 ^ b) (quotient_fits a b la)
 value_fits BitAnd a b plain la lb = let le : bit_and a b ≤ a = and_le_l a b in omega arith
 value_fits BitOr a b plain la lb = or_of_32 a b la lb

@@ -1,8 +1,10 @@
 -- Pieces of the code of lines, one after another.
-use Rattle.std.proofs.Common.{◌≡◌, ◌≢◌, ℕ, zero, suc, ◌+◌, ◌*◌, ◌<◌, ◌≤◌, Bool, true, false, ◌&&◌, ◌==◌, if◌then◌else◌}
+use Rattle.std.proofs.Common.{◌≡◌, ◌≢◌, ℕ, zero, suc, ◌+◌, ◌*◌, ◌<◌, ◌≤◌, Bool, true, false, ◌&&◌}
+use Rattle.std.proofs.Common.{◌==◌, if◌then◌else◌}
 use Rattle.std.proofs.Common.{List, [], ◌∷◌, ◌++◌, length, eq-eqb}
 use Rattle.std.proofs.lemmas.Bool.{ne_eqb}
-use Rattle.std.proofs.Common.{Result, Ok, Err, IfErr, refl, sym, ap, subst, ◌∙◌, append_assoc, arith}
+use Rattle.std.proofs.Common.{Result, Ok, Err, IfErr, refl, sym, ap, subst, ◌∙◌, append_assoc}
+use Rattle.std.proofs.Common.{arith}
 use Rattle.std.proofs.lemmas.List.{length-append}
 use Rattle.pram_text.specs.declared.instr.Instr.{Instr}
 use Rattle.pram_text.specs.declared.instr.Instr.TheVariants.{Jz, Jmp}
@@ -15,7 +17,8 @@ use Rattle.pram_text.specs.declared.instr.Array.{Array}
 use Rattle.pram_text.specs.declared.instr.Operand.{Operand}
 use Rattle.pardo_text.specs.declared.operation.Op.{Op}
 use Rattle.pardo_text.specs.declared.operation.Op.TheVariants as op
-use Rattle.pardo_job.specs.Inner.Pieces.{IsLineFault, PutsLine, bounds_code, bounds_operands, choice_code, under}
+use Rattle.pardo_job.specs.Inner.Pieces.{IsLineFault, PutsLine, bounds_code, bounds_operands}
+use Rattle.pardo_job.specs.Inner.Pieces.{choice_code, under}
 use Rattle.pardo_job.specs.Layouts.{LayoutData, mask_cells}
 use Rattle.pardo_job.specs.Lines.{choosing, idle, masked, none_code, own_store}
 use Rattle.pardo_job.specs.Operations.{is_shallow, native}
@@ -34,7 +37,8 @@ fault_of_line code Memory e = e
 pub puts_line : {A : Type 0} (old new : List Instr) (r : Result A JobKind) (code : List Instr) →
     Puts old new r code → PutsLine old new r code
 puts_line old new (Ok x) code p = record { all = p.all; shallow = p.shallow; fault = p.fault }
-puts_line old new (Err k) code p = record { all = p.all; shallow = p.shallow; fault = fault_of_line code k p.fault }
+puts_line old new (Err k) code p =
+    record { all = p.all; shallow = p.shallow; fault = fault_of_line code k p.fault }
 
 -- code that is too long
 pub line_too_long : {A : Type 0} (old new code : List Instr) → is_shallow code ≡ true →
@@ -65,26 +69,37 @@ pub idle_length : (at n : ℕ) → length (idle at n) ≡ n
 idle_length at zero = refl
 idle_length at (suc n) = let e = idle_length (at + 1) n in omega (arith, e)
 
-pub idle_count : (first now : List Instr) (n : ℕ) → now ≡ first ++ idle (length first) n → length now ≡ length first + n
+pub idle_count : (first now : List Instr) (n : ℕ) → now ≡ first ++ idle (length first) n →
+    length now ≡ length first + n
 idle_count first now n e =
-    omega (arith, ap (λ (l : List Instr). length l) e, length-append first (idle (length first) n), idle_length (length first) n)
+    omega (
+      arith,
+      ap (λ (l : List Instr). length l) e,
+      length-append first (idle (length first) n),
+      idle_length (length first) n,
+    )
 
-pub idle_step : (first now new : List Instr) (n next : ℕ) → now ≡ first ++ idle (length first) n → new ≡ now ++ Jmp next ∷ [] →
+pub idle_step : (first now new : List Instr) (n next : ℕ) → now ≡ first ++ idle (length first) n →
+    new ≡ now ++ Jmp next ∷ [] →
     next ≡ length now + 1 → new ≡ first ++ idle (length first) (n + 1)
 idle_step first now new n next e f g =
     let at : ℕ = length first in
     let is : next ≡ at + n + 1 = omega (arith, idle_count first now n e, g) in
-    f ∙ ap (λ (l : List Instr). l ++ Jmp next ∷ []) e ∙ ap (λ (k : ℕ). (first ++ idle at n) ++ Jmp k ∷ []) is
-    ∙ append_assoc first (idle at n) (Jmp (at + n + 1) ∷ []) ∙ ap (λ (l : List Instr). first ++ l) (sym (idle_more at n))
+    f ∙ ap (λ (l : List Instr). l ++ Jmp next ∷ []) e ∙
+    ap (λ (k : ℕ). (first ++ idle at n) ++ Jmp k ∷ []) is
+    ∙ append_assoc first (idle at n) (Jmp (at + n + 1) ∷ []) ∙
+    ap (λ (l : List Instr). first ++ l) (sym (idle_more at n))
 
 -- ---- the code of masked lines
 
-pub masked_none : (layout : LayoutData) (at depth : ℕ) (body : List Instr) → depth ≡ 0 → masked layout at depth body ≡ body
+pub masked_none : (layout : LayoutData) (at depth : ℕ) (body : List Instr) → depth ≡ 0 →
+    masked layout at depth body ≡ body
 unfolding masked
 masked_none layout at depth body e =
     ap (λ (b : Bool). if b then body else under layout at depth body) (eq-eqb depth 0 e)
 
-pub masked_some : (layout : LayoutData) (at depth : ℕ) (body : List Instr) → depth ≢ 0 → masked layout at depth body ≡ under layout at depth body
+pub masked_some : (layout : LayoutData) (at depth : ℕ) (body : List Instr) → depth ≢ 0 →
+    masked layout at depth body ≡ under layout at depth body
 unfolding masked
 masked_some layout at depth body e =
     ap (λ (b : Bool). if b then body else under layout at depth body) (ne_eqb depth 0 e)
@@ -96,21 +111,29 @@ under_shallow layout at depth body s =
     shallow_both (idle (at + 3) n) (Jmp (at + 4 + 2 * n) ∷ body)
     ∙ ap (λ b. b && is_shallow body) (idle_shallow (at + 3) n) ∙ s
 
-under_long : (layout : LayoutData) (at depth : ℕ) (body : List Instr) → length body ≤ length (under layout at depth body)
+under_long : (layout : LayoutData) (at depth : ℕ) (body : List Instr) →
+    length body ≤ length (under layout at depth body)
 under_long layout at depth body =
     let n : ℕ = length body in
     omega (arith, length-append (idle (at + 3) n) (Jmp (at + 4 + 2 * n) ∷ body))
 
 -- a body that is too long
-pub masked_too_long : {A : Type 0} (old new : List Instr) (layout : LayoutData) (at depth : ℕ) (body : List Instr) → depth ≢ 0 →
-    is_shallow body ≡ true → MAX_CODE < length body → PutsLine {A = A} old new (Err TooLong) (masked layout at depth body)
+pub masked_too_long : {A : Type 0} (old new : List Instr) (layout : LayoutData) (at depth : ℕ)
+    (body : List Instr) → depth ≢ 0 →
+    is_shallow body ≡ true → MAX_CODE < length body →
+    PutsLine {A = A} old new (Err TooLong) (masked layout at depth body)
 masked_too_long {A = A} old new layout at depth body some s lt =
-    subst (λ (code : List Instr). PutsLine {A = A} old new (Err TooLong) code) (sym (masked_some layout at depth body some))
-    (line_too_long old new (under layout at depth body) (under_shallow layout at depth body s) (omega (arith, lt, under_long layout at depth body)))
+    subst (λ (code : List Instr). PutsLine {A = A} old new (Err TooLong) code)
+    (sym (masked_some layout at depth body some))
+    (line_too_long old new (under layout at depth body) (under_shallow layout at depth body s)
+    (omega (arith, lt, under_long layout at depth body)))
 
-choice_shallow : (layout : LayoutData) (at depth : ℕ) (body : List Instr) (b : Bool) → is_shallow body ≡ true →
-    is_shallow (if b then body else own_load 0 (mask_cells layout depth) ∷ Jz 0 (at + 3 + length body)
-    ∷ (body ++ Jmp (at + 4 + 2 * length body) ∷ idle (at + 3 + length body) (length body + 1))) ≡ true
+choice_shallow : (layout : LayoutData) (at depth : ℕ) (body : List Instr) (b : Bool) →
+    is_shallow body ≡ true →
+    is_shallow (if b then body else own_load 0 (mask_cells layout depth) ∷
+    Jz 0 (at + 3 + length body)
+    ∷ (body ++ Jmp (at + 4 + 2 * length body) ∷ idle (at + 3 + length body) (length body + 1))) ≡
+    true
 choice_shallow layout at depth body true s = s
 choice_shallow layout at depth body false s =
     let n : ℕ = length body in
@@ -118,33 +141,43 @@ choice_shallow layout at depth body false s =
     ∙ ap (λ b. b && is_shallow (idle (at + 3 + n) (n + 1))) s ∙ idle_shallow (at + 3 + n) (n + 1)
 
 choice_long : (layout : LayoutData) (at depth : ℕ) (body : List Instr) (b : Bool) →
-    length body ≤ length (if b then body else own_load 0 (mask_cells layout depth) ∷ Jz 0 (at + 3 + length body)
+    length body ≤ length (if b then body else own_load 0 (mask_cells layout depth) ∷
+    Jz 0 (at + 3 + length body)
     ∷ (body ++ Jmp (at + 4 + 2 * length body) ∷ idle (at + 3 + length body) (length body + 1)))
 choice_long layout at depth body true = omega arith
 choice_long layout at depth body false =
     let n : ℕ = length body in
     omega (arith, length-append body (Jmp (at + 4 + 2 * n) ∷ idle (at + 3 + n) (n + 1)))
 
-pub choosing_too_long : {A : Type 0} (old new : List Instr) (layout : LayoutData) (at depth : ℕ) (body : List Instr) →
-    is_shallow body ≡ true → MAX_CODE < length body → PutsLine {A = A} old new (Err TooLong) (choosing layout at depth body)
+pub choosing_too_long : {A : Type 0} (old new : List Instr) (layout : LayoutData) (at depth : ℕ)
+    (body : List Instr) →
+    is_shallow body ≡ true → MAX_CODE < length body →
+    PutsLine {A = A} old new (Err TooLong) (choosing layout at depth body)
 unfolding choosing
 choosing_too_long old new layout at depth body s lt =
     let front : List Instr = choice_code layout at depth body in
     let store : List Instr = own_store (mask_cells layout (depth + 1)) ∷ [] in
     line_too_long old new (front ++ store)
-    (shallow_both front store ∙ ap (λ b. b && is_shallow store) (choice_shallow layout at depth body (depth == 0) s))
+    (shallow_both front store ∙ ap (λ b. b && is_shallow store)
+    (choice_shallow layout at depth body (depth == 0) s))
     (omega (arith, lt, choice_long layout at depth body (depth == 0), length-append front store))
 
-pub choosing_fails : (old new : List Instr) (r : Result (Unit {0}) JobKind) (k : JobKind) (layout : LayoutData) (at depth : ℕ) (body : List Instr) →
-    r ≡ Err k → Puts {A = Unit {0}} old new (Err k) (choice_code layout at depth body) → PutsLine old new r (choosing layout at depth body)
+pub choosing_fails : (old new : List Instr) (r : Result (Unit {0}) JobKind) (k : JobKind)
+    (layout : LayoutData) (at depth : ℕ) (body : List Instr) →
+    r ≡ Err k → Puts {A = Unit {0}} old new (Err k) (choice_code layout at depth body) →
+    PutsLine old new r (choosing layout at depth body)
 unfolding choosing
 choosing_fails old new r k layout at depth body e p =
     let store : List Instr = own_store (mask_cells layout (depth + 1)) ∷ [] in
-    subst (λ (q : Result (Unit {0}) JobKind). PutsLine old new q (choosing layout at depth body)) (sym e)
-    (puts_line old new (Err k) (choice_code layout at depth body ++ store) (puts_fails old new (choice_code layout at depth body) store k p))
+    subst (λ (q : Result (Unit {0}) JobKind). PutsLine old new q (choosing layout at depth body))
+    (sym e)
+    (puts_line old new (Err k) (choice_code layout at depth body ++ store)
+    (puts_fails old new (choice_code layout at depth body) store k p))
 
-pub choosing_put : (old mid new : List Instr) (r : Result (Unit {0}) JobKind) (x : Unit {0}) (layout : LayoutData) (at depth : ℕ) (body : List Instr) (row : Array) →
-    row ≡ mask_cells layout (depth + 1) → Puts old mid (Ok x) (choice_code layout at depth body) → Puts mid new r (own_store row ∷ []) →
+pub choosing_put : (old mid new : List Instr) (r : Result (Unit {0}) JobKind) (x : Unit {0})
+    (layout : LayoutData) (at depth : ℕ) (body : List Instr) (row : Array) →
+    row ≡ mask_cells layout (depth + 1) → Puts old mid (Ok x) (choice_code layout at depth body) →
+    Puts mid new r (own_store row ∷ []) →
     PutsLine old new r (choosing layout at depth body)
 unfolding choosing
 choosing_put old mid new r x layout at depth body row e p q =
@@ -160,23 +193,32 @@ on_err {A = A} {E = E} r k P e p = subst (λ (q : Result A E). IfErr q P) (sym e
 
 none_parts : (layout : LayoutData) (up : Bool) (first last : Tree) →
     none_code layout up first last
-    ≡ bounds_code layout first last ++ native 0 (if up then op.Gt else op.Lt) (operand_of 0 first) (operand_of (takes first) last)
+    ≡ bounds_code layout first last ++
+    native 0 (if up then op.Gt else op.Lt) (operand_of 0 first) (operand_of (takes first) last)
 unfolding none_code
-none_parts layout up first last = sym (append_assoc (value_code layout 0 first) (value_code layout (takes first) last)
+none_parts layout up first last =
+    sym (append_assoc (value_code layout 0 first) (value_code layout (takes first) last)
     (native 0 (if up then op.Gt else op.Lt) (operand_of 0 first) (operand_of (takes first) last)))
 
-pub none_first_fails : (layout : LayoutData) (up : Bool) (first last : Tree) (k : JobKind) → IsFaultOf (bounds_code layout first last) k →
+pub none_first_fails : (layout : LayoutData) (up : Bool) (first last : Tree) (k : JobKind) →
+    IsFaultOf (bounds_code layout first last) k →
     IsFaultOf (none_code layout up first last) k
 none_first_fails layout up first last k f =
-    let back : List Instr = native 0 (if up then op.Gt else op.Lt) (operand_of 0 first) (operand_of (takes first) last) in
-    subst (λ (l : List Instr). IsFaultOf l k) (sym (none_parts layout up first last)) (fault_front (bounds_code layout first last) back k f)
+    let back : List Instr = native 0 (if up then op.Gt else op.Lt) (operand_of 0 first)
+    (operand_of (takes first) last) in
+    subst (λ (l : List Instr). IsFaultOf l k) (sym (none_parts layout up first last))
+    (fault_front (bounds_code layout first last) back k f)
 
-pub none_puts : {A B : Type 0} (old mid new : List Instr) (x : A) (r : Result B JobKind) (layout : LayoutData) (up : Bool) (first last : Tree)
-    (a b : Operand) (one : Op) → one ≡ (if up then op.Gt else op.Lt) → (a, b) ≡ bounds_operands first last →
-    Puts old mid (Ok x) (bounds_code layout first last) → Puts mid new r (native 0 one a b) → Puts old new r (none_code layout up first last)
+pub none_puts : {A B : Type 0} (old mid new : List Instr) (x : A) (r : Result B JobKind)
+    (layout : LayoutData) (up : Bool) (first last : Tree)
+    (a b : Operand) (one : Op) → one ≡ (if up then op.Gt else op.Lt) → (a, b) ≡
+    bounds_operands first last →
+    Puts old mid (Ok x) (bounds_code layout first last) → Puts mid new r (native 0 one a b) →
+    Puts old new r (none_code layout up first last)
 none_puts old mid new x r layout up first last a b one e f p q =
     let front : List Instr = bounds_code layout first last in
-    let back : List Instr = native 0 (if up then op.Gt else op.Lt) (operand_of 0 first) (operand_of (takes first) last) in
+    let back : List Instr = native 0 (if up then op.Gt else op.Lt) (operand_of 0 first)
+    (operand_of (takes first) last) in
     let same : native 0 one a b ≡ back = ap (λ (o : Op). native 0 o a b) e
     ∙ ap (λ (both : Operand × Operand). native 0 (if up then op.Gt else op.Lt) both.0 both.1) f in
     subst (λ (l : List Instr). Puts old new r l) (sym (none_parts layout up first last))

@@ -1,5 +1,6 @@
 -- Laws of the meaning.
-use Rattle.std.proofs.Common.{◌≡◌, ℕ, ◌+◌, ◌==◌, Bool, true, false, ◌&&◌, not, Option, Some, None, refl, sym, ap, ◌∙◌}
+use Rattle.std.proofs.Common.{◌≡◌, ℕ, ◌+◌, ◌==◌, Bool, true, false, ◌&&◌, not, Option, Some, None}
+use Rattle.std.proofs.Common.{refl, sym, ap, ◌∙◌}
 use Rattle.std.proofs.Common.{if◌then◌else◌, unwrap_or}
 use Rattle.std.proofs.Math.Bool.{and-false}
 use Rattle.std.specs.Prelude.{slice_get, is_some}
@@ -14,9 +15,12 @@ use Rattle.pardo_text.specs.Operations.{value_of}
 use Rattle.pardo_text.specs.Program.{ProgramData}
 use Rattle.pardo_job.specs.Conflicts.{asked}
 use Rattle.pardo_job.specs.Laws.{LoopsAreCommon, OutsideIsUnchanged, GoneForGood}
-use Rattle.pardo_job.specs.Meaning.{Source, value, cell_of, is_active, asked_in, write_of, losing, next}
-use Rattle.pardo_job.specs.Meaning.{after_statement, on_to, loop_ended, statement_at, has_none, common_value}
-use Rattle.pardo_job.specs.Meaning.{private_assigned, shared_assigned, chosen, otherwise, turned, next_turn}
+use Rattle.pardo_job.specs.Meaning.{Source, value, cell_of, is_active, asked_in, write_of, losing}
+use Rattle.pardo_job.specs.Meaning.{next}
+use Rattle.pardo_job.specs.Meaning.{after_statement, on_to, loop_ended, statement_at, has_none}
+use Rattle.pardo_job.specs.Meaning.{common_value}
+use Rattle.pardo_job.specs.Meaning.{private_assigned, shared_assigned, chosen, otherwise, turned}
+use Rattle.pardo_job.specs.Meaning.{next_turn}
 
 pub loops_are_common : LoopsAreCommon
 loops_are_common program source (number k) i j is = refl
@@ -57,14 +61,18 @@ not_lost line depth has source i e =
     ap (λ t. if t && not (has i) then Some line else source.gone i) e
 
 private_kept : (program : ProgramData) (line depth x : ℕ) (tree : Tree) (source : Source) (i : ℕ) →
-    is_active source depth i ≡ false → Keeps source (private_assigned program line depth x tree source) i
+    is_active source depth i ≡ false →
+    Keeps source (private_assigned program line depth x tree source) i
 private_kept program line depth x tree source i e = record {
-  privates = λ y. ap (λ t. if (y == x) && t then unwrap_or (value program source i tree) (source.privates y i) else source.privates y i) e
-      ∙ ap (λ t. if t then unwrap_or (value program source i tree) (source.privates y i) else source.privates y i) (and-false (y == x));
+  privates = λ y. ap (λ t. if (y == x) &&
+      t then unwrap_or (value program source i tree) (source.privates y i) else source.privates y i) e
+      ∙ ap (λ t. if t then unwrap_or (value program source i tree) (source.privates y i) else
+      source.privates y i) (and-false (y == x));
   gone = not_lost line depth (λ j. is_some (value program source j tree)) source i e;
 }
 
-shared_kept : (program : ProgramData) (line depth array : ℕ) (index tree : Tree) (source : Source) (i : ℕ) →
+shared_kept : (program : ProgramData) (line depth array : ℕ) (index tree : Tree) (source : Source)
+    (i : ℕ) →
     is_active source depth i ≡ false →
     Keeps source (shared_assigned program line depth array index tree source) i
 shared_kept program line depth array index tree source i e = record {
@@ -89,7 +97,8 @@ loop_kept : (program : ProgramData) (begin : ℕ) (opener : Statement) (source :
     Keeps source (loop_ended program begin opener source) i
 loop_kept program begin (For nest first last up end) source i =
     keeps_if (source.loops nest == common_value program source last) source
-    (on_to (end + 1) source) (on_to (begin + 1) (turned nest (next_turn up (source.loops nest)) source)) i
+    (on_to (end + 1) source) (on_to (begin + 1)
+    (turned nest (next_turn up (source.loops nest)) source)) i
     (moved (end + 1) source source i (same source i))
     (moved (begin + 1) source (turned nest (next_turn up (source.loops nest)) source) i
     (turned_kept nest (next_turn up (source.loops nest)) source i))
@@ -101,25 +110,35 @@ loop_kept program begin (While tree end) source i = same source i
 loop_kept program begin (EndWhile line) source i = same source i
 loop_kept program begin (EndFor line) source i = same source i
 
-statement_kept : (program : ProgramData) (line depth : ℕ) (statement : Statement) (source : Source) (i : ℕ) →
+statement_kept : (program : ProgramData) (line depth : ℕ) (statement : Statement) (source : Source)
+    (i : ℕ) →
     is_active source depth i ≡ false →
     Keeps source (after_statement program line depth statement source) i
 statement_kept program line depth (Assign (Private x) tree) source i e =
-    moved (source.at + 1) source (private_assigned program line depth x tree source) i (private_kept program line depth x tree source i e)
+    moved (source.at + 1) source (private_assigned program line depth x tree source) i
+    (private_kept program line depth x tree source i e)
 statement_kept program line depth (Assign (Array array index) tree) source i e =
-    moved (source.at + 1) source (shared_assigned program line depth array index tree source) i (shared_kept program line depth array index tree source i e)
+    moved (source.at + 1) source (shared_assigned program line depth array index tree source) i
+    (shared_kept program line depth array index tree source i e)
 statement_kept program line depth (If tree) source i e =
-    moved (source.at + 1) source (chosen program line depth tree source) i (chosen_kept program line depth tree source i e)
+    moved (source.at + 1) source (chosen program line depth tree source) i
+    (chosen_kept program line depth tree source i e)
 statement_kept program line depth Else source i e =
     moved (source.at + 1) source (otherwise depth source) i (otherwise_kept depth source i)
-statement_kept program line depth EndIf source i e = moved (source.at + 1) source source i (same source i)
+statement_kept program line depth EndIf source i e =
+    moved (source.at + 1) source source i (same source i)
 statement_kept program line depth (While tree end) source i e =
-    keeps_if (common_value program source tree == 0) source (on_to (end + 1) source) (on_to (source.at + 1) source) i
-    (moved (end + 1) source source i (same source i)) (moved (source.at + 1) source source i (same source i))
-statement_kept program line depth (EndWhile begin) source i e = moved begin source source i (same source i)
+    keeps_if (common_value program source tree == 0) source (on_to (end + 1) source)
+    (on_to (source.at + 1) source) i
+    (moved (end + 1) source source i (same source i))
+    (moved (source.at + 1) source source i (same source i))
+statement_kept program line depth (EndWhile begin) source i e =
+    moved begin source source i (same source i)
 statement_kept program line depth (For nest first last up end) source i e =
-    keeps_if (has_none up (common_value program source first) (common_value program source last)) source
-    (on_to (end + 1) source) (on_to (source.at + 1) (turned nest (common_value program source first) source)) i
+    keeps_if (has_none up (common_value program source first) (common_value program source last))
+    source
+    (on_to (end + 1) source) (on_to (source.at + 1)
+    (turned nest (common_value program source first) source)) i
     (moved (end + 1) source source i (same source i))
     (moved (source.at + 1) source (turned nest (common_value program source first) source) i
     (turned_kept nest (common_value program source first) source i))
@@ -184,7 +203,8 @@ gone_after program source i line None e gone =
       | Some found ↦ after_statement program found.number found.depth found.statement source
     ]) e) ∙ gone
 gone_after program source i line (Some found) e gone =
-    (outside_is_unchanged program source found i e (gone_inactive source found.depth i line gone)).gone
+    (outside_is_unchanged program source found i e
+    (gone_inactive source found.depth i line gone)).gone
     ∙ gone
 
 pub gone_for_good : GoneForGood

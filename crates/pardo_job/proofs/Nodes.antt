@@ -1,5 +1,6 @@
 -- The code of an expression is that of its nodes.
-use Rattle.std.proofs.Common.{◌≡◌, ℕ, ◌+◌, subst, ◌&&◌, List, [], ◌∷◌, ◌++◌, refl, sym, ap, ◌∙◌, append_assoc, append-nil, arith}
+use Rattle.std.proofs.Common.{◌≡◌, ℕ, ◌+◌, subst, ◌&&◌, List, [], ◌∷◌, ◌++◌, refl, sym, ap, ◌∙◌}
+use Rattle.std.proofs.Common.{append_assoc, append-nil, arith}
 use Rattle.std.proofs.lemmas.List.Sums.{sum_by-cons}
 use Rattle.pram_text.specs.declared.instr.Instr.{Instr}
 use Rattle.pram_text.specs.declared.instr.Instr.TheVariants.{Ld}
@@ -18,7 +19,8 @@ free_one : (base : ℕ) (tree : Tree) (trees : List Tree) →
     free_after base (tree ∷ trees) ≡ free_after base trees + takes tree
 free_one base tree trees = omega (arith, sum_by-cons takes tree trees)
 
-pub code_of_nodes : (layout : LayoutData) (base : ℕ) (tree : Tree) (trees : List Tree) (nodes : List Node) →
+pub code_of_nodes : (layout : LayoutData) (base : ℕ) (tree : Tree) (trees : List Tree)
+    (nodes : List Node) →
     nodes_code layout base trees (postfix tree ++ nodes)
     ≡ value_code layout (free_after base trees) tree ++ nodes_code layout base (tree ∷ trees) nodes
 code_of_nodes layout base (number k) trees nodes = refl
@@ -30,18 +32,22 @@ code_of_nodes layout base (place array index) trees nodes =
     let load : Instr = Ld at (Named (array_cells layout array) (operand_of at index)) in
     ap (nodes_code layout base trees) (append_assoc (postfix index) (Place array ∷ []) nodes)
     ∙ code_of_nodes layout base index trees (Place array ∷ nodes)
-    ∙ sym (append_assoc (value_code layout at index) (load ∷ []) (nodes_code layout base (place array index ∷ trees) nodes))
+    ∙ sym (append_assoc (value_code layout at index) (load ∷ [])
+    (nodes_code layout base (place array index ∷ trees) nodes))
 code_of_nodes layout base (apply op first second) trees nodes =
     let at : ℕ = free_after base trees in
     let up : ℕ = at + takes first in
     let front : List Instr = value_code layout at first in
     let middle : List Instr = value_code layout up second in
-    let back : List Instr = operation_code at op (is_truth first && is_truth second) (operand_of at first) (operand_of up second) in
+    let back : List Instr = operation_code at op (is_truth first && is_truth second)
+    (operand_of at first) (operand_of up second) in
     let rest : List Instr = nodes_code layout base (apply op first second ∷ trees) nodes in
     let is_up : free_after base (first ∷ trees) ≡ up = free_one base first trees in
-    ap (nodes_code layout base trees) (append_assoc (postfix first) (postfix second ++ Apply op ∷ []) nodes)
+    ap (nodes_code layout base trees)
+    (append_assoc (postfix first) (postfix second ++ Apply op ∷ []) nodes)
     ∙ code_of_nodes layout base first trees ((postfix second ++ Apply op ∷ []) ++ nodes)
-    ∙ ap (λ l. front ++ l) (ap (nodes_code layout base (first ∷ trees)) (append_assoc (postfix second) (Apply op ∷ []) nodes)
+    ∙ ap (λ l. front ++ l) (ap (nodes_code layout base (first ∷ trees))
+    (append_assoc (postfix second) (Apply op ∷ []) nodes)
     ∙ code_of_nodes layout base second (first ∷ trees) (Apply op ∷ nodes)
     ∙ ap (λ x. value_code layout x second ++ (back ++ rest)) is_up)
     ∙ (ap (λ l. front ++ l) (sym (append_assoc middle back rest))
@@ -68,12 +74,15 @@ nodes_are_ready layout (place array index) trees nodes is rest =
     subst (AreReady layout trees) (sym (append_assoc (postfix index) (Place array ∷ []) nodes))
     (nodes_are_ready layout index trees (Place array ∷ nodes) is.1 (is.0, rest))
 nodes_are_ready layout (apply op first second) trees nodes is rest =
-    subst (AreReady layout trees) (sym (append_assoc (postfix first) (postfix second ++ Apply op ∷ []) nodes))
+    subst (AreReady layout trees) (sym
+    (append_assoc (postfix first) (postfix second ++ Apply op ∷ []) nodes))
     (nodes_are_ready layout first trees ((postfix second ++ Apply op ∷ []) ++ nodes) is.1.0
-    (subst (AreReady layout (first ∷ trees)) (sym (append_assoc (postfix second) (Apply op ∷ []) nodes))
+    (subst (AreReady layout (first ∷ trees))
+    (sym (append_assoc (postfix second) (Apply op ∷ []) nodes))
     (nodes_are_ready layout second (first ∷ trees) (Apply op ∷ nodes) is.1.1 (tt, rest))))
 
 pub all_nodes_ready : (layout : LayoutData) (tree : Tree) → IsLawful layout tree →
     AreReady layout [] (postfix tree)
 all_nodes_ready layout tree is =
-    subst (AreReady layout []) (append-nil (postfix tree)) (nodes_are_ready layout tree [] [] is refl)
+    subst (AreReady layout []) (append-nil (postfix tree))
+    (nodes_are_ready layout tree [] [] is refl)

@@ -83,7 +83,8 @@ taken_at at lt = ap (λ b. if b then 1 else 0) (lt-ltb at 3 lt)
 spare_apart : (at register : ℕ) → at < 3 → at + taken_by (Register register) < 3 →
     (register ≡ at) ⊎ (register ≡ 3) → register ≢ at + taken_by (Register register)
 spare_apart at register lt less (inl same) e =
-    let one : taken_by (Register register) ≡ 1 = ap (λ r. taken_by (Register r)) same ∙ taken_at at lt in
+    let one : taken_by (Register register) ≡ 1 = ap (λ r. taken_by (Register r)) same ∙
+    taken_at at lt in
     omega arith
 spare_apart at register lt less (inr own) e = omega arith
 
@@ -97,26 +98,32 @@ operand_kept at number held (Register register) lt less apart =
 
 -- ---- one operation
 
-ordered_number : (memory : ℕ → ℕ) (i at number b : ℕ) (second : Operand) (held : Registers) (op : Op) →
+ordered_number : (memory : ℕ → ℕ) (i at number b : ℕ) (second : Operand) (held : Registers)
+    (op : Op) →
     IsNative op → IsApart at (Number number) second → operand_in held second ≡ b →
     at < 3 → at + taken_by second < 3 →
-    Computes memory i held at (in_order at op (Number number) second) (value_of (mirrored op) number b)
+    Computes memory i held at (in_order at op (Number number) second)
+    (value_of (mirrored op) number b)
 ordered_number memory i at number b second held op is apart e lt less =
     let spare : ℕ = at + taken_by second in
     let held1 : Registers = put spare number held in
     let same : held1 spare ≡ number = put_same spare number held in
-    let other : operand_in held1 second ≡ b = operand_kept at number held second lt less apart ∙ e in
+    let other : operand_in held1 second ≡ b = operand_kept at number held second lt less apart ∙
+    e in
     let v : ℕ = value_of (mirrored op) (held1 spare) (operand_in held1 second) in
     let is_v : v ≡ value_of (mirrored op) number b =
     ap (λ x. value_of (mirrored op) x (operand_in held1 second)) same
     ∙ ap (value_of (mirrored op) number) other in
     record {
       now = put at v held1;
-      runs = ap (option_and_then (after_all memory i [])) (one_value memory i at spare second held1 op is);
+      runs = ap (option_and_then (after_all memory i []))
+          (one_value memory i at spare second held1 op is);
       gives = put_same at v held1 ∙ is_v;
       keeps = λ which kept.
-          let apart_at : which ≢ at = λ h. ⊎_elim (λ (k : which < at). omega arith) (λ (k : which ≡ 3). omega arith) kept in
-          let apart_spare : which ≢ at + taken_by second = λ h. ⊎_elim (λ (k : which < at). omega arith) (λ (k : which ≡ 3). omega arith) kept in
+          let apart_at : which ≢ at = λ h. ⊎_elim (λ (k : which < at). omega arith)
+          (λ (k : which ≡ 3). omega arith) kept in
+          let apart_spare : which ≢ at + taken_by second =
+          λ h. ⊎_elim (λ (k : which < at). omega arith) (λ (k : which ≡ 3). omega arith) kept in
           put_other at v which held1 apart_at ∙ put_other spare number which held apart_spare;
     }
 
@@ -131,12 +138,14 @@ ordered memory i at a b (Number number) second held op is apart e f shallow =
     let spare_lt : at + taken_by second < 3 = shallow_target set (one ∷ []) shallow in
     let at_lt : at < 3 = subst (λ t. t < 3) (instruction_target op at spare second)
     (shallow_target one [] (shallow_rest set (one ∷ []) shallow)) in
-    subst (λ x. Computes memory i held at (in_order at op (Number number) second) (value_of (mirrored op) x b)) e
+    subst (λ x. Computes memory i held at (in_order at op (Number number) second)
+    (value_of (mirrored op) x b)) e
     (ordered_number memory i at number b second held op is apart f at_lt spare_lt)
 ordered memory i at a b (Register register) second held op is apart e f shallow =
     let at_lt : at < 3 = subst (λ t. t < 3) (instruction_target op at register second)
     (shallow_target (instruction_of op at register second) [] shallow) in
-    computes_one memory i held at (value_of (mirrored op) a b) (instruction_of op at register second) at_lt
+    computes_one memory i held at (value_of (mirrored op) a b)
+    (instruction_of op at register second) at_lt
     (one_value memory i at register second held op is
     ∙ ap (λ x. Some (put at (value_of (mirrored op) x (operand_in held second)) held)) e
     ∙ ap (λ x. Some (put at (value_of (mirrored op) a x) held)) f)
@@ -197,13 +206,19 @@ unfolding native
 computes_native memory i at a b first second held op is apart apart_too e f shallow =
     ⊎_elim
     (λ (turned : is_turned op first ≡ true).
-    let same : native at op first second ≡ in_order at op second first = ap (λ t. if t then in_order at op second first else in_order at op first second) turned in
+    let same : native at op first second ≡ in_order at op second first =
+    ap (λ t. if t then in_order at op second first else in_order at op first second) turned in
     subst (λ code. Computes memory i held at code (value_of op a b)) (sym same)
-    (subst (λ v. Computes memory i held at (in_order at op second first) v) (turned_value op first a b is turned)
-    (ordered memory i at b a second first held op is apart_too f e (ap is_shallow (sym same) ∙ shallow))))
+    (subst (λ v. Computes memory i held at (in_order at op second first) v)
+    (turned_value op first a b is turned)
+    (ordered memory i at b a second first held op is apart_too f e
+    (ap is_shallow (sym same) ∙ shallow))))
     (λ (straight : is_turned op first ≡ false).
-    let same : native at op first second ≡ in_order at op first second = ap (λ t. if t then in_order at op second first else in_order at op first second) straight in
+    let same : native at op first second ≡ in_order at op first second =
+    ap (λ t. if t then in_order at op second first else in_order at op first second) straight in
     subst (λ code. Computes memory i held at code (value_of op a b)) (sym same)
-    (subst (λ o. Computes memory i held at (in_order at op first second) (value_of o a b)) (straight_value op first straight)
-    (ordered memory i at a b first second held op is apart e f (ap is_shallow (sym same) ∙ shallow))))
+    (subst (λ o. Computes memory i held at (in_order at op first second) (value_of o a b))
+    (straight_value op first straight)
+    (ordered memory i at a b first second held op is apart e f
+    (ap is_shallow (sym same) ∙ shallow))))
     (cases_Bool (is_turned op first))

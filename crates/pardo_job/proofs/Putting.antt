@@ -1,5 +1,6 @@
 -- The code of an expression, node after node.
-use Rattle.std.proofs.Common.{◌≡◌, ℕ, ◌+◌, ◌<◌, ◌≤◌, true, List, [], ◌∷◌, ◌++◌, length, drop, get_or, Ok, Err}
+use Rattle.std.proofs.Common.{◌≡◌, ℕ, ◌+◌, ◌<◌, ◌≤◌, true, List, [], ◌∷◌, ◌++◌, length, drop}
+use Rattle.std.proofs.Common.{get_or, Ok, Err}
 use Rattle.std.proofs.Common.{refl, sym, ap, subst, ◌∙◌, append_assoc, append-nil, arith, Result}
 use Rattle.std.proofs.lemmas.List.{at_drop_all, drop_more}
 use Rattle.pram_text.specs.declared.instr.Instr.{Instr}
@@ -13,14 +14,16 @@ use Rattle.pardo_job.specs.Lawful.{IsLawful}
 use Rattle.pardo_job.specs.Operations.{is_shallow, taken_by}
 use Rattle.pardo_job.specs.Values.{takes, value_code}
 use Rattle.pardo_job.specs.Inner.Emitting.{IsFaultOf, Puts}
-use Rattle.pardo_job.specs.Inner.Nodes.{AreReady, CanTake, Holds, Takes, free_after, held_of, node_code, nodes_code}
+use Rattle.pardo_job.specs.Inner.Nodes.{AreReady, CanTake, Holds, Takes, free_after, held_of}
+use Rattle.pardo_job.specs.Inner.Nodes.{node_code, nodes_code}
 use Rattle.pardo_job.proofs.Emitting.{fault_back, fault_front, shallow_both}
 use Rattle.pardo_job.proofs.Holding.{held_less, taken_of}
 use Rattle.pardo_job.proofs.Nodes.{all_nodes_ready, code_of_postfix}
 use Rattle.std.proofs.Common.{◌&&◌}
 
 -- the code of the first k nodes is put, and these expressions are at hand
-pub record PutSoFar (layout : LayoutData) (at : ℕ) (nodes : List Node) (k : ℕ) (old now : List Instr)
+pub record PutSoFar (layout : LayoutData) (at : ℕ) (nodes : List Node) (k : ℕ)
+    (old now : List Instr)
     (stack : Stack) : Type 0 where
   pub trees : List Tree
   pub front : List Instr
@@ -31,8 +34,10 @@ pub record PutSoFar (layout : LayoutData) (at : ℕ) (nodes : List Node) (k : �
   pub shallow : is_shallow front ≡ true
   pub whole : front ++ nodes_code layout at trees (drop k nodes) ≡ nodes_code layout at [] nodes
 
-pub put_none : (layout : LayoutData) (at : ℕ) (tree : Tree) (nodes : List Node) (old now : List Instr) (stack : Stack) →
-    nodes ≡ postfix tree → IsLawful layout tree → now ≡ old → stack.values.items ≡ [] → stack.taken ≡ at →
+pub put_none : (layout : LayoutData) (at : ℕ) (tree : Tree) (nodes : List Node)
+    (old now : List Instr) (stack : Stack) →
+    nodes ≡ postfix tree → IsLawful layout tree → now ≡ old → stack.values.items ≡ [] → stack.taken
+    ≡ at →
     PutSoFar layout at nodes 0 old now stack
 put_none layout at tree nodes old now stack e lawful same values taken = record {
   trees = [];
@@ -45,11 +50,13 @@ put_none layout at tree nodes old now stack e lawful same values taken = record 
   whole = refl;
 }
 
-pub can_take : (layout : LayoutData) (at : ℕ) (nodes : List Node) (k : ℕ) (old now : List Instr) (stack : Stack)
+pub can_take : (layout : LayoutData) (at : ℕ) (nodes : List Node) (k : ℕ) (old now : List Instr)
+    (stack : Stack)
     (d : Node) → k < length nodes → PutSoFar layout at nodes k old now stack →
     CanTake stack layout (get_or nodes k d)
 can_take layout at nodes k old now stack d lt s =
-    let ready : AreReady layout s.trees (get_or nodes k d ∷ drop (k + 1) nodes) = subst (AreReady layout s.trees) (drop_more nodes k d lt) s.ready in record {
+    let ready : AreReady layout s.trees (get_or nodes k d ∷ drop (k + 1) nodes) =
+    subst (AreReady layout s.trees) (drop_more nodes k d lt) s.ready in record {
       before = [];
       base = at;
       trees = s.trees;
@@ -58,8 +65,10 @@ can_take layout at nodes k old now stack d lt s =
     }
 
 -- one node more
-pub put_more : {A : Type 0} (layout : LayoutData) (at : ℕ) (nodes : List Node) (k : ℕ) (old now new : List Instr) (stack after : Stack)
-    (d : Node) (x : A) → k < length nodes → Takes stack now new after (Ok x) layout (get_or nodes k d) →
+pub put_more : {A : Type 0} (layout : LayoutData) (at : ℕ) (nodes : List Node) (k : ℕ)
+    (old now new : List Instr) (stack after : Stack)
+    (d : Node) (x : A) → k < length nodes →
+    Takes stack now new after (Ok x) layout (get_or nodes k d) →
     PutSoFar layout at nodes k old now stack → PutSoFar layout at nodes (k + 1) old new after
 put_more layout at nodes k old now new stack after d x lt take s =
     let node : Node = get_or nodes k d in
@@ -74,18 +83,23 @@ put_more layout at nodes k old now new stack after d x lt take s =
       holds = one.held;
       ready = ready.1;
       leads = sym (ap (trees_of s.trees) e) ∙ s.leads;
-      code = one.put.all ∙ ap (λ (l : List Instr). l ++ code) s.code ∙ append_assoc old s.front code;
-      shallow = shallow_both s.front code ∙ ap (λ t. t && is_shallow code) s.shallow ∙ one.put.shallow;
+      code = one.put.all ∙ ap (λ (l : List Instr). l ++ code) s.code ∙
+          append_assoc old s.front code;
+      shallow = shallow_both s.front code ∙ ap (λ t. t && is_shallow code) s.shallow ∙
+          one.put.shallow;
       whole = append_assoc s.front code (nodes_code layout at trees rest)
           ∙ sym (ap (λ (l : List Node). s.front ++ nodes_code layout at s.trees l) e) ∙ s.whole;
     }
 
 -- a node that is at fault
-pub put_fails : {A B : Type 0} (layout : LayoutData) (at : ℕ) (tree : Tree) (nodes : List Node) (k : ℕ) (old now new : List Instr)
+pub put_fails : {A B : Type 0} (layout : LayoutData) (at : ℕ) (tree : Tree) (nodes : List Node)
+    (k : ℕ) (old now new : List Instr)
     (stack after : Stack) (d : Node) (kind : JobKind) → nodes ≡ postfix tree → k < length nodes →
     Takes {A = A} stack now new after (Err kind) layout (get_or nodes k d) →
-    PutSoFar layout at nodes k old now stack → (r : Result B JobKind) → r ≡ Err kind → Puts old new r (value_code layout at tree)
-put_fails {B = B} layout at tree nodes k old now new stack after d kind is_postfix lt take s r failed =
+    PutSoFar layout at nodes k old now stack → (r : Result B JobKind) → r ≡ Err kind →
+    Puts old new r (value_code layout at tree)
+put_fails {B = B} layout at tree nodes k old now new stack after d kind is_postfix lt take s r
+    failed =
     let node : Node = get_or nodes k d in
     let e : drop k nodes ≡ node ∷ drop (k + 1) nodes = drop_more nodes k d lt in
     let rest : List Node = drop (k + 1) nodes in
@@ -96,28 +110,34 @@ put_fails {B = B} layout at tree nodes k old now new stack after d kind is_postf
     let whole : s.front ++ (code ++ back) ≡ value_code layout at tree =
     sym (ap (λ (l : List Node). s.front ++ nodes_code layout at s.trees l) e) ∙ s.whole
     ∙ ap (nodes_code layout at []) is_postfix ∙ code_of_postfix layout at tree in
-    subst (λ (q : Result B JobKind). Puts old new q (value_code layout at tree)) (sym failed) (record {
+    subst (λ (q : Result B JobKind). Puts old new q (value_code layout at tree)) (sym failed)
+    (record {
       all = tt;
       shallow = tt;
       fault = subst (λ (l : List Instr). IsFaultOf l kind) whole
-          (fault_back s.front (code ++ back) kind s.shallow (fault_front code back kind one.put.fault));
+          (fault_back s.front (code ++ back) kind s.shallow
+          (fault_front code back kind one.put.fault));
     })
 
 -- all nodes
-pub record PutAll (layout : LayoutData) (at : ℕ) (tree : Tree) (old now : List Instr) (stack : Stack) : Type 0 where
+pub record PutAll (layout : LayoutData) (at : ℕ) (tree : Tree) (old now : List Instr)
+    (stack : Stack) : Type 0 where
   pub holds : Holds stack [] at (tree ∷ [])
   pub code : now ≡ old ++ value_code layout at tree
   pub shallow : is_shallow (value_code layout at tree) ≡ true
 
-pub put_all : (layout : LayoutData) (at : ℕ) (tree : Tree) (nodes : List Node) (k : ℕ) (old now : List Instr) (stack : Stack) →
+pub put_all : (layout : LayoutData) (at : ℕ) (tree : Tree) (nodes : List Node) (k : ℕ)
+    (old now : List Instr) (stack : Stack) →
     nodes ≡ postfix tree → length nodes ≤ k → PutSoFar layout at nodes k old now stack →
     PutAll layout at tree old now stack
 put_all layout at tree nodes k old now stack is_postfix le s =
     let one : s.trees ≡ tree ∷ [] =
-    sym (at_drop_all (trees_of s.trees) nodes k le) ∙ s.leads ∙ ap (trees_of []) (is_postfix ∙ sym (append-nil (postfix tree)))
+    sym (at_drop_all (trees_of s.trees) nodes k le) ∙ s.leads ∙
+    ap (trees_of []) (is_postfix ∙ sym (append-nil (postfix tree)))
     ∙ trees_of-postfix tree [] [] in
     let whole : s.front ≡ value_code layout at tree =
-    sym (append-nil s.front) ∙ sym (at_drop_all (λ (l : List Node). s.front ++ nodes_code layout at s.trees l) nodes k le) ∙ s.whole
+    sym (append-nil s.front) ∙ sym (at_drop_all
+    (λ (l : List Node). s.front ++ nodes_code layout at s.trees l) nodes k le) ∙ s.whole
     ∙ ap (nodes_code layout at []) is_postfix ∙ code_of_postfix layout at tree in record {
       holds = subst (Holds stack [] at) one s.holds;
       code = s.code ∙ ap (λ (l : List Instr). old ++ l) whole;
@@ -129,8 +149,10 @@ pub record Taken (x : Held) (at : ℕ) (tree : Tree) : Type 0 where
   pub is : x ≡ held_of at tree
   pub takes_as : taken_by x.operand ≡ takes tree
 
-pub value_taken : (s t : Stack) (x : Held) (at : ℕ) (tree : Tree) → s.taken ≤ 3 → Holds s [] at (tree ∷ []) →
-    s.values.items ≡ t.values.items ++ x ∷ [] → s.taken ≡ t.taken + taken_by x.operand → Taken x at tree
+pub value_taken : (s t : Stack) (x : Held) (at : ℕ) (tree : Tree) → s.taken ≤ 3 →
+    Holds s [] at (tree ∷ []) →
+    s.values.items ≡ t.values.items ++ x ∷ [] → s.taken ≡ t.taken + taken_by x.operand →
+    Taken x at tree
 value_taken s t x at tree few h e f =
     let base : free_after at [] ≡ at = let g : at + 0 ≡ at = omega arith in g in
     let less = held_less s t x [] at tree [] few h e f in
@@ -140,5 +162,6 @@ value_taken s t x at tree few h e f =
       takes_as = ap (λ (y : Held). taken_by y.operand) is ∙ taken_of at tree room;
     }
 
-pub is_there : (s : Stack) (at : ℕ) (tree : Tree) → Holds s [] at (tree ∷ []) → 0 < length s.values.items
+pub is_there : (s : Stack) (at : ℕ) (tree : Tree) → Holds s [] at (tree ∷ []) →
+    0 < length s.values.items
 is_there s at tree h = omega (arith, ap (λ (l : List Held). length l) h.values)

@@ -1,5 +1,6 @@
 -- What code is but for the places that it jumps to.
-use Rattle.std.proofs.Common.{◌≡◌, ℕ, zero, suc, ◌+◌, ◌*◌, Bool, true, false, ◌&&◌, ◌==◌, if◌then◌else◌, nat_lt}
+use Rattle.std.proofs.Common.{◌≡◌, ℕ, zero, suc, ◌+◌, ◌*◌, Bool, true, false, ◌&&◌, ◌==◌}
+use Rattle.std.proofs.Common.{if◌then◌else◌, nat_lt}
 use Rattle.std.proofs.Common.{List, [], ◌∷◌, ◌++◌, length, map, refl, sym, ap, ◌∙◌}
 use Rattle.std.proofs.lemmas.List.{length-map, map-append}
 use Rattle.pram_text.specs.declared.instr.Instr.{Instr}
@@ -12,7 +13,8 @@ use Rattle.pardo_text.specs.declared.statement.Statement.TheVariants.{While, End
 use Rattle.pardo_text.specs.Program.{ProgramData}
 use Rattle.pardo_job.specs.Layouts.{LayoutData, layout_of, loop_cells, mask_cells}
 use Rattle.pardo_job.specs.Lines.{idle, masked, choosing, loop_end, line_code, next_value}
-use Rattle.pardo_job.specs.Lines.{assignment_code, condition_code, while_code, none_code, first_code, turn_code, own_store}
+use Rattle.pardo_job.specs.Lines.{assignment_code, condition_code, while_code, none_code}
+use Rattle.pardo_job.specs.Lines.{first_code, turn_code, own_store}
 use Rattle.pardo_job.specs.Meaning.{statement_at}
 use Rattle.pardo_job.specs.Operations.{is_shallow, target_of, register_of}
 use Rattle.pardo_job.specs.Values.{own_load, operand_of}
@@ -31,7 +33,8 @@ idle_shape a b zero = refl
 idle_shape a b (suc n) = ap (λ (l : List Instr). Jmp 0 ∷ l) (idle_shape (a + 1) (b + 1) n)
 
 -- the same shape of fronts and of backs
-join : (x y u v : List Instr) → shape x ≡ shape y → shape u ≡ shape v → shape (x ++ u) ≡ shape (y ++ v)
+join : (x y u v : List Instr) → shape x ≡ shape y → shape u ≡ shape v → shape (x ++ u) ≡
+    shape (y ++ v)
 join x y u v e f = map-append unplaced x u ∙ ap (λ (l : List Instr). l ++ shape u) e
     ∙ ap (λ (l : List Instr). shape y ++ l) f ∙ sym (map-append unplaced y v)
 
@@ -52,7 +55,8 @@ skipping_shape : (a b : ℕ) (body : List Instr) → shape (skipping a body) ≡
 skipping_shape a b body =
     let n : ℕ = length body in
     ap (λ (l : List Instr). Jz 0 0 ∷ Jmp 0 ∷ l)
-    (join (idle (a + 3) n) (idle (b + 3) n) (Jmp (a + 4 + 2 * n) ∷ body) (Jmp (b + 4 + 2 * n) ∷ body) (idle_shape (a + 3) (b + 3) n) refl)
+    (join (idle (a + 3) n) (idle (b + 3) n) (Jmp (a + 4 + 2 * n) ∷ body)
+    (Jmp (b + 4 + 2 * n) ∷ body) (idle_shape (a + 3) (b + 3) n) refl)
 
 masked_shape : (layout : LayoutData) (a b depth : ℕ) (body : List Instr) →
     shape (masked layout a depth body) ≡ shape (masked layout b depth body)
@@ -82,7 +86,8 @@ unfolding choosing
 choosing_shape layout a b depth body =
     let load : Instr = own_load 0 (mask_cells layout depth) in
     let store : List Instr = own_store (mask_cells layout (depth + 1)) ∷ [] in
-    join (if depth == 0 then body else load ∷ deciding a body) (if depth == 0 then body else load ∷ deciding b body) store store
+    join (if depth == 0 then body else load ∷ deciding a body)
+    (if depth == 0 then body else load ∷ deciding b body) store store
     (either (depth == 0) body body (load ∷ deciding a body) (load ∷ deciding b body) refl
     (ap (λ (l : List Instr). load ∷ l) (deciding_shape a b body)))
     refl
@@ -120,7 +125,8 @@ line_shape program f g a b depth (EndWhile begin) = refl
 line_shape program f g a b depth (For nest first last up end) =
     let test : List Instr = none_code (layout_of program) up first last in
     let start : List Instr = first_code (layout_of program) nest first in
-    join test test (Jz 0 (a + length test + 2) ∷ Jmp (f (end + 1)) ∷ start) (Jz 0 (b + length test + 2) ∷ Jmp (g (end + 1)) ∷ start) refl refl
+    join test test (Jz 0 (a + length test + 2) ∷ Jmp (f (end + 1)) ∷ start)
+    (Jz 0 (b + length test + 2) ∷ Jmp (g (end + 1)) ∷ start) refl refl
 line_shape program f g a b depth (EndFor begin) =
     end_shape (layout_of program) f g begin (statement_at program begin)
 
@@ -163,7 +169,8 @@ line_length program f g a b depth statement =
     ∙ shape_length (line_code program g b depth statement)
 
 pub line_shallow : (program : ProgramData) (f g : ℕ → ℕ) (a b depth : ℕ) (statement : Statement) →
-    is_shallow (line_code program f a depth statement) ≡ is_shallow (line_code program g b depth statement)
+    is_shallow (line_code program f a depth statement) ≡
+    is_shallow (line_code program g b depth statement)
 line_shallow program f g a b depth statement =
     sym (shape_shallow (line_code program f a depth statement))
     ∙ ap is_shallow (line_shape program f g a b depth statement)

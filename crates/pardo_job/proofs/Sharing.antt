@@ -1,5 +1,6 @@
 -- The cells of the arrays of a lawful program.
-use Rattle.std.proofs.Common.{◌≡◌, ℕ, zero, suc, ◌+◌, ◌<◌, ◌≤◌, List, [], ◌∷◌, ◌++◌, length, map, take}
+use Rattle.std.proofs.Common.{◌≡◌, ℕ, zero, suc, ◌+◌, ◌<◌, ◌≤◌, List, [], ◌∷◌, ◌++◌, length, map}
+use Rattle.std.proofs.Common.{take}
 use Rattle.std.proofs.Common.{get_or, arith, refl, ap, ◌∙◌, subst}
 use Rattle.std.proofs.lemmas.List.Sums.{sum_by-append}
 use Rattle.pram_text.specs.declared.instr.Array.{Array}
@@ -38,8 +39,18 @@ part_suc (array ∷ arrays) zero base default lt are = record {
 part_suc (array ∷ arrays) (suc k) base default lt are =
     let rest = part_suc arrays k (base + length array.start) default (omega arith) are.3 in record {
       begins = omega (arith, rest.begins, shared_more array (take k arrays));
-      more = omega (arith, rest.more, shared_more array (take k arrays), shared_more array (take (suc k) arrays));
-      few = omega (arith, rest.few, shared_more array arrays, shared_more array (take (suc k) arrays));
+      more = omega (
+        arith,
+        rest.more,
+        shared_more array (take k arrays),
+        shared_more array (take (suc k) arrays),
+      );
+      few = omega (
+        arith,
+        rest.few,
+        shared_more array arrays,
+        shared_more array (take (suc k) arrays),
+      );
       cells = ap (λ (cells : List Array). cells_of array ∷ cells) rest.cells;
     }
 
@@ -48,7 +59,8 @@ pub part_of : (arrays : List ArrayData) (k base : ℕ) (default : ArrayData) →
     AreArrays arrays base → IsPart arrays base k (k + 1) (get_or arrays k default)
 part_of arrays k base default lt are =
     let one : suc k ≡ k + 1 = omega arith in
-    subst (λ n. IsPart arrays base k n (get_or arrays k default)) one (part_suc arrays k base default lt are)
+    subst (λ n. IsPart arrays base k n (get_or arrays k default)) one
+    (part_suc arrays k base default lt are)
 
 abbrev pub layout_at : List Array → ℕ → ℕ → ℕ → ℕ → ℕ → LayoutData
 layout_at arrays shared procs privates loops choices = record {

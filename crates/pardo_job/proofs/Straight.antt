@@ -50,7 +50,8 @@ computes_one memory i held at value one lt e = record {
   runs = ap (option_and_then (after_all memory i [])) e;
   gives = put_same at value held;
   keeps = λ which kept. put_other at value which held
-      (⊎_elim (λ (below : which < at). λ (same : which ≡ at). omega arith) (λ (own : which ≡ 3). λ (same : which ≡ at). omega arith) kept);
+      (⊎_elim (λ (below : which < at). λ (same : which ≡ at). omega arith)
+      (λ (own : which ≡ 3). λ (same : which ≡ at). omega arith) kept);
 }
 
 -- code after code: the second piece works on what the first one left

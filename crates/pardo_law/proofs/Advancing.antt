@@ -1,6 +1,8 @@
 -- A line of the program, and the steps of the job for it.
-use Rattle.std.proofs.Common.{◌≡◌, ℕ, suc, ◌+◌, ◌-◌, ◌*◌, ◌^◌, ◌<◌, ◌≤◌, ◌==◌, ◌⊎◌, Bool, true, false, not, ◌&&◌, List, [], ◌∷◌, ◌++◌, Option, Some, None}
-use Rattle.std.proofs.Common.{refl, sym, ap, ◌∙◌, subst, inl, inr, ⊎_elim, arith, if◌then◌else◌, length}
+use Rattle.std.proofs.Common.{◌≡◌, ℕ, suc, ◌+◌, ◌-◌, ◌*◌, ◌^◌, ◌<◌, ◌≤◌, ◌==◌, ◌⊎◌, Bool, true}
+use Rattle.std.proofs.Common.{false, not, ◌&&◌, List, [], ◌∷◌, ◌++◌, Option, Some, None}
+use Rattle.std.proofs.Common.{refl, sym, ap, ◌∙◌, subst, inl, inr, ⊎_elim, arith, if◌then◌else◌}
+use Rattle.std.proofs.Common.{length}
 use Rattle.std.specs.Prelude.{is_some, unwrap_or, sum_by}
 use Rattle.std.proofs.lemmas.List.Sums.{sum_by-take-le}
 use Rattle.std.proofs.Math.Seq.{take-length}
@@ -22,11 +24,15 @@ use Rattle.pardo_text.specs.Expression.{Tree}
 use Rattle.pardo_text.specs.Lawful.{IsTree, IsCommonTree, bounds_of}
 use Rattle.pardo_text.specs.Operations.{bit}
 use Rattle.pardo_text.specs.Program.{ProgramData}
-use Rattle.pardo_job.specs.Layouts.{LayoutData, layout_of, private_cells, loop_cells, mask_cells, array_cells}
-use Rattle.pardo_job.specs.Lines.{idle, masked, choosing, others, own_store, place_of, length_of, next_value}
+use Rattle.pardo_job.specs.Layouts.{LayoutData, layout_of, private_cells, loop_cells, mask_cells}
+use Rattle.pardo_job.specs.Layouts.{array_cells}
+use Rattle.pardo_job.specs.Lines.{idle, masked, choosing, others, own_store, place_of, length_of}
+use Rattle.pardo_job.specs.Lines.{next_value}
 use Rattle.pardo_job.specs.Lines.{condition_code, while_code, none_code, first_code, turn_code}
-use Rattle.pardo_job.specs.Meaning.{Source, value, common_value, is_active, is_true, losing, on_to, asked_in, write_of}
-use Rattle.pardo_job.specs.Meaning.{private_assigned, shared_assigned, chosen, otherwise, turned, has_none, next_turn}
+use Rattle.pardo_job.specs.Meaning.{Source, value, common_value, is_active, is_true, losing, on_to}
+use Rattle.pardo_job.specs.Meaning.{asked_in, write_of}
+use Rattle.pardo_job.specs.Meaning.{private_assigned, shared_assigned, chosen, otherwise, turned}
+use Rattle.pardo_job.specs.Meaning.{has_none, next_turn}
 use Rattle.pardo_job.specs.Meaning.{cell_of, given_to, first_below, statement_at}
 use Rattle.pardo_job.specs.Operations.{is_shallow, register_of}
 use Rattle.pardo_job.specs.Values.{value_code, operand_of, takes, own_place, own_load}
@@ -34,14 +40,18 @@ use Rattle.pardo_job.proofs.Assigning.{both_code}
 use Rattle.pardo_job.proofs.Shallow.{shallow_front, shallow_back, shallow_rest}
 use Rattle.pardo_law.specs.Locals.{Local, StandsAt, Standing, StoresAgree}
 use Rattle.pardo_law.proofs.Bodies.{own_body, with_store, under, between}
-use Rattle.pardo_law.proofs.Effects.{private_pictured, masks_pictured, turned_pictured, moved_pictured, there_before}
-use Rattle.pardo_law.proofs.Loops.{while_goes, jump_goes, none_goes, turn_makes, for_end_is, last_goes, again_makes}
+use Rattle.pardo_law.proofs.Effects.{private_pictured, masks_pictured, turned_pictured}
+use Rattle.pardo_law.proofs.Effects.{moved_pictured, there_before}
+use Rattle.pardo_law.proofs.Loops.{while_goes, jump_goes, none_goes, turn_makes, for_end_is}
+use Rattle.pardo_law.proofs.Loops.{last_goes, again_makes}
 use Rattle.pardo_law.proofs.Placing.{stands_back}
 use Rattle.pardo_law.proofs.Cutting.{site, is_inside, Below, StaysIn, made_in, gone_in}
 use Rattle.pardo_law.proofs.Lengths.{code_len}
 use Rattle.pardo_law.proofs.Making.{Makes, Goes, IsMade, Went}
-use Rattle.pardo_law.proofs.Masks.{quiet, quiet_choice, masked_makes, choosing_makes, others_makes, active_is}
-use Rattle.pardo_law.proofs.Picturing.{IsOf, IsHere, Pictured, memory_fits, procs_are, procs_same, layout_procs, shared_low, sees, code_is}
+use Rattle.pardo_law.proofs.Masks.{quiet, quiet_choice, masked_makes, choosing_makes, others_makes}
+use Rattle.pardo_law.proofs.Masks.{active_is}
+use Rattle.pardo_law.proofs.Picturing.{IsOf, IsHere, Pictured, memory_fits, procs_are, procs_same}
+use Rattle.pardo_law.proofs.Picturing.{layout_procs, shared_low, sees, code_is}
 use Rattle.pardo_law.proofs.Picturing.{row_low}
 use Rattle.pardo_law.proofs.Rows.{own_stores, own_agree, after_apart, place_is, own_of}
 use Rattle.pardo_law.proofs.Straightness.{value_straight}
@@ -58,10 +68,12 @@ loop_cost program source (For nest first last up end) =
 loop_cost program source _ = 0
 
 abbrev pub cost : ProgramData → Source → ℕ → Statement → ℕ
-cost program source depth (Assign (Private x) tree) = suc (quiet depth (length (value_code (layout_of program) 0 tree)))
+cost program source depth (Assign (Private x) tree) =
+    suc (quiet depth (length (value_code (layout_of program) 0 tree)))
 cost program source depth (Assign (Shared array index) tree) =
     suc (quiet depth (length (both_code (layout_of program) tree index)))
-cost program source depth (If tree) = suc (quiet_choice depth (length (condition_code (layout_of program) tree)))
+cost program source depth (If tree) =
+    suc (quiet_choice depth (length (condition_code (layout_of program) tree)))
 cost program source depth Else = length (others (layout_of program) depth)
 cost program source depth EndIf = 0
 cost program source depth (While tree end) = length (while_code (layout_of program) tree) + 1
@@ -69,7 +81,8 @@ cost program source depth (EndWhile begin) = 1
 cost program source depth (For nest first last up end) =
     if has_none up (common_value program source first) (common_value program source last)
     then length (none_code (layout_of program) up first last) + 1 + 1
-    else suc ((length (none_code (layout_of program) up first last) + 1) + length (value_code (layout_of program) 0 first))
+    else suc ((length (none_code (layout_of program) up first last) + 1) +
+    length (value_code (layout_of program) 0 first))
 cost program source depth (EndFor begin) = loop_cost program source (statement_at program begin)
 
 -- after t steps the machine shows this state of the program
@@ -80,26 +93,33 @@ pub record Carried (program : ProgramData) (job : JobData) (source : Source) (t 
   pub pictured : Pictured program source memory locals
 
 -- the same after a line, in all whose steps the processors stand in its code
-pub record Advance (program : ProgramData) (job : JobData) (source : Source) (t c lo hi : ℕ) : Type 0 where
+pub record Advance (program : ProgramData) (job : JobData) (source : Source) (t c lo hi : ℕ) :
+    Type 0 where
   pub carried : Carried program job source (t + c)
   pub stays : StaysIn job lo hi t c
 
-here_below : (job : JobData) (lo hi place i : ℕ) (g : Option ℕ) (l : Local) → place < length job.code → IsHere g place i l →
+here_below : (job : JobData) (lo hi place i : ℕ) (g : Option ℕ) (l : Local) →
+    place < length job.code → IsHere g place i l →
     Below lo hi job l
 here_below job lo hi place i (Some line) l lt here = subst (Below lo hi job) (sym here) tt
 here_below job lo hi place i None l lt here = subst (Below lo hi job) (sym here.is) lt
 
-place_most : (program : ProgramData) (j : ℕ) → place_of program j ≤ place_of program (length program.lines)
+place_most : (program : ProgramData) (j : ℕ) →
+    place_of program j ≤ place_of program (length program.lines)
 unfolding place_of
 place_most program j =
     let e = sum_by-take-le (length_of program) program.lines j in
-    let f = ap (λ lines. sum_by (length_of program) lines) (take-length program.lines) in omega arith
+    let f = ap (λ lines. sum_by (length_of program) lines) (take-length program.lines) in
+    omega arith
 
-pub place_low : (program : ProgramData) (job : JobData) → IsOf program job → (j : ℕ) → place_of program j < length job.code
+pub place_low : (program : ProgramData) (job : JobData) → IsOf program job → (j : ℕ) →
+    place_of program j < length job.code
 place_low program job of j =
-    let e = place_most program j in let f = code_len program job (code_is program job of) in omega arith
+    let e = place_most program j in let f = code_len program job (code_is program job of) in
+    omega arith
 
-stays_then : (job : JobData) (lo hi t u n m : ℕ) → u ≡ t + n → StaysIn job lo hi t n → StaysIn job lo hi u m →
+stays_then : (job : JobData) (lo hi t u n m : ℕ) → u ≡ t + n → StaysIn job lo hi t n →
+    StaysIn job lo hi u m →
     StaysIn job lo hi t (n + m)
 stays_then job lo hi t u n m e first second k i lt less = ⊎_elim
     (λ (low : k < n). first k i low less)
@@ -115,7 +135,8 @@ stays_none job lo hi t k i lt less = absurd (omega arith)
 
 -- the writes of a line agree with the machine's rule
 abbrev pub AgreesIn : ProgramData → JobData → Source → ℕ → Statement → Type 0
-AgreesIn program job source depth statement = StoresAgree job (λ i. asked_in program source depth statement i)
+AgreesIn program job source depth statement =
+    StoresAgree job (λ i. asked_in program source depth statement i)
 
 -- ---- pieces of shallow code
 
@@ -125,28 +146,39 @@ masked_body layout at depth body true shallow = shallow
 masked_body layout at depth body false shallow =
     shallow_rest (Jmp (at + 4 + 2 * length body)) body
     (shallow_back (idle (at + 3) (length body)) (Jmp (at + 4 + 2 * length body) ∷ body)
-    (shallow_rest (Jmp (at + 4 + length body)) (idle (at + 3) (length body) ++ (Jmp (at + 4 + 2 * length body) ∷ body))
-    (shallow_rest (Jz 0 (at + 3)) (Jmp (at + 4 + length body) ∷ (idle (at + 3) (length body) ++ (Jmp (at + 4 + 2 * length body) ∷ body)))
-    (shallow_rest (own_load 0 (mask_cells layout depth)) (Jz 0 (at + 3) ∷ (Jmp (at + 4 + length body) ∷ (idle (at + 3) (length body) ++ (Jmp (at + 4 + 2 * length body) ∷ body)))) shallow))))
+    (shallow_rest (Jmp (at + 4 + length body))
+    (idle (at + 3) (length body) ++ (Jmp (at + 4 + 2 * length body) ∷ body))
+    (shallow_rest (Jz 0 (at + 3)) (Jmp (at + 4 + length body) ∷
+    (idle (at + 3) (length body) ++ (Jmp (at + 4 + 2 * length body) ∷ body)))
+    (shallow_rest (own_load 0 (mask_cells layout depth))
+    (Jz 0 (at + 3) ∷ (Jmp (at + 4 + length body) ∷
+    (idle (at + 3) (length body) ++ (Jmp (at + 4 + 2 * length body) ∷ body)))) shallow))))
 
 choosing_body : (layout : LayoutData) (at depth : ℕ) (body : List Instr) (t : Bool) →
     is_shallow (if t then body else between layout at depth body) ≡ true → is_shallow body ≡ true
 choosing_body layout at depth body true shallow = shallow
 choosing_body layout at depth body false shallow =
-    shallow_front body (Jmp (at + 4 + 2 * length body) ∷ idle (at + 3 + length body) (length body + 1))
-    (shallow_rest (Jz 0 (at + 3 + length body)) (body ++ (Jmp (at + 4 + 2 * length body) ∷ idle (at + 3 + length body) (length body + 1)))
-    (shallow_rest (own_load 0 (mask_cells layout depth)) (Jz 0 (at + 3 + length body) ∷ (body ++ (Jmp (at + 4 + 2 * length body) ∷ idle (at + 3 + length body) (length body + 1)))) shallow))
+    shallow_front body (Jmp (at + 4 + 2 * length body) ∷
+    idle (at + 3 + length body) (length body + 1))
+    (shallow_rest (Jz 0 (at + 3 + length body))
+    (body ++ (Jmp (at + 4 + 2 * length body) ∷ idle (at + 3 + length body) (length body + 1)))
+    (shallow_rest (own_load 0 (mask_cells layout depth))
+    (Jz 0 (at + 3 + length body) ∷ (body ++
+    (Jmp (at + 4 + 2 * length body) ∷ idle (at + 3 + length body) (length body + 1)))) shallow))
 
-pub shallow_masked : (layout : LayoutData) (at depth : ℕ) (body : List Instr) → is_shallow (masked layout at depth body) ≡ true →
+pub shallow_masked : (layout : LayoutData) (at depth : ℕ) (body : List Instr) →
+    is_shallow (masked layout at depth body) ≡ true →
     is_shallow body ≡ true
 unfolding masked
 shallow_masked layout at depth body shallow = masked_body layout at depth body (depth == 0) shallow
 
-pub shallow_choosing : (layout : LayoutData) (at depth : ℕ) (body : List Instr) → is_shallow (choosing layout at depth body) ≡ true →
+pub shallow_choosing : (layout : LayoutData) (at depth : ℕ) (body : List Instr) →
+    is_shallow (choosing layout at depth body) ≡ true →
     is_shallow body ≡ true
 unfolding choosing
 shallow_choosing layout at depth body shallow = choosing_body layout at depth body (depth == 0)
-    (shallow_front (if depth == 0 then body else between layout at depth body) (own_store (mask_cells layout (depth + 1)) ∷ []) shallow)
+    (shallow_front (if depth == 0 then body else between layout at depth body)
+    (own_store (mask_cells layout (depth + 1)) ∷ []) shallow)
 
 if_map : (cell : ℕ) (b : Bool) (o : Option ℕ) →
     (if b then option_map {U = ℕ × ℕ} (λ v. (cell, v)) o else None)
@@ -154,8 +186,10 @@ if_map : (cell : ℕ) (b : Bool) (o : Option ℕ) →
 if_map cell true o = refl
 if_map cell false o = refl
 
-module _ (program : ProgramData) (job : JobData) (of : IsOf program job) (source : Source) (t : ℕ) (memory : ℕ → ℕ)
-    (locals : ℕ → Local) (standing : Standing job t memory locals) (pictured : Pictured program source memory locals)
+module _ (program : ProgramData) (job : JobData) (of : IsOf program job) (source : Source) (t : ℕ)
+    (memory : ℕ → ℕ)
+    (locals : ℕ → Local) (standing : Standing job t memory locals)
+    (pictured : Pictured program source memory locals)
     (text_line depth : ℕ) (low : source.at < length program.lines)
     (hi : ℕ) (hi_low : hi ≤ length job.code) where
   abbrev at : ℕ
@@ -170,7 +204,8 @@ module _ (program : ProgramData) (job : JobData) (of : IsOf program job) (source
   many : (i : ℕ) → i < program.procs → i < job.procs
   many i lt = let e = procs_are program job of in omega arith
 
-  bounded : (place i : ℕ) (g : Option ℕ) (l : Local) → place < length job.code → IsHere g place i l → Below at hi job l
+  bounded : (place i : ℕ) (g : Option ℕ) (l : Local) → place < length job.code →
+      IsHere g place i l → Below at hi job l
   bounded place i g l lt here = here_below job at hi place i g l lt here
 
   next_low : source.at + 1 ≤ length program.lines
@@ -178,48 +213,69 @@ module _ (program : ProgramData) (job : JobData) (of : IsOf program job) (source
 
   -- ---- `x := e`
 
-  pub private_advances : (x : ℕ) (tree : Tree) → x < (layout_of program).privates → IsTree (bounds_of program) tree →
+  pub private_advances : (x : ℕ) (tree : Tree) → x < (layout_of program).privates →
+      IsTree (bounds_of program) tree →
       depth ≤ (layout_of program).choices →
       is_shallow (value_code (layout_of program) 0 tree) ≡ true →
-      StandsAt (site at hi job) at (masked (layout_of program) at depth (value_code (layout_of program) 0 tree
+      StandsAt (site at hi job) at (masked (layout_of program) at depth
+      (value_code (layout_of program) 0 tree
       ++ St (own_place (private_cells (layout_of program) x)) (operand_of 0 tree) ∷ [])) →
       at + length (masked (layout_of program) at depth (value_code (layout_of program) 0 tree
-      ++ St (own_place (private_cells (layout_of program) x)) (operand_of 0 tree) ∷ [])) ≡ place_of program (source.at + 1) →
-      Advance program job (on_to (source.at + 1) (private_assigned program text_line depth x tree source)) t
+      ++ St (own_place (private_cells (layout_of program) x)) (operand_of 0 tree) ∷ [])) ≡
+      place_of program (source.at + 1) →
+      Advance program job (on_to (source.at + 1)
+      (private_assigned program text_line depth x tree source)) t
       (suc (quiet depth (length (value_code (layout_of program) 0 tree)))) at hi
   private_advances x tree x_low is few_ifs shallow stands ends =
       let front : List Instr = value_code (layout_of program) 0 tree in
       let n : ℕ = quiet depth (length front) in
-      let P : (ℕ → Local → Type 0) = λ i. IsHere (losing text_line depth (λ j. is_some (value program source j tree)) source i)
+      let P : (ℕ → Local → Type 0) = λ i. IsHere
+      (losing text_line depth (λ j. is_some (value program source j tree)) source i)
       (place_of program (source.at + 1)) i in
-      let values : (ℕ → Option ℕ) = λ i. if is_active source depth i then value program source i tree else None in
-      let done : IsMade job (suc (t + n)) memory (own_stores (layout_of program) x values) P × StaysIn job at hi t (suc n) =
-      made_in job of.job_is at hi t n memory locals standing (own_stores (layout_of program) x values) P
-      (λ i l. bounded (place_of program (source.at + 1)) i (losing text_line depth (λ j. is_some (value program source j tree)) source i) l
+      let values : (ℕ → Option ℕ) = λ i. if is_active source depth i then value program source i
+      tree else None in
+      let done : IsMade job (suc (t + n)) memory (own_stores (layout_of program) x values) P ×
+      StaysIn job at hi t (suc n) =
+      made_in job of.job_is at hi t n memory locals standing
+      (own_stores (layout_of program) x values) P
+      (λ i l. bounded (place_of program (source.at + 1)) i
+      (losing text_line depth (λ j. is_some (value program source j tree)) source i) l
       (place_low program job of (source.at + 1)))
       (λ i lt. with_store (site at hi job) memory i n (locals i) (P i) _ _
-      (if_map (own_of (layout_of program) x i) (is_active source depth i) (value program source i tree))
+      (if_map (own_of (layout_of program) x i) (is_active source depth i)
+      (value program source i tree))
       (subst (λ place. Makes (site at hi job) memory i n (locals i)
-      (if is_active source depth i then option_map {U = ℕ × ℕ} (λ v. (own_of (layout_of program) x i, v)) (value program source i tree) else None)
-      (IsHere (losing text_line depth (λ j. is_some (value program source j tree)) source i) place i)) ends
-      (masked_makes program (site at hi job) of.program_is source memory locals pictured fits i (few i lt) ℕ depth text_line front
+      (if is_active source depth i then option_map {U = ℕ × ℕ}
+      (λ v. (own_of (layout_of program) x i, v)) (value program source i tree) else None)
+      (IsHere (losing text_line depth (λ j. is_some (value program source j tree)) source i) place
+      i)) ends
+      (masked_makes program (site at hi job) of.program_is source memory locals pictured fits i
+      (few i lt) ℕ depth text_line front
       (St (own_place (private_cells (layout_of program) x)) (operand_of 0 tree))
-      (option_map {U = ℕ × ℕ} (λ v. (own_of (layout_of program) x i, v)) (value program source i tree))
-      (value program source i tree) (λ j. is_some (value program source j tree)) few_ifs (λ there. refl)
-      (λ there place held own here. own_body (site at hi job) memory i place held front (private_cells (layout_of program) x) (operand_of 0 tree)
+      (option_map {U = ℕ × ℕ} (λ v. (own_of (layout_of program) x i, v))
+      (value program source i tree))
+      (value program source i tree) (λ j. is_some (value program source j tree)) few_ifs
+      (λ there. refl)
+      (λ there place held own here. own_body (site at hi job) memory i place held front
+      (private_cells (layout_of program) x) (operand_of 0 tree)
       (value program source i tree) (value_straight (layout_of program) 0 tree) here
       (let e = layout_procs program in let f = few i lt in omega arith)
-      (value_to program (site at hi job) of.program_is source memory i (sees program of.program_is source memory locals pictured fits i (few i lt) there) tree held own is shallow))
+      (value_to program (site at hi job) of.program_is source memory i
+      (sees program of.program_is source memory locals pictured fits i (few i lt) there) tree held
+      own is shallow))
       stands)))
       (own_agree job (layout_of program) x values (procs_same program job of)) in
-      let made : IsMade job (suc (t + n)) memory (own_stores (layout_of program) x values) P = done.0 in
+      let made : IsMade job (suc (t + n)) memory (own_stores (layout_of program) x values) P =
+      done.0 in
       record {
         stays = done.1;
         carried = record {
           memory = made.now;
           locals = made.locals;
-          standing = subst (λ u. Standing job u made.now made.locals) (let e : suc (t + n) ≡ t + suc n = omega arith in e) made.standing;
-          pictured = private_pictured program job of source memory locals pictured (suc (t + n)) text_line depth x (source.at + 1) tree
+          standing = subst (λ u. Standing job u made.now made.locals)
+              (let e : suc (t + n) ≡ t + suc n = omega arith in e) made.standing;
+          pictured = private_pictured program job of source memory locals pictured (suc (t + n))
+              text_line depth x (source.at + 1) tree
               (omega arith) x_low made;
         };
       }
@@ -230,13 +286,15 @@ module _ (program : ProgramData) (job : JobData) (of : IsOf program job) (source
   asked_of array index tree i = asked_in program source depth (Assign (Shared array index) tree) i
 
   write_shared : (array cell v : ℕ) (a b : Option ℕ) →
-      option_and_then {U = ℕ × ℕ} (λ w. option_map {U = ℕ × ℕ} (λ c. (c, w)) (option_and_then (cell_of program array) b)) a ≡ Some (cell, v) →
+      option_and_then {U = ℕ × ℕ} (λ w. option_map {U = ℕ × ℕ} (λ c. (c, w))
+      (option_and_then (cell_of program array) b)) a ≡ Some (cell, v) →
       cell < (layout_of program).shared
   write_shared array cell v None b e = absurd (none-some (cell, v) e)
   write_shared array cell v (Some w) None e = absurd (none-some (cell, v) e)
   write_shared array cell v (Some w) (Some k) e = by_cell (cell_of program array k) refl e
     where
-      by_cell : (o : Option ℕ) → cell_of program array k ≡ o → option_map {U = ℕ × ℕ} (λ c. (c, w)) o ≡ Some (cell, v) →
+      by_cell : (o : Option ℕ) → cell_of program array k ≡ o →
+          option_map {U = ℕ × ℕ} (λ c. (c, w)) o ≡ Some (cell, v) →
           cell < (layout_of program).shared
       by_cell None f g = absurd (none-some (cell, v) g)
       by_cell (Some c) f g =
@@ -244,75 +302,107 @@ module _ (program : ProgramData) (job : JobData) (of : IsOf program job) (source
           let p = place_is program of.program_is.arrays array k c f in
           let s = p.shared in omega arith
 
-  pub asked_shared : (array cell v i : ℕ) (index tree : Tree) → asked_of array index tree i ≡ Some (cell, v) →
+  pub asked_shared : (array cell v i : ℕ) (index tree : Tree) → asked_of array index tree i ≡
+      Some (cell, v) →
       cell < (layout_of program).shared
   asked_shared array cell v i index tree e = elim (cases_Bool (is_active source depth i)) [
-    | inl on ↦ write_shared array cell v (value program source i tree) (value program source i index)
+    | inl on ↦ write_shared array cell v (value program source i tree)
+        (value program source i index)
         (sym (ap (λ b. if b then write_of program source array i index tree else None) on) ∙ e)
-    | inr off ↦ absurd (none-some (cell, v) (sym (ap (λ b. if b then write_of program source array i index tree else None) off) ∙ e))
+    | inr off ↦ absurd (none-some (cell, v)
+        (sym (ap (λ b. if b then write_of program source array i index tree else None) off) ∙ e))
   ]
 
-  module _ (array : ℕ) (index tree : Tree) (is : IsTree (bounds_of program) tree) (is_too : IsTree (bounds_of program) index)
+  module _ (array : ℕ) (index tree : Tree) (is : IsTree (bounds_of program) tree)
+      (is_too : IsTree (bounds_of program) index)
       (few_ifs : depth ≤ (layout_of program).choices)
       (shallow : is_shallow (both_code (layout_of program) tree index) ≡ true)
-      (stands : StandsAt (site at hi job) at (masked (layout_of program) at depth (both_code (layout_of program) tree index
-      ++ St (Named (array_cells (layout_of program) array) (operand_of (takes tree) index)) (operand_of 0 tree) ∷ [])))
-      (ends : at + length (masked (layout_of program) at depth (both_code (layout_of program) tree index
-      ++ St (Named (array_cells (layout_of program) array) (operand_of (takes tree) index)) (operand_of 0 tree) ∷ []))
+      (stands : StandsAt (site at hi job) at
+      (masked (layout_of program) at depth (both_code (layout_of program) tree index
+      ++ St (Named (array_cells (layout_of program) array) (operand_of (takes tree) index))
+      (operand_of 0 tree) ∷ [])))
+      (ends : at + length (masked (layout_of program) at depth
+      (both_code (layout_of program) tree index
+      ++ St (Named (array_cells (layout_of program) array) (operand_of (takes tree) index))
+      (operand_of 0 tree) ∷ []))
       ≡ place_of program (source.at + 1)) where
     abbrev shared_steps : ℕ
     shared_steps = quiet depth (length (both_code (layout_of program) tree index))
 
     abbrev shared_gone : ℕ → Option ℕ
-    shared_gone i = losing text_line depth (λ j. is_some (write_of program source array j index tree)) source i
+    shared_gone i = losing text_line depth
+        (λ j. is_some (write_of program source array j index tree)) source i
 
     pub shared_makes : (i : ℕ) → i < job.procs →
         Makes (site at hi job) memory i shared_steps (locals i) (asked_of array index tree i)
         (IsHere (shared_gone i) (place_of program (source.at + 1)) i)
     shared_makes i lt =
-        subst (λ place. Makes (site at hi job) memory i shared_steps (locals i) (asked_of array index tree i) (IsHere (shared_gone i) place i)) ends
-        (masked_makes program (site at hi job) of.program_is source memory locals pictured fits i (few i lt) (ℕ × ℕ) depth text_line
+        subst (λ place. Makes (site at hi job) memory i shared_steps (locals i)
+        (asked_of array index tree i) (IsHere (shared_gone i) place i)) ends
+        (masked_makes program (site at hi job) of.program_is source memory locals pictured fits i
+        (few i lt) (ℕ × ℕ) depth text_line
         (both_code (layout_of program) tree index)
-        (St (Named (array_cells (layout_of program) array) (operand_of (takes tree) index)) (operand_of 0 tree))
+        (St (Named (array_cells (layout_of program) array) (operand_of (takes tree) index))
+        (operand_of 0 tree))
         (write_of program source array i index tree) (write_of program source array i index tree)
         (λ j. is_some (write_of program source array j index tree)) few_ifs (λ there. refl)
-        (λ there place held own here. shared_to program (site at hi job) of.program_is source memory i
-        (sees program of.program_is source memory locals pictured fits i (few i lt) there) array place index tree held here own is is_too shallow)
+        (λ there place held own here. shared_to program (site at hi job) of.program_is source memory
+        i
+        (sees program of.program_is source memory locals pictured fits i (few i lt) there) array
+        place index tree held here own is is_too shallow)
         stands)
 
     pub shared_advances : AgreesIn program job source depth (Assign (Shared array index) tree) →
-        Advance program job (on_to (source.at + 1) (shared_assigned program text_line depth array index tree source)) t (suc shared_steps) at hi
+        Advance program job (on_to (source.at + 1)
+        (shared_assigned program text_line depth array index tree source)) t (suc shared_steps) at
+        hi
     shared_advances agree =
         let stores : (ℕ → Option (ℕ × ℕ)) = λ i. asked_of array index tree i in
-        let P : (ℕ → Local → Type 0) = λ i. IsHere (shared_gone i) (place_of program (source.at + 1)) i in
-        let done : IsMade job (suc (t + shared_steps)) memory stores P × StaysIn job at hi t (suc shared_steps) =
-        made_in job of.job_is at hi t shared_steps memory locals standing stores P (λ i l. bounded (place_of program (source.at + 1)) i (shared_gone i) l (place_low program job of (source.at + 1)))
+        let P : (ℕ → Local → Type 0) = λ i. IsHere (shared_gone i)
+        (place_of program (source.at + 1)) i in
+        let done : IsMade job (suc (t + shared_steps)) memory stores P ×
+        StaysIn job at hi t (suc shared_steps) =
+        made_in job of.job_is at hi t shared_steps memory locals standing stores P
+        (λ i l. bounded (place_of program (source.at + 1)) i (shared_gone i) l
+        (place_low program job of (source.at + 1)))
         shared_makes agree in
         let made : IsMade job (suc (t + shared_steps)) memory stores P = done.0 in
-        let kept : ((cell : ℕ) → (layout_of program).shared ≤ cell → cell < job.cells → made.now cell ≡ memory cell) =
+        let kept : ((cell : ℕ) → (layout_of program).shared ≤ cell → cell < job.cells →
+        made.now cell ≡ memory cell) =
         λ cell high within. made.cells cell within
-        ∙ after_apart job.procs cell stores memory (λ i v lt e. let s = asked_shared array cell v i index tree e in omega arith) in
+        ∙ after_apart job.procs cell stores memory
+        (λ i v lt e. let s = asked_shared array cell v i index tree e in omega arith) in
         let there : ((i : ℕ) → shared_gone i ≡ None → source.gone i ≡ None) =
-        λ i e. there_before source text_line depth i (λ j. is_some (write_of program source array j index tree)) e in
+        λ i e. there_before source text_line depth i
+        (λ j. is_some (write_of program source array j index tree)) e in
         let enough : ((i : ℕ) → i < program.procs → i < (layout_of program).procs) =
         λ i lt. let e = layout_procs program in omega arith in record {
           stays = done.1;
           carried = record {
             memory = made.now;
             locals = made.locals;
-            standing = subst (λ u. Standing job u made.now made.locals) (let e : suc (t + shared_steps) ≡ t + suc shared_steps = omega arith in e) made.standing;
+            standing = subst (λ u. Standing job u made.now made.locals)
+                (let e : suc (t + shared_steps) ≡ t + suc shared_steps = omega arith in e)
+                made.standing;
             pictured = record {
               within = omega arith;
               all = pictured.all;
               cells = λ cell lt. made.cells cell (shared_low program job of cell lt)
-                  ∙ (λ k. unwrap_or (first_below (procs_are program job of k) (λ i. given_to cell (asked_of array index tree i))) (pictured.cells cell lt k));
+                  ∙ (λ k. unwrap_or (first_below (procs_are program job of k)
+                  (λ i. given_to cell (asked_of array index tree i))) (pictured.cells cell lt k));
               privates = λ x i lt less. kept (own_of (layout_of program) x i) (omega arith)
-                  (row_low program job of x i (omega arith) (enough i less)) ∙ pictured.privates x i lt less;
-              loops = λ nest i lt less e. kept (own_of (layout_of program) ((layout_of program).privates + nest) i) (omega arith)
-                  (row_low program job of ((layout_of program).privates + nest) i (omega arith) (enough i less))
+                  (row_low program job of x i (omega arith) (enough i less)) ∙
+                  pictured.privates x i lt less;
+              loops = λ nest i lt less e. kept
+                  (own_of (layout_of program) ((layout_of program).privates + nest) i) (omega arith)
+                  (row_low program job of ((layout_of program).privates + nest) i (omega arith)
+                  (enough i less))
                   ∙ pictured.loops nest i lt less (there i e);
-              masks = λ d i lt less e. kept (own_of (layout_of program) ((layout_of program).privates + (layout_of program).loops + (suc d - 1)) i) (omega arith)
-                  (row_low program job of ((layout_of program).privates + (layout_of program).loops + (suc d - 1)) i (omega arith) (enough i less))
+              masks = λ d i lt less e. kept (own_of (layout_of program)
+                  ((layout_of program).privates + (layout_of program).loops + (suc d - 1)) i)
+                  (omega arith)
+                  (row_low program job of ((layout_of program).privates +
+                  (layout_of program).loops + (suc d - 1)) i (omega arith) (enough i less))
                   ∙ pictured.masks d i lt less (there i e);
               here = λ i lt. made.each i (many i lt);
             };
@@ -321,109 +411,151 @@ module _ (program : ProgramData) (job : JobData) (of : IsOf program job) (source
 
   -- ---- `if` and `else`
 
-  pub choice_advances : (tree : Tree) → IsTree (bounds_of program) tree → depth + 1 ≤ (layout_of program).choices →
+  pub choice_advances : (tree : Tree) → IsTree (bounds_of program) tree → depth +
+      1 ≤ (layout_of program).choices →
       is_shallow (condition_code (layout_of program) tree) ≡ true →
-      StandsAt (site at hi job) at (choosing (layout_of program) at depth (condition_code (layout_of program) tree)) →
-      at + length (choosing (layout_of program) at depth (condition_code (layout_of program) tree)) ≡ place_of program (source.at + 1) →
+      StandsAt (site at hi job) at (choosing (layout_of program) at depth
+      (condition_code (layout_of program) tree)) →
+      at + length (choosing (layout_of program) at depth (condition_code (layout_of program) tree))
+      ≡ place_of program (source.at + 1) →
       Advance program job (on_to (source.at + 1) (chosen program text_line depth tree source)) t
       (suc (quiet_choice depth (length (condition_code (layout_of program) tree)))) at hi
   choice_advances tree is few_ifs shallow stands ends =
       let n : ℕ = quiet_choice depth (length (condition_code (layout_of program) tree)) in
       let after : Source = on_to (source.at + 1) (chosen program text_line depth tree source) in
-      let P : (ℕ → Local → Type 0) = λ i. IsHere (after.gone i) (place_of program (source.at + 1)) i in
+      let P : (ℕ → Local → Type 0) = λ i. IsHere (after.gone i) (place_of program (source.at + 1))
+      i in
       let row : ℕ = (layout_of program).privates + (layout_of program).loops + (depth + 1 - 1) in
       let values : (ℕ → Option ℕ) = λ i. if is_none (source.gone i)
-      then (if source.masks depth i then decided (value program source i tree) else Some 0) else None in
-      let done : IsMade job (suc (t + n)) memory (own_stores (layout_of program) row values) P × StaysIn job at hi t (suc n) =
-      made_in job of.job_is at hi t n memory locals standing (own_stores (layout_of program) row values) P
-      (λ i l. bounded (place_of program (source.at + 1)) i (after.gone i) l (place_low program job of (source.at + 1)))
-      (λ i lt. subst (λ place. Makes (site at hi job) memory i n (locals i) (own_stores (layout_of program) row values i) (IsHere (after.gone i) place i)) ends
-      (choosing_makes program (site at hi job) of.program_is source memory locals pictured fits i (few i lt) depth text_line tree is shallow few_ifs stands))
+      then (if source.masks depth i then decided (value program source i tree) else Some 0) else
+      None in
+      let done : IsMade job (suc (t + n)) memory (own_stores (layout_of program) row values) P ×
+      StaysIn job at hi t (suc n) =
+      made_in job of.job_is at hi t n memory locals standing
+      (own_stores (layout_of program) row values) P
+      (λ i l. bounded (place_of program (source.at + 1)) i (after.gone i) l
+      (place_low program job of (source.at + 1)))
+      (λ i lt. subst (λ place. Makes (site at hi job) memory i n (locals i)
+      (own_stores (layout_of program) row values i) (IsHere (after.gone i) place i)) ends
+      (choosing_makes program (site at hi job) of.program_is source memory locals pictured fits i
+      (few i lt) depth text_line tree is shallow few_ifs stands))
       (own_agree job (layout_of program) row values (procs_same program job of)) in
-      let made : IsMade job (suc (t + n)) memory (own_stores (layout_of program) row values) P = done.0 in
+      let made : IsMade job (suc (t + n)) memory (own_stores (layout_of program) row values) P =
+      done.0 in
       record {
         stays = done.1;
         carried = record {
           memory = made.now;
           locals = made.locals;
-          standing = subst (λ u. Standing job u made.now made.locals) (let e : suc (t + n) ≡ t + suc n = omega arith in e) made.standing;
-          pictured = masks_pictured program job of source memory locals pictured (suc (t + n)) depth (source.at + 1) values after
+          standing = subst (λ u. Standing job u made.now made.locals)
+              (let e : suc (t + n) ≡ t + suc n = omega arith in e) made.standing;
+          pictured = masks_pictured program job of source memory locals pictured (suc (t + n)) depth
+              (source.at + 1) values after
               (omega arith) (omega arith) (λ cell. refl) (λ x i. refl) (λ nest. refl)
-              (λ i e. there_before source text_line depth i (λ j. is_some (value program source j tree)) e)
-              (λ d i ne. ap (λ b. if b then is_active source depth i && is_true (value program source i tree) else source.masks d i)
+              (λ i e. there_before source text_line depth i
+              (λ j. is_some (value program source j tree)) e)
+              (λ d i ne. ap (λ b. if b then is_active source depth i &&
+              is_true (value program source i tree) else source.masks d i)
               (ne_eqb d (depth + 1) ne))
-              (λ i lt e. choice_value tree i (there_before source text_line depth i (λ j. is_some (value program source j tree)) e) e)
+              (λ i lt e. choice_value tree i (there_before source text_line depth i
+              (λ j. is_some (value program source j tree)) e) e)
               refl made;
         };
       }
     where
-      by_mask : (tree : Tree) (i : ℕ) (m : Bool) (o : Option ℕ) → source.masks depth i ≡ m → value program source i tree ≡ o →
+      by_mask : (tree : Tree) (i : ℕ) (m : Bool) (o : Option ℕ) → source.masks depth i ≡ m →
+          value program source i tree ≡ o →
           source.gone i ≡ None →
           losing text_line depth (λ j. is_some (value program source j tree)) source i ≡ None →
           (if m then decided o else Some 0) ≡ Some (bit (m && is_true o))
       by_mask tree i true None e f there lost =
-          let gone : losing text_line depth (λ j. is_some (value program source j tree)) source i ≡ Some text_line =
-          (λ k. if active_is source depth i true there e k && not (is_some (f k)) then Some text_line else source.gone i) in
+          let gone : losing text_line depth (λ j. is_some (value program source j tree)) source i ≡
+          Some text_line =
+          (λ k. if active_is source depth i true there e k &&
+          not (is_some (f k)) then Some text_line else source.gone i) in
           absurd (none-some text_line (sym lost ∙ gone))
       by_mask tree i true (Some v) e f there lost = refl
       by_mask tree i false o e f there lost = refl
 
       choice_value : (tree : Tree) (i : ℕ) → source.gone i ≡ None →
           losing text_line depth (λ j. is_some (value program source j tree)) source i ≡ None →
-          (if is_none (source.gone i) then (if source.masks depth i then decided (value program source i tree) else Some 0) else None)
-          ≡ Some (bit (if depth + 1 == depth + 1 then is_active source depth i && is_true (value program source i tree)
+          (if is_none (source.gone i) then
+          (if source.masks depth i then decided (value program source i tree) else Some 0) else
+          None)
+          ≡ Some (bit (if depth + 1 == depth + 1 then is_active source depth i &&
+          is_true (value program source i tree)
           else source.masks (depth + 1) i))
       choice_value tree i there lost =
-          ap (λ g. if is_none g then (if source.masks depth i then decided (value program source i tree) else Some 0) else None) there
+          ap (λ g. if is_none g then (if source.masks depth i then decided
+          (value program source i tree) else Some 0) else None) there
           ∙ by_mask tree i (source.masks depth i) (value program source i tree) refl refl there lost
-          ∙ ap (λ b. Some (bit (b && is_true (value program source i tree)))) (sym (active_is source depth i (source.masks depth i) there refl))
-          ∙ sym (ap (λ b. Some (bit (if b then is_active source depth i && is_true (value program source i tree)
+          ∙ ap (λ b. Some (bit (b && is_true (value program source i tree))))
+          (sym (active_is source depth i (source.masks depth i) there refl))
+          ∙ sym (ap (λ b. Some (bit (if b then is_active source depth i &&
+          is_true (value program source i tree)
           else source.masks (depth + 1) i))) (eq-eqb (depth + 1) (depth + 1) refl))
 
-  others_length : length (others (layout_of program) depth) ≡ suc (length (own_load 0 (mask_cells (layout_of program) (depth + 1))
-      ∷ (if depth == 0 then Eq 0 0 (Number 0) ∷ [] else own_load 1 (mask_cells (layout_of program) depth) ∷ Lt 0 0 (Register 1) ∷ [])))
+  others_length : length (others (layout_of program) depth) ≡
+      suc (length (own_load 0 (mask_cells (layout_of program) (depth + 1))
+      ∷ (if depth == 0 then Eq 0 0 (Number 0) ∷
+      [] else own_load 1 (mask_cells (layout_of program) depth) ∷ Lt 0 0 (Register 1) ∷ [])))
   unfolding others
   others_length = ap suc (by_depth (depth == 0))
     where
       by_depth : (b : Bool) → length ((if b then Eq 0 0 (Number 0) ∷ []
           else own_load 1 (mask_cells (layout_of program) depth) ∷ Lt 0 0 (Register 1) ∷ [])
           ++ own_store (mask_cells (layout_of program) (depth + 1)) ∷ [])
-          ≡ suc (length (if b then Eq 0 0 (Number 0) ∷ [] else own_load 1 (mask_cells (layout_of program) depth) ∷ Lt 0 0 (Register 1) ∷ []))
+          ≡ suc (length (if b then Eq 0 0 (Number 0) ∷
+          [] else own_load 1 (mask_cells (layout_of program) depth) ∷ Lt 0 0 (Register 1) ∷ []))
       by_depth true = refl
       by_depth false = refl
 
   pub else_advances : depth + 1 ≤ (layout_of program).choices →
       StandsAt (site at hi job) at (others (layout_of program) depth) →
       at + length (others (layout_of program) depth) ≡ place_of program (source.at + 1) →
-      Advance program job (on_to (source.at + 1) (otherwise depth source)) t (length (others (layout_of program) depth)) at hi
+      Advance program job (on_to (source.at + 1) (otherwise depth source)) t
+      (length (others (layout_of program) depth)) at hi
   else_advances few_ifs stands ends =
       let n : ℕ = length (own_load 0 (mask_cells (layout_of program) (depth + 1))
-      ∷ (if depth == 0 then Eq 0 0 (Number 0) ∷ [] else own_load 1 (mask_cells (layout_of program) depth) ∷ Lt 0 0 (Register 1) ∷ [])) in
+      ∷ (if depth == 0 then Eq 0 0 (Number 0) ∷
+      [] else own_load 1 (mask_cells (layout_of program) depth) ∷ Lt 0 0 (Register 1) ∷ [])) in
       let after : Source = on_to (source.at + 1) (otherwise depth source) in
-      let P : (ℕ → Local → Type 0) = λ i. IsHere (source.gone i) (place_of program (source.at + 1)) i in
+      let P : (ℕ → Local → Type 0) = λ i. IsHere (source.gone i) (place_of program (source.at + 1))
+      i in
       let row : ℕ = (layout_of program).privates + (layout_of program).loops + (depth + 1 - 1) in
       let values : (ℕ → Option ℕ) = λ i. if is_none (source.gone i)
       then Some (bit (source.masks depth i && not (source.masks (depth + 1) i))) else None in
-      let done : IsMade job (suc (t + n)) memory (own_stores (layout_of program) row values) P × StaysIn job at hi t (suc n) =
-      made_in job of.job_is at hi t n memory locals standing (own_stores (layout_of program) row values) P
-      (λ i l. bounded (place_of program (source.at + 1)) i (source.gone i) l (place_low program job of (source.at + 1)))
-      (λ i lt. subst (λ place. Makes (site at hi job) memory i n (locals i) (own_stores (layout_of program) row values i) (IsHere (source.gone i) place i)) ends
-      (others_makes program (site at hi job) of.program_is source memory locals pictured fits i (few i lt) depth few_ifs stands))
+      let done : IsMade job (suc (t + n)) memory (own_stores (layout_of program) row values) P ×
+      StaysIn job at hi t (suc n) =
+      made_in job of.job_is at hi t n memory locals standing
+      (own_stores (layout_of program) row values) P
+      (λ i l. bounded (place_of program (source.at + 1)) i (source.gone i) l
+      (place_low program job of (source.at + 1)))
+      (λ i lt. subst (λ place. Makes (site at hi job) memory i n (locals i)
+      (own_stores (layout_of program) row values i) (IsHere (source.gone i) place i)) ends
+      (others_makes program (site at hi job) of.program_is source memory locals pictured fits i
+      (few i lt) depth few_ifs stands))
       (own_agree job (layout_of program) row values (procs_same program job of)) in
-      let made : IsMade job (suc (t + n)) memory (own_stores (layout_of program) row values) P = done.0 in
+      let made : IsMade job (suc (t + n)) memory (own_stores (layout_of program) row values) P =
+      done.0 in
       record {
         stays = subst (StaysIn job at hi t) (sym others_length) done.1;
         carried = record {
           memory = made.now;
           locals = made.locals;
           standing = subst (λ u. Standing job u made.now made.locals)
-              (let e : suc (t + n) ≡ t + suc n = omega arith in e ∙ ap (λ k. t + k) (sym others_length)) made.standing;
-          pictured = masks_pictured program job of source memory locals pictured (suc (t + n)) depth (source.at + 1) values after
+              (let e : suc (t + n) ≡ t + suc n = omega arith in e ∙
+              ap (λ k. t + k) (sym others_length)) made.standing;
+          pictured = masks_pictured program job of source memory locals pictured (suc (t + n)) depth
+              (source.at + 1) values after
               (omega arith) (omega arith) (λ cell. refl) (λ x i. refl) (λ nest. refl) (λ i e. e)
-              (λ d i ne. ap (λ b. if b then source.masks depth i && not (source.masks d i) else source.masks d i)
+              (λ d i ne. ap (λ b. if b then source.masks depth i &&
+              not (source.masks d i) else source.masks d i)
               (ne_eqb d (depth + 1) ne))
-              (λ i lt e. ap (λ g. if is_none g then Some (bit (source.masks depth i && not (source.masks (depth + 1) i))) else None) e
-              ∙ sym (ap (λ b. Some (bit (if b then source.masks depth i && not (source.masks (depth + 1) i) else source.masks (depth + 1) i)))
+              (λ i lt e. ap (λ g. if is_none g then Some
+              (bit (source.masks depth i && not (source.masks (depth + 1) i))) else None) e
+              ∙ sym (ap (λ b. Some (bit (if b then source.masks depth i &&
+              not (source.masks (depth + 1) i) else source.masks (depth + 1) i)))
               (eq-eqb (depth + 1) (depth + 1) refl)))
               refl made;
         };
@@ -432,71 +564,99 @@ module _ (program : ProgramData) (job : JobData) (of : IsOf program job) (source
   -- ---- loops
 
   went_on : (next n : ℕ) → next ≤ length program.lines →
-      ((i : ℕ) → i < job.procs → Goes (site at hi job) memory i n (locals i) (IsHere (source.gone i) (place_of program next) i)) →
+      ((i : ℕ) → i < job.procs → Goes (site at hi job) memory i n (locals i)
+      (IsHere (source.gone i) (place_of program next) i)) →
       Advance program job (on_to next source) t n at hi
   went_on next n next_low goes =
-      let done : Went job (t + n) memory (λ i. IsHere (source.gone i) (place_of program next) i) × StaysIn job at hi t n =
-      gone_in job of.job_is at hi t n memory locals standing (λ i. IsHere (source.gone i) (place_of program next) i)
-      (λ i l. bounded (place_of program next) i (source.gone i) l (place_low program job of next)) goes in
-      let went : Went job (t + n) memory (λ i. IsHere (source.gone i) (place_of program next) i) = done.0 in
+      let done : Went job (t + n) memory (λ i. IsHere (source.gone i) (place_of program next) i) ×
+      StaysIn job at hi t n =
+      gone_in job of.job_is at hi t n memory locals standing
+      (λ i. IsHere (source.gone i) (place_of program next) i)
+      (λ i l. bounded (place_of program next) i (source.gone i) l (place_low program job of next))
+      goes in
+      let went : Went job (t + n) memory (λ i. IsHere (source.gone i) (place_of program next) i) =
+      done.0 in
       record {
         stays = done.1;
         carried = record {
           memory = memory;
           locals = went.places;
           standing = went.standing;
-          pictured = moved_pictured program job of source memory locals pictured next went.places next_low
+          pictured = moved_pictured program job of source memory locals pictured next went.places
+              next_low
               (λ i lt. went.each i (many i lt));
         };
       }
 
-  pub while_advances : (tree : Tree) (end : ℕ) → IsCommonTree (bounds_of program) tree → end < length program.lines →
+  pub while_advances : (tree : Tree) (end : ℕ) → IsCommonTree (bounds_of program) tree →
+      end < length program.lines →
       is_shallow (while_code (layout_of program) tree) ≡ true →
-      StandsAt (site at hi job) at (while_code (layout_of program) tree ++ Jz (register_of 0 (operand_of 0 tree)) (place_of program (end + 1)) ∷ []) →
+      StandsAt (site at hi job) at (while_code (layout_of program) tree ++
+      Jz (register_of 0 (operand_of 0 tree)) (place_of program (end + 1)) ∷ []) →
       at + length (while_code (layout_of program) tree) + 1 ≡ place_of program (source.at + 1) →
       Advance program job
-      (if common_value program source tree == 0 then on_to (end + 1) source else on_to (source.at + 1) source)
+      (if common_value program source tree == 0 then on_to (end + 1) source else on_to
+      (source.at + 1) source)
       t (length (while_code (layout_of program) tree) + 1) at hi
-  while_advances tree end is end_low shallow stands ends = by_value (common_value program source tree == 0) refl
+  while_advances tree end is end_low shallow stands ends =
+      by_value (common_value program source tree == 0) refl
     where
       goes : (b : Bool) → (common_value program source tree == 0) ≡ b → (i : ℕ) → i < job.procs →
-          Goes (site at hi job) memory i (length (while_code (layout_of program) tree) + 1) (locals i)
-          (IsHere (source.gone i) (if b then place_of program (end + 1) else at + length (while_code (layout_of program) tree) + 1) i)
-      goes b e i lt = subst (λ x. Goes (site at hi job) memory i (length (while_code (layout_of program) tree) + 1) (locals i)
-          (IsHere (source.gone i) (if x then place_of program (end + 1) else at + length (while_code (layout_of program) tree) + 1) i)) e
-          (while_goes program (site at hi job) of.program_is source memory locals pictured fits i (few i lt) tree (place_of program (end + 1)) is shallow stands)
+          Goes (site at hi job) memory i (length (while_code (layout_of program) tree) + 1)
+          (locals i)
+          (IsHere (source.gone i) (if b then place_of program (end + 1) else at +
+          length (while_code (layout_of program) tree) + 1) i)
+      goes b e i lt = subst (λ x. Goes (site at hi job) memory i
+          (length (while_code (layout_of program) tree) + 1) (locals i)
+          (IsHere (source.gone i) (if x then place_of program (end + 1) else at +
+          length (while_code (layout_of program) tree) + 1) i)) e
+          (while_goes program (site at hi job) of.program_is source memory locals pictured fits i
+          (few i lt) tree (place_of program (end + 1)) is shallow stands)
 
       by_value : (b : Bool) → (common_value program source tree == 0) ≡ b →
           Advance program job (if b then on_to (end + 1) source else on_to (source.at + 1) source)
           t (length (while_code (layout_of program) tree) + 1) at hi
-      by_value true e = went_on (end + 1) (length (while_code (layout_of program) tree) + 1) (omega arith)
+      by_value true e = went_on (end + 1) (length (while_code (layout_of program) tree) + 1)
+          (omega arith)
           (goes true e)
-      by_value false e = went_on (source.at + 1) (length (while_code (layout_of program) tree) + 1) (omega arith)
-          (λ i lt. subst (λ place. Goes (site at hi job) memory i (length (while_code (layout_of program) tree) + 1) (locals i)
+      by_value false e = went_on (source.at + 1) (length (while_code (layout_of program) tree) + 1)
+          (omega arith)
+          (λ i lt. subst (λ place. Goes (site at hi job) memory i
+          (length (while_code (layout_of program) tree) + 1) (locals i)
           (IsHere (source.gone i) place i)) ends (goes false e i lt))
 
-  pub back_advances : (begin : ℕ) → begin < length program.lines → StandsAt (site at hi job) at (Jmp (place_of program begin) ∷ []) →
+  pub back_advances : (begin : ℕ) → begin < length program.lines →
+      StandsAt (site at hi job) at (Jmp (place_of program begin) ∷ []) →
       Advance program job (on_to begin source) t 1 at hi
   back_advances begin begin_low stands = went_on begin 1 (omega arith)
-      (λ i lt. jump_goes (site at hi job) memory i at (place_of program begin) [] stands (source.gone i) (locals i) (pictured.here i (few i lt)))
+      (λ i lt. jump_goes (site at hi job) memory i at (place_of program begin) [] stands
+      (source.gone i) (locals i) (pictured.here i (few i lt)))
 
-  pub for_advances : (nest : ℕ) (first last : Tree) (up : Bool) (end : ℕ) → nest < (layout_of program).loops →
-      IsCommonTree (bounds_of program) first → IsCommonTree (bounds_of program) last → end < length program.lines →
-      is_shallow (none_code (layout_of program) up first last) ≡ true → is_shallow (value_code (layout_of program) 0 first) ≡ true →
+  pub for_advances : (nest : ℕ) (first last : Tree) (up : Bool) (end : ℕ) →
+      nest < (layout_of program).loops →
+      IsCommonTree (bounds_of program) first → IsCommonTree (bounds_of program) last →
+      end < length program.lines →
+      is_shallow (none_code (layout_of program) up first last) ≡ true →
+      is_shallow (value_code (layout_of program) 0 first) ≡ true →
       StandsAt (site at hi job) at (none_code (layout_of program) up first last
-      ++ (Jz 0 (at + length (none_code (layout_of program) up first last) + 2) ∷ (Jmp (place_of program (end + 1))
+      ++ (Jz 0 (at + length (none_code (layout_of program) up first last) + 2) ∷
+      (Jmp (place_of program (end + 1))
       ∷ first_code (layout_of program) nest first))) →
       at + length (none_code (layout_of program) up first last
-      ++ (Jz 0 (at + length (none_code (layout_of program) up first last) + 2) ∷ (Jmp (place_of program (end + 1))
+      ++ (Jz 0 (at + length (none_code (layout_of program) up first last) + 2) ∷
+      (Jmp (place_of program (end + 1))
       ∷ first_code (layout_of program) nest first))) ≡ place_of program (source.at + 1) →
       Advance program job
-      (if has_none up (common_value program source first) (common_value program source last) then on_to (end + 1) source
+      (if has_none up (common_value program source first) (common_value program source last) then
+      on_to (end + 1) source
       else on_to (source.at + 1) (turned nest (common_value program source first) source))
       t (if has_none up (common_value program source first) (common_value program source last)
       then length (none_code (layout_of program) up first last) + 1 + 1
-      else suc ((length (none_code (layout_of program) up first last) + 1) + length (value_code (layout_of program) 0 first))) at hi
+      else suc ((length (none_code (layout_of program) up first last) + 1) +
+      length (value_code (layout_of program) 0 first))) at hi
   for_advances nest first last up end nest_low is is_too end_low shallow first_shallow stands ends =
-      by_value (has_none up (common_value program source first) (common_value program source last)) refl
+      by_value (has_none up (common_value program source first) (common_value program source last))
+      refl
     where
       v : ℕ
       v = common_value program source first
@@ -504,53 +664,78 @@ module _ (program : ProgramData) (job : JobData) (of : IsOf program job) (source
       n : ℕ
       n = length (none_code (layout_of program) up first last)
 
-      by_value : (b : Bool) → has_none up (common_value program source first) (common_value program source last) ≡ b →
-          Advance program job (if b then on_to (end + 1) source else on_to (source.at + 1) (turned nest (common_value program source first) source))
+      by_value : (b : Bool) → has_none up (common_value program source first)
+          (common_value program source last) ≡ b →
+          Advance program job (if b then on_to (end + 1) source else on_to (source.at + 1)
+          (turned nest (common_value program source first) source))
           t (if b then length (none_code (layout_of program) up first last) + 1 + 1
-          else suc ((length (none_code (layout_of program) up first last) + 1) + length (value_code (layout_of program) 0 first))) at hi
-      by_value true e = went_on (end + 1) (length (none_code (layout_of program) up first last) + 1 + 1) (omega arith)
-          (λ i lt. none_goes program (site at hi job) of.program_is source memory locals pictured fits i (few i lt) nest first last up (place_of program (end + 1))
+          else suc ((length (none_code (layout_of program) up first last) + 1) +
+          length (value_code (layout_of program) 0 first))) at hi
+      by_value true e = went_on (end + 1)
+          (length (none_code (layout_of program) up first last) + 1 + 1) (omega arith)
+          (λ i lt. none_goes program (site at hi job) of.program_is source memory locals pictured
+          fits i (few i lt) nest first last up (place_of program (end + 1))
           nest_low is is_too shallow first_shallow stands e)
       by_value false e =
-          let k : ℕ = (length (none_code (layout_of program) up first last) + 1) + length (value_code (layout_of program) 0 first) in
+          let k : ℕ = (length (none_code (layout_of program) up first last) + 1) +
+          length (value_code (layout_of program) 0 first) in
           let row : ℕ = (layout_of program).privates + nest in
-          let values : (ℕ → Option ℕ) = λ i. if is_none (source.gone i) then Some (common_value program source first) else None in
-          let P : (ℕ → Local → Type 0) = λ i. IsHere (source.gone i) (place_of program (source.at + 1)) i in
-          let done : IsMade job (suc (t + k)) memory (own_stores (layout_of program) row values) P × StaysIn job at hi t (suc k) =
-          made_in job of.job_is at hi t k memory locals standing (own_stores (layout_of program) row values) P
-          (λ i l. bounded (place_of program (source.at + 1)) i (source.gone i) l (place_low program job of (source.at + 1)))
-          (λ i lt. subst (λ place. Makes (site at hi job) memory i k (locals i) (own_stores (layout_of program) row values i) (IsHere (source.gone i) place i))
-          (sym (for_end_is program (site at hi job) of.program_is source memory locals pictured fits i (few i lt) nest first last up (place_of program (end + 1))
+          let values : (ℕ → Option ℕ) = λ i. if is_none (source.gone i) then Some
+          (common_value program source first) else None in
+          let P : (ℕ → Local → Type 0) = λ i. IsHere (source.gone i)
+          (place_of program (source.at + 1)) i in
+          let done : IsMade job (suc (t + k)) memory (own_stores (layout_of program) row values) P ×
+          StaysIn job at hi t (suc k) =
+          made_in job of.job_is at hi t k memory locals standing
+          (own_stores (layout_of program) row values) P
+          (λ i l. bounded (place_of program (source.at + 1)) i (source.gone i) l
+          (place_low program job of (source.at + 1)))
+          (λ i lt. subst (λ place. Makes (site at hi job) memory i k (locals i)
+          (own_stores (layout_of program) row values i) (IsHere (source.gone i) place i))
+          (sym (for_end_is program (site at hi job) of.program_is source memory locals pictured fits
+          i (few i lt) nest first last up (place_of program (end + 1))
           nest_low is is_too shallow first_shallow stands) ∙ ends)
-          (turn_makes program (site at hi job) of.program_is source memory locals pictured fits i (few i lt) nest first last up (place_of program (end + 1))
+          (turn_makes program (site at hi job) of.program_is source memory locals pictured fits i
+          (few i lt) nest first last up (place_of program (end + 1))
           nest_low is is_too shallow first_shallow stands e))
           (own_agree job (layout_of program) row values (procs_same program job of)) in
-          let made : IsMade job (suc (t + k)) memory (own_stores (layout_of program) row values) P = done.0 in
+          let made : IsMade job (suc (t + k)) memory (own_stores (layout_of program) row values) P =
+          done.0 in
           record {
             stays = done.1;
             carried = record {
               memory = made.now;
               locals = made.locals;
-              standing = subst (λ u. Standing job u made.now made.locals) (let f : suc (t + k) ≡ t + suc k = omega arith in f) made.standing;
-              pictured = turned_pictured program job of source memory locals pictured (suc (t + k)) nest (source.at + 1) (common_value program source first)
-                  (place_of program (source.at + 1)) (omega arith) nest_low made made.locals (λ i lt. made.each i (many i lt));
+              standing = subst (λ u. Standing job u made.now made.locals)
+                  (let f : suc (t + k) ≡ t + suc k = omega arith in f) made.standing;
+              pictured = turned_pictured program job of source memory locals pictured (suc (t + k))
+                  nest (source.at + 1) (common_value program source first)
+                  (place_of program (source.at + 1)) (omega arith) nest_low made made.locals
+                  (λ i lt. made.each i (many i lt));
             };
           }
 
   tail_stands : (nest : ℕ) (last : Tree) (up : Bool) (begin end : ℕ) →
       StandsAt (site at hi job) at (turn_code (layout_of program) nest last
-      ++ (Jz 1 (place_of program (end + 1)) ∷ (next_value up ∷ (own_store (loop_cells (layout_of program) nest)
+      ++ (Jz 1 (place_of program (end + 1)) ∷
+      (next_value up ∷ (own_store (loop_cells (layout_of program) nest)
       ∷ (Jmp (place_of program (begin + 1)) ∷ []))))) →
-      StandsAt (site at hi job) (at + length (turn_code (layout_of program) nest last) + 1 + 1 + 1) (Jmp (place_of program (begin + 1)) ∷ [])
-  tail_stands nest last up begin end stands = (stands_back (site at hi job) at (turn_code (layout_of program) nest last)
-      (Jz 1 (place_of program (end + 1)) ∷ (next_value up ∷ (own_store (loop_cells (layout_of program) nest)
+      StandsAt (site at hi job) (at + length (turn_code (layout_of program) nest last) + 1 + 1 + 1)
+      (Jmp (place_of program (begin + 1)) ∷ [])
+  tail_stands nest last up begin end stands =
+      (stands_back (site at hi job) at (turn_code (layout_of program) nest last)
+      (Jz 1 (place_of program (end + 1)) ∷
+      (next_value up ∷ (own_store (loop_cells (layout_of program) nest)
       ∷ (Jmp (place_of program (begin + 1)) ∷ [])))) stands).1.1.1
 
-  pub turn_advances : (nest : ℕ) (last : Tree) (up : Bool) (begin end : ℕ) → nest < (layout_of program).loops →
-      IsCommonTree (bounds_of program) last → end < length program.lines → begin < length program.lines →
+  pub turn_advances : (nest : ℕ) (last : Tree) (up : Bool) (begin end : ℕ) →
+      nest < (layout_of program).loops →
+      IsCommonTree (bounds_of program) last → end < length program.lines →
+      begin < length program.lines →
       is_shallow (turn_code (layout_of program) nest last) ≡ true →
       StandsAt (site at hi job) at (turn_code (layout_of program) nest last
-      ++ (Jz 1 (place_of program (end + 1)) ∷ (next_value up ∷ (own_store (loop_cells (layout_of program) nest)
+      ++ (Jz 1 (place_of program (end + 1)) ∷
+      (next_value up ∷ (own_store (loop_cells (layout_of program) nest)
       ∷ (Jmp (place_of program (begin + 1)) ∷ []))))) →
       at + length (turn_code (layout_of program) nest last) + 1 + 1 + 1 < hi →
       Advance program job
@@ -563,41 +748,56 @@ module _ (program : ProgramData) (job : JobData) (of : IsOf program job) (source
       by_value (source.loops nest == common_value program source last) refl
     where
       by_value : (b : Bool) → (source.loops nest == common_value program source last) ≡ b →
-          Advance program job (if b then on_to (end + 1) source else on_to (begin + 1) (turned nest (next_turn up (source.loops nest)) source))
+          Advance program job (if b then on_to (end + 1) source else on_to (begin + 1)
+          (turned nest (next_turn up (source.loops nest)) source))
           t (if b then length (turn_code (layout_of program) nest last) + 1
           else suc ((length (turn_code (layout_of program) nest last) + 1) + 1) + 1) at hi
-      by_value true e = went_on (end + 1) (length (turn_code (layout_of program) nest last) + 1) (omega arith)
-          (λ i lt. last_goes program (site at hi job) of.program_is source memory locals pictured fits i (few i lt) nest last up (place_of program (end + 1))
+      by_value true e = went_on (end + 1) (length (turn_code (layout_of program) nest last) + 1)
+          (omega arith)
+          (λ i lt. last_goes program (site at hi job) of.program_is source memory locals pictured
+          fits i (few i lt) nest last up (place_of program (end + 1))
           (place_of program (begin + 1)) nest_low is shallow stands e)
       by_value false e =
           let k : ℕ = (length (turn_code (layout_of program) nest last) + 1) + 1 in
           let row : ℕ = (layout_of program).privates + nest in
           let place : ℕ = at + length (turn_code (layout_of program) nest last) + 1 + 1 + 1 in
           let place_is_low : place < length job.code = omega arith in
-          let values : (ℕ → Option ℕ) = λ i. if is_none (source.gone i) then Some (next_turn up (source.loops nest)) else None in
+          let values : (ℕ → Option ℕ) = λ i. if is_none (source.gone i) then Some
+          (next_turn up (source.loops nest)) else None in
           let P : (ℕ → Local → Type 0) = λ i. IsHere (source.gone i) place i in
-          let done : IsMade job (suc (t + k)) memory (own_stores (layout_of program) row values) P × StaysIn job at hi t (suc k) =
-          made_in job of.job_is at hi t k memory locals standing (own_stores (layout_of program) row values) P
+          let done : IsMade job (suc (t + k)) memory (own_stores (layout_of program) row values) P ×
+          StaysIn job at hi t (suc k) =
+          made_in job of.job_is at hi t k memory locals standing
+          (own_stores (layout_of program) row values) P
           (λ i l. bounded place i (source.gone i) l place_is_low)
-          (λ i lt. again_makes program (site at hi job) of.program_is source memory locals pictured fits i (few i lt) nest last up (place_of program (end + 1))
+          (λ i lt. again_makes program (site at hi job) of.program_is source memory locals pictured
+          fits i (few i lt) nest last up (place_of program (end + 1))
           (place_of program (begin + 1)) nest_low is shallow stands e)
           (own_agree job (layout_of program) row values (procs_same program job of)) in
-          let made : IsMade job (suc (t + k)) memory (own_stores (layout_of program) row values) P = done.0 in
-          let left : Went job (suc (t + k) + 1) made.now (λ i. IsHere (source.gone i) (place_of program (begin + 1)) i)
+          let made : IsMade job (suc (t + k)) memory (own_stores (layout_of program) row values) P =
+          done.0 in
+          let left : Went job (suc (t + k) + 1) made.now
+          (λ i. IsHere (source.gone i) (place_of program (begin + 1)) i)
           × StaysIn job at hi (suc (t + k)) 1 =
           gone_in job of.job_is at hi (suc (t + k)) 1 made.now made.locals made.standing
           (λ i. IsHere (source.gone i) (place_of program (begin + 1)) i)
-          (λ i l. bounded (place_of program (begin + 1)) i (source.gone i) l (place_low program job of (begin + 1)))
-          (λ i lt. jump_goes (site at hi job) made.now i place (place_of program (begin + 1)) [] (tail_stands nest last up begin end stands)
+          (λ i l. bounded (place_of program (begin + 1)) i (source.gone i) l
+          (place_low program job of (begin + 1)))
+          (λ i lt. jump_goes (site at hi job) made.now i place (place_of program (begin + 1)) []
+          (tail_stands nest last up begin end stands)
           (source.gone i) (made.locals i) (made.each i lt)) in
-          let went : Went job (suc (t + k) + 1) made.now (λ i. IsHere (source.gone i) (place_of program (begin + 1)) i) = left.0 in
+          let went : Went job (suc (t + k) + 1) made.now
+          (λ i. IsHere (source.gone i) (place_of program (begin + 1)) i) = left.0 in
           record {
-            stays = stays_then job at hi t (suc (t + k)) (suc k) 1 (let f : suc (t + k) ≡ t + suc k = omega arith in f) done.1 left.1;
+            stays = stays_then job at hi t (suc (t + k)) (suc k) 1
+                (let f : suc (t + k) ≡ t + suc k = omega arith in f) done.1 left.1;
             carried = record {
               memory = made.now;
               locals = went.places;
-              standing = subst (λ u. Standing job u made.now went.places) (let f : suc (t + k) + 1 ≡ t + (suc k + 1) = omega arith in f) went.standing;
-              pictured = turned_pictured program job of source memory locals pictured (suc (t + k)) nest (begin + 1) (next_turn up (source.loops nest))
+              standing = subst (λ u. Standing job u made.now went.places)
+                  (let f : suc (t + k) + 1 ≡ t + (suc k + 1) = omega arith in f) went.standing;
+              pictured = turned_pictured program job of source memory locals pictured (suc (t + k))
+                  nest (begin + 1) (next_turn up (source.loops nest))
                   place (omega arith) nest_low made went.places (λ i lt. went.each i (many i lt));
             };
           }

@@ -24,17 +24,20 @@ use Rattle.pardo_law.proofs.Theorem.{of, carries}
 
 -- ---- once
 
-reached_to : (program : ProgramData) (n : ℕ) (end : Option Dispute) → EndsIn program n end → IsReached program n
+reached_to : (program : ProgramData) (n : ℕ) (end : Option Dispute) → EndsIn program n end →
+    IsReached program n
 reached_to program n None is = is.reached
 reached_to program n (Some dispute) is = is.reached
 
 -- no line comes after the end
-none_after : (program : ProgramData) (n m : ℕ) (end : Option Dispute) → EndsIn program n end → IsReached program m → n < m → ⊥
+none_after : (program : ProgramData) (n m : ℕ) (end : Option Dispute) → EndsIn program n end →
+    IsReached program m → n < m → ⊥
 none_after program n m None is reached lt = (reached n lt).0 is.over
 none_after program n m (Some dispute) is reached lt =
     (reached n lt).1 dispute.cell dispute.first dispute.second is.disputed.clash
 
-same_end : (program : ProgramData) (n : ℕ) (end other : Option Dispute) → EndsIn program n end → EndsIn program n other → end ≡ other
+same_end : (program : ProgramData) (n : ℕ) (end other : Option Dispute) → EndsIn program n end →
+    EndsIn program n other → end ≡ other
 same_end program n None None is too = refl
 same_end program n None (Some dispute) is too = absurd (too.goes_on is.over)
 same_end program n (Some dispute) None is too = absurd (is.goes_on too.over)
@@ -53,9 +56,11 @@ runs_end_once program n m end other is too = elim (cases_order n m) [
 -- ---- the answer
 
 module _ (program : ProgramData) (job : JobData) (line_of : ℕ → ℕ)
-    (low : (cell : ℕ) → cell < (layout_of program).shared → cell < job.cells) (c : Carries program job line_of) where
+    (low : (cell : ℕ) → cell < (layout_of program).shared → cell < job.cells)
+    (c : Carries program job line_of) where
   -- where the program is over
-  at_end : (n : ℕ) → IsEnd program n → (answer : RunAnswer) → IsAnswer job answer → IsAnswerOf program answer
+  at_end : (n : ℕ) → IsEnd program n → (answer : RunAnswer) → IsAnswer job answer →
+      IsAnswerOf program answer
   at_end n is (Final cells) x =
       let ends : EndsAs program job line_of (after program n) = (c.ends n is).0 in (
         n,
@@ -69,16 +74,24 @@ module _ (program : ProgramData) (job : JobData) (line_of : ℕ → ℕ)
       let ends : EndsAs program job line_of (after program n) = (c.ends n is).0 in
       let final : IsAnswer job (Final (take job.cells (state_after job job.steps))) =
       (state_after job job.steps, record { reached = ends.reached; state = refl }, refl) in
-      let same : Conflict fault ≡ Final (take job.cells (state_after job job.steps)) = one_answer job _ _ x final in
+      let same : Conflict fault ≡ Final (take job.cells (state_after job job.steps)) =
+      one_answer job _ _ x final in
       absurd (cc)
   at_end n is (Unfinished step) x = absurd x
 
   abbrev fault_at : ℕ → Dispute → Fault
   fault_at before dispute =
-      record { step = before + 1; cell = dispute.cell; first = dispute.first; second = dispute.second }
+      record {
+        step = before + 1;
+        cell = dispute.cell;
+        first = dispute.first;
+        second =
+            dispute.second;
+      }
 
   -- where a line is against the rule
-  in_conflict : (n : ℕ) (dispute : Dispute) → IsConflict program n dispute → (answer : RunAnswer) → IsAnswer job answer →
+  in_conflict : (n : ℕ) (dispute : Dispute) → IsConflict program n dispute → (answer : RunAnswer) →
+      IsAnswer job answer →
       IsAnswerOf program answer
   in_conflict n dispute is (Final cells) x =
       let found = c.disputes n dispute is in
@@ -88,17 +101,22 @@ module _ (program : ProgramData) (job : JobData) (line_of : ℕ → ℕ)
       let found = c.disputes n dispute is in
       let same : Conflict fault ≡ Conflict (fault_at found.0 dispute) =
       one_answer job (Conflict fault) (Conflict (fault_at found.0 dispute)) x found.3 in
-      let it : fault_at found.0 dispute ≡ fault = cc in
-      (n, subst (λ (f : Fault). IsConflict program n (record { cell = f.cell; first = f.first; second = f.second })) it is)
+      let it : fault_at found.0 dispute ≡ fault = cc in (
+        n,
+        subst (λ (f : Fault). IsConflict program n
+            (record { cell = f.cell; first = f.first; second = f.second })) it is,
+      )
   in_conflict n dispute is (Unfinished step) x = absurd x
 
   pub answer_is : (answer : RunAnswer) → IsAnswer job answer → IsAnswerOf program answer
   answer_is answer x = ⊎_elim
       (λ (is : IsEnd program c.over.0). at_end c.over.0 is answer x)
-      (λ (is : (dispute : Dispute) × IsConflict program c.over.0 dispute). in_conflict c.over.0 is.0 is.1 answer x)
+      (λ (is : (dispute : Dispute) × IsConflict program c.over.0 dispute). in_conflict c.over.0 is.0
+      is.1 answer x)
       c.over.1
 
 pub answers_are_the_programs : AnswersAreThePrograms
 answers_are_the_programs program job line_of lawful nested compiled answer x =
-    answer_is program job line_of (λ cell lt. shared_low program job (of program job line_of lawful nested compiled) cell lt)
+    answer_is program job line_of (λ cell lt. shared_low program job
+    (of program job line_of lawful nested compiled) cell lt)
     (carries program job line_of lawful nested compiled) answer x

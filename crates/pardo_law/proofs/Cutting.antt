@@ -1,7 +1,9 @@
 -- A job of which the code of one line alone is left: what a processor does there it does in the job,
 -- and it stays in that line.
-use Rattle.std.proofs.Common.{◌≡◌, ℕ, zero, suc, ◌+◌, ◌<◌, ◌≤◌, ◌⊎◌, nat_lt, nat_le, Bool, true, false, ◌&&◌, List, [], ◌∷◌, Option, Some, None}
-use Rattle.std.proofs.Common.{refl, sym, ap, ◌∙◌, subst, inl, inr, ⊎_elim, arith, if◌then◌else◌, length}
+use Rattle.std.proofs.Common.{◌≡◌, ℕ, zero, suc, ◌+◌, ◌<◌, ◌≤◌, ◌⊎◌, nat_lt, nat_le, Bool, true}
+use Rattle.std.proofs.Common.{false, ◌&&◌, List, [], ◌∷◌, Option, Some, None}
+use Rattle.std.proofs.Common.{refl, sym, ap, ◌∙◌, subst, inl, inr, ⊎_elim, arith, if◌then◌else◌}
+use Rattle.std.proofs.Common.{length}
 use Rattle.std.specs.Prelude.{slice_get}
 use Rattle.std.specs.Option.{option_map}
 use Rattle.std.proofs.lemmas.Bool.{cases_lt, cases_Bool}
@@ -14,7 +16,8 @@ use Rattle.pram_text.specs.Job.{JobData, IsJob}
 use Rattle.pram_step.specs.Machine.{counter, out_of_range}
 use Rattle.pram_step.specs.Runs.{state_after}
 use Rattle.pardo_job.specs.Straight.{Registers}
-use Rattle.pardo_law.specs.Locals.{Local, after_instr, after_fetched, next_local, store_at, store_of, IsNamedAt}
+use Rattle.pardo_law.specs.Locals.{Local, after_instr, after_fetched, next_local, store_at}
+use Rattle.pardo_law.specs.Locals.{store_of, IsNamedAt}
 use Rattle.pardo_law.specs.Locals.{StandsAt, Standing, StoresAgree, IsLocal}
 use Rattle.pardo_law.proofs.Making.{Makes, Goes, IsMade, Went, all_make, all_go, moved, runs_moved}
 use Rattle.pardo_law.proofs.Running.{Runs, quiet_run}
@@ -45,7 +48,8 @@ get-cut : (lo hi at : ℕ) (code : List Instr) (k : ℕ) →
     slice_get (cut_at lo hi at code) k ≡ option_map (kept lo hi (at + k)) (slice_get code k)
 unfolding cut_at
 get-cut lo hi at [] k = refl
-get-cut lo hi at (one ∷ code) zero = let e : at ≡ at + 0 = omega arith in ap (λ n. Some (kept lo hi n one)) e
+get-cut lo hi at (one ∷ code) zero = let e : at ≡ at + 0 = omega arith in
+    ap (λ n. Some (kept lo hi n one)) e
 get-cut lo hi at (one ∷ code) (suc k) =
     let e : suc at + k ≡ at + suc k = omega arith in
     get-cut lo hi (suc at) code k ∙ ap (λ n. option_map (kept lo hi n) (slice_get code k)) e
@@ -58,9 +62,11 @@ inside_back lo hi at e = grind arith
 
 -- inside nothing is other, and outside nothing is named
 module _ (lo hi : ℕ) (job : JobData) where
-  get_same : (p : ℕ) → is_inside lo hi p ≡ true → slice_get (site lo hi job).code p ≡ slice_get job.code p
+  get_same : (p : ℕ) → is_inside lo hi p ≡ true → slice_get (site lo hi job).code p ≡
+      slice_get job.code p
   get_same p e = get-cut lo hi 0 job.code p
-      ∙ ap (λ n. option_map (kept lo hi n) (slice_get job.code p)) (let z : 0 + p ≡ p = omega arith in z)
+      ∙ ap (λ n. option_map (kept lo hi n) (slice_get job.code p))
+      (let z : 0 + p ≡ p = omega arith in z)
       ∙ ap (λ b. option_map (λ one. if b then one else unnamed) (slice_get job.code p)) e
       ∙ same (slice_get job.code p)
     where
@@ -71,11 +77,13 @@ module _ (lo hi : ℕ) (job : JobData) where
   get_other : (p : ℕ) (one : Instr) → is_inside lo hi p ≡ false → slice_get job.code p ≡ Some one →
       slice_get (site lo hi job).code p ≡ Some unnamed
   get_other p one e is = get-cut lo hi 0 job.code p
-      ∙ ap (λ n. option_map (kept lo hi n) (slice_get job.code p)) (let z : 0 + p ≡ p = omega arith in z)
+      ∙ ap (λ n. option_map (kept lo hi n) (slice_get job.code p))
+      (let z : 0 + p ≡ p = omega arith in z)
       ∙ ap (λ o. option_map (kept lo hi p) o) is
       ∙ ap (λ b. Some (if b then one else unnamed)) e
 
-  pub stands_site : (at : ℕ) (code : List Instr) → StandsAt job at code → lo ≤ at → at + length code ≤ hi →
+  pub stands_site : (at : ℕ) (code : List Instr) → StandsAt job at code → lo ≤ at → at +
+      length code ≤ hi →
       StandsAt (site lo hi job) at code
   stands_site at [] stands low high = tt
   stands_site at (one ∷ code) stands low high = (
@@ -93,7 +101,8 @@ module _ (lo hi : ℕ) (job : JobData) where
   Below None = Unit {0}
   Below (Some local) = local.0 < length job.code
 
-  some_at : (code : List Instr) (p : ℕ) → p < length code → (one : Instr) × (slice_get code p ≡ Some one)
+  some_at : (code : List Instr) (p : ℕ) → p < length code → (one : Instr) ×
+      (slice_get code p ≡ Some one)
   some_at [] p lt = absurd (omega arith)
   some_at (one ∷ code) zero lt = (one, refl)
   some_at (one ∷ code) (suc p) lt = some_at code p (omega arith)
@@ -136,18 +145,21 @@ module _ (lo hi : ℕ) (job : JobData) where
   named_same (Some local) is named = λ one at_it. named one (get_same local.0 is ∙ at_it)
 
   -- one that is past the code stays there
-  below_before : (memory : ℕ → ℕ) (i : ℕ) (l : Local) → Below (next_local (site lo hi job) memory i l) → Below l
+  below_before : (memory : ℕ → ℕ) (i : ℕ) (l : Local) →
+      Below (next_local (site lo hi job) memory i l) → Below l
   below_before memory i None below = tt
   below_before memory i (Some local) below = ⊎_elim (λ (low : local.0 < length job.code). low)
       (λ (high : length job.code ≤ local.0).
       let past : slice_get (site lo hi job).code local.0 ≡ None =
-      slice_get_past (site lo hi job).code local.0 (let e = length-cut lo hi 0 job.code in omega arith) in
+      slice_get_past (site lo hi job).code local.0
+      (let e = length-cut lo hi 0 job.code in omega arith) in
       let stays : next_local (site lo hi job) memory i (Some local) ≡ Some local =
       ap (after_fetched (site lo hi job) memory i local.0 local.1) past in
       subst Below stays below)
       (cases_lt local.0 (length job.code))
 
-  below_first : (memory : ℕ → ℕ) (i n : ℕ) (l mid : Local) → Runs (site lo hi job) memory i n l mid → Below mid → Below l
+  below_first : (memory : ℕ → ℕ) (i n : ℕ) (l mid : Local) →
+      Runs (site lo hi job) memory i n l mid → Below mid → Below l
   below_first memory i zero l mid runs below = subst Below (sym runs) below
   below_first memory i (suc n) l mid runs below = below_before memory i l
       (below_first memory i n (next_local (site lo hi job) memory i l) mid runs.1 below)
@@ -157,33 +169,42 @@ module _ (lo hi : ℕ) (job : JobData) where
     runs : Runs job memory i n l mid
     inside : (k : ℕ) → k < n → Within (moved job memory i k l)
 
-  same_runs : (memory : ℕ → ℕ) (i n : ℕ) (l mid : Local) → Runs (site lo hi job) memory i n l mid → Below mid →
+  same_runs : (memory : ℕ → ℕ) (i n : ℕ) (l mid : Local) → Runs (site lo hi job) memory i n l mid →
+      Below mid →
       Same memory i n l mid
-  same_runs memory i zero l mid runs below = record { runs = runs; inside = λ k lt. absurd (omega arith) }
+  same_runs memory i zero l mid runs below =
+      record { runs = runs; inside = λ k lt. absurd (omega arith) }
   same_runs memory i (suc n) l mid runs below =
       let low : Below l = below_first memory i (suc n) l mid runs below in
       let is : Within l = within l runs.0.0 low in
-      let e : next_local (site lo hi job) memory i l ≡ next_local job memory i l = next_same memory i l is in
+      let e : next_local (site lo hi job) memory i l ≡ next_local job memory i l =
+      next_same memory i l is in
       let rest : Same memory i n (next_local job memory i l) mid =
-      same_runs memory i n (next_local job memory i l) mid (subst (λ x. Runs (site lo hi job) memory i n x mid) e runs.1) below in
+      same_runs memory i n (next_local job memory i l) mid
+      (subst (λ x. Runs (site lo hi job) memory i n x mid) e runs.1) below in
       record {
         runs = ((named_same l is runs.0.0, sym (store_same l is) ∙ runs.0.1), rest.runs);
         inside = by_turn l is rest.inside;
       }
     where
-      by_turn : (l : Local) → Within l → ((k : ℕ) → k < n → Within (moved job memory i k (next_local job memory i l))) →
+      by_turn : (l : Local) → Within l →
+          ((k : ℕ) → k < n → Within (moved job memory i k (next_local job memory i l))) →
           (k : ℕ) → k < suc n → Within (moved job memory i k l)
       by_turn l is rest zero lt = is
       by_turn l is rest (suc k) lt = rest k (omega arith)
 
-  pub record MakesIn (memory : ℕ → ℕ) (i n : ℕ) (l : Local) (store : Option (ℕ × ℕ)) (P : Local → Type 0) : Type 0 where
+  pub record MakesIn (memory : ℕ → ℕ) (i n : ℕ) (l : Local) (store : Option (ℕ × ℕ))
+      (P : Local → Type 0) : Type 0 where
     pub makes : Makes job memory i n l store P
     pub inside : (k : ℕ) → k < suc n → Within (moved job memory i k l)
 
-  pub makes_in : (memory : ℕ → ℕ) (i n : ℕ) (l : Local) (store : Option (ℕ × ℕ)) (P : Local → Type 0) →
-      ((x : Local) → P x → Below x) → Makes (site lo hi job) memory i n l store P → MakesIn memory i n l store P
+  pub makes_in : (memory : ℕ → ℕ) (i n : ℕ) (l : Local) (store : Option (ℕ × ℕ))
+      (P : Local → Type 0) →
+      ((x : Local) → P x → Below x) → Makes (site lo hi job) memory i n l store P →
+      MakesIn memory i n l store P
   makes_in memory i n l store P bound c =
-      let low : Below c.mid = below_before memory i c.mid (bound (next_local (site lo hi job) memory i c.mid) c.goes) in
+      let low : Below c.mid = below_before memory i c.mid
+      (bound (next_local (site lo hi job) memory i c.mid) c.goes) in
       let is : Within c.mid = within c.mid c.named low in
       let runs : Same memory i n l c.mid = same_runs memory i n l c.mid c.runs low in record {
         makes = record {
@@ -195,7 +216,8 @@ module _ (lo hi : ℕ) (job : JobData) where
         };
         inside = λ k lt. ⊎_elim (λ (less : k < n). runs.inside k less)
             (λ (more : n ≤ k). let e : n ≡ k = omega arith in
-            subst (λ j. Within (moved job memory i j l)) e (subst Within (sym (runs_moved job memory i n l c.mid runs.runs)) is))
+            subst (λ j. Within (moved job memory i j l)) e
+            (subst Within (sym (runs_moved job memory i n l c.mid runs.runs)) is))
             (cases_lt k n);
       }
 
@@ -206,14 +228,16 @@ module _ (lo hi : ℕ) (job : JobData) where
   pub goes_in : (memory : ℕ → ℕ) (i n : ℕ) (l : Local) (P : Local → Type 0) →
       ((x : Local) → P x → Below x) → Goes (site lo hi job) memory i n l P → GoesIn memory i n l P
   goes_in memory i n l P bound c =
-      let runs : Same memory i n l c.now = same_runs memory i n l c.now c.runs (bound c.now c.goes) in record {
+      let runs : Same memory i n l c.now =
+      same_runs memory i n l c.now c.runs (bound c.now c.goes) in record {
         goes = record { now = c.now; runs = runs.runs; goes = c.goes };
         inside = runs.inside;
       }
 
 -- ---- all of them
 
-runs_front : (job : JobData) (memory : ℕ → ℕ) (i n k : ℕ) (l mid : Local) → Runs job memory i n l mid → k < suc n →
+runs_front : (job : JobData) (memory : ℕ → ℕ) (i n k : ℕ) (l mid : Local) →
+    Runs job memory i n l mid → k < suc n →
     Runs job memory i k l (moved job memory i k l)
 runs_front job memory i n zero l mid runs lt = refl
 runs_front job memory i zero (suc k) l mid runs lt = absurd (omega arith)
@@ -234,25 +258,33 @@ module _ (job : JobData) (is_job : IsJob job) (lo hi t n : ℕ) (memory : ℕ �
   at_step k i None is local = inl local
   at_step k i (Some at_it) is local = inr (ap (is_inside lo hi) local.0 ∙ is)
 
-  stays : (m : ℕ) (mids : ℕ → Local) → ((i : ℕ) → i < job.procs → Runs job memory i n (locals i) (mids i)) → m ≤ suc n →
-      ((i k : ℕ) → i < job.procs → k < m → Within lo hi job (moved job memory i k (locals i))) → StaysIn job lo hi t m
+  stays : (m : ℕ) (mids : ℕ → Local) →
+      ((i : ℕ) → i < job.procs → Runs job memory i n (locals i) (mids i)) → m ≤ suc n →
+      ((i k : ℕ) → i < job.procs → k < m → Within lo hi job (moved job memory i k (locals i))) →
+      StaysIn job lo hi t m
   stays m mids runs few inside k i lt less =
       let there : Standing job (t + k) memory (λ j. moved job memory j k (locals j)) =
       quiet_run job is_job k t memory locals (λ j. moved job memory j k (locals j)) standing
       (λ j low. runs_front job memory j n k (locals j) (mids j) (runs j low) (omega arith)) in
       at_step k i (moved job memory i k (locals i)) (inside i k less lt) (there.locals_are i less)
 
-  pub made_in : (stores : ℕ → Option (ℕ × ℕ)) (P : ℕ → Local → Type 0) → ((i : ℕ) (x : Local) → P i x → Below lo hi job x) →
+  pub made_in : (stores : ℕ → Option (ℕ × ℕ)) (P : ℕ → Local → Type 0) →
+      ((i : ℕ) (x : Local) → P i x → Below lo hi job x) →
       ((i : ℕ) → i < job.procs → Makes (site lo hi job) memory i n (locals i) (stores i) (P i)) →
-      StoresAgree job stores → IsMade job (suc (t + n)) memory stores P × StaysIn job lo hi t (suc n)
+      StoresAgree job stores → IsMade job (suc (t + n)) memory stores P ×
+      StaysIn job lo hi t (suc n)
   made_in stores P bound makes agree = (
     all_make job is_job t n memory locals standing stores P
-        (λ i lt. (makes_in lo hi job memory i n (locals i) (stores i) (P i) (bound i) (makes i lt)).makes) agree,
+        (λ i lt. (makes_in lo hi job memory i n (locals i) (stores i) (P i) (bound i)
+        (makes i lt)).makes) agree,
     stays (suc n) (λ i. moved job memory i n (locals i))
-        (λ i lt. let c = makes_in lo hi job memory i n (locals i) (stores i) (P i) (bound i) (makes i lt) in
-        subst (Runs job memory i n (locals i)) (sym (runs_moved job memory i n (locals i) c.makes.mid c.makes.runs)) c.makes.runs)
+        (λ i lt. let c = makes_in lo hi job memory i n (locals i) (stores i) (P i) (bound i)
+        (makes i lt) in
+        subst (Runs job memory i n (locals i))
+        (sym (runs_moved job memory i n (locals i) c.makes.mid c.makes.runs)) c.makes.runs)
         (omega arith)
-        (λ i k lt less. (makes_in lo hi job memory i n (locals i) (stores i) (P i) (bound i) (makes i lt)).inside k less),
+        (λ i k lt less. (makes_in lo hi job memory i n (locals i) (stores i) (P i) (bound i)
+        (makes i lt)).inside k less),
   )
 
   pub gone_in : (P : ℕ → Local → Type 0) → ((i : ℕ) (x : Local) → P i x → Below lo hi job x) →
@@ -263,7 +295,9 @@ module _ (job : JobData) (is_job : IsJob job) (lo hi t n : ℕ) (memory : ℕ �
         (λ i lt. (goes_in lo hi job memory i n (locals i) (P i) (bound i) (goes i lt)).goes),
     stays n (λ i. moved job memory i n (locals i))
         (λ i lt. let c = goes_in lo hi job memory i n (locals i) (P i) (bound i) (goes i lt) in
-        subst (Runs job memory i n (locals i)) (sym (runs_moved job memory i n (locals i) c.goes.now c.goes.runs)) c.goes.runs)
+        subst (Runs job memory i n (locals i))
+        (sym (runs_moved job memory i n (locals i) c.goes.now c.goes.runs)) c.goes.runs)
         (omega arith)
-        (λ i k lt less. (goes_in lo hi job memory i n (locals i) (P i) (bound i) (goes i lt)).inside k less),
+        (λ i k lt less. (goes_in lo hi job memory i n (locals i) (P i) (bound i) (goes i lt)).inside
+        k less),
   )

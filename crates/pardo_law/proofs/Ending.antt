@@ -16,9 +16,11 @@ use Rattle.pardo_law.proofs.Advancing.{Carried}
 use Rattle.pardo_law.proofs.Carrying.{carried_after, time_of}
 use Rattle.pardo_law.proofs.Leaving.{left_after}
 use Rattle.pardo_law.proofs.Picturing.{IsOf}
-use Rattle.pardo_law.proofs.Showing.{Whole, whole_at, all_stopped, reached_last, last_cells, last_there, later_same}
+use Rattle.pardo_law.proofs.Showing.{Whole, whole_at, all_stopped, reached_last, last_cells}
+use Rattle.pardo_law.proofs.Showing.{last_there, later_same}
 
-module _ (program : ProgramData) (job : JobData) (of : IsOf program job) (whole : IsWhole job) (line_of : ℕ → ℕ)
+module _ (program : ProgramData) (job : JobData) (of : IsOf program job) (whole : IsWhole job)
+    (line_of : ℕ → ℕ)
     (numbers : AreNumbers program line_of) (n : ℕ) (is : IsEnd program n) where
   carried : Carried program job (after program n) (time_of program n)
   carried = carried_after program job of n is.reached
@@ -32,12 +34,14 @@ module _ (program : ProgramData) (job : JobData) (of : IsOf program job) (whole 
   same_from t le = later_same job job.steps t le done.stops.reached done.stops.stopped
 
   -- nobody leaves after the last step
-  leaves_within : (i number : ℕ) → Leaves job line_of (time_of program n) i number → Leaves job line_of job.steps i number
+  leaves_within : (i number : ℕ) → Leaves job line_of (time_of program n) i number →
+      Leaves job line_of job.steps i number
   leaves_within i number left = record {
     before = left.before;
     within = ⊎_elim (λ (low : left.before < job.steps). low)
         (λ (high : job.steps ≤ left.before). absurd (left.was_there
-        (ap (λ (s : State). counter job s i) (sym (same_from left.before high) ∙ same_from (left.before + 1) (omega arith))
+        (ap (λ (s : State). counter job s i)
+        (sym (same_from left.before high) ∙ same_from (left.before + 1) (omega arith))
         ∙ left.is_gone)))
         (cases_lt left.before job.steps);
     was_there = left.was_there;
@@ -45,19 +49,22 @@ module _ (program : ProgramData) (job : JobData) (of : IsOf program job) (whole 
     comes = left.comes;
   }
 
-  gone_by : (i : ℕ) → i < program.procs → (g : Option ℕ) → (after program n).gone i ≡ g → GoneIn job line_of job.steps i g
+  gone_by : (i : ℕ) → i < program.procs → (g : Option ℕ) → (after program n).gone i ≡ g →
+      GoneIn job line_of job.steps i g
   gone_by i lt (Some number) e =
       leaves_within i number (left_after program job of line_of numbers n is.reached i lt number e)
   gone_by i lt None e = λ out.
       let there : counter job (state_after job job.steps) i ≡ halted job =
       ap (λ (s : State). counter job s i) (same_from (time_of program n + 1) done.within)
-      ∙ last_there program job of (after program n) (time_of program n) carried is.over i lt e in omega arith
+      ∙ last_there program job of (after program n) (time_of program n) carried is.over i lt e in
+      omega arith
 
   pub ends_as : EndsAs program job line_of (after program n)
   ends_as = record {
     reached = done.stops.reached;
     stopped = done.stops.stopped;
-    cells = λ cell lt. ap (λ (s : State). slice_index s cell) (same_from (time_of program n + 1) done.within)
+    cells = λ cell lt. ap (λ (s : State). slice_index s cell)
+        (same_from (time_of program n + 1) done.within)
         ∙ last_cells program job of (after program n) (time_of program n) carried is.over cell lt;
     gone = λ i lt. gone_by i lt ((after program n).gone i) refl;
   }

@@ -10,16 +10,19 @@ use Rattle.pardo_law.proofs.Placing.{runs_one}
 use Rattle.pardo_law.proofs.Running.{Runs, quiet_run}
 
 pub runs_idle : (job : JobData) (memory : ℕ → ℕ) (i : ℕ) (held : Registers) (count at : ℕ) →
-    StandsAt job at (idle at count) → Runs job memory i count (Some (at, held)) (Some (at + count, held))
+    StandsAt job at (idle at count) →
+    Runs job memory i count (Some (at, held)) (Some (at + count, held))
 runs_idle job memory i held zero at stands =
     let e : at ≡ at + 0 = omega arith in ap (λ n. Some (n, held)) e
 runs_idle job memory i held (suc count) at stands =
     let e : (at + 1) + count ≡ at + suc count = omega arith in
-    runs_one job memory i count at held (Jmp (at + 1)) (Some (at + suc count, held)) stands.0 tt refl
+    runs_one job memory i count at held (Jmp (at + 1)) (Some (at + suc count, held)) stands.0 tt
+    refl
     (subst (λ n. Runs job memory i count (Some (at + 1, held)) (Some (n, held))) e
     (runs_idle job memory i held count (at + 1) stands.1))
 
 pub idling_stays : IdlingStays
 idling_stays job t at count memory held is_job stands standing =
-    quiet_run job is_job count t memory (λ i. Some (at, held i)) (λ i. Some (at + count, held i)) standing
+    quiet_run job is_job count t memory (λ i. Some (at, held i)) (λ i. Some (at + count, held i))
+    standing
     (λ i lt. runs_idle job memory i (held i) count at stands)

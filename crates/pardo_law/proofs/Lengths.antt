@@ -1,6 +1,8 @@
 -- How long the code of a line is, and where it stands in the code of the program.
-use Rattle.std.proofs.Common.{◌≡◌, ℕ, zero, suc, ◌+◌, ◌*◌, ◌==◌, Bool, true, false, List, [], ◌∷◌, ◌++◌, Some}
-use Rattle.std.proofs.Common.{refl, sym, ap, ◌∙◌, subst, arith, if◌then◌else◌, length, length-append, append_assoc, take}
+use Rattle.std.proofs.Common.{◌≡◌, ℕ, zero, suc, ◌+◌, ◌*◌, ◌==◌, Bool, true, false, List, [], ◌∷◌}
+use Rattle.std.proofs.Common.{◌++◌, Some}
+use Rattle.std.proofs.Common.{refl, sym, ap, ◌∙◌, subst, arith, if◌then◌else◌, length}
+use Rattle.std.proofs.Common.{length-append, append_assoc, take}
 use Rattle.std.specs.Prelude.{slice_get, sum_by}
 use Rattle.std.proofs.lemmas.List.Sums.{sum_by-cons}
 use Rattle.std.proofs.lemmas.Option.{none-some, same_Some}
@@ -14,7 +16,8 @@ use Rattle.pardo_text.specs.declared.statement.Statement.TheVariants.{While, End
 use Rattle.pardo_text.specs.Program.{ProgramData}
 use Rattle.pardo_job.specs.Layouts.{LayoutData, layout_of, mask_cells, loop_cells}
 use Rattle.pardo_job.specs.Lines.{idle, masked, choosing, line_code, loop_end, length_of, place_of}
-use Rattle.pardo_job.specs.Lines.{code_from, code_of, own_store, turn_code, next_value, while_code, none_code, first_code}
+use Rattle.pardo_job.specs.Lines.{code_from, code_of, own_store, turn_code, next_value, while_code}
+use Rattle.pardo_job.specs.Lines.{none_code, first_code}
 use Rattle.pardo_job.specs.Operations.{register_of}
 use Rattle.pardo_job.specs.Meaning.{statement_at}
 use Rattle.pardo_job.specs.Values.{own_load, operand_of}
@@ -27,7 +30,8 @@ pub length-idle : (at count : ℕ) → length (idle at count) ≡ count
 length-idle at zero = refl
 length-idle at (suc count) = ap suc (length-idle (at + 1) count)
 
-length_idle_same : (at other count : ℕ) (back other_back : List Instr) → length back ≡ length other_back →
+length_idle_same : (at other count : ℕ) (back other_back : List Instr) → length back ≡
+    length other_back →
     length (idle at count ++ back) ≡ length (idle other count ++ other_back)
 length_idle_same at other count back other_back e =
     length-append (idle at count) back
@@ -70,7 +74,8 @@ length-choosing layout at other depth body = length_back_same
     ∷ (body ++ Jmp (at + 4 + 2 * length body) ∷ idle (at + 3 + length body) (length body + 1)))
     (if depth == 0 then body
     else own_load 0 (mask_cells layout depth) ∷ Jz 0 (other + 3 + length body)
-    ∷ (body ++ Jmp (other + 4 + 2 * length body) ∷ idle (other + 3 + length body) (length body + 1)))
+    ∷ (body ++ Jmp (other + 4 + 2 * length body) ∷
+    idle (other + 3 + length body) (length body + 1)))
     (own_store (mask_cells layout (depth + 1)) ∷ []) (by_depth (depth == 0))
   where
     by_depth : (t : Bool) → length (if t then body
@@ -78,7 +83,8 @@ length-choosing layout at other depth body = length_back_same
         ∷ (body ++ Jmp (at + 4 + 2 * length body) ∷ idle (at + 3 + length body) (length body + 1)))
         ≡ length (if t then body
         else own_load 0 (mask_cells layout depth) ∷ Jz 0 (other + 3 + length body)
-        ∷ (body ++ Jmp (other + 4 + 2 * length body) ∷ idle (other + 3 + length body) (length body + 1)))
+        ∷ (body ++ Jmp (other + 4 + 2 * length body) ∷
+        idle (other + 3 + length body) (length body + 1)))
     by_depth true = refl
     by_depth false = ap (λ n. suc (suc n)) (length_front_same body
         (Jmp (at + 4 + 2 * length body) ∷ idle (at + 3 + length body) (length body + 1))
@@ -90,8 +96,10 @@ length-loop_end : (layout : LayoutData) (place other : ℕ → ℕ) (begin : ℕ
     length (loop_end layout place begin opener) ≡ length (loop_end layout other begin opener)
 length-loop_end layout place other begin (For nest first last up end) =
     length_front_same (turn_code layout nest last)
-    (Jz 1 (place (end + 1)) ∷ next_value up ∷ own_store (loop_cells layout nest) ∷ Jmp (place (begin + 1)) ∷ [])
-    (Jz 1 (other (end + 1)) ∷ next_value up ∷ own_store (loop_cells layout nest) ∷ Jmp (other (begin + 1)) ∷ []) refl
+    (Jz 1 (place (end + 1)) ∷ next_value up ∷ own_store (loop_cells layout nest) ∷
+    Jmp (place (begin + 1)) ∷ [])
+    (Jz 1 (other (end + 1)) ∷ next_value up ∷ own_store (loop_cells layout nest) ∷
+    Jmp (other (begin + 1)) ∷ []) refl
 length-loop_end layout place other begin (Assign target tree) = refl
 length-loop_end layout place other begin (If tree) = refl
 length-loop_end layout place other begin Else = refl
@@ -100,8 +108,10 @@ length-loop_end layout place other begin (While tree end) = refl
 length-loop_end layout place other begin (EndWhile line) = refl
 length-loop_end layout place other begin (EndFor line) = refl
 
-pub length-line_code : (program : ProgramData) (place other : ℕ → ℕ) (at at_other depth : ℕ) (statement : Statement) →
-    length (line_code program place at depth statement) ≡ length (line_code program other at_other depth statement)
+pub length-line_code : (program : ProgramData) (place other : ℕ → ℕ) (at at_other depth : ℕ)
+    (statement : Statement) →
+    length (line_code program place at depth statement) ≡
+    length (line_code program other at_other depth statement)
 unfolding line_code
 length-line_code program place other at at_other depth (Assign target tree) =
     length-masked (layout_of program) at at_other depth _
@@ -134,19 +144,23 @@ length_is program place at line =
 abbrev pub place_in : ProgramData → ℕ → List Line → ℕ → ℕ
 place_in program at lines j = at + sum_by (length_of program) (take j lines)
 
-place_in_zero : (program : ProgramData) (at : ℕ) (lines : List Line) → at ≡ place_in program at lines 0
+place_in_zero : (program : ProgramData) (at : ℕ) (lines : List Line) → at ≡
+    place_in program at lines 0
 place_in_zero program at lines = omega arith
 
 place_in_suc : (program : ProgramData) (at j : ℕ) (line : Line) (lines : List Line) →
-    place_in program (at + length_of program line) lines j ≡ place_in program at (line ∷ lines) (suc j)
+    place_in program (at + length_of program line) lines j ≡
+    place_in program at (line ∷ lines) (suc j)
 place_in_suc program at j line lines =
     let e : sum_by (length_of program) (line ∷ take j lines)
     ≡ length_of program line + sum_by (length_of program) (take j lines) =
     sum_by-cons (length_of program) line (take j lines) in omega arith
 
 -- the code of the first line, and that of the others
-module _ (program : ProgramData) (job : JobData) (before : List Instr) (at : ℕ) (line : Line) (lines : List Line)
-    (whole : job.code ≡ before ++ code_from program at (line ∷ lines)) (len : length before ≡ at) where
+module _ (program : ProgramData) (job : JobData) (before : List Instr) (at : ℕ) (line : Line)
+    (lines : List Line)
+    (whole : job.code ≡ before ++ code_from program at (line ∷ lines))
+    (len : length before ≡ at) where
   abbrev here : List Instr
   here = line_code program (place_of program) at line.depth line.statement
 
@@ -167,23 +181,27 @@ abbrev LineStands : ProgramData → JobData → ℕ → Line → Type 0
 LineStands program job at line =
     StandsAt job at (line_code program (place_of program) at line.depth line.statement)
 
-lines_stand : (program : ProgramData) (job : JobData) (before : List Instr) (at : ℕ) (lines : List Line) →
+lines_stand : (program : ProgramData) (job : JobData) (before : List Instr) (at : ℕ)
+    (lines : List Line) →
     job.code ≡ before ++ code_from program at lines → length before ≡ at →
     (j : ℕ) (line : Line) → slice_get lines j ≡ Some line →
     LineStands program job (place_in program at lines j) line
 lines_stand program job before at [] whole len j line is = absurd (none-some line is)
 lines_stand program job before at (first ∷ lines) whole len zero line is =
-    subst (λ l. LineStands program job (place_in program at (first ∷ lines) 0) l) (same_Some first line is)
+    subst (λ l. LineStands program job (place_in program at (first ∷ lines) 0) l)
+    (same_Some first line is)
     (subst (λ n. LineStands program job n first) (place_in_zero program at (first ∷ lines))
     (first_stands program job before at first lines whole len))
 lines_stand program job before at (first ∷ lines) whole len (suc j) line is =
     subst (λ n. LineStands program job n line) (place_in_suc program at j first lines)
     (lines_stand program job
-    (before ++ line_code program (place_of program) at first.depth first.statement) (at + length_of program first) lines
+    (before ++ line_code program (place_of program) at first.depth first.statement)
+    (at + length_of program first) lines
     (rest_whole program job before at first lines whole len)
     (rest_len program job before at first lines whole len) j line is)
 
-halt_stands : (program : ProgramData) (job : JobData) (before : List Instr) (at : ℕ) (lines : List Line) →
+halt_stands : (program : ProgramData) (job : JobData) (before : List Instr) (at : ℕ)
+    (lines : List Line) →
     job.code ≡ before ++ code_from program at lines → length before ≡ at →
     StandsAt job (place_in program at lines (length lines)) (Halt ∷ [])
 halt_stands program job before at [] whole len =
@@ -192,11 +210,13 @@ halt_stands program job before at [] whole len =
 halt_stands program job before at (first ∷ lines) whole len =
     subst (λ n. StandsAt job n (Halt ∷ [])) (place_in_suc program at (length lines) first lines)
     (halt_stands program job
-    (before ++ line_code program (place_of program) at first.depth first.statement) (at + length_of program first) lines
+    (before ++ line_code program (place_of program) at first.depth first.statement)
+    (at + length_of program first) lines
     (rest_whole program job before at first lines whole len)
     (rest_len program job before at first lines whole len))
 
-length_after : (program : ProgramData) (job : JobData) (before : List Instr) (at : ℕ) (lines : List Line) →
+length_after : (program : ProgramData) (job : JobData) (before : List Instr) (at : ℕ)
+    (lines : List Line) →
     job.code ≡ before ++ code_from program at lines → length before ≡ at →
     length job.code ≡ place_in program at lines (length lines) + 1
 length_after program job before at [] whole len =
@@ -204,7 +224,8 @@ length_after program job before at [] whole len =
     ∙ (let e : length before + 1 ≡ place_in program at [] 0 + 1 = omega arith in e)
 length_after program job before at (first ∷ lines) whole len =
     length_after program job
-    (before ++ line_code program (place_of program) at first.depth first.statement) (at + length_of program first) lines
+    (before ++ line_code program (place_of program) at first.depth first.statement)
+    (at + length_of program first) lines
     (rest_whole program job before at first lines whole len)
     (rest_len program job before at first lines whole len)
     ∙ ap (λ n. n + 1) (place_in_suc program at (length lines) first lines)
@@ -235,12 +256,14 @@ module _ (program : ProgramData) (job : JobData) (code_is : job.code ≡ code_of
 
 -- ---- places
 
-sum_next : (program : ProgramData) (lines : List Line) (j : ℕ) (line : Line) → slice_get lines j ≡ Some line →
+sum_next : (program : ProgramData) (lines : List Line) (j : ℕ) (line : Line) → slice_get lines j ≡
+    Some line →
     sum_by (length_of program) (take (suc j) lines)
     ≡ sum_by (length_of program) (take j lines) + length_of program line
 sum_next program [] j line is = absurd (none-some line is)
 sum_next program (first ∷ lines) zero line is =
-    sum_by-cons (length_of program) first [] ∙ ap (λ l. length_of program l + 0) (same_Some first line is)
+    sum_by-cons (length_of program) first [] ∙
+    ap (λ l. length_of program l + 0) (same_Some first line is)
     ∙ (let e : length_of program line + 0 ≡ 0 + length_of program line = omega arith in e)
 sum_next program (first ∷ lines) (suc j) line is =
     sum_by-cons (length_of program) first (take (suc j) lines)
@@ -249,9 +272,11 @@ sum_next program (first ∷ lines) (suc j) line is =
     ≡ length_of program first + sum_by (length_of program) (take j lines) =
     sum_by-cons (length_of program) first (take j lines) in omega arith)
 
-pub place_next : (program : ProgramData) (j : ℕ) (line : Line) → slice_get program.lines j ≡ Some line →
+pub place_next : (program : ProgramData) (j : ℕ) (line : Line) → slice_get program.lines j ≡
+    Some line →
     place_of program (j + 1) ≡ place_of program j + length_of program line
 unfolding place_of
 place_next program j line is =
-    ap (λ n. 1 + sum_by (length_of program) (take n program.lines)) (let e : j + 1 ≡ suc j = omega arith in e)
+    ap (λ n. 1 + sum_by (length_of program) (take n program.lines))
+    (let e : j + 1 ≡ suc j = omega arith in e)
     ∙ (let e = sum_next program program.lines j line is in omega arith)

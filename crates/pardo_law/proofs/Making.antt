@@ -6,10 +6,12 @@ use Rattle.pram_text.specs.declared.instr.Instr.{Instr}
 use Rattle.pram_text.specs.Job.{JobData, IsJob}
 use Rattle.pardo_job.specs.Straight.{Registers, after_all}
 use Rattle.pardo_law.specs.Locals.{Local, after_instr, next_local, store_by, store_of}
-use Rattle.pardo_law.specs.Locals.{IsNamed, IsNamedAt, AreStraight, StandsAt, Standing, StoresAgree, after_stores}
+use Rattle.pardo_law.specs.Locals.{IsNamed, IsNamedAt, AreStraight, StandsAt, Standing, StoresAgree}
+use Rattle.pardo_law.specs.Locals.{after_stores}
 use Rattle.pardo_law.proofs.Placing.{runs_one, next_at, runs_to, stands_front, stands_back}
 use Rattle.pardo_job.specs.Meaning.{given_to}
-use Rattle.pardo_law.proofs.Running.{Runs, runs_then, runs_out, quiet_run, store_step, then_memory, memory_after}
+use Rattle.pardo_law.proofs.Running.{Runs, runs_then, runs_out, quiet_run, store_step, then_memory}
+use Rattle.pardo_law.proofs.Running.{memory_after}
 use Rattle.pardo_law.proofs.Running.{firsts_same}
 
 -- ---- one processor
@@ -24,7 +26,8 @@ pub record Makes (job : JobData) (memory : ℕ → ℕ) (i n : ℕ) (l : Local) 
   pub goes : P (next_local job memory i mid)
 
 -- by n quiet steps alone
-pub record Goes (job : JobData) (memory : ℕ → ℕ) (i n : ℕ) (l : Local) (P : Local → Type 0) : Type 0 where
+pub record Goes (job : JobData) (memory : ℕ → ℕ) (i n : ℕ) (l : Local) (P : Local → Type 0) :
+    Type 0 where
   pub now : Local
   pub runs : Runs job memory i n l now
   pub goes : P now
@@ -43,7 +46,8 @@ pub goes_out : (job : JobData) (memory : ℕ → ℕ) (i n : ℕ) (P : Local →
     Goes job memory i n None P
 goes_out job memory i n P p = record { now = None; runs = runs_out job memory i n; goes = p }
 
-pub makes_then : (job : JobData) (memory : ℕ → ℕ) (i n m : ℕ) (l x : Local) (store : Option (ℕ × ℕ)) (P : Local → Type 0) →
+pub makes_then : (job : JobData) (memory : ℕ → ℕ) (i n m : ℕ) (l x : Local) (store : Option (ℕ × ℕ))
+    (P : Local → Type 0) →
     Runs job memory i n l x → Makes job memory i m x store P → Makes job memory i (n + m) l store P
 makes_then job memory i n m l x store P runs c = record {
   mid = c.mid;
@@ -75,7 +79,8 @@ makes_one job memory i n at held one store P stands named none c = record {
   goes = c.goes;
 }
 
-pub goes_one : (job : JobData) (memory : ℕ → ℕ) (i n at : ℕ) (held : Registers) (one : Instr) (P : Local → Type 0) →
+pub goes_one : (job : JobData) (memory : ℕ → ℕ) (i n at : ℕ) (held : Registers) (one : Instr)
+    (P : Local → Type 0) →
     slice_get job.code at ≡ Some one → IsNamed one → store_by held one ≡ None →
     Goes job memory i n (after_instr job memory i at held one) P →
     Goes job memory i (suc n) (Some (at, held)) P
@@ -91,7 +96,8 @@ pub goes_here : (job : JobData) (memory : ℕ → ℕ) (i : ℕ) (l : Local) (P 
 goes_here job memory i l P p = record { now = l; runs = refl; goes = p }
 
 -- the last step
-pub makes_last : (job : JobData) (memory : ℕ → ℕ) (i at : ℕ) (held : Registers) (one : Instr) (P : Local → Type 0) →
+pub makes_last : (job : JobData) (memory : ℕ → ℕ) (i at : ℕ) (held : Registers) (one : Instr)
+    (P : Local → Type 0) →
     slice_get job.code at ≡ Some one → IsNamed one → P (after_instr job memory i at held one) →
     Makes job memory i 0 (Some (at, held)) (store_by held one) P
 makes_last job memory i at held one P stands named p = record {
@@ -114,7 +120,8 @@ abbrev pub ended_by : JobData → (ℕ → ℕ) → ℕ → ℕ → Option Regis
 ended_by job memory i at None one = None
 ended_by job memory i at (Some held) one = after_instr job memory i at held one
 
-pub makes_body : (job : JobData) (memory : ℕ → ℕ) (i at : ℕ) (held : Registers) (front : List Instr) (one : Instr)
+pub makes_body : (job : JobData) (memory : ℕ → ℕ) (i at : ℕ) (held : Registers) (front : List Instr)
+    (one : Instr)
     (P : Local → Type 0) (o : Option Registers) →
     AreStraight front → StandsAt job at (front ++ one ∷ []) → IsNamed one →
     after_all memory i front held ≡ o → P (ended_by job memory i (at + length front) o one) →
@@ -124,17 +131,20 @@ makes_body job memory i at held front one P None straight stands named leaves p 
     let n : ℕ = length front in
     record {
       mid = None;
-      runs = runs_to job memory i front at held None straight (stands_front job at front (one ∷ []) stands) leaves;
+      runs = runs_to job memory i front at held None straight
+          (stands_front job at front (one ∷ []) stands) leaves;
       named = tt;
       stores = refl;
       goes = p;
     }
 makes_body job memory i at held front one P (Some now) straight stands named leaves p =
     let last : Makes job memory i 0 (Some (at + length front, now)) (store_by now one) P =
-    makes_last job memory i (at + length front) now one P (stands_back job at front (one ∷ []) stands).0 named p in
+    makes_last job memory i (at + length front) now one P
+    (stands_back job at front (one ∷ []) stands).0 named p in
     record {
       mid = last.mid;
-      runs = runs_to job memory i front at held (Some now) straight (stands_front job at front (one ∷ []) stands) leaves;
+      runs = runs_to job memory i front at held (Some now) straight
+          (stands_front job at front (one ∷ []) stands) leaves;
       named = last.named;
       stores = last.stores;
       goes = last.goes;
@@ -147,7 +157,8 @@ abbrev pub moved : JobData → (ℕ → ℕ) → ℕ → ℕ → Local → Local
 moved job memory i zero l = l
 moved job memory i (suc n) l = moved job memory i n (next_local job memory i l)
 
-pub runs_moved : (job : JobData) (memory : ℕ → ℕ) (i n : ℕ) (l now : Local) → Runs job memory i n l now →
+pub runs_moved : (job : JobData) (memory : ℕ → ℕ) (i n : ℕ) (l now : Local) →
+    Runs job memory i n l now →
     moved job memory i n l ≡ now
 runs_moved job memory i zero l now runs = runs
 runs_moved job memory i (suc n) l now runs =
@@ -174,7 +185,8 @@ module _ (job : JobData) (is_job : IsJob job) (t n : ℕ) (memory : ℕ → ℕ)
       ((i : ℕ) → i < job.procs → Goes job memory i n (locals i) (P i)) → Went job (t + n) memory P
   all_go P goes = record {
     places = λ i. moved job memory i n (locals i);
-    standing = quiet_run job is_job n t memory locals (λ i. moved job memory i n (locals i)) standing
+    standing = quiet_run job is_job n t memory locals (λ i. moved job memory i n (locals i))
+        standing
         (λ i lt. let e = runs_moved job memory i n (locals i) (goes i lt).now (goes i lt).runs in
         subst (Runs job memory i n (locals i)) (sym e) (goes i lt).runs);
     each = λ i lt. let e = runs_moved job memory i n (locals i) (goes i lt).now (goes i lt).runs in
@@ -209,6 +221,8 @@ module _ (job : JobData) (is_job : IsJob job) (t n : ℕ) (memory : ℕ → ℕ)
       locals = λ i. next_local job memory i (mids i);
       standing = store_step job is_job (t + n) memory mids before mids_named (mids_agree agree);
       cells = λ cell low. memory_after job is_job (t + n) memory mids before mids_named cell low
-          ∙ ap (λ o. unwrap_or o (memory cell)) (firsts_same job.procs _ _ (λ i lt. ap (given_to cell) (mids_store i lt)));
-      each = λ i lt. subst (λ l. P i (next_local job memory i l)) (sym (mid_is i lt)) (makes i lt).goes;
+          ∙ ap (λ o. unwrap_or o (memory cell))
+          (firsts_same job.procs _ _ (λ i lt. ap (given_to cell) (mids_store i lt)));
+      each = λ i lt. subst (λ l. P i (next_local job memory i l)) (sym (mid_is i lt))
+          (makes i lt).goes;
     }

@@ -1,11 +1,13 @@
 -- What a step makes of the places of one processor.
 use Rattle.std.proofs.Common.{◌≡◌, ◌≢◌, ℕ, ◌+◌, ◌<◌, ◌≤◌, ◌⊎◌, nat_lt, Some, None}
-use Rattle.std.proofs.Common.{refl, sym, ap, ◌∙◌, subst, inl, inr, ⊎_elim, arith, length, if◌then◌else◌}
+use Rattle.std.proofs.Common.{refl, sym, ap, ◌∙◌, subst, inl, inr, ⊎_elim, arith, length}
+use Rattle.std.proofs.Common.{if◌then◌else◌}
 use Rattle.std.proofs.lemmas.Bool.{cases_lt, cases_eq, lt-ltb, le-ltb}
 use Rattle.std.proofs.lemmas.Option.{none-some, some_pair_parts}
 use Rattle.pram_text.specs.Job.{JobData, IsJob}
 use Rattle.pram_step.specs.declared.requests.Request.{Request}
-use Rattle.pram_step.specs.Machine.{State, register_place, register, counter_place, counter, place_count}
+use Rattle.pram_step.specs.Machine.{State, register_place, register, counter_place, counter}
+use Rattle.pram_step.specs.Machine.{place_count}
 use Rattle.pram_step.specs.Machine.{out_of_range, IsDataPlace}
 use Rattle.pram_step.specs.Instructions.{request_in, requests_in, gives, goes_to}
 use Rattle.pram_step.specs.Steps.{Writes, written, next_state}
@@ -41,7 +43,8 @@ module _ (job : JobData) (is_job : IsJob job) (s : State) (len : length s ≡ pl
       (writer_cases job (requests_in job s) p)
 
   register_owner : (which j : ℕ) → which < 4 → j < job.procs →
-      (register_place job i which ≡ counter_place job j) ⊎ IsDataPlace job j (register_place job i which) →
+      (register_place job i which ≡ counter_place job j) ⊎
+      IsDataPlace job j (register_place job i which) →
       j ≡ i
   register_owner which j few below (inl same) = omega arith
   register_owner which j few below (inr (inl cell)) = omega arith
@@ -60,32 +63,37 @@ module _ (job : JobData) (is_job : IsJob job) (s : State) (len : length s ≡ pl
       (λ (n : HasNone job (requests_in job s) p).
       after_none job (requests_in job s) s p within n.found)
       (λ (f : HasFirst job (requests_in job s) p).
-      let w : (f.writer < job.procs) × ((p ≡ counter_place job f.writer) ⊎ IsDataPlace job f.writer p) =
+      let w : (f.writer < job.procs) ×
+      ((p ≡ counter_place job f.writer) ⊎ IsDataPlace job f.writer p) =
       writes_place job s p f.writer f.value is_job f.first.writes in
       let same : f.writer ≡ i = register_owner which f.writer few w.0 w.1 in
       let is : written job p f.writer (request_in job s f.writer) ≡ Some f.value =
       (writer_is job s p f.writer f.value f.first.writes).1 in
       let here : written job p i (request_in job s i) ≡ Some f.value =
       subst (λ j. written job p j (request_in job s j) ≡ Some f.value) same is in
-      absurd (⊎_elim (λ (c : (p ≡ counter_place job i) × (f.value ≡ (request_in job s i).next)). not_counter which i few c.0)
+      absurd (⊎_elim (λ (c : (p ≡ counter_place job i) × (f.value ≡ (request_in job s i).next)).
+      not_counter which i few c.0)
       (λ puts. none f.value puts)
       (written_cases job p i f.value (request_in job s i) here)))
       (writer_cases job (requests_in job s) p)
 
   -- all registers, as far as there are some
-  held_same : (now : State) → ((which : ℕ) → which < 4 → register job now i which ≡ register job s i which) →
+  held_same : (now : State) → ((which : ℕ) → which < 4 → register job now i which ≡
+      register job s i which) →
       registers_of job now i ≡ registers_of job s i
   held_same now each = λ k which. at_one which k
     where
       at_one : (which : ℕ) → registers_of job now i which ≡ registers_of job s i which
       at_one which = ⊎_elim
           (λ (few : which < 4). ap (λ v. if nat_lt which 4 then v else 0) (each which few))
-          (λ (many : 4 ≤ which). ap (λ t. if t then register job now i which else 0) (le-ltb which 4 many)
+          (λ (many : 4 ≤ which). ap (λ t. if t then register job now i which else 0)
+          (le-ltb which 4 many)
           ∙ sym (ap (λ t. if t then register job s i which else 0) (le-ltb which 4 many)))
           (cases_lt which 4)
 
   held_put : (target v : ℕ) (now : State) → target < 4 → register job now i target ≡ v →
-      ((which : ℕ) → which < 4 → which ≢ target → register job now i which ≡ register job s i which) →
+      ((which : ℕ) → which < 4 → which ≢ target → register job now i which ≡
+      register job s i which) →
       registers_of job now i ≡ put target v (registers_of job s i)
   held_put target v now few is each = λ k which. at_one which k
     where
@@ -110,9 +118,11 @@ module _ (job : JobData) (is_job : IsJob job) (s : State) (len : length s ≡ pl
           ∙ sym (ap (λ t. if t then register job s i which else 0) (le-ltb which 4 many))
           ∙ sym (put_other target v which (registers_of job s i) (λ same. omega arith))
 
-      at_one : (which : ℕ) → registers_of job now i which ≡ put target v (registers_of job s i) which
+      at_one : (which : ℕ) → registers_of job now i which ≡
+          put target v (registers_of job s i) which
       at_one which = ⊎_elim
-          (λ (low : which < 4). ⊎_elim (λ same. at_target which low same) (λ ne. at_other which low ne) (cases_eq which target))
+          (λ (low : which < 4). ⊎_elim (λ same. at_target which low same)
+          (λ ne. at_other which low ne) (cases_eq which target))
           (λ (many : 4 ≤ which). at_far which many)
           (cases_lt which 4)
 
@@ -123,7 +133,8 @@ module _ (job : JobData) (is_job : IsJob job) (s : State) (len : length s ≡ pl
 
   no_put : (r : Request) → request_in job s i ≡ r → r.put ≡ None → (place v : ℕ) →
       (request_in job s i).put ≡ Some (place, v) → ⊥
-  no_put r e none place v puts = none-some (place, v) (sym none ∙ sym (ap (λ (q : Request). q.put) e) ∙ puts)
+  no_put r e none place v puts = none-some (place, v)
+      (sym none ∙ sym (ap (λ (q : Request). q.put) e) ∙ puts)
 
   pub follows_out : request_in job s i ≡ goes_to (out_of_range job) → Follows job s i None None
   follows_out e = record {
@@ -137,7 +148,8 @@ module _ (job : JobData) (is_job : IsJob job) (s : State) (len : length s ≡ pl
   follows_goes n held e is = record {
     local_is = (
       counter_is (goes_to n) e,
-      held_same (next_state job s) (λ which few. next_kept which few (λ v puts. no_put (goes_to n) e refl _ v puts)) ∙ is,
+      held_same (next_state job s) (λ which few. next_kept which few
+          (λ v puts. no_put (goes_to n) e refl _ v puts)) ∙ is,
     );
     wrote = λ cell v low puts. absurd (no_put (goes_to n) e refl cell v puts);
     stored = λ cell v low none. absurd (none-some (cell, v) none);
@@ -157,12 +169,14 @@ module _ (job : JobData) (is_job : IsJob job) (s : State) (len : length s ≡ pl
       held_put target v (next_state job s) few
           (next_given target v few (ap (λ (q : Request). q.put) e))
           (λ which low ne. next_kept which low (λ w puts.
-          let c : register_place job i target ≡ register_place job i which = (put_is at target v _ w e puts).0 in
+          let c : register_place job i target ≡ register_place job i which =
+          (put_is at target v _ w e puts).0 in
           let same : which ≡ target = omega arith in ne same))
           ∙ ap (put target v) is,
     );
     wrote = λ cell w low puts.
-        let c : register_place job i target ≡ cell = (put_is at target v cell w e puts).0 in absurd (omega arith);
+        let c : register_place job i target ≡ cell = (put_is at target v cell w e puts).0 in
+        absurd (omega arith);
     stored = λ cell w low none. absurd (none-some (cell, w) none);
   }
 
@@ -170,11 +184,13 @@ module _ (job : JobData) (is_job : IsJob job) (s : State) (len : length s ≡ pl
       request_in job s i ≡ record { put = Some (cell, v); next = next } →
       registers_of job s i ≡ held → Follows job s i (Some (next, held)) (Some (cell, v))
   follows_stores next cell v held low e is =
-      let puts : (request_in job s i).put ≡ Some (cell, v) = ap (λ (q : Request). q.put) e in record {
+      let puts : (request_in job s i).put ≡ Some (cell, v) = ap (λ (q : Request). q.put) e in
+      record {
         local_is = (
           counter_is (record { put = Some (cell, v); next = next }) e,
           held_same (next_state job s) (λ which few. next_kept which few (λ w there.
-              let c : cell ≡ register_place job i which = (some_pair_parts _ _ _ _ (sym puts ∙ there)).0 in omega arith)) ∙ is,
+              let c : cell ≡ register_place job i which =
+              (some_pair_parts _ _ _ _ (sym puts ∙ there)).0 in omega arith)) ∙ is,
         );
         wrote = λ other w below there. sym puts ∙ there;
         stored = λ other w below there. puts ∙ there;

@@ -13,7 +13,8 @@ use Rattle.pardo_text.specs.Lawful.{IsProgram}
 use Rattle.pardo_text.specs.Operations.{bit}
 use Rattle.pardo_text.specs.Program.{ProgramData}
 use Rattle.pardo_job.specs.Compiled.{AreLevel}
-use Rattle.pardo_job.specs.Layouts.{layout_of, private_cells, loop_cells, mask_cells, cell_count, start_values}
+use Rattle.pardo_job.specs.Layouts.{layout_of, private_cells, loop_cells, mask_cells, cell_count}
+use Rattle.pardo_job.specs.Layouts.{start_values}
 use Rattle.pardo_job.specs.Lines.{job_of, code_of, place_of, machine_rule}
 use Rattle.pardo_job.specs.Meaning.{Source, statement_at}
 use Rattle.pardo_job.specs.Sees.{Sees}
@@ -29,7 +30,8 @@ IsFor (For nest first last up end) = Unit {0}
 IsFor _ = ⊥
 
 abbrev pub TurnsAreTied : ProgramData → Type 0
-TurnsAreTied program = (j begin : ℕ) → statement_at program j ≡ EndFor begin → IsFor (statement_at program begin)
+TurnsAreTied program = (j begin : ℕ) → statement_at program j ≡ EndFor begin →
+    IsFor (statement_at program begin)
 
 -- the job of the definitions for a lawful program
 pub record IsOf (program : ProgramData) (job : JobData) : Type 0 where
@@ -70,16 +72,22 @@ module _ (program : ProgramData) (job : JobData) (of : IsOf program job) where
   le_max : (a b : ℕ) → b ≤ max a b
   le_max a b = omega arith
 
-  pub all_cells : (layout_of program).shared + ((layout_of program).privates + (layout_of program).loops + (layout_of program).choices)
+  pub all_cells : (layout_of program).shared +
+      ((layout_of program).privates + (layout_of program).loops + (layout_of program).choices)
       * (layout_of program).procs ≤ job.cells
-  all_cells = subst (λ n. (layout_of program).shared + ((layout_of program).privates + (layout_of program).loops + (layout_of program).choices)
-      * (layout_of program).procs ≤ n) (sym cells_are) (le_max 1 ((layout_of program).shared + ((layout_of program).privates
+  all_cells = subst (λ n. (layout_of program).shared +
+      ((layout_of program).privates + (layout_of program).loops + (layout_of program).choices)
+      * (layout_of program).procs ≤ n) (sym cells_are)
+      (le_max 1 ((layout_of program).shared + ((layout_of program).privates
       + (layout_of program).loops + (layout_of program).choices) * (layout_of program).procs))
 
-  pub row_low : (w i : ℕ) → w < (layout_of program).privates + (layout_of program).loops + (layout_of program).choices →
+  pub row_low : (w i : ℕ) → w < (layout_of program).privates + (layout_of program).loops +
+      (layout_of program).choices →
       i < (layout_of program).procs → own_of (layout_of program) w i < job.cells
   row_low w i lt less =
-      let a = row_within (layout_of program) w ((layout_of program).privates + (layout_of program).loops + (layout_of program).choices) i lt less in
+      let a = row_within (layout_of program) w
+      ((layout_of program).privates + (layout_of program).loops + (layout_of program).choices) i
+      lt less in
       let b = all_cells in omega arith
 
   pub shared_low : (cell : ℕ) → cell < (layout_of program).shared → cell < job.cells
@@ -104,31 +112,42 @@ abbrev pub IsHere : Option ℕ → ℕ → ℕ → Local → Type 0
 IsHere (Some line) place i l = l ≡ None
 IsHere None place i l = IsThere place i l
 
-pub record Pictured (program : ProgramData) (source : Source) (memory : ℕ → ℕ) (locals : ℕ → Local) : Type 0 where
+pub record Pictured (program : ProgramData) (source : Source) (memory : ℕ → ℕ)
+    (locals : ℕ → Local) : Type 0 where
   pub within : source.at ≤ length program.lines
   pub all : (i : ℕ) → source.masks 0 i ≡ true
   pub cells : (cell : ℕ) → cell < (layout_of program).shared → memory cell ≡ source.cells cell
   pub privates : (x i : ℕ) → x < (layout_of program).privates → i < program.procs →
       memory ((private_cells (layout_of program) x).base + i) ≡ source.privates x i
-  pub loops : (nest i : ℕ) → nest < (layout_of program).loops → i < program.procs → source.gone i ≡ None →
+  pub loops : (nest i : ℕ) → nest < (layout_of program).loops → i < program.procs → source.gone i ≡
+      None →
       memory ((loop_cells (layout_of program) nest).base + i) ≡ source.loops nest
-  pub masks : (depth i : ℕ) → depth < (layout_of program).choices → i < program.procs → source.gone i ≡ None →
-      memory ((mask_cells (layout_of program) (suc depth)).base + i) ≡ bit (source.masks (suc depth) i)
-  pub here : (i : ℕ) → i < program.procs → IsHere (source.gone i) (place_of program source.at) i (locals i)
+  pub masks : (depth i : ℕ) → depth < (layout_of program).choices → i < program.procs →
+      source.gone i ≡ None →
+      memory ((mask_cells (layout_of program) (suc depth)).base + i) ≡
+      bit (source.masks (suc depth) i)
+  pub here : (i : ℕ) → i < program.procs →
+      IsHere (source.gone i) (place_of program source.at) i (locals i)
 
 pub memory_fits : (job : JobData) (t : ℕ) (memory : ℕ → ℕ) (locals : ℕ → Local) → IsJob job →
     Standing job t memory locals → (cell : ℕ) → memory cell < 2 ^ 32
-memory_fits job t memory locals is_job standing cell = subst (λ (m : ℕ → ℕ). m cell < 2 ^ 32) standing.memory_is
+memory_fits job t memory locals is_job standing cell =
+    subst (λ (m : ℕ → ℕ). m cell < 2 ^ 32) standing.memory_is
     (⊎_elim (λ (low : cell < job.cells).
-    subst (λ n. n < 2 ^ 32) (sym (ap (λ b. if b then slice_index (state_after job t) cell else 0) (lt-ltb cell job.cells low)))
+    subst (λ n. n < 2 ^ 32) (sym (ap (λ b. if b then slice_index (state_after job t) cell else 0)
+    (lt-ltb cell job.cells low)))
     (place_fits (state_after job t) cell (state_fits job t is_job)))
     (λ (high : job.cells ≤ cell).
-    subst (λ n. n < 2 ^ 32) (sym (ap (λ b. if b then slice_index (state_after job t) cell else 0) (le-ltb cell job.cells high)))
+    subst (λ n. n < 2 ^ 32) (sym (ap (λ b. if b then slice_index (state_after job t) cell else 0)
+    (le-ltb cell job.cells high)))
     (omega arith)) (cases_lt cell job.cells))
 
-module _ (program : ProgramData) (of : IsProgram program) (source : Source) (memory : ℕ → ℕ) (locals : ℕ → Local)
-    (pictured : Pictured program source memory locals) (fits : (cell : ℕ) → memory cell < 2 ^ 32) where
-  pub sees : (i : ℕ) → i < program.procs → source.gone i ≡ None → Sees program (layout_of program) source memory i
+module _ (program : ProgramData) (of : IsProgram program) (source : Source) (memory : ℕ → ℕ)
+    (locals : ℕ → Local)
+    (pictured : Pictured program source memory locals)
+    (fits : (cell : ℕ) → memory cell < 2 ^ 32) where
+  pub sees : (i : ℕ) → i < program.procs → source.gone i ≡ None →
+      Sees program (layout_of program) source memory i
   sees i lt there = record {
     is_processor = let e = layout_procs program in omega arith;
     few = let e = layout_procs program in let f = of.procs.1 in omega arith;

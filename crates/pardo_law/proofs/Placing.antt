@@ -78,7 +78,8 @@ straight_named Halt is = absurd is
 straight_named _ is = tt
 
 straight_instr : (job : JobData) (memory : ℕ → ℕ) (i at : ℕ) (held : Registers) (one : Instr) →
-    IsStraight one → after_instr job memory i at held one ≡ standing_at (at + 1) (after_one memory i one held)
+    IsStraight one → after_instr job memory i at held one ≡
+    standing_at (at + 1) (after_one memory i one held)
 straight_instr job memory i at held (Ld target (Named array index)) is = refl
 straight_instr job memory i at held (Ld target (Cell index)) is = absurd is
 straight_instr job memory i at held (St place value) is = absurd is
@@ -88,7 +89,8 @@ straight_instr job memory i at held Halt is = absurd is
 straight_instr job memory i at held _ is = refl
 
 -- an instruction that stands there
-pub quiet_at : (job : JobData) (at : ℕ) (held : Registers) (one : Instr) → slice_get job.code at ≡ Some one →
+pub quiet_at : (job : JobData) (at : ℕ) (held : Registers) (one : Instr) → slice_get job.code at ≡
+    Some one →
     IsNamed one → store_by held one ≡ None → IsQuiet job (Some (at, held))
 quiet_at job at held one stands named none = (
   λ instr is. subst IsNamed (same_Some one instr (sym stands ∙ is)) named,
@@ -101,7 +103,8 @@ pub next_at : (job : JobData) (memory : ℕ → ℕ) (i at : ℕ) (held : Regist
 next_at job memory i at held one stands = ap (after_fetched job memory i at held) stands
 
 -- one quiet instruction, and then others
-pub runs_one : (job : JobData) (memory : ℕ → ℕ) (i n at : ℕ) (held : Registers) (one : Instr) (now : Local) →
+pub runs_one : (job : JobData) (memory : ℕ → ℕ) (i n at : ℕ) (held : Registers) (one : Instr)
+    (now : Local) →
     slice_get job.code at ≡ Some one → IsNamed one → store_by held one ≡ None →
     Runs job memory i n (after_instr job memory i at held one) now →
     Runs job memory i (suc n) (Some (at, held)) now
@@ -138,15 +141,18 @@ runs_straight job memory i (one ∷ code) at held straight stands =
     (after_one memory i one held)))
 
 -- code that leads to some registers
-pub runs_to : (job : JobData) (memory : ℕ → ℕ) (i : ℕ) (code : List Instr) (at : ℕ) (held : Registers) (o : Option Registers) →
+pub runs_to : (job : JobData) (memory : ℕ → ℕ) (i : ℕ) (code : List Instr) (at : ℕ)
+    (held : Registers) (o : Option Registers) →
     AreStraight code → StandsAt job at code → after_all memory i code held ≡ o →
     Runs job memory i (length code) (Some (at, held)) (standing_at (at + length code) o)
 runs_to job memory i code at held o straight stands e =
-    subst (λ x. Runs job memory i (length code) (Some (at, held)) (standing_at (at + length code) x)) e
+    subst (λ x. Runs job memory i (length code) (Some (at, held))
+    (standing_at (at + length code) x)) e
     (runs_straight job memory i code at held straight stands)
 
 runs_from : (job : JobData) (memory : ℕ → ℕ) (i at : ℕ) (code : List Instr) → AreStraight code →
-    StandsAt job at code → (o : Option Registers) → Runs job memory i (length code) (standing_at at o)
+    StandsAt job at code → (o : Option Registers) →
+    Runs job memory i (length code) (standing_at at o)
     (standing_at (at + length code) (option_and_then (after_all memory i code) o))
 runs_from job memory i at code straight stands None = runs_out job memory i (length code)
 runs_from job memory i at code straight stands (Some held) =

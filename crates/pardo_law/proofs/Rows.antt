@@ -1,6 +1,8 @@
 -- Cells of rows and of arrays, and what stores to them leave.
-use Rattle.std.proofs.Common.{◌≡◌, ◌≢◌, ℕ, zero, suc, ◌+◌, ◌*◌, ◌<◌, ◌≤◌, nat_lt, Bool, true, false, List, [], ◌∷◌, Option, Some, None}
-use Rattle.std.proofs.Common.{refl, sym, ap, ◌∙◌, subst, inl, inr, ⊎_elim, arith, if◌then◌else◌, length}
+use Rattle.std.proofs.Common.{◌≡◌, ◌≢◌, ℕ, zero, suc, ◌+◌, ◌*◌, ◌<◌, ◌≤◌, nat_lt, Bool, true, false}
+use Rattle.std.proofs.Common.{List, [], ◌∷◌, Option, Some, None}
+use Rattle.std.proofs.Common.{refl, sym, ap, ◌∙◌, subst, inl, inr, ⊎_elim, arith, if◌then◌else◌}
+use Rattle.std.proofs.Common.{length}
 use Rattle.std.specs.Prelude.{slice_get, unwrap_or}
 use Rattle.std.specs.Option.{option_map}
 use Rattle.std.proofs.Math.Nat.{mul-le-mul_left}
@@ -27,7 +29,11 @@ own_of layout which i = (row layout which).base + i
 pub rows_apart : (layout : LayoutData) (w v i j : ℕ) → i < layout.procs → j < layout.procs →
     own_of layout w i ≡ own_of layout v j → (w ≡ v) × (i ≡ j)
 rows_apart layout w v i j lt less same = elim (cases_order w v) [
-  | inl is ↦ (is, let e : w * layout.procs ≡ v * layout.procs = ap (λ n. n * layout.procs) is in omega arith)
+  | inl is ↦ (
+    is,
+    let e : w * layout.procs ≡ v * layout.procs = ap (λ n. n * layout.procs) is in
+        omega arith,
+  )
   | inr apart ↦ elim apart [
     | inl low ↦
         let below : suc w ≤ v = omega arith in
@@ -48,18 +54,21 @@ row_within layout w n i lt less =
 abbrev pub own_stores : LayoutData → ℕ → (ℕ → Option ℕ) → ℕ → Option (ℕ × ℕ)
 own_stores layout which values i = option_map (λ v. (own_of layout which i, v)) (values i)
 
-own_parts : (cell c w : ℕ) (o : Option ℕ) → option_map {U = ℕ × ℕ} (λ v. (cell, v)) o ≡ Some (c, w) →
+own_parts : (cell c w : ℕ) (o : Option ℕ) → option_map {U = ℕ × ℕ} (λ v. (cell, v)) o ≡
+    Some (c, w) →
     (cell ≡ c) × (o ≡ Some w)
 own_parts cell c w None e = absurd (none-some (c, w) e)
 own_parts cell c w (Some v) e =
     let parts = some_pair_parts cell c v w e in (parts.0, ap Some parts.1)
 
 own_given : (layout : LayoutData) (which j : ℕ) (values : ℕ → Option ℕ) → j < layout.procs →
-    first_below layout.procs (λ i. given_to (own_of layout which j) (own_stores layout which values i)) ≡ values j
+    first_below layout.procs (λ i. given_to (own_of layout which j)
+    (own_stores layout which values i)) ≡ values j
 own_given layout which j values lt = by_value (values j) refl
   where
     by_value : (o : Option ℕ) → values j ≡ o →
-        first_below layout.procs (λ i. given_to (own_of layout which j) (own_stores layout which values i)) ≡ o
+        first_below layout.procs (λ i. given_to (own_of layout which j)
+        (own_stores layout which values i)) ≡ o
     by_value (Some v) e = first_some layout.procs j v
         (λ i. given_to (own_of layout which j) (own_stores layout which values i)) lt
         (given_of (own_of layout which j) v (own_stores layout which values j)
@@ -76,7 +85,8 @@ own_given layout which j values lt = by_value (values j) refl
         none-some w (sym e ∙ ap values (sym same.1) ∙ parts.1)))
 
 -- what it has stored there is
-pub after_own : (layout : LayoutData) (which j : ℕ) (values : ℕ → Option ℕ) (memory : ℕ → ℕ) → j < layout.procs →
+pub after_own : (layout : LayoutData) (which j : ℕ) (values : ℕ → Option ℕ) (memory : ℕ → ℕ) →
+    j < layout.procs →
     after_stores layout.procs (own_stores layout which values) memory (own_of layout which j)
     ≡ unwrap_or (values j) (memory (own_of layout which j))
 after_own layout which j values memory lt =
@@ -96,7 +106,8 @@ pub after_other : (layout : LayoutData) (which v j : ℕ) (values : ℕ → Opti
     ≡ memory (own_of layout v j)
 after_other layout which v j values memory lt ne =
     after_apart layout.procs (own_of layout v j) (own_stores layout which values) memory
-    (λ i w less is. let parts = own_parts (own_of layout which i) (own_of layout v j) w (values i) is in
+    (λ i w less is. let parts = own_parts (own_of layout which i) (own_of layout v j) w (values i)
+    is in
     ne (rows_apart layout which v i j less lt parts.0).0)
 
 -- so is a shared one
@@ -106,7 +117,8 @@ pub after_shared : (layout : LayoutData) (which cell : ℕ) (values : ℕ → Op
 after_shared layout which cell values memory low =
     after_apart layout.procs cell (own_stores layout which values) memory
     (λ i w less is.
-    let e : own_of layout which i ≡ cell = (own_parts (own_of layout which i) cell w (values i) is).0 in omega arith)
+    let e : own_of layout which i ≡ cell =
+    (own_parts (own_of layout which i) cell w (values i) is).0 in omega arith)
 
 not_forbidden : (rule : Rule) (i v j w : ℕ) → i ≡ j → v ≡ w → Forbids rule i v j w → ⊥
 not_forbidden Common i v j w same equal forbidden = forbidden equal
@@ -135,7 +147,8 @@ array_within [] base k held are is = absurd (none-some held is)
 array_within (array ∷ arrays) base zero held are is =
     let same : array ≡ held = same_Some array held is in
     let begins : held.base ≡ base = ap (λ (a : ArrayData). a.base) (sym same) ∙ are.0 in
-    let long : length array.start ≡ length held.start = ap (λ (a : ArrayData). length a.start) same in (
+    let long : length array.start ≡ length held.start =
+    ap (λ (a : ArrayData). length a.start) same in (
       omega (arith, shared_more array arrays),
       omega (arith, are.1),
     )
@@ -146,7 +159,8 @@ array_within (array ∷ arrays) base (suc k) held are is =
 module _ (program : ProgramData) (arrays_are : AreArrays program.arrays 0) where
   cells_found : (array : ℕ) (o : Option ArrayData) → slice_get program.arrays array ≡ o →
       array_cells (layout_of program) array
-      ≡ elim (option_map cells_of o) as (λ (x : Option Array). Array) [ None ↦ record { base = 0; len = 0 } | Some cells ↦ cells ]
+      ≡ elim (option_map cells_of o) as (λ (x : Option Array). Array)
+      [ None ↦ record { base = 0; len = 0 } | Some cells ↦ cells ]
   unfolding layout_of
   cells_found array o e = ap (λ (x : Option Array). elim x as (λ (y : Option Array). Array) [
     | None ↦ record { base = 0; len = 0 }
@@ -159,14 +173,17 @@ module _ (program : ProgramData) (arrays_are : AreArrays program.arrays 0) where
     pub is : (array_cells (layout_of program) array).base + index ≡ cell
     pub shared : cell < (layout_of program).shared
 
-  place_by : (array index cell : ℕ) (held : ArrayData) → slice_get program.arrays array ≡ Some held →
+  place_by : (array index cell : ℕ) (held : ArrayData) → slice_get program.arrays array ≡
+      Some held →
       (t : Bool) → nat_lt index (length held.start) ≡ t →
       (if t then Some (held.base + index) else None) ≡ Some cell → IsPlace array index cell
   unfolding layout_of
   place_by array index cell held found true e is =
-      let cells : array_cells (layout_of program) array ≡ cells_of held = cells_found array (Some held) found in
+      let cells : array_cells (layout_of program) array ≡ cells_of held =
+      cells_found array (Some held) found in
       let low : index < length held.start = ⊎_elim (λ (l : index < length held.start). l)
-      (λ (no : length held.start ≤ index). let f : true ≡ false = sym e ∙ le-ltb index (length held.start) no in absurd (cc))
+      (λ (no : length held.start ≤ index). let f : true ≡ false = sym e ∙
+      le-ltb index (length held.start) no in absurd (cc))
       (cases_lt index (length held.start)) in
       let within_all = (array_within program.arrays 0 array held arrays_are found).0 in
       let c : held.base + index ≡ cell = same_Some (held.base + index) cell is in record {
@@ -185,8 +202,10 @@ module _ (program : ProgramData) (arrays_are : AreArrays program.arrays 0) where
   place_from array index cell (Some held) found is =
       place_by array index cell held found (nat_lt index (length held.start)) refl is
 
-  pub place_is : (array index cell : ℕ) → cell_of program array index ≡ Some cell → IsPlace array index cell
-  place_is array index cell is = place_from array index cell (slice_get program.arrays array) refl is
+  pub place_is : (array index cell : ℕ) → cell_of program array index ≡ Some cell →
+      IsPlace array index cell
+  place_is array index cell is = place_from array index cell (slice_get program.arrays array) refl
+      is
 
   outside_by : (array index : ℕ) (held : ArrayData) → slice_get program.arrays array ≡ Some held →
       (t : Bool) → nat_lt index (length held.start) ≡ t →
@@ -194,9 +213,11 @@ module _ (program : ProgramData) (arrays_are : AreArrays program.arrays 0) where
       (array_cells (layout_of program) array).len ≤ index
   outside_by array index held found true e is = absurd (none-some (held.base + index) (sym is))
   outside_by array index held found false e is =
-      let cells : array_cells (layout_of program) array ≡ cells_of held = cells_found array (Some held) found in
+      let cells : array_cells (layout_of program) array ≡ cells_of held =
+      cells_found array (Some held) found in
       let high : length held.start ≤ index = ⊎_elim
-      (λ (l : index < length held.start). let f : true ≡ false = sym (lt-ltb index (length held.start) l) ∙ e in absurd (cc))
+      (λ (l : index < length held.start). let f : true ≡ false =
+      sym (lt-ltb index (length held.start) l) ∙ e in absurd (cc))
       (λ (no : length held.start ≤ index). no)
       (cases_lt index (length held.start)) in
       subst (λ (a : Array). a.len ≤ index) (sym cells) high
@@ -219,23 +240,27 @@ module _ (program : ProgramData) (arrays_are : AreArrays program.arrays 0) where
   first_by : (array : ℕ) (held : ArrayData) → slice_get program.arrays array ≡ Some held →
       (cell : ℕ) × (cell_of program array 0 ≡ Some cell)
   first_by array held found =
-      let some : 0 < length held.start = (array_within program.arrays 0 array held arrays_are found).1 in (
+      let some : 0 < length held.start =
+      (array_within program.arrays 0 array held arrays_are found).1 in (
         held.base + 0,
         ap (λ (o : Option ArrayData). elim o as (λ (x : Option ArrayData). Option ℕ) [
           | None ↦ None
           | Some h ↦ if nat_lt 0 (length h.start) then Some (h.base + 0) else None
-        ]) found ∙ ap (λ b. if b then Some (held.base + 0) else None) (lt-ltb 0 (length held.start) some),
+        ]) found ∙ ap (λ b. if b then Some (held.base + 0) else None)
+            (lt-ltb 0 (length held.start) some),
       )
 
   first_from : (array : ℕ) (o : Option ArrayData) → slice_get program.arrays array ≡ o →
       array < length program.arrays → (cell : ℕ) × (cell_of program array 0 ≡ Some cell)
   first_from array None found lt = absurd (none_past program.arrays array found lt)
     where
-      none_past : (arrays : List ArrayData) (k : ℕ) → slice_get arrays k ≡ None → k < length arrays → ⊥
+      none_past : (arrays : List ArrayData) (k : ℕ) → slice_get arrays k ≡ None →
+          k < length arrays → ⊥
       none_past [] k e lt = omega arith
       none_past (a ∷ arrays) zero e lt = none-some a (sym e)
       none_past (a ∷ arrays) (suc k) e lt = none_past arrays k e (omega arith)
   first_from array (Some held) found lt = first_by array held found
 
-  pub first_place : (array : ℕ) → array < length program.arrays → (cell : ℕ) × (cell_of program array 0 ≡ Some cell)
+  pub first_place : (array : ℕ) → array < length program.arrays → (cell : ℕ) ×
+      (cell_of program array 0 ≡ Some cell)
   first_place array lt = first_from array (slice_get program.arrays array) refl lt

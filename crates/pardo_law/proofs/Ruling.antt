@@ -1,6 +1,8 @@
 -- Laws of the meaning: what the rule changes, and what is written.
-use Rattle.std.proofs.Common.{◌≡◌, ◌≢◌, ℕ, zero, suc, ◌<◌, ◌≤◌, ◌==◌, ◌⊎◌, Bool, true, false, Option, Some, None}
-use Rattle.std.proofs.Common.{refl, sym, ap, ◌∙◌, subst, inl, inr, ⊎_elim, arith, if◌then◌else◌, unwrap_or}
+use Rattle.std.proofs.Common.{◌≡◌, ◌≢◌, ℕ, zero, suc, ◌<◌, ◌≤◌, ◌==◌, ◌⊎◌, Bool, true, false}
+use Rattle.std.proofs.Common.{Option, Some, None}
+use Rattle.std.proofs.Common.{refl, sym, ap, ◌∙◌, subst, inl, inr, ⊎_elim, arith, if◌then◌else◌}
+use Rattle.std.proofs.Common.{unwrap_or}
 use Rattle.std.specs.Prelude.{slice_get}
 use Rattle.std.specs.Option.{option_or}
 use Rattle.std.proofs.lemmas.Bool.{cases_lt, cases_eq}
@@ -14,8 +16,10 @@ use Rattle.pardo_text.specs.declared.statement.Statement.TheVariants.{While, End
 use Rattle.pardo_text.specs.declared.statement.Target.TheVariants.{Private, Array as Shared}
 use Rattle.pardo_text.specs.Program.{ProgramData}
 use Rattle.pardo_job.specs.Conflicts.{Agrees, Clashes, Dispute, Forbids, Writes, asked}
-use Rattle.pardo_job.specs.Laws.{by_rule, RuleChangesNoState, CrewIsAccepted, AnyWriterCounts, UnwrittenIsKept, OneDispute}
-use Rattle.pardo_job.specs.Meaning.{Source, after, next, after_statement, asked_in, first_below, given_to, loop_ended, statement_at}
+use Rattle.pardo_job.specs.Laws.{by_rule, RuleChangesNoState, CrewIsAccepted, AnyWriterCounts}
+use Rattle.pardo_job.specs.Laws.{UnwrittenIsKept, OneDispute}
+use Rattle.pardo_job.specs.Meaning.{Source, after, next, after_statement, asked_in, first_below}
+use Rattle.pardo_job.specs.Meaning.{given_to, loop_ended, statement_at}
 use Rattle.pardo_job.specs.Meaning.{common_value, has_none}
 use Rattle.pardo_job.specs.Runs.{IsOver}
 use Rattle.pardo_job.proofs.Meanings.{next_at, asked_at}
@@ -49,11 +53,13 @@ apart : (rule : Rule) (program : ProgramData) (source : Source) (cell i j v w : 
     Writes (by_rule rule program) source cell i v → Writes (by_rule rule program) source cell j w →
     Forbids rule i v j w → i ≢ j
 apart Common program source cell i j v w a b forbidden same =
-    forbidden (some_pair_parts cell cell v w (sym a.1 ∙ ap (asked (by_rule Common program) source) same ∙ b.1)).1
+    forbidden (some_pair_parts cell cell v w
+    (sym a.1 ∙ ap (asked (by_rule Common program) source) same ∙ b.1)).1
 apart Priority program source cell i j v w a b forbidden same = forbidden
 apart Crew program source cell i j v w a b forbidden same = forbidden same
 
-crew_agrees : (program : ProgramData) (rule : Rule) (source : Source) → Agrees (by_rule Crew program) source →
+crew_agrees : (program : ProgramData) (rule : Rule) (source : Source) →
+    Agrees (by_rule Crew program) source →
     Agrees (by_rule rule program) source
 crew_agrees program rule source agrees cell i j c = agrees cell i j (record {
   value = c.value;
@@ -100,7 +106,8 @@ first_or_none (suc n) f = ⊎_elim
     (λ none. by_last (f n) refl none)
     (first_or_none n f)
   where
-    by_last : (o : Option ℕ) → f n ≡ o → ((i : ℕ) → i < n → f i ≡ None) → HasFirst (suc n) f ⊎ ((i : ℕ) → i < suc n → f i ≡ None)
+    by_last : (o : Option ℕ) → f n ≡ o → ((i : ℕ) → i < n → f i ≡ None) → HasFirst (suc n) f ⊎
+        ((i : ℕ) → i < suc n → f i ≡ None)
     by_last (Some v) e none = inl (record {
       writer = n;
       value = v;
@@ -114,16 +121,19 @@ first_or_none (suc n) f = ⊎_elim
 -- a cell after a line
 abbrev written_in : ProgramData → Source → ℕ → Statement → ℕ → ℕ
 written_in program source depth statement cell =
-    unwrap_or (first_below program.procs (λ i. given_to cell (asked_in program source depth statement i))) (source.cells cell)
+    unwrap_or (first_below program.procs
+    (λ i. given_to cell (asked_in program source depth statement i))) (source.cells cell)
 
-if_cells : (b : Bool) (x y : Source) (cell v : ℕ) → x.cells cell ≡ v → y.cells cell ≡ v → (if b then x else y).cells cell ≡ v
+if_cells : (b : Bool) (x y : Source) (cell v : ℕ) → x.cells cell ≡ v → y.cells cell ≡ v →
+    (if b then x else y).cells cell ≡ v
 if_cells true x y cell v p q = p
 if_cells false x y cell v p q = q
 
 loop_cells_same : (program : ProgramData) (begin cell : ℕ) (opener : Statement) (source : Source) →
     (loop_ended program begin opener source).cells cell ≡ source.cells cell
 loop_cells_same program begin cell (For nest first last up end) source =
-    if_cells (source.loops nest == common_value program source last) _ _ cell (source.cells cell) refl refl
+    if_cells (source.loops nest == common_value program source last) _ _ cell (source.cells cell)
+    refl refl
 loop_cells_same program begin cell (Assign target tree) source = refl
 loop_cells_same program begin cell (If tree) source = refl
 loop_cells_same program begin cell Else source = refl
@@ -133,44 +143,62 @@ loop_cells_same program begin cell (EndWhile line) source = refl
 loop_cells_same program begin cell (EndFor line) source = refl
 
 none_given : (program : ProgramData) (source : Source) (cell : ℕ) →
-    source.cells cell ≡ unwrap_or (first_below program.procs (λ i. given_to cell None)) (source.cells cell)
+    source.cells cell ≡ unwrap_or (first_below program.procs (λ i. given_to cell None))
+    (source.cells cell)
 none_given program source cell =
-    sym (ap (λ o. unwrap_or o (source.cells cell)) (first_none program.procs (λ i. given_to cell None) (λ i lt. refl)))
+    sym (ap (λ o. unwrap_or o (source.cells cell))
+    (first_none program.procs (λ i. given_to cell None) (λ i lt. refl)))
 
-cells_after : (program : ProgramData) (text_line depth cell : ℕ) (statement : Statement) (source : Source) →
-    (after_statement program text_line depth statement source).cells cell ≡ written_in program source depth statement cell
-cells_after program text_line depth cell (Assign (Private x) tree) source = none_given program source cell
+cells_after : (program : ProgramData) (text_line depth cell : ℕ) (statement : Statement)
+    (source : Source) →
+    (after_statement program text_line depth statement source).cells cell ≡
+    written_in program source depth statement cell
+cells_after program text_line depth cell (Assign (Private x) tree) source =
+    none_given program source cell
 cells_after program text_line depth cell (Assign (Shared array index) tree) source = refl
 cells_after program text_line depth cell (If tree) source = none_given program source cell
 cells_after program text_line depth cell Else source = none_given program source cell
 cells_after program text_line depth cell EndIf source = none_given program source cell
 cells_after program text_line depth cell (While tree end) source =
-    if_cells (common_value program source tree == 0) _ _ cell (source.cells cell) refl refl ∙ none_given program source cell
+    if_cells (common_value program source tree == 0) _ _ cell (source.cells cell) refl refl ∙
+    none_given program source cell
 cells_after program text_line depth cell (EndWhile begin) source = none_given program source cell
 cells_after program text_line depth cell (For nest first last up end) source =
-    if_cells (has_none up (common_value program source first) (common_value program source last)) _ _ cell (source.cells cell) refl refl
+    if_cells (has_none up (common_value program source first) (common_value program source last)) _
+    _ cell (source.cells cell) refl refl
     ∙ none_given program source cell
 cells_after program text_line depth cell (EndFor begin) source =
-    loop_cells_same program begin cell (statement_at program begin) source ∙ none_given program source cell
+    loop_cells_same program begin cell (statement_at program begin) source ∙
+    none_given program source cell
 
-module _ (program : ProgramData) (source : Source) (line : Line) (is : slice_get program.lines source.at ≡ Some line) where
+module _ (program : ProgramData) (source : Source) (line : Line)
+    (is : slice_get program.lines source.at ≡ Some line) where
   abbrev given : ℕ → ℕ → Option ℕ
   given cell i = given_to cell (asked_in program source line.depth line.statement i)
 
-  cells_next : (cell : ℕ) → (next program source).cells cell ≡ unwrap_or (first_below program.procs (given cell)) (source.cells cell)
+  cells_next : (cell : ℕ) → (next program source).cells cell ≡
+      unwrap_or (first_below program.procs (given cell)) (source.cells cell)
   cells_next cell = ap (λ (s : Source). s.cells cell) (next_at program source line is)
       ∙ cells_after program line.number line.depth cell line.statement source
 
-  writes_of : (cell i v : ℕ) → i < program.procs → given cell i ≡ Some v → Writes program source cell i v
-  writes_of cell i v lt e = (lt, asked_at program source line i is ∙ given_is cell v (asked_in program source line.depth line.statement i) e)
+  writes_of : (cell i v : ℕ) → i < program.procs → given cell i ≡ Some v →
+      Writes program source cell i v
+  writes_of cell i v lt e = (
+    lt,
+    asked_at program source line i is ∙
+        given_is cell v (asked_in program source line.depth line.statement i) e,
+  )
 
   of_writes : (cell i v : ℕ) → Writes program source cell i v → given cell i ≡ Some v
-  of_writes cell i v w = given_of cell v (asked_in program source line.depth line.statement i) (sym (asked_at program source line i is) ∙ w.1)
+  of_writes cell i v w = given_of cell v (asked_in program source line.depth line.statement i)
+      (sym (asked_at program source line i is) ∙ w.1)
 
   -- nobody writes to it
-  pub kept_by : (cell : ℕ) → ((i v : ℕ) → Writes program source cell i v → ⊥) → (next program source).cells cell ≡ source.cells cell
+  pub kept_by : (cell : ℕ) → ((i v : ℕ) → Writes program source cell i v → ⊥) →
+      (next program source).cells cell ≡ source.cells cell
   kept_by cell none = cells_next cell ∙ ap (λ o. unwrap_or o (source.cells cell))
-      (first_none program.procs (given cell) (λ i lt. given_none cell (asked_in program source line.depth line.statement i)
+      (first_none program.procs (given cell)
+      (λ i lt. given_none cell (asked_in program source line.depth line.statement i)
       (λ v e. none i v (lt, asked_at program source line i is ∙ e))))
 
   -- any writer's value, where the writers agree
@@ -179,11 +207,13 @@ module _ (program : ProgramData) (source : Source) (line : Line) (is : slice_get
   any_by cell i v w same = ⊎_elim
       (λ (first : HasFirst program.procs (given cell)). cells_next cell
       ∙ ap (λ o. unwrap_or o (source.cells cell)) first.first
-      ∙ same first.writer first.value (writes_of cell first.writer first.value first.low first.gives))
+      ∙ same first.writer first.value
+      (writes_of cell first.writer first.value first.low first.gives))
       (λ none. absurd (none-some v (sym (none i w.0) ∙ of_writes cell i v w)))
       (first_or_none program.procs (given cell))
 
-no_line_asks : (program : ProgramData) (source : Source) (i cell v : ℕ) → slice_get program.lines source.at ≡ None →
+no_line_asks : (program : ProgramData) (source : Source) (i cell v : ℕ) →
+    slice_get program.lines source.at ≡ None →
     asked program source i ≡ Some (cell, v) → ⊥
 unfolding asked
 no_line_asks program source i cell v e is = none-some (cell, v)
@@ -192,7 +222,8 @@ no_line_asks program source i cell v e is = none-some (cell, v)
       | Some line ↦ asked_in program source line.depth line.statement i
     ]) e) ∙ is)
 
-no_line_next : (program : ProgramData) (source : Source) → slice_get program.lines source.at ≡ None → next program source ≡ source
+no_line_next : (program : ProgramData) (source : Source) → slice_get program.lines source.at ≡
+    None → next program source ≡ source
 unfolding next
 no_line_next program source e = ap (λ (o : Option Line). elim o as (λ (x : Option Line). Source) [
   | None ↦ source
@@ -202,28 +233,35 @@ no_line_next program source e = ap (λ (o : Option Line). elim o as (λ (x : Opt
 pub unwritten_is_kept : UnwrittenIsKept
 unwritten_is_kept program source cell none = by_line (slice_get program.lines source.at) refl
   where
-    by_line : (o : Option Line) → slice_get program.lines source.at ≡ o → (next program source).cells cell ≡ source.cells cell
+    by_line : (o : Option Line) → slice_get program.lines source.at ≡ o →
+        (next program source).cells cell ≡ source.cells cell
     by_line None e = ap (λ (s : Source). s.cells cell) (no_line_next program source e)
     by_line (Some line) e = kept_by program source line e cell none
 
 -- two writers that agree write the same
-same_value : (rule : Rule) (program : ProgramData) (source : Source) (cell i j v w : ℕ) → rule ≢ Priority →
-    (Forbids rule j w i v → ⊥) → Writes program source cell i v → Writes program source cell j w → w ≡ v
+same_value : (rule : Rule) (program : ProgramData) (source : Source) (cell i j v w : ℕ) →
+    rule ≢ Priority →
+    (Forbids rule j w i v → ⊥) → Writes program source cell i v → Writes program source cell j w → w
+    ≡ v
 same_value Common program source cell i j v w not_priority agree a b = ⊎_elim (λ same. same)
     (λ ne. absurd (agree ne)) (cases_eq w v)
 same_value Priority program source cell i j v w not_priority agree a b = absurd (not_priority refl)
 same_value Crew program source cell i j v w not_priority agree a b = ⊎_elim
-    (λ (same : j ≡ i). (some_pair_parts cell cell w v (sym b.1 ∙ ap (asked program source) same ∙ a.1)).1)
+    (λ (same : j ≡ i). (some_pair_parts cell cell w v
+    (sym b.1 ∙ ap (asked program source) same ∙ a.1)).1)
     (λ ne. absurd (agree ne)) (cases_eq j i)
 
 pub any_writer_counts : AnyWriterCounts
-any_writer_counts program source cell i v agrees not_priority w = by_line (slice_get program.lines source.at) refl
+any_writer_counts program source cell i v agrees not_priority w =
+    by_line (slice_get program.lines source.at) refl
   where
-    by_line : (o : Option Line) → slice_get program.lines source.at ≡ o → (next program source).cells cell ≡ v
+    by_line : (o : Option Line) → slice_get program.lines source.at ≡ o →
+        (next program source).cells cell ≡ v
     by_line None e = absurd (no_line_asks program source i cell v e w.1)
     by_line (Some line) e = any_by program source line e cell i v w
         (λ j x b. same_value program.rule program source cell i j v x not_priority
-        (λ forbidden. agrees cell j i (record { value = x; other = v; writes = b; writes_too = w; forbidden = forbidden })) w b)
+        (λ forbidden. agrees cell j i (record
+        { value = x; other = v; writes = b; writes_too = w; forbidden = forbidden })) w b)
 
 -- ---- disputes
 
@@ -240,13 +278,18 @@ one_dispute program source dispute other d o =
     (let p = d.least_cell other.cell other.first other.second o.clash in
     let q = o.least_cell dispute.cell dispute.first dispute.second d.clash in omega arith) in
     let first : dispute.first ≡ other.first =
-    (let p = d.least_first other.first o.clash.value (subst (λ c. Writes program source c other.first o.clash.value) (sym cell) o.clash.writes) in
-    let q = o.least_first dispute.first d.clash.value (subst (λ c. Writes program source c dispute.first d.clash.value) cell d.clash.writes) in omega arith) in
+    (let p = d.least_first other.first o.clash.value
+    (subst (λ c. Writes program source c other.first o.clash.value) (sym cell) o.clash.writes) in
+    let q = o.least_first dispute.first d.clash.value
+    (subst (λ c. Writes program source c dispute.first d.clash.value) cell d.clash.writes) in
+    omega arith) in
     let second : dispute.second ≡ other.second =
     (let p = d.least_second other.second
     (subst (λ c. Clashes program source c dispute.first other.second) (sym cell)
     (subst (λ x. Clashes program source other.cell x other.second) (sym first) o.clash)) in
     let q = o.least_second dispute.second
     (subst (λ c. Clashes program source c other.first dispute.second) cell
-    (subst (λ x. Clashes program source dispute.cell x dispute.second) first d.clash)) in omega arith) in
-    dispute_same dispute.cell dispute.first dispute.second other.cell other.first other.second cell first second
+    (subst (λ x. Clashes program source dispute.cell x dispute.second) first d.clash)) in
+    omega arith) in
+    dispute_same dispute.cell dispute.first dispute.second other.cell other.first other.second cell
+    first second

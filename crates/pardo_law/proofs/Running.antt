@@ -1,6 +1,8 @@
 -- Steps of all processors: those in which nobody stores, and those in which some do.
-use Rattle.std.proofs.Common.{◌≡◌, ℕ, zero, suc, ◌+◌, ◌<◌, ◌≤◌, ◌==◌, nat_lt, true, Option, Some, None}
-use Rattle.std.proofs.Common.{refl, sym, ap, ◌∙◌, subst, inl, inr, ⊎_elim, arith, if◌then◌else◌, length}
+use Rattle.std.proofs.Common.{◌≡◌, ℕ, zero, suc, ◌+◌, ◌<◌, ◌≤◌, ◌==◌, nat_lt, true, Option, Some}
+use Rattle.std.proofs.Common.{None}
+use Rattle.std.proofs.Common.{refl, sym, ap, ◌∙◌, subst, inl, inr, ⊎_elim, arith, if◌then◌else◌}
+use Rattle.std.proofs.Common.{length}
 use Rattle.std.specs.Prelude.{slice_index, unwrap_or}
 use Rattle.std.specs.Option.{option_or}
 use Rattle.std.proofs.lemmas.Bool.{cases_lt, cases_Bool, le-ltb, eqb-true, eq-eqb}
@@ -17,7 +19,8 @@ use Rattle.pram_step.proofs.LawNext.{after_first, after_none}
 use Rattle.pram_step.proofs.RequestList.{put_of_written, written_of_put}
 use Rattle.pram_step.proofs.Shapes.{asks}
 use Rattle.pardo_job.specs.Meaning.{first_below, given_to}
-use Rattle.pardo_law.specs.Locals.{Local, memory_of, IsLocal, next_local, store_of, IsNamedAt, Follows}
+use Rattle.pardo_law.specs.Locals.{Local, memory_of, IsLocal, next_local, store_of, IsNamedAt}
+use Rattle.pardo_law.specs.Locals.{Follows}
 use Rattle.pardo_law.specs.Locals.{Standing, StoresAgree, after_stores, StoresAreMade}
 use Rattle.pardo_law.proofs.Stepping.{each_by_itself}
 
@@ -29,7 +32,8 @@ IsQuiet job l = IsNamedAt job l × (store_of job l ≡ None)
 -- by so many quiet steps it comes there
 abbrev pub Runs : JobData → (ℕ → ℕ) → ℕ → ℕ → Local → Local → Type 0
 Runs job memory i zero l now = l ≡ now
-Runs job memory i (suc n) l now = IsQuiet job l × Runs job memory i n (next_local job memory i l) now
+Runs job memory i (suc n) l now = IsQuiet job l ×
+    Runs job memory i n (next_local job memory i l) now
 
 pub runs_then : (job : JobData) (memory : ℕ → ℕ) (i n m : ℕ) (l x y : Local) →
     Runs job memory i n l x → Runs job memory i m x y → Runs job memory i (n + m) l y
@@ -47,10 +51,12 @@ runs_out job memory i (suc n) = ((tt, refl), runs_out job memory i n)
 
 -- ---- what a cell holds after a step
 
-pub first_none : (n : ℕ) (f : ℕ → Option ℕ) → ((i : ℕ) → i < n → f i ≡ None) → first_below n f ≡ None
+pub first_none : (n : ℕ) (f : ℕ → Option ℕ) → ((i : ℕ) → i < n → f i ≡ None) → first_below n f ≡
+    None
 first_none zero f none = refl
 first_none (suc n) f none =
-    ap (λ o. option_or o (f n)) (first_none n f (λ i lt. none i (omega arith))) ∙ none n (omega arith)
+    ap (λ o. option_or o (f n)) (first_none n f (λ i lt. none i (omega arith))) ∙
+    none n (omega arith)
 
 pub first_some : (n i v : ℕ) (f : ℕ → Option ℕ) → i < n → f i ≡ Some v →
     ((j : ℕ) → j < i → f j ≡ None) → first_below n f ≡ Some v
@@ -73,7 +79,8 @@ given_is cell v None e = absurd (none-some v e)
 given_is cell v (Some write) e = elim (cases_Bool (write.0 == cell)) [
   | inl same ↦
       let at_cell : write.0 ≡ cell = eqb-true write.0 cell same in
-      let value : Some write.1 ≡ Some v = sym (ap (λ t. if t then Some write.1 else None) same) ∙ e in
+      let value : Some write.1 ≡ Some v = sym (ap (λ t. if t then Some write.1 else None) same) ∙
+      e in
       (λ k. Some (at_cell k, same_Some write.1 v value k))
   | inr other ↦ absurd (none-some v (sym (ap (λ t. if t then Some write.1 else None) other) ∙ e))
 ]
@@ -108,8 +115,12 @@ module _ (job : JobData) (is_job : IsJob job) (t : ℕ) (memory : ℕ → ℕ) (
   pub writer_stores : (cell i v : ℕ) → cell < job.cells → Writes job (requests_in job s) cell i v →
       (i < job.procs) × (stores i ≡ Some (cell, v))
   writer_stores cell i v low w =
-      let is : (i < job.procs) × (written job cell i (request_in job s i) ≡ Some v) = writer_is job s cell i v w in
-      (is.0, (follows i is.0).wrote cell v low (put_of_written job cell i v (request_in job s i) low is.1))
+      let is : (i < job.procs) × (written job cell i (request_in job s i) ≡ Some v) =
+      writer_is job s cell i v w in (
+        is.0,
+        (follows i is.0).wrote cell v low
+            (put_of_written job cell i v (request_in job s i) low is.1),
+      )
 
   pub store_writes : (cell i v : ℕ) → cell < job.cells → i < job.procs → stores i ≡ Some (cell, v) →
       Writes job (requests_in job s) cell i v
@@ -127,20 +138,26 @@ module _ (job : JobData) (is_job : IsJob job) (t : ℕ) (memory : ℕ → ℕ) (
       agree cell i j clash.value clash.other a.0 b.0 a.1 b.1 clash.forbidden
 
   cell_after : (cell : ℕ) → cell < job.cells →
-      slice_index (next_state job s) cell ≡ unwrap_or (first_below job.procs (λ i. given_to cell (stores i))) (slice_index s cell)
+      slice_index (next_state job s) cell ≡
+      unwrap_or (first_below job.procs (λ i. given_to cell (stores i))) (slice_index s cell)
   cell_after cell low =
-      let within : cell < length s = let len : length s ≡ place_count job = length-state_after job t is_job in omega arith in
+      let within : cell < length s = let len : length s ≡ place_count job =
+      length-state_after job t is_job in omega arith in
       ⊎_elim (λ (n : HasNone job (requests_in job s) cell).
       after_none job (requests_in job s) s cell within n.found
-      ∙ sym (ap (λ o. unwrap_or o (slice_index s cell)) (first_none job.procs (λ i. given_to cell (stores i))
+      ∙ sym (ap (λ o. unwrap_or o (slice_index s cell))
+      (first_none job.procs (λ i. given_to cell (stores i))
       (λ i lt. given_none cell (stores i) (λ v is. n.none i v (store_writes cell i v low lt is))))))
       (λ (f : HasFirst job (requests_in job s) cell).
       let a = writer_stores cell f.writer f.value low f.first.writes in
       after_first job (requests_in job s) s cell f.value within f.found
-      ∙ sym (ap (λ o. unwrap_or o (slice_index s cell)) (first_some job.procs f.writer f.value (λ i. given_to cell (stores i))
+      ∙ sym (ap (λ o. unwrap_or o (slice_index s cell))
+      (first_some job.procs f.writer f.value (λ i. given_to cell (stores i))
       a.0 (given_of cell f.value (stores f.writer) a.1)
       (λ j before. given_none cell (stores j) (λ v is.
-      let le : f.writer ≤ j = f.first.least j v (store_writes cell j v low (let x : f.writer < job.procs = a.0 in omega arith) is) in omega arith)))))
+      let le : f.writer ≤ j = f.first.least j v
+      (store_writes cell j v low (let x : f.writer < job.procs = a.0 in omega arith) is) in
+      omega arith)))))
       (writer_cases job (requests_in job s) cell)
 
   in_memory : (cell : ℕ) → cell < job.cells → slice_index s cell ≡ memory cell
@@ -160,7 +177,8 @@ module _ (job : JobData) (is_job : IsJob job) (t : ℕ) (memory : ℕ → ℕ) (
   memory_after cell low =
       ap (λ b. if b then slice_index (next_state job s) cell else 0) (lt_yes cell job.cells low)
       ∙ cell_after cell low
-      ∙ ap (λ v. unwrap_or (first_below job.procs (λ i. given_to cell (stores i))) v) (in_memory cell low)
+      ∙ ap (λ v. unwrap_or (first_below job.procs (λ i. given_to cell (stores i))) v)
+      (in_memory cell low)
     where
       lt_yes : (a b : ℕ) → a < b → nat_lt a b ≡ true
       lt_yes a b lt = grind arith
@@ -171,7 +189,8 @@ module _ (job : JobData) (is_job : IsJob job) (t : ℕ) (memory : ℕ → ℕ) (
   store_step agree = record {
     reached = reached_more job t standing.reached (stores_agree agree);
     memory_is = refl;
-    locals_are = λ i lt. subst (λ m. IsLocal job (next_state job s) i (next_local job m i (locals i)))
+    locals_are = λ i lt. subst (λ m. IsLocal job (next_state job s) i
+        (next_local job m i (locals i)))
         standing.memory_is (follows i lt).local_is;
   }
 
@@ -184,14 +203,20 @@ module _ (job : JobData) (is_job : IsJob job) where
       memory_of job (next_state job (state_after job t)) ≡ memory
   quiet_memory t memory locals standing quiet = λ k cell. same cell k
     where
-      near : (cell : ℕ) → cell < job.cells → memory_of job (next_state job (state_after job t)) cell ≡ memory cell
-      near cell low = memory_after job is_job t memory locals standing (λ i lt. (quiet i lt).0) cell low
-          ∙ ap (λ o. unwrap_or o (memory cell)) (first_none job.procs (λ i. given_to cell (store_of job (locals i)))
+      near : (cell : ℕ) → cell < job.cells → memory_of job (next_state job (state_after job t)) cell
+          ≡ memory cell
+      near cell low = memory_after job is_job t memory locals standing (λ i lt. (quiet i lt).0) cell
+          low
+          ∙ ap (λ o. unwrap_or o (memory cell))
+          (first_none job.procs (λ i. given_to cell (store_of job (locals i)))
           (λ i lt. ap (given_to cell) (quiet i lt).1))
 
-      far : (cell : ℕ) → job.cells ≤ cell → memory_of job (next_state job (state_after job t)) cell ≡ memory cell
-      far cell high = ap (λ b. if b then slice_index (next_state job (state_after job t)) cell else 0) (le-ltb cell job.cells high)
-          ∙ sym (ap (λ b. if b then slice_index (state_after job t) cell else 0) (le-ltb cell job.cells high))
+      far : (cell : ℕ) → job.cells ≤ cell → memory_of job (next_state job (state_after job t)) cell
+          ≡ memory cell
+      far cell high = ap (λ b. if b then slice_index (next_state job (state_after job t)) cell else
+          0) (le-ltb cell job.cells high)
+          ∙ sym (ap (λ b. if b then slice_index (state_after job t) cell else 0)
+          (le-ltb cell job.cells high))
           ∙ ap (λ (f : ℕ → ℕ). f cell) standing.memory_is
 
       same : (cell : ℕ) → memory_of job (next_state job (state_after job t)) cell ≡ memory cell
@@ -220,14 +245,17 @@ module _ (job : JobData) (is_job : IsJob job) where
   renamed t memory locals now standing each = record {
     reached = standing.reached;
     memory_is = standing.memory_is;
-    locals_are = λ i lt. subst (IsLocal job (state_after job t) i) (each i lt) (standing.locals_are i lt);
+    locals_are = λ i lt. subst (IsLocal job (state_after job t) i) (each i lt)
+        (standing.locals_are i lt);
   }
 
-  pub quiet_run : (n t : ℕ) (memory : ℕ → ℕ) (locals now : ℕ → Local) → Standing job t memory locals →
+  pub quiet_run : (n t : ℕ) (memory : ℕ → ℕ) (locals now : ℕ → Local) →
+      Standing job t memory locals →
       ((i : ℕ) → i < job.procs → Runs job memory i n (locals i) (now i)) →
       Standing job (t + n) memory now
   quiet_run zero t memory locals now standing runs =
-      same_standing t (t + zero) memory now (omega arith) (renamed t memory locals now standing runs)
+      same_standing t (t + zero) memory now (omega arith)
+      (renamed t memory locals now standing runs)
   quiet_run (suc n) t memory locals now standing runs =
       same_standing (suc t + n) (t + suc n) memory now (omega arith)
       (quiet_run n (suc t) memory (λ i. next_local job memory i (locals i)) now

@@ -24,7 +24,8 @@ use Rattle.pardo_law.proofs.Advancing.{Carried}
 use Rattle.pardo_law.proofs.Bodies.{IsThere, there_at}
 use Rattle.pardo_law.proofs.Lengths.{end_stands}
 use Rattle.pardo_law.proofs.Making.{Goes, Went, all_go, goes_out, goes_one, goes_here}
-use Rattle.pardo_law.proofs.Picturing.{IsOf, IsHere, procs_are, layout_procs, row_low, shared_low, code_is}
+use Rattle.pardo_law.proofs.Picturing.{IsOf, IsHere, procs_are, layout_procs, row_low, shared_low}
+use Rattle.pardo_law.proofs.Picturing.{code_is}
 use Rattle.pardo_law.proofs.Rows.{own_of}
 use Rattle.pardo_law.proofs.Stepping.{same_cell, same_register}
 
@@ -40,16 +41,21 @@ module _ (job : JobData) (state : State) (i : ℕ) where
   pub there_shows : (place : ℕ) (l : Local) → IsThere place i l → IsLocal job state i l →
       (counter job state i ≡ place) × (register job state i 3 ≡ i)
   there_shows place l here local =
-      let is : IsLocal job state i (Some (place, here.held)) = subst (IsLocal job state i) here.is local in
+      let is : IsLocal job state i (Some (place, here.held)) =
+      subst (IsLocal job state i) here.is local in
       (is.0, same_register job state i 3 (omega arith) ∙ ap (λ (f : ℕ → ℕ). f 3) is.1 ∙ here.own)
 
-  pub here_shows : (g : Option ℕ) (place : ℕ) (l : Local) → g ≡ None → IsHere g place i l → IsLocal job state i l →
+  pub here_shows : (g : Option ℕ) (place : ℕ) (l : Local) → g ≡ None → IsHere g place i l →
+      IsLocal job state i l →
       (counter job state i ≡ place) × (register job state i 3 ≡ i)
-  here_shows g place l e here local = there_shows place l (subst (λ x. IsHere x place i l) e here) local
+  here_shows g place l e here local =
+      there_shows place l (subst (λ x. IsHere x place i l) e here) local
 
-  pub out_shows : (g : Option ℕ) (place line : ℕ) (l : Local) → g ≡ Some line → IsHere g place i l → IsLocal job state i l →
+  pub out_shows : (g : Option ℕ) (place line : ℕ) (l : Local) → g ≡ Some line → IsHere g place i l →
+      IsLocal job state i l →
       counter job state i ≡ out_of_range job
-  out_shows g place line l e here local = subst (IsLocal job state i) (subst (λ x. IsHere x place i l) e here) local
+  out_shows g place line l e here local =
+      subst (IsLocal job state i) (subst (λ x. IsHere x place i l) e here) local
 
 module _ (program : ProgramData) (job : JobData) (of : IsOf program job) (source : Source) (t : ℕ)
     (carried : Carried program job source t) where
@@ -59,46 +65,66 @@ module _ (program : ProgramData) (job : JobData) (of : IsOf program job) (source
   many : (i : ℕ) → i < program.procs → i < job.procs
   many i lt = let e = procs_are program job of in omega arith
 
-  cell_is : (cell : ℕ) → cell < job.cells → slice_index (state_after job t) cell ≡ carried.memory cell
-  cell_is cell low = same_cell job (state_after job t) cell low ∙ ap (λ (f : ℕ → ℕ). f cell) carried.standing.memory_is
+  cell_is : (cell : ℕ) → cell < job.cells → slice_index (state_after job t) cell ≡
+      carried.memory cell
+  cell_is cell low = same_cell job (state_after job t) cell low ∙
+      ap (λ (f : ℕ → ℕ). f cell) carried.standing.memory_is
 
   mask_shows : (depth i : ℕ) → depth < (layout_of program).choices → IsStill program source i →
-      slice_index (state_after job t) ((mask_cells (layout_of program) (depth + 1)).base + i) ≡ bit (source.masks (depth + 1) i)
+      slice_index (state_after job t) ((mask_cells (layout_of program) (depth + 1)).base + i) ≡
+      bit (source.masks (depth + 1) i)
   mask_shows depth i low still =
       let e : suc depth ≡ depth + 1 = omega arith in
-      subst (λ n. slice_index (state_after job t) ((mask_cells (layout_of program) n).base + i) ≡ bit (source.masks n i)) e
-      (cell_is (own_of (layout_of program) ((layout_of program).privates + (layout_of program).loops + (suc depth - 1)) i)
-      (row_low program job of ((layout_of program).privates + (layout_of program).loops + (suc depth - 1)) i (omega arith) (few i still.0))
+      subst (λ n. slice_index (state_after job t) ((mask_cells (layout_of program) n).base + i) ≡
+      bit (source.masks n i)) e
+      (cell_is (own_of (layout_of program)
+      ((layout_of program).privates + (layout_of program).loops + (suc depth - 1)) i)
+      (row_low program job of ((layout_of program).privates + (layout_of program).loops +
+      (suc depth - 1)) i (omega arith) (few i still.0))
       ∙ carried.pictured.masks depth i low still.0 (gone_not (source.gone i) still.1))
 
   pub shows : Shows program job source (state_after job t)
   shows = record {
-    cells = λ cell lt. cell_is cell (shared_low program job of cell lt) ∙ carried.pictured.cells cell lt;
-    privates = λ x i lt less. cell_is (own_of (layout_of program) x i) (row_low program job of x i (omega arith) (few i less))
+    cells = λ cell lt. cell_is cell (shared_low program job of cell lt) ∙
+        carried.pictured.cells cell lt;
+    privates = λ x i lt less. cell_is (own_of (layout_of program) x i)
+        (row_low program job of x i (omega arith) (few i less))
         ∙ carried.pictured.privates x i lt less;
-    loops = λ nest i lt still. cell_is (own_of (layout_of program) ((layout_of program).privates + nest) i)
-        (row_low program job of ((layout_of program).privates + nest) i (omega arith) (few i still.0))
+    loops = λ nest i lt still. cell_is
+        (own_of (layout_of program) ((layout_of program).privates + nest) i)
+        (row_low program job of ((layout_of program).privates + nest) i (omega arith)
+        (few i still.0))
         ∙ carried.pictured.loops nest i lt still.0 (gone_not (source.gone i) still.1);
     masks = mask_shows;
-    own = λ i still. (here_shows job (state_after job t) i (source.gone i) (place_of program source.at) (carried.locals i)
-        (gone_not (source.gone i) still.1) (carried.pictured.here i still.0) (carried.standing.locals_are i (many i still.0))).1;
-    stands = λ i still. (here_shows job (state_after job t) i (source.gone i) (place_of program source.at) (carried.locals i)
-        (gone_not (source.gone i) still.1) (carried.pictured.here i still.0) (carried.standing.locals_are i (many i still.0))).0;
+    own = λ i still. (here_shows job (state_after job t) i (source.gone i)
+        (place_of program source.at) (carried.locals i)
+        (gone_not (source.gone i) still.1) (carried.pictured.here i still.0)
+        (carried.standing.locals_are i (many i still.0))).1;
+    stands = λ i still. (here_shows job (state_after job t) i (source.gone i)
+        (place_of program source.at) (carried.locals i)
+        (gone_not (source.gone i) still.1) (carried.pictured.here i still.0)
+        (carried.standing.locals_are i (many i still.0))).0;
     gone = λ i lt out. let line = gone_line (source.gone i) out in
-        out_shows job (state_after job t) i (source.gone i) (place_of program source.at) line.0 (carried.locals i)
+        out_shows job (state_after job t) i (source.gone i) (place_of program source.at) line.0
+        (carried.locals i)
         line.1 (carried.pictured.here i lt) (carried.standing.locals_are i (many i lt));
   }
 
   -- ---- where the program is over
 
-  halt_goes : (i : ℕ) (g : Option ℕ) → IsHere g (place_of program (length program.lines)) i (carried.locals i) →
+  halt_goes : (i : ℕ) (g : Option ℕ) →
+      IsHere g (place_of program (length program.lines)) i (carried.locals i) →
       Goes job carried.memory i 1 (carried.locals i) (IsHere g (halted job) i)
-  halt_goes i (Some line) here = subst (λ l. Goes job carried.memory i 1 l (IsHere (Some line) (halted job) i)) (sym here)
+  halt_goes i (Some line) here = subst
+      (λ l. Goes job carried.memory i 1 l (IsHere (Some line) (halted job) i)) (sym here)
       (goes_out job carried.memory i 1 (IsHere (Some line) (halted job) i) refl)
-  halt_goes i None here = subst (λ l. Goes job carried.memory i 1 l (IsThere (halted job) i)) (sym here.is)
-      (goes_one job carried.memory i 0 (place_of program (length program.lines)) here.held Halt (IsThere (halted job) i)
+  halt_goes i None here = subst (λ l. Goes job carried.memory i 1 l (IsThere (halted job) i))
+      (sym here.is)
+      (goes_one job carried.memory i 0 (place_of program (length program.lines)) here.held Halt
+      (IsThere (halted job) i)
       (end_stands program job (code_is program job of)).0 tt refl
-      (goes_here job carried.memory i (Some (halted job, here.held)) (IsThere (halted job) i) (there_at (halted job) i here.held here.own)))
+      (goes_here job carried.memory i (Some (halted job, here.held)) (IsThere (halted job) i)
+      (there_at (halted job) i here.held here.own)))
 
   over_goes : IsOver program source → (i : ℕ) → i < job.procs →
       Goes job carried.memory i 1 (carried.locals i) (IsHere (source.gone i) (halted job) i)
@@ -108,19 +134,26 @@ module _ (program : ProgramData) (job : JobData) (of : IsOf program job) (source
   over_goes (inr all_gone) i lt =
       let low : i < program.procs = (let e = procs_are program job of in omega arith) in
       let line = gone_line (source.gone i) (all_gone i low) in
-      subst (λ g. Goes job carried.memory i 1 (carried.locals i) (IsHere g (halted job) i)) (sym line.1)
-      (halt_goes i (Some line.0) (subst (λ g. IsHere g (place_of program source.at) i (carried.locals i)) line.1 (carried.pictured.here i low)))
+      subst (λ g. Goes job carried.memory i 1 (carried.locals i) (IsHere g (halted job) i))
+      (sym line.1)
+      (halt_goes i (Some line.0) (subst
+      (λ g. IsHere g (place_of program source.at) i (carried.locals i)) line.1
+      (carried.pictured.here i low)))
 
   module _ (over : IsOver program source) where
     last : Went job (t + 1) carried.memory (λ i. IsHere (source.gone i) (halted job) i)
-    last = all_go job of.job_is t 1 carried.memory carried.locals carried.standing (λ i. IsHere (source.gone i) (halted job) i) (over_goes over)
+    last = all_go job of.job_is t 1 carried.memory carried.locals carried.standing
+        (λ i. IsHere (source.gone i) (halted job) i) (over_goes over)
 
-    stopped_by : (i : ℕ) (g : Option ℕ) → IsHere g (halted job) i (last.places i) → IsLocal job (state_after job (t + 1)) i (last.places i) →
+    stopped_by : (i : ℕ) (g : Option ℕ) → IsHere g (halted job) i (last.places i) →
+        IsLocal job (state_after job (t + 1)) i (last.places i) →
         IsStopped job (state_after job (t + 1)) i
     stopped_by i (Some line) here local =
-        let e : counter job (state_after job (t + 1)) i ≡ out_of_range job = subst (IsLocal job (state_after job (t + 1)) i) here local in omega arith
+        let e : counter job (state_after job (t + 1)) i ≡ out_of_range job =
+        subst (IsLocal job (state_after job (t + 1)) i) here local in omega arith
     stopped_by i None here local =
-        let e = (there_shows job (state_after job (t + 1)) i (halted job) (last.places i) here local).0 in omega arith
+        let e = (there_shows job (state_after job (t + 1)) i (halted job) (last.places i) here
+        local).0 in omega arith
 
     pub all_stopped : AllStopped job (state_after job (t + 1))
     all_stopped i lt = stopped_by i (source.gone i) (last.each i lt) (last.standing.locals_are i lt)
@@ -128,31 +161,39 @@ module _ (program : ProgramData) (job : JobData) (of : IsOf program job) (source
     pub reached_last : machine.IsReached job (t + 1)
     reached_last = last.standing.reached
 
-    pub last_cells : (cell : ℕ) → cell < (layout_of program).shared → slice_index (state_after job (t + 1)) cell ≡ source.cells cell
-    last_cells cell lt = same_cell job (state_after job (t + 1)) cell (shared_low program job of cell lt)
+    pub last_cells : (cell : ℕ) → cell < (layout_of program).shared →
+        slice_index (state_after job (t + 1)) cell ≡ source.cells cell
+    last_cells cell lt = same_cell job (state_after job (t + 1)) cell
+        (shared_low program job of cell lt)
         ∙ ap (λ (f : ℕ → ℕ). f cell) last.standing.memory_is ∙ carried.pictured.cells cell lt
 
     pub last_there : (i : ℕ) → i < program.procs → source.gone i ≡ None →
         counter job (state_after job (t + 1)) i ≡ halted job
-    last_there i lt e = (here_shows job (state_after job (t + 1)) i (source.gone i) (halted job) (last.places i) e
+    last_there i lt e = (here_shows job (state_after job (t + 1)) i (source.gone i) (halted job)
+        (last.places i) e
         (last.each i (many i lt)) (last.standing.locals_are i (many i lt))).0
 
 -- ---- the steps of a job that is whole
 
 -- a machine that has stopped is what it is later
-pub later_same : (job : JobData) (t u : ℕ) → t ≤ u → machine.IsReached job t → AllStopped job (state_after job t) →
+pub later_same : (job : JobData) (t u : ℕ) → t ≤ u → machine.IsReached job t →
+    AllStopped job (state_after job t) →
     state_after job t ≡ state_after job u
 later_same job t u le reached stopped =
     let later : IsStateAfter job (t + (u - t)) (state_after job t) =
-    stopped_later job t (u - t) (state_after job t) (record { reached = reached; state = refl }) stopped in
+    stopped_later job t (u - t) (state_after job t) (record { reached = reached; state = refl })
+    stopped in
     let same : t + (u - t) ≡ u = omega arith in
     later.state ∙ ap (state_after job) same
 
-pub stopped_at : (job : JobData) (t u : ℕ) → t ≤ u → machine.IsReached job t → AllStopped job (state_after job t) →
+pub stopped_at : (job : JobData) (t u : ℕ) → t ≤ u → machine.IsReached job t →
+    AllStopped job (state_after job t) →
     AllStopped job (state_after job u)
-stopped_at job t u le reached stopped = subst (AllStopped job) (later_same job t u le reached stopped) stopped
+stopped_at job t u le reached stopped =
+    subst (AllStopped job) (later_same job t u le reached stopped) stopped
 
-pub agrees_at : (job : JobData) (t u : ℕ) → t ≤ u → machine.IsReached job t → AllStopped job (state_after job t) →
+pub agrees_at : (job : JobData) (t u : ℕ) → t ≤ u → machine.IsReached job t →
+    AllStopped job (state_after job t) →
     AgreesAfter job u
 agrees_at job t u le reached stopped =
     (stopped_stays job (state_after job u) (stopped_at job t u le reached stopped)).0
@@ -162,10 +203,12 @@ pub record Whole (job : JobData) (t : ℕ) : Type 0 where
   pub stops : Stops job
   pub within : job.steps ≤ t
 
-pub whole_at : (job : JobData) (t : ℕ) → IsWhole job → machine.IsReached job t → AllStopped job (state_after job t) → Whole job t
+pub whole_at : (job : JobData) (t : ℕ) → IsWhole job → machine.IsReached job t →
+    AllStopped job (state_after job t) → Whole job t
 whole_at job t (inl stops) reached stopped = record {
   stops = stops;
-  within = ⊎_elim (λ (low : t < job.steps). absurd (stops.runs t low stopped)) (λ (high : job.steps ≤ t). high) (cases_lt t job.steps);
+  within = ⊎_elim (λ (low : t < job.steps). absurd (stops.runs t low stopped))
+      (λ (high : job.steps ≤ t). high) (cases_lt t job.steps);
 }
 whole_at job t (inr conflict) reached stopped =
     let first : IsFirstConflict job conflict.0 = conflict.1 in
@@ -179,7 +222,8 @@ whole_at job t (inr conflict) reached stopped =
 pub more_steps : (job : JobData) (t i : ℕ) → IsWhole job → machine.IsReached job t → i < job.procs →
     (IsStopped job (state_after job t) i → ⊥) → t < job.steps
 more_steps job t i (inl stops) reached lt runs = ⊎_elim (λ (low : t < job.steps). low)
-    (λ (high : job.steps ≤ t). absurd (runs (stopped_at job job.steps t high stops.reached stops.stopped i lt)))
+    (λ (high : job.steps ≤ t). absurd
+    (runs (stopped_at job job.steps t high stops.reached stops.stopped i lt)))
     (cases_lt t job.steps)
 more_steps job t i (inr conflict) reached lt runs = ⊎_elim (λ (low : t < job.steps). low)
     (λ (high : job.steps ≤ t).
@@ -194,7 +238,8 @@ pub conflict_is_last : (job : JobData) (before : ℕ) → IsWhole job → machin
     (AgreesAfter job before → ⊥) → job.steps ≡ before + 1
 conflict_is_last job before (inl stops) reached against = ⊎_elim
     (λ (low : before < job.steps). absurd (against (stops.reached before low)))
-    (λ (high : job.steps ≤ before). absurd (against (agrees_at job job.steps before high stops.reached stops.stopped)))
+    (λ (high : job.steps ≤ before). absurd
+    (against (agrees_at job job.steps before high stops.reached stops.stopped)))
     (cases_lt before job.steps)
 conflict_is_last job before (inr conflict) reached against =
     let first : IsFirstConflict job conflict.0 = conflict.1 in

@@ -1,6 +1,8 @@
 -- The first step: the job shows the state before the first line.
-use Rattle.std.proofs.Common.{◌≡◌, ℕ, zero, suc, ◌+◌, ◌-◌, ◌*◌, ◌<◌, ◌≤◌, nat_lt, List, [], ◌∷◌, ◌++◌, Option, Some, None}
-use Rattle.std.proofs.Common.{refl, sym, ap, ◌∙◌, subst, ⊎_elim, arith, if◌then◌else◌, length, length-append, get_or, replicate}
+use Rattle.std.proofs.Common.{◌≡◌, ℕ, zero, suc, ◌+◌, ◌-◌, ◌*◌, ◌<◌, ◌≤◌, nat_lt, List, [], ◌∷◌}
+use Rattle.std.proofs.Common.{◌++◌, Option, Some, None}
+use Rattle.std.proofs.Common.{refl, sym, ap, ◌∙◌, subst, ⊎_elim, arith, if◌then◌else◌, length}
+use Rattle.std.proofs.Common.{length-append, get_or, replicate}
 use Rattle.std.specs.Prelude.{slice_get, slice_index}
 use Rattle.std.specs.List.{All, flat_map}
 use Rattle.std.proofs.Math.Dec.{eqb-suc-zero}
@@ -26,7 +28,8 @@ use Rattle.pardo_law.proofs.Advancing.{Carried}
 use Rattle.pardo_law.proofs.Bodies.{IsThere, there_at}
 use Rattle.pardo_law.proofs.Lengths.{first_is}
 use Rattle.pardo_law.proofs.Making.{Goes, Went, all_go, goes_one, goes_here}
-use Rattle.pardo_law.proofs.Picturing.{IsOf, Pictured, procs_are, layout_procs, code_is, init_is, row_low, shared_low}
+use Rattle.pardo_law.proofs.Picturing.{IsOf, Pictured, procs_are, layout_procs, code_is, init_is}
+use Rattle.pardo_law.proofs.Picturing.{row_low, shared_low}
 use Rattle.pardo_law.proofs.Rows.{own_of}
 
 -- ---- zeros
@@ -40,31 +43,37 @@ zeros (suc n) (suc k) = zeros n k
 with_zeros : (xs : List ℕ) (n k : ℕ) → get_or (xs ++ replicate n 0) k 0 ≡ get_or xs k 0
 with_zeros xs n k = ⊎_elim
     (λ (low : k < length xs). get_or_append_left xs (replicate n 0) 0 k low)
-    (λ (high : length xs ≤ k). get_or-append_right xs (replicate n 0) k 0 high ∙ zeros n (k - length xs)
+    (λ (high : length xs ≤ k). get_or-append_right xs (replicate n 0) k 0 high ∙
+    zeros n (k - length xs)
     ∙ sym (get_or_past xs k 0 high))
     (cases_lt k (length xs))
 
 -- ---- start values of private variables
 
-all_rest : (procs : ℕ) (v : PrivateData) (variables : List PrivateData) → All (IsPrivate procs) (v ∷ variables) →
+all_rest : (procs : ℕ) (v : PrivateData) (variables : List PrivateData) →
+    All (IsPrivate procs) (v ∷ variables) →
     All (IsPrivate procs) variables
 all_rest procs v variables are = λ k d lt. are (suc k) d (omega arith)
 
-private_at : (procs x i : ℕ) (variables : List PrivateData) → All (IsPrivate procs) variables → i < procs →
+private_at : (procs x i : ℕ) (variables : List PrivateData) → All (IsPrivate procs) variables →
+    i < procs →
     x < length variables →
     get_or (flat_map (λ (v : PrivateData). v.start) variables) (x * procs + i) 0
-    ≡ elim (slice_get variables x) as (λ (o : Option PrivateData). ℕ) [ None ↦ 0 | Some v ↦ slice_index v.start i ]
+    ≡ elim (slice_get variables x) as (λ (o : Option PrivateData). ℕ)
+    [ None ↦ 0 | Some v ↦ slice_index v.start i ]
 private_at procs x i [] are lt less = absurd (omega arith)
 private_at procs zero i (v ∷ variables) are lt less =
     let same : 0 * procs + i ≡ i = omega arith in
     let long : length v.start ≡ procs = (are 0 v (omega arith)).0 in
     ap (λ k. get_or (v.start ++ flat_map (λ (w : PrivateData). w.start) variables) k 0) same
-    ∙ get_or_append_left v.start (flat_map (λ (w : PrivateData). w.start) variables) 0 i (omega arith)
+    ∙ get_or_append_left v.start (flat_map (λ (w : PrivateData). w.start) variables) 0 i
+    (omega arith)
 private_at procs (suc x) i (v ∷ variables) are lt less =
     let long : length v.start ≡ procs = (are 0 v (omega arith)).0 in
     let same : suc x * procs + i ≡ length v.start + (x * procs + i) = omega arith in
     ap (λ k. get_or (v.start ++ flat_map (λ (w : PrivateData). w.start) variables) k 0) same
-    ∙ get_or-append-add v.start (flat_map (λ (w : PrivateData). w.start) variables) (x * procs + i) 0
+    ∙ get_or-append-add v.start (flat_map (λ (w : PrivateData). w.start) variables) (x * procs + i)
+    0
     ∙ private_at procs x i variables (all_rest procs v variables are) lt (omega arith)
 
 privates_long : (procs : ℕ) (variables : List PrivateData) → All (IsPrivate procs) variables →
@@ -83,13 +92,15 @@ module _ (program : ProgramData) (job : JobData) (of : IsOf program job) where
   privates_given = flat_map (λ (v : PrivateData). v.start) program.privates
 
   -- what a cell starts with
-  held_at : (cell : ℕ) → cell < job.cells → memory_of job (start job) cell ≡ get_or (given_values program) cell 0
+  held_at : (cell : ℕ) → cell < job.cells → memory_of job (start job) cell ≡
+      get_or (given_values program) cell 0
   unfolding start_values
   held_at cell low =
       ap (λ b. if b then slice_index (start job) cell else 0) (lt-ltb cell job.cells low)
       ∙ with_zeros job.init (5 * job.procs) cell
       ∙ ap (λ xs. get_or xs cell 0) (init_is program job of)
-      ∙ with_zeros (given_values program) (cell_count (layout_of program) - length (given_values program)) cell
+      ∙ with_zeros (given_values program)
+      (cell_count (layout_of program) - length (given_values program)) cell
 
   shared_long : length arrays_given ≡ (layout_of program).shared
   unfolding layout_of
@@ -99,7 +110,8 @@ module _ (program : ProgramData) (job : JobData) (of : IsOf program job) where
   unfolding layout_of
   private_long = privates_long program.procs program.privates of.program_is.privates
 
-  given_long : length (given_values program) ≡ (layout_of program).shared + (layout_of program).privates * (layout_of program).procs
+  given_long : length (given_values program) ≡ (layout_of program).shared +
+      (layout_of program).privates * (layout_of program).procs
   given_long = length-append arrays_given privates_given ∙ (λ k. shared_long k + private_long k)
 
   -- a row after those of private variables holds 0
@@ -133,11 +145,14 @@ module _ (program : ProgramData) (job : JobData) (of : IsOf program job) where
   none_there p high = with_zeros job.init (5 * job.procs) p
       ∙ get_or_past job.init p 0 (let e = of.job_is.init_len in omega arith)
 
-  register_zero : (i which : ℕ) → (if nat_lt which 4 then register job (start job) i which else 0) ≡ 0
+  register_zero : (i which : ℕ) → (if nat_lt which 4 then register job (start job) i which else 0) ≡
+      0
   register_zero i which = ⊎_elim
-      (λ (few : which < 4). ap (λ b. if b then register job (start job) i which else 0) (lt-ltb which 4 few)
+      (λ (few : which < 4). ap (λ b. if b then register job (start job) i which else 0)
+      (lt-ltb which 4 few)
       ∙ none_there _ (omega arith))
-      (λ (many : 4 ≤ which). ap (λ b. if b then register job (start job) i which else 0) (le-ltb which 4 many))
+      (λ (many : 4 ≤ which). ap (λ b. if b then register job (start job) i which else 0)
+      (le-ltb which 4 many))
       (cases_lt which 4)
 
   first_standing : Standing job 0 (memory_of job (start job)) (λ i. Some (0, λ which. 0))
@@ -148,7 +163,8 @@ module _ (program : ProgramData) (job : JobData) (of : IsOf program job) where
     locals_are = λ i lt. (none_there _ (omega arith), λ k which. register_zero i which k);
   }
 
-  first_goes : (i : ℕ) → Goes job (memory_of job (start job)) i 1 (Some (0, λ which. 0)) (IsThere 1 i)
+  first_goes : (i : ℕ) → Goes job (memory_of job (start job)) i 1 (Some (0, λ which. 0))
+      (IsThere 1 i)
   first_goes i = goes_one job (memory_of job (start job)) i 0 0 (λ which. 0) (Pid 3) (IsThere 1 i)
       (first_is program job (code_is program job of)).0 tt refl
       (goes_here job (memory_of job (start job)) i (Some (1, put 3 i (λ which. 0))) (IsThere 1 i)
@@ -165,9 +181,12 @@ module _ (program : ProgramData) (job : JobData) (of : IsOf program job) where
     all = λ i. refl;
     cells = held_shared;
     privates = held_private;
-    loops = λ nest i lt less there. held_zero ((layout_of program).privates + nest) i (omega arith) (omega arith)
+    loops = λ nest i lt less there. held_zero ((layout_of program).privates + nest) i (omega arith)
+        (omega arith)
         (let e = layout_procs program in omega arith);
-    masks = λ d i lt less there. held_zero ((layout_of program).privates + (layout_of program).loops + (suc d - 1)) i (omega arith) (omega arith)
+    masks = λ d i lt less there. held_zero
+        ((layout_of program).privates + (layout_of program).loops + (suc d - 1)) i (omega arith)
+        (omega arith)
         (let e = layout_procs program in omega arith) ∙ sym (ap bit (eqb-suc-zero d));
     here = λ i lt. subst (λ n. IsThere n i (locals i)) (sym first_place) (each i lt);
   }
@@ -175,10 +194,12 @@ module _ (program : ProgramData) (job : JobData) (of : IsOf program job) where
   pub starts_carried : Carried program job (meaning.start program) 1
   starts_carried =
       let went : Went job 1 (memory_of job (start job)) (λ i. IsThere 1 i) =
-      all_go job of.job_is 0 1 (memory_of job (start job)) (λ i. Some (0, λ which. 0)) first_standing (λ i. IsThere 1 i)
+      all_go job of.job_is 0 1 (memory_of job (start job)) (λ i. Some (0, λ which. 0))
+      first_standing (λ i. IsThere 1 i)
       (λ i lt. first_goes i) in record {
         memory = memory_of job (start job);
         locals = went.places;
         standing = went.standing;
-        pictured = first_pictured went.places (λ i lt. went.each i (let e = procs_are program job of in omega arith));
+        pictured = first_pictured went.places
+            (λ i lt. went.each i (let e = procs_are program job of in omega arith));
       }

@@ -1,12 +1,14 @@
 -- A step of all processors, one by one.
-use Rattle.std.proofs.Common.{◌≡◌, ℕ, ◌+◌, ◌-◌, ◌*◌, ◌/◌, ◌%◌, ◌^◌, ◌<◌, ◌≤◌, ◌==◌, nat_lt, Bool, true, false, ◌∷◌, Option, Some, None}
+use Rattle.std.proofs.Common.{◌≡◌, ℕ, ◌+◌, ◌-◌, ◌*◌, ◌/◌, ◌%◌, ◌^◌, ◌<◌, ◌≤◌, ◌==◌, nat_lt, Bool}
+use Rattle.std.proofs.Common.{true, false, ◌∷◌, Option, Some, None}
 use Rattle.std.proofs.Common.{refl, sym, ap, ◌∙◌, arith, if◌then◌else◌, length, map, ⊎_elim}
 use Rattle.std.specs.Prelude.{slice_get, slice_index, bit_and, bit_or, bit_xor}
 use Rattle.std.proofs.lemmas.Bool.{lt-ltb, le-ltb, cases_lt}
 use Rattle.pram_text.specs.declared.instr.Array.{Array}
 use Rattle.pram_text.specs.declared.instr.Instr.{Instr}
 use Rattle.pram_text.specs.declared.instr.Instr.TheVariants.{Set, Pid, Add, Sub, Mul, And, Or, Xor}
-use Rattle.pram_text.specs.declared.instr.Instr.TheVariants.{Lt, Eq, Shl, Shr, Ld, St, Jz, Jmp, Halt}
+use Rattle.pram_text.specs.declared.instr.Instr.TheVariants.{Lt, Eq, Shl, Shr, Ld, St, Jz, Jmp}
+use Rattle.pram_text.specs.declared.instr.Instr.TheVariants.{Halt}
 use Rattle.pram_text.specs.declared.instr.Operand.{Operand}
 use Rattle.pram_text.specs.declared.instr.Operand.TheVariants.{Register, Number}
 use Rattle.pram_text.specs.declared.instr.Place.TheVariants.{Cell, Named}
@@ -58,7 +60,8 @@ module _ (job : JobData) (is_job : IsJob job) (s : State) (len : length s ≡ pl
     (i : ℕ) (lt : i < job.procs) (at : ℕ) (held : Registers) (counter_is : counter job s i ≡ at)
     (held_is : registers_of job s i ≡ held) where
   abbrev FollowsBy : Instr → Type 0
-  FollowsBy one = Follows job s i (after_instr job (memory_of job s) i at held one) (store_by held one)
+  FollowsBy one = Follows job s i (after_instr job (memory_of job s) i at held one)
+      (store_by held one)
 
   abbrev Asks : Instr → Type 0
   Asks one = request_in job s i ≡ decided_in job s i one
@@ -86,25 +89,32 @@ module _ (job : JobData) (is_job : IsJob job) (s : State) (len : length s ≡ pl
       (t : Bool) → nat_lt k array.len ≡ t →
       request_in job s i ≡ within (if t then Some (array.base + k) else None) (out_of_range job)
       (λ cell. gives job i (counter job s i) target
-      (elim (if t then Some (array.base + k) else None) [ None ↦ 0 | Some found ↦ slice_index s found ])) →
+      (elim (if t then Some (array.base + k) else None)
+      [ None ↦ 0 | Some found ↦ slice_index s found ])) →
       Follows job s i (standing_at (at + 1)
       (if t then Some (put target (memory_of job s (array.base + k)) held) else None)) None
   loaded target array k few fits true e asks =
       let low : k < array.len = ⊎_elim (λ (l : k < array.len). l)
-      (λ (no : array.len ≤ k). let f : true ≡ false = sym e ∙ le-ltb k array.len no in absurd (cc)) (cases_lt k array.len) in
+      (λ (no : array.len ≤ k). let f : true ≡ false = sym e ∙ le-ltb k array.len no in absurd (cc))
+      (cases_lt k array.len) in
       given target (slice_index s (array.base + k)) (memory_of job s (array.base + k)) few
       (same_cell job s (array.base + k) (omega arith)) asks
   loaded target array k few fits false e asks = follows_out job is_job s len i lt asks
 
   load : (target : ℕ) (array : Array) (index : Operand) → target < 4 → IsArray job.cells array →
-      IsOperand index → Asks (Ld target (Named array index)) → FollowsBy (Ld target (Named array index))
+      IsOperand index → Asks (Ld target (Named array index)) →
+      FollowsBy (Ld target (Named array index))
   unfolding decided
   load target array index few fits is asks =
-      let e : value_of index (slice_index (map (register job s i) (registers_in index)) 0) ≡ operand_in held index = first index is in
-      loaded target array (operand_in held index) few fits.1 (nat_lt (operand_in held index) array.len) refl
-      (asks ∙ ap (λ k. within (if nat_lt k array.len then Some (array.base + k) else None) (out_of_range job)
+      let e : value_of index (slice_index (map (register job s i) (registers_in index)) 0) ≡
+      operand_in held index = first index is in
+      loaded target array (operand_in held index) few fits.1
+      (nat_lt (operand_in held index) array.len) refl
+      (asks ∙ ap (λ k. within (if nat_lt k array.len then Some (array.base + k) else None)
+      (out_of_range job)
       (λ cell. gives job i (counter job s i) target
-      (elim (if nat_lt k array.len then Some (array.base + k) else None) [ None ↦ 0 | Some found ↦ slice_index s found ]))) e)
+      (elim (if nat_lt k array.len then Some (array.base + k) else None)
+      [ None ↦ 0 | Some found ↦ slice_index s found ]))) e)
 
   -- a store, by the same
   abbrev stores_to : ℕ → ℕ → Bool → Array → Request
@@ -113,16 +123,19 @@ module _ (job : JobData) (is_job : IsJob job) (s : State) (len : length s ≡ pl
 
   keeps_store : (array : Array) (k v : ℕ) → array.base + array.len ≤ job.cells →
       (t : Bool) → nat_lt k array.len ≡ t → request_in job s i ≡ stores_to k v t array →
-      Follows job s i (if t then Some (at + 1, held) else None) (if t then Some (array.base + k, v) else None)
+      Follows job s i (if t then Some (at + 1, held) else None)
+      (if t then Some (array.base + k, v) else None)
   keeps_store array k v fits true e asks =
       let low : k < array.len = ⊎_elim (λ (l : k < array.len). l)
-      (λ (no : array.len ≤ k). let f : true ≡ false = sym e ∙ le-ltb k array.len no in absurd (cc)) (cases_lt k array.len) in
+      (λ (no : array.len ≤ k). let f : true ≡ false = sym e ∙ le-ltb k array.len no in absurd (cc))
+      (cases_lt k array.len) in
       follows_stores job is_job s len i lt (at + 1) (array.base + k) v held (omega arith)
       (asks ∙ ap (λ c. record { put = Some (array.base + k, v); next = c + 1 }) counter_is) held_is
   keeps_store array k v fits false e asks = follows_out job is_job s len i lt asks
 
   store : (array : Array) (index value : Operand) → IsArray job.cells array → IsOperand index →
-      IsOperand value → Asks (St (Named array index) value) → FollowsBy (St (Named array index) value)
+      IsOperand value → Asks (St (Named array index) value) →
+      FollowsBy (St (Named array index) value)
   unfolding decided
   store array (Register a) (Register b) fits is too asks =
       keeps_store array (held a) (held b) fits.1 (nat_lt (held a) array.len) refl
@@ -178,7 +191,11 @@ module _ (job : JobData) (is_job : IsJob job) (s : State) (len : length s ≡ pl
   follows_one Halt is named asks = jump (halted job) (halted job) refl asks
 
   fetched : (o : Option Instr) → slice_get job.code at ≡ o →
-      request_in job s i ≡ elim o [ None ↦ goes_to (counter job s i) | Some one ↦ decided_in job s i one ] →
+      request_in job s i ≡ elim o [
+        | None ↦ goes_to (counter job s i)
+        | Some one ↦ decided_in job s i
+            one
+      ] →
       ((one : Instr) → o ≡ Some one → IsNamed one) →
       Follows job s i (after_fetched job (memory_of job s) i at held o) (store_at held o)
   fetched None e asks named = jump (counter job s i) at counter_is asks

@@ -1,5 +1,6 @@
 -- All code is straight but for the stores and jumps of lines.
-use Rattle.std.proofs.Common.{ℕ, ◌+◌, Bool, true, false, ◌&&◌, nat_lt, List, [], ◌∷◌, ◌++◌, if◌then◌else◌}
+use Rattle.std.proofs.Common.{ℕ, ◌+◌, Bool, true, false, ◌&&◌, nat_lt, List, [], ◌∷◌, ◌++◌}
+use Rattle.std.proofs.Common.{if◌then◌else◌}
 use Rattle.pram_text.specs.declared.instr.Instr.{Instr}
 use Rattle.pram_text.specs.declared.instr.Instr.TheVariants as instr
 use Rattle.pram_text.specs.declared.instr.Operand.{Operand}
@@ -11,19 +12,23 @@ use Rattle.pardo_text.specs.declared.operation.Op.TheVariants.{Lt, Le, Gt, Ge, A
 use Rattle.pardo_text.specs.Expression.{Tree, number, own, loop, private, place, apply}
 use Rattle.pardo_job.specs.Layouts.{LayoutData}
 use Rattle.pardo_job.specs.Lines.{condition_code, while_code, none_code, turn_code}
-use Rattle.pardo_job.specs.Operations.{native, choice, conjunction, operation_code, negation, register_code, register_of}
-use Rattle.pardo_job.specs.Operations.{instruction_of, in_order, is_turned, zero_test, tested_in, copy_code, chosen_of, is_max}
+use Rattle.pardo_job.specs.Operations.{native, choice, conjunction, operation_code, negation}
+use Rattle.pardo_job.specs.Operations.{register_code, register_of}
+use Rattle.pardo_job.specs.Operations.{instruction_of, in_order, is_turned, zero_test, tested_in}
+use Rattle.pardo_job.specs.Operations.{copy_code, chosen_of, is_max}
 use Rattle.pardo_job.specs.Operations.{first_chosen, second_chosen, taken_by}
 use Rattle.pardo_job.specs.Values.{value_code, takes, operand_of, is_truth}
 use Rattle.pardo_law.specs.Locals.{IsStraight, AreStraight}
 use Rattle.pardo_law.specs.Locals.{ExpressionsAreStraight}
 use Rattle.pardo_law.proofs.Placing.{straight_append}
 
-straight_if : (t : Bool) (a b : List Instr) → AreStraight a → AreStraight b → AreStraight (if t then a else b)
+straight_if : (t : Bool) (a b : List Instr) → AreStraight a → AreStraight b →
+    AreStraight (if t then a else b)
 straight_if true a b p q = p
 straight_if false a b p q = q
 
-instruction_straight : (op : Op) (at first : ℕ) (second : Operand) → IsStraight (instruction_of op at first second)
+instruction_straight : (op : Op) (at first : ℕ) (second : Operand) →
+    IsStraight (instruction_of op at first second)
 instruction_straight Add at first second = tt
 instruction_straight Sub at first second = tt
 instruction_straight Mul at first second = tt
@@ -49,14 +54,16 @@ register_straight : (spare : ℕ) (operand : Operand) → AreStraight (register_
 register_straight spare (Register r) = tt
 register_straight spare (Number n) = (tt, tt)
 
-order_straight : (at : ℕ) (op : Op) (first second : Operand) → AreStraight (in_order at op first second)
+order_straight : (at : ℕ) (op : Op) (first second : Operand) →
+    AreStraight (in_order at op first second)
 order_straight at op first second =
     straight_append (register_code (at + taken_by second) first)
     (instruction_of op at (register_of (at + taken_by second) first) second ∷ [])
     (register_straight (at + taken_by second) first)
     (instruction_straight op at (register_of (at + taken_by second) first) second, tt)
 
-pub native_straight : (at : ℕ) (op : Op) (first second : Operand) → AreStraight (native at op first second)
+pub native_straight : (at : ℕ) (op : Op) (first second : Operand) →
+    AreStraight (native at op first second)
 unfolding native
 native_straight at op first second = straight_if (is_turned op first)
     (in_order at op second first) (in_order at op first second)
@@ -67,13 +74,15 @@ negation_straight at = (tt, tt)
 
 zero_straight : (spare : ℕ) (operand : Operand) → AreStraight (zero_test spare operand)
 zero_straight spare operand = straight_append (register_code spare operand)
-    (instr.Eq (tested_in spare (register_of spare operand)) (register_of spare operand) (Number 0) ∷ [])
+    (instr.Eq (tested_in spare (register_of spare operand)) (register_of spare operand) (Number 0) ∷
+    [])
     (register_straight spare operand) (tt, tt)
 
 conjunction_straight : (at : ℕ) (first second : Operand) → AreStraight (conjunction at first second)
 unfolding conjunction
 conjunction_straight at first second =
-    straight_append (zero_test (at + taken_by second) first) _ (zero_straight (at + taken_by second) first)
+    straight_append (zero_test (at + taken_by second) first) _
+    (zero_straight (at + taken_by second) first)
     (straight_append (zero_test (at + 1) second) _ (zero_straight (at + 1) second) (tt, (tt, tt)))
 
 copy_straight : (at : ℕ) (operand : Operand) → AreStraight (copy_code at operand)
@@ -84,32 +93,41 @@ chosen_straight : (at : ℕ) (op : Op) (second : Operand) → AreStraight (chose
 chosen_straight at op second = (
   tt,
   straight_append (if is_max op then negation (at + 1 + taken_by second) else []) _
-      (straight_if (is_max op) (negation (at + 1 + taken_by second)) [] (tt, tt) tt) (tt, (tt, (tt, tt))),
+      (straight_if (is_max op) (negation (at + 1 + taken_by second)) [] (tt, tt) tt)
+      (tt, (tt, (tt, tt))),
 )
 
-choice_straight : (at : ℕ) (op : Op) (first second : Operand) → AreStraight (choice at op first second)
+choice_straight : (at : ℕ) (op : Op) (first second : Operand) →
+    AreStraight (choice at op first second)
 unfolding choice
 choice_straight at op first second =
-    straight_append (copy_code at (first_chosen first second)) (chosen_of at op (second_chosen first second))
-    (copy_straight at (first_chosen first second)) (chosen_straight at op (second_chosen first second))
+    straight_append (copy_code at (first_chosen first second))
+    (chosen_of at op (second_chosen first second))
+    (copy_straight at (first_chosen first second))
+    (chosen_straight at op (second_chosen first second))
 
-negated_straight : (at : ℕ) (op : Op) (a b : Operand) → AreStraight (native at op a b ++ negation at)
-negated_straight at op a b = straight_append (native at op a b) (negation at) (native_straight at op a b) (tt, tt)
+negated_straight : (at : ℕ) (op : Op) (a b : Operand) →
+    AreStraight (native at op a b ++ negation at)
+negated_straight at op a b = straight_append (native at op a b) (negation at)
+    (native_straight at op a b) (tt, tt)
 
-pub operation_straight : (at : ℕ) (op : Op) (t : Bool) (a b : Operand) → AreStraight (operation_code at op t a b)
+pub operation_straight : (at : ℕ) (op : Op) (t : Bool) (a b : Operand) →
+    AreStraight (operation_code at op t a b)
 unfolding operation_code
 operation_straight at Ne t a b = negated_straight at Eq a b
 operation_straight at Le t a b = negated_straight at Gt a b
 operation_straight at Ge t a b = negated_straight at Lt a b
 operation_straight at And t a b = straight_if t (native at BitAnd a b) (conjunction at a b)
     (native_straight at BitAnd a b) (conjunction_straight at a b)
-operation_straight at Or t a b = straight_append (native at BitOr a b) (if t then [] else negation at ++ negation at)
+operation_straight at Or t a b =
+    straight_append (native at BitOr a b) (if t then [] else negation at ++ negation at)
     (native_straight at BitOr a b) (straight_if t [] (negation at ++ negation at) tt (tt, (tt, tt)))
 operation_straight at Min t a b = choice_straight at Min a b
 operation_straight at Max t a b = choice_straight at Max a b
 operation_straight at op t a b = native_straight at op a b
 
-pub value_straight : (layout : LayoutData) (at : ℕ) (tree : Tree) → AreStraight (value_code layout at tree)
+pub value_straight : (layout : LayoutData) (at : ℕ) (tree : Tree) →
+    AreStraight (value_code layout at tree)
 value_straight layout at (number k) = tt
 value_straight layout at own = tt
 value_straight layout at (loop nest) = (tt, tt)
@@ -118,28 +136,39 @@ value_straight layout at (place array index) =
     straight_append (value_code layout at index) _ (value_straight layout at index) (tt, tt)
 value_straight layout at (apply op first second) =
     straight_append (value_code layout at first) _ (value_straight layout at first)
-    (straight_append (value_code layout (at + takes first) second) _ (value_straight layout (at + takes first) second)
-    (operation_straight at op (is_truth first && is_truth second) (operand_of at first) (operand_of (at + takes first) second)))
+    (straight_append (value_code layout (at + takes first) second) _
+    (value_straight layout (at + takes first) second)
+    (operation_straight at op (is_truth first && is_truth second) (operand_of at first)
+    (operand_of (at + takes first) second)))
 
-pub condition_straight : (layout : LayoutData) (tree : Tree) → AreStraight (condition_code layout tree)
+pub condition_straight : (layout : LayoutData) (tree : Tree) →
+    AreStraight (condition_code layout tree)
 unfolding condition_code
-condition_straight layout tree = straight_append (value_code layout 0 tree) _ (value_straight layout 0 tree)
+condition_straight layout tree =
+    straight_append (value_code layout 0 tree) _ (value_straight layout 0 tree)
     (straight_if (is_truth tree) [] _ tt
-    (straight_append (native 0 Eq (operand_of 0 tree) (Number 0)) _ (native_straight 0 Eq (operand_of 0 tree) (Number 0))
+    (straight_append (native 0 Eq (operand_of 0 tree) (Number 0)) _
+    (native_straight 0 Eq (operand_of 0 tree) (Number 0))
     (native_straight 0 Eq (Register 0) (Number 0))))
 
 pub while_straight : (layout : LayoutData) (tree : Tree) → AreStraight (while_code layout tree)
 unfolding while_code
-while_straight layout tree = straight_append (value_code layout 0 tree) _ (value_straight layout 0 tree)
+while_straight layout tree = straight_append (value_code layout 0 tree) _
+    (value_straight layout 0 tree)
     (register_straight 0 (operand_of 0 tree))
 
-pub none_straight : (layout : LayoutData) (up : Bool) (first last : Tree) → AreStraight (none_code layout up first last)
+pub none_straight : (layout : LayoutData) (up : Bool) (first last : Tree) →
+    AreStraight (none_code layout up first last)
 unfolding none_code
-none_straight layout up first last = straight_append (value_code layout 0 first) _ (value_straight layout 0 first)
-    (straight_append (value_code layout (takes first) last) _ (value_straight layout (takes first) last)
-    (native_straight 0 (if up then Gt else Lt) (operand_of 0 first) (operand_of (takes first) last)))
+none_straight layout up first last =
+    straight_append (value_code layout 0 first) _ (value_straight layout 0 first)
+    (straight_append (value_code layout (takes first) last) _
+    (value_straight layout (takes first) last)
+    (native_straight 0 (if up then Gt else Lt) (operand_of 0 first)
+    (operand_of (takes first) last)))
 
-pub turn_straight : (layout : LayoutData) (nest : ℕ) (last : Tree) → AreStraight (turn_code layout nest last)
+pub turn_straight : (layout : LayoutData) (nest : ℕ) (last : Tree) →
+    AreStraight (turn_code layout nest last)
 unfolding turn_code
 turn_straight layout nest last = (
   tt,

@@ -24,7 +24,8 @@ tied : (program : ProgramData) → IsNested program.lines → TurnsAreTied progr
 tied program nested j begin e = turns_tied program.lines nested j begin e
 
 -- the step of a line in conflict
-record IsStep (program : ProgramData) (job : JobData) (line_of : ℕ → ℕ) (n : ℕ) (dispute : Dispute) : Type 0 where
+record IsStep (program : ProgramData) (job : JobData) (line_of : ℕ → ℕ) (n : ℕ)
+    (dispute : Dispute) : Type 0 where
   before : ℕ
   time_is : time_of program (n + 1) ≡ before + 1
   steps_are : job.steps ≡ before + 1
@@ -37,7 +38,8 @@ record IsStep (program : ProgramData) (job : JobData) (line_of : ℕ → ℕ) (n
   comes : ComesFrom job line_of before dispute.first (line_number program (after program n))
   comes_too : ComesFrom job line_of before dispute.second (line_number program (after program n))
 
-module _ (program : ProgramData) (job : JobData) (line_of : ℕ → ℕ) (lawful : IsProgram program) (nested : IsNested program.lines)
+module _ (program : ProgramData) (job : JobData) (line_of : ℕ → ℕ) (lawful : IsProgram program)
+    (nested : IsNested program.lines)
     (compiled : IsCompiled program job line_of) where
   pub of : IsOf program job
   of = record {
@@ -48,13 +50,15 @@ module _ (program : ProgramData) (job : JobData) (line_of : ℕ → ℕ) (lawful
     tied = tied program nested;
   }
 
-  step_of : (n : ℕ) (dispute : Dispute) → IsConflict program n dispute → IsStep program job line_of n dispute
+  step_of : (n : ℕ) (dispute : Dispute) → IsConflict program n dispute →
+      IsStep program job line_of n dispute
   step_of n dispute is =
       let t : ℕ = time_of program n in
       let c : Carried program job (after program n) t = carried_after program job of n is.reached in
       let line = line_next program (after program n) c.pictured.within is.goes_on in
       let found : InConflict program job (after program n) t line.0 line_of dispute =
-      in_conflict program job of (after program n) t c line.0 line.1 line_of compiled.numbers dispute is.disputed in
+      in_conflict program job of (after program n) t c line.0 line.1 line_of compiled.numbers
+      dispute is.disputed in
       let last : job.steps ≡ t + found.before + 1 =
       conflict_is_last job (t + found.before) compiled.whole found.reached found.against in
       let named = line_number_is program (after program n) line.0 line.1 in
@@ -74,14 +78,19 @@ module _ (program : ProgramData) (job : JobData) (line_of : ℕ → ℕ) (lawful
     time = time_of program;
     starts = refl;
     rises = λ n. (let e : n + 1 ≡ suc n = omega arith in
-        let f : time_of program (n + 1) ≡ time_of program (suc n) = ap (time_of program) e in omega arith);
+        let f : time_of program (n + 1) ≡ time_of program (suc n) = ap (time_of program) e in
+        omega arith);
     shows = λ n reached. let c = carried_after program job of n reached in
         (c.standing.reached, shows program job of (after program n) (time_of program n) c);
-    ends = λ n is. (ends_as program job of compiled.whole line_of compiled.numbers n is, (done program job of compiled.whole line_of compiled.numbers n is).within);
+    ends = λ n is. (
+      ends_as program job of compiled.whole line_of compiled.numbers n is,
+      (done program job of compiled.whole line_of compiled.numbers n is).within,
+    );
     disputes = λ n dispute is. let s = step_of n dispute is in
         (s.before, s.time_is, s.steps_are, s.fault, s.comes, s.comes_too);
     over = finishes program job of compiled.whole;
   }
 
 pub jobs_carry_programs : JobsCarryPrograms
-jobs_carry_programs program job line_of lawful nested compiled = carries program job line_of lawful nested compiled
+jobs_carry_programs program job line_of lawful nested compiled =
+    carries program job line_of lawful nested compiled

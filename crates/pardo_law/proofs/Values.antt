@@ -1,6 +1,8 @@
 -- What the straight pieces of lines leave to a processor, by the meaning.
-use Rattle.std.proofs.Common.{◌≡◌, ℕ, ◌+◌, ◌-◌, ◌%◌, ◌^◌, ◌<◌, ◌≤◌, ◌==◌, nat_lt, Bool, true, false, not, List, [], ◌∷◌, ◌++◌, Option, Some, None}
-use Rattle.std.proofs.Common.{refl, sym, ap, ◌∙◌, subst, inl, inr, arith, if◌then◌else◌, length, append_assoc, unwrap_or}
+use Rattle.std.proofs.Common.{◌≡◌, ℕ, ◌+◌, ◌-◌, ◌%◌, ◌^◌, ◌<◌, ◌≤◌, ◌==◌, nat_lt, Bool, true, false}
+use Rattle.std.proofs.Common.{not, List, [], ◌∷◌, ◌++◌, Option, Some, None}
+use Rattle.std.proofs.Common.{refl, sym, ap, ◌∙◌, subst, inl, inr, arith, if◌then◌else◌, length}
+use Rattle.std.proofs.Common.{append_assoc, unwrap_or}
 use Rattle.std.specs.Option.{option_map, option_and_then}
 use Rattle.std.proofs.lemmas.Bool.{lt-ltb, le-ltb}
 use Rattle.pram_text.specs.declared.instr.Array.{Array}
@@ -22,7 +24,8 @@ use Rattle.pardo_job.specs.Operations.{is_shallow, register_of}
 use Rattle.pardo_job.specs.Sees.{Sees}
 use Rattle.pardo_job.specs.Straight.{Registers, put, operand_in, after_one, after_all}
 use Rattle.pardo_job.specs.Values.{value_code, operand_of, takes, own_load}
-use Rattle.pardo_job.proofs.Assigning.{both_code, HasBoth, BothTo, both_evaluate, HasIn, while_evaluates, none_evaluates}
+use Rattle.pardo_job.proofs.Assigning.{both_code, HasBoth, BothTo, both_evaluate, HasIn}
+use Rattle.pardo_job.proofs.Assigning.{while_evaluates, none_evaluates}
 use Rattle.pardo_job.proofs.Deciding.{conditions_decide}
 use Rattle.pardo_job.proofs.Evaluating.{Evaluated, EvaluatesTo, evaluates, load_within}
 use Rattle.pardo_job.proofs.Meanings.{loops_are_common}
@@ -36,7 +39,8 @@ use Rattle.pardo_law.proofs.Placing.{straight_append}
 use Rattle.pardo_law.proofs.Rows.{place_is, place_outside, first_place}
 use Rattle.pardo_law.proofs.Straightness.{value_straight}
 
-value_from : (memory : ℕ → ℕ) (i : ℕ) (layout : LayoutData) (tree : Tree) (held : Registers) (o : Option ℕ) →
+value_from : (memory : ℕ → ℕ) (i : ℕ) (layout : LayoutData) (tree : Tree) (held : Registers)
+    (o : Option ℕ) →
     held 3 ≡ i → EvaluatesTo memory i held layout 0 tree o →
     ValueTo memory i (value_code layout 0 tree) held (operand_of 0 tree) o
 value_from memory i layout tree held None own_i e = e
@@ -52,7 +56,8 @@ abbrev pub decided : Option ℕ → Option ℕ
 decided o = option_map (λ v. bit (not (v == 0))) o
 
 decided_from : (memory : ℕ → ℕ) (i : ℕ) (code : List Instr) (held : Registers) (o : Option ℕ) →
-    held 3 ≡ i → DecidesTo memory i held code o → ValueTo memory i code held (Register 0) (decided o)
+    held 3 ≡ i → DecidesTo memory i held code o →
+    ValueTo memory i code held (Register 0) (decided o)
 decided_from memory i code held None own_i e = e
 decided_from memory i code held (Some v) own_i e = record {
   now = e.now;
@@ -72,7 +77,8 @@ common_some program source of (private x) is = absurd is.1
 common_some program source of (place array index) is =
     let first = first_place program of.arrays array is.0.0 in (
       source.cells first.0,
-      ap (λ t. option_and_then (λ k. option_map source.cells (cell_of program array k)) (value program source 0 t)) is.1
+      ap (λ t. option_and_then (λ k. option_map source.cells (cell_of program array k))
+          (value program source 0 t)) is.1
           ∙ ap (option_map source.cells) first.1,
     )
 common_some program source of (apply op first second) is =
@@ -93,7 +99,8 @@ common_is program source of tree is i =
     ∙ ap Some (sym (ap (λ o. unwrap_or o 0) found.1))
 
 -- the end of a loop: its variable, and whether that is the last one
-pub record HasTurn (memory : ℕ → ℕ) (i : ℕ) (held : Registers) (code : List Instr) (a b : ℕ) : Type 0 where
+pub record HasTurn (memory : ℕ → ℕ) (i : ℕ) (held : Registers) (code : List Instr) (a b : ℕ) :
+    Type 0 where
   pub now : Registers
   pub runs : after_all memory i code held ≡ Some now
   pub variable : now 0 ≡ a
@@ -104,39 +111,53 @@ pub record HasTurn (memory : ℕ → ℕ) (i : ℕ) (held : Registers) (code : L
 
 -- ---- one processor that is there
 
-module _ (program : ProgramData) (job : JobData) (of : IsProgram program) (source : Source) (memory : ℕ → ℕ) (i : ℕ)
+module _ (program : ProgramData) (job : JobData) (of : IsProgram program) (source : Source)
+    (memory : ℕ → ℕ) (i : ℕ)
     (sees : Sees program (layout_of program) source memory i) where
   pub value_to : (tree : Tree) (held : Registers) → held 3 ≡ i → IsTree (bounds_of program) tree →
       is_shallow (value_code (layout_of program) 0 tree) ≡ true →
-      ValueTo memory i (value_code (layout_of program) 0 tree) held (operand_of 0 tree) (value program source i tree)
+      ValueTo memory i (value_code (layout_of program) 0 tree) held (operand_of 0 tree)
+      (value program source i tree)
   value_to tree held own_i is shallow =
       value_from memory i (layout_of program) tree held (value program source i tree) own_i
-      (evaluates program (layout_of program) source memory i sees tree 0 held own_i (lawful_tree program tree is) shallow)
+      (evaluates program (layout_of program) source memory i sees tree 0 held own_i
+      (lawful_tree program tree is) shallow)
 
   pub decided_to : (tree : Tree) (held : Registers) → held 3 ≡ i → IsTree (bounds_of program) tree →
       is_shallow (condition_code (layout_of program) tree) ≡ true →
-      ValueTo memory i (condition_code (layout_of program) tree) held (Register 0) (decided (value program source i tree))
+      ValueTo memory i (condition_code (layout_of program) tree) held (Register 0)
+      (decided (value program source i tree))
   decided_to tree held own_i is shallow =
-      decided_from memory i (condition_code (layout_of program) tree) held (value program source i tree) own_i
-      (conditions_decide program (layout_of program) source memory i tree held sees own_i (lawful_tree program tree is) shallow)
+      decided_from memory i (condition_code (layout_of program) tree) held
+      (value program source i tree) own_i
+      (conditions_decide program (layout_of program) source memory i tree held sees own_i
+      (lawful_tree program tree is) shallow)
 
   -- ---- a store to an array
 
   abbrev store_to : ℕ → Tree → Tree → Instr
-  store_to array index tree = St (Named (array_cells (layout_of program) array) (operand_of (takes tree) index)) (operand_of 0 tree)
+  store_to array index tree = St (Named (array_cells (layout_of program) array)
+      (operand_of (takes tree) index)) (operand_of 0 tree)
 
   -- by the place, if it is there
-  by_cell : (at array a k : ℕ) (index tree : Tree) (now : Registers) (o : Option ℕ) (P : Local → Type 0) →
-      cell_of program array k ≡ o → operand_in now (operand_of 0 tree) ≡ a → operand_in now (operand_of (takes tree) index) ≡ k →
+  by_cell : (at array a k : ℕ) (index tree : Tree) (now : Registers) (o : Option ℕ)
+      (P : Local → Type 0) →
+      cell_of program array k ≡ o → operand_in now (operand_of 0 tree) ≡ a →
+      operand_in now (operand_of (takes tree) index) ≡ k →
       now 3 ≡ i →
       (store_by now (store_to array index tree) ≡ option_map (λ cell. (cell, a)) o)
-      × Arrives (at + 1) i (option_map {U = ℕ × ℕ} (λ cell. (cell, a)) o) (after_instr job memory i at now (store_to array index tree))
+      × Arrives (at + 1) i (option_map {U = ℕ × ℕ} (λ cell. (cell, a)) o)
+      (after_instr job memory i at now (store_to array index tree))
   by_cell at array a k index tree now None P e first second own_i =
       let cells : Array = array_cells (layout_of program) array in
       let high : cells.len ≤ k = place_outside program of.arrays array k e in
       let idx : Operand = operand_of (takes tree) index in
-      let no : nat_lt (operand_in now idx) cells.len ≡ false = ap (λ n. nat_lt n cells.len) second ∙ le-ltb k cells.len high in (
-        ap (λ b. if b then Some (cells.base + operand_in now idx, operand_in now (operand_of 0 tree)) else None) no,
+      let no : nat_lt (operand_in now idx) cells.len ≡ false = ap (λ n. nat_lt n cells.len) second ∙
+      le-ltb k cells.len high in (
+        ap (λ b. if b then Some (
+          cells.base + operand_in now idx,
+          operand_in now (operand_of 0 tree),
+        ) else None) no,
         ap (λ b. if b then Some (at + 1, now) else None) no,
       )
   by_cell at array a k index tree now (Some cell) P e first second own_i =
@@ -144,22 +165,30 @@ module _ (program : ProgramData) (job : JobData) (of : IsProgram program) (sourc
       let p = place_is program of.arrays array k cell e in
       let low : k < cells.len = p.within in
       let idx : Operand = operand_of (takes tree) index in
-      let yes : nat_lt (operand_in now idx) cells.len ≡ true = ap (λ n. nat_lt n cells.len) second ∙ lt-ltb k cells.len low in (
-        ap (λ b. if b then Some (cells.base + operand_in now idx, operand_in now (operand_of 0 tree)) else None) yes
+      let yes : nat_lt (operand_in now idx) cells.len ≡ true = ap (λ n. nat_lt n cells.len) second ∙
+      lt-ltb k cells.len low in (
+        ap (λ b. if b then Some (
+          cells.base + operand_in now idx,
+          operand_in now (operand_of 0 tree),
+        ) else None) yes
             ∙ (λ j. Some ((ap (λ n. cells.base + n) second ∙ p.is) j, first j)),
-        subst (IsThere (at + 1) i) (sym (ap (λ b. if b then Some (at + 1, now) else None) yes)) (there_at (at + 1) i now own_i),
+        subst (IsThere (at + 1) i) (sym (ap (λ b. if b then Some (at + 1, now) else None) yes))
+            (there_at (at + 1) i now own_i),
       )
 
   abbrev front_of : Tree → Tree → List Instr
   front_of tree index = both_code (layout_of program) tree index
 
   both_straight : (tree index : Tree) → AreStraight (front_of tree index)
-  both_straight tree index = straight_append (value_code (layout_of program) 0 tree) (value_code (layout_of program) (takes tree) index)
-      (value_straight (layout_of program) 0 tree) (value_straight (layout_of program) (takes tree) index)
+  both_straight tree index = straight_append (value_code (layout_of program) 0 tree)
+      (value_code (layout_of program) (takes tree) index)
+      (value_straight (layout_of program) 0 tree)
+      (value_straight (layout_of program) (takes tree) index)
 
   abbrev write_from : ℕ → Option ℕ → Option ℕ → Option (ℕ × ℕ)
   write_from array a b =
-      option_and_then (λ v. option_map (λ cell. (cell, v)) (option_and_then (cell_of program array) b)) a
+      option_and_then (λ v. option_map (λ cell. (cell, v))
+      (option_and_then (cell_of program array) b)) a
 
   shared_by : (array at : ℕ) (index tree : Tree) (held : Registers) (a b : Option ℕ) →
       StandsAt job at (front_of tree index ++ store_to array index tree ∷ []) → held 3 ≡ i →
@@ -167,62 +196,82 @@ module _ (program : ProgramData) (job : JobData) (of : IsProgram program) (sourc
       Makes job memory i (length (front_of tree index)) (Some (at, held)) (write_from array a b)
       (Arrives (at + length (front_of tree index) + 1) i (write_from array a b))
   shared_by array at index tree held None b stands own_i c =
-      makes_body job memory i at held (front_of tree index) (store_to array index tree) (λ l. l ≡ None) None
+      makes_body job memory i at held (front_of tree index) (store_to array index tree)
+      (λ l. l ≡ None) None
       (both_straight tree index) stands tt c refl
   shared_by array at index tree held (Some a) None stands own_i c =
-      makes_body job memory i at held (front_of tree index) (store_to array index tree) (λ l. l ≡ None) None
+      makes_body job memory i at held (front_of tree index) (store_to array index tree)
+      (λ l. l ≡ None) None
       (both_straight tree index) stands tt c refl
   shared_by array at index tree held (Some a) (Some b) stands own_i c =
       let n : ℕ = length (front_of tree index) in
       let o : Option ℕ = cell_of program array b in
       let w : Option (ℕ × ℕ) = option_map {U = ℕ × ℕ} (λ cell. (cell, a)) o in
-      let by = by_cell (at + n) array a b index tree c.now o (λ l. l ≡ None) refl c.first_is c.second_is (c.keeps ∙ own_i) in
-      with_store job memory i n (Some (at, held)) (Arrives (at + n + 1) i w) (store_by c.now (store_to array index tree)) w by.0
-      (makes_body job memory i at held (front_of tree index) (store_to array index tree) (Arrives (at + n + 1) i w) (Some c.now)
+      let by = by_cell (at + n) array a b index tree c.now o (λ l. l ≡ None) refl c.first_is
+      c.second_is (c.keeps ∙ own_i) in
+      with_store job memory i n (Some (at, held)) (Arrives (at + n + 1) i w)
+      (store_by c.now (store_to array index tree)) w by.0
+      (makes_body job memory i at held (front_of tree index) (store_to array index tree)
+      (Arrives (at + n + 1) i w) (Some c.now)
       (both_straight tree index) stands tt c.runs by.1)
 
   pub shared_to : (array at : ℕ) (index tree : Tree) (held : Registers) →
       StandsAt job at (front_of tree index ++ store_to array index tree ∷ []) → held 3 ≡ i →
-      IsTree (bounds_of program) tree → IsTree (bounds_of program) index → is_shallow (front_of tree index) ≡ true →
-      Makes job memory i (length (front_of tree index)) (Some (at, held)) (write_of program source array i index tree)
-      (Arrives (at + length (front_of tree index) + 1) i (write_of program source array i index tree))
+      IsTree (bounds_of program) tree → IsTree (bounds_of program) index →
+      is_shallow (front_of tree index) ≡ true →
+      Makes job memory i (length (front_of tree index)) (Some (at, held))
+      (write_of program source array i index tree)
+      (Arrives (at + length (front_of tree index) + 1) i
+      (write_of program source array i index tree))
   shared_to array at index tree held stands own_i is is_too shallow =
-      shared_by array at index tree held (value program source i tree) (value program source i index) stands own_i
+      shared_by array at index tree held (value program source i tree)
+      (value program source i index) stands own_i
       (both_evaluate program (layout_of program) source memory i sees tree index held own_i
       (lawful_tree program tree is) (lawful_tree program index is_too) shallow)
 
   -- ---- loops
 
-  evaluated_as : (tree : Tree) (at v : ℕ) (held : Registers) → held 3 ≡ i → IsTree (bounds_of program) tree →
-      is_shallow (value_code (layout_of program) at tree) ≡ true → value program source i tree ≡ Some v →
+  evaluated_as : (tree : Tree) (at v : ℕ) (held : Registers) → held 3 ≡ i →
+      IsTree (bounds_of program) tree →
+      is_shallow (value_code (layout_of program) at tree) ≡ true → value program source i tree ≡
+      Some v →
       Evaluated memory i held (layout_of program) at tree v
   evaluated_as tree at v held own_i is shallow e =
       subst (EvaluatesTo memory i held (layout_of program) at tree) e
-      (evaluates program (layout_of program) source memory i sees tree at held own_i (lawful_tree program tree is) shallow)
+      (evaluates program (layout_of program) source memory i sees tree at held own_i
+      (lawful_tree program tree is) shallow)
 
-  pub while_to : (tree : Tree) (held : Registers) → held 3 ≡ i → IsCommonTree (bounds_of program) tree →
+  pub while_to : (tree : Tree) (held : Registers) → held 3 ≡ i →
+      IsCommonTree (bounds_of program) tree →
       is_shallow (while_code (layout_of program) tree) ≡ true →
-      HasIn memory i held (while_code (layout_of program) tree) (register_of 0 (operand_of 0 tree)) (common_value program source tree)
+      HasIn memory i held (while_code (layout_of program) tree) (register_of 0 (operand_of 0 tree))
+      (common_value program source tree)
   unfolding while_code
   while_to tree held own_i is shallow =
       while_evaluates memory i (common_value program source tree) (layout_of program) tree held
       (evaluated_as tree 0 (common_value program source tree) held own_i is.0
-      (shallow_front (value_code (layout_of program) 0 tree) _ shallow) (common_is program source of tree is i))
+      (shallow_front (value_code (layout_of program) 0 tree) _ shallow)
+      (common_is program source of tree is i))
 
-  none_shallow : (up : Bool) (first last : Tree) → is_shallow (none_code (layout_of program) up first last) ≡ true →
+  none_shallow : (up : Bool) (first last : Tree) →
+      is_shallow (none_code (layout_of program) up first last) ≡ true →
       is_shallow (both_code (layout_of program) first last) ≡ true
   unfolding none_code
   none_shallow up first last shallow =
       shallow_front (both_code (layout_of program) first last) _
-      (ap is_shallow (append_assoc (value_code (layout_of program) 0 first) (value_code (layout_of program) (takes first) last) _) ∙ shallow)
+      (ap is_shallow (append_assoc (value_code (layout_of program) 0 first)
+      (value_code (layout_of program) (takes first) last) _) ∙ shallow)
 
-  as_both : (first last : Tree) (held : Registers) (a b : ℕ) → value program source i first ≡ Some a →
+  as_both : (first last : Tree) (held : Registers) (a b : ℕ) → value program source i first ≡
+      Some a →
       value program source i last ≡ Some b →
-      BothTo memory i held (layout_of program) first last (value program source i first) (value program source i last) →
+      BothTo memory i held (layout_of program) first last (value program source i first)
+      (value program source i last) →
       HasBoth memory i held (layout_of program) first last a b
   as_both first last held a b e f both =
       subst (λ x. BothTo memory i held (layout_of program) first last (Some a) x) f
-      (subst (λ x. BothTo memory i held (layout_of program) first last x (value program source i last)) e both)
+      (subst (λ x. BothTo memory i held (layout_of program) first last x
+      (value program source i last)) e both)
 
   pub none_to : (up : Bool) (first last : Tree) (held : Registers) → held 3 ≡ i →
       IsCommonTree (bounds_of program) first → IsCommonTree (bounds_of program) last →
@@ -233,13 +282,18 @@ module _ (program : ProgramData) (job : JobData) (of : IsProgram program) (sourc
       let a : ℕ = common_value program source first in
       let b : ℕ = common_value program source last in
       none_evaluates memory i a b (layout_of program) up first last held
-      (as_both first last held a b (common_is program source of first is i) (common_is program source of last is_too i)
+      (as_both first last held a b (common_is program source of first is i)
+      (common_is program source of last is_too i)
       (both_evaluate program (layout_of program) source memory i sees first last held own_i
-      (lawful_tree program first is.0) (lawful_tree program last is_too.0) (none_shallow up first last shallow))) shallow
+      (lawful_tree program first is.0) (lawful_tree program last is_too.0)
+      (none_shallow up first last shallow))) shallow
 
-  pub turn_to : (nest : ℕ) (last : Tree) (held : Registers) → held 3 ≡ i → nest < (layout_of program).loops →
-      IsCommonTree (bounds_of program) last → is_shallow (turn_code (layout_of program) nest last) ≡ true →
-      HasTurn memory i held (turn_code (layout_of program) nest last) (source.loops nest) (common_value program source last)
+  pub turn_to : (nest : ℕ) (last : Tree) (held : Registers) → held 3 ≡ i →
+      nest < (layout_of program).loops →
+      IsCommonTree (bounds_of program) last → is_shallow (turn_code (layout_of program) nest last) ≡
+      true →
+      HasTurn memory i held (turn_code (layout_of program) nest last) (source.loops nest)
+      (common_value program source last)
   unfolding turn_code
   turn_to nest last held own_i low is shallow =
       let a : ℕ = source.loops nest in
@@ -247,24 +301,33 @@ module _ (program : ProgramData) (job : JobData) (of : IsProgram program) (sourc
       let front : List Instr = value_code (layout_of program) 1 last in
       let sub : Instr = Sub 1 0 (operand_of 1 last) in
       let first : Registers = put 0 a held in
-      let loads : after_one memory i (own_load 0 (loop_cells (layout_of program) nest)) held ≡ Some first =
-      load_within memory i 0 i held (loop_cells (layout_of program) nest) (Register 3) own_i sees.is_processor
+      let loads : after_one memory i (own_load 0 (loop_cells (layout_of program) nest)) held ≡
+      Some first =
+      load_within memory i 0 i held (loop_cells (layout_of program) nest) (Register 3) own_i
+      sees.is_processor
       ∙ ap (λ v. Some (put 0 v held)) (sees.loops nest low) in
       let own_first : first 3 ≡ i = put_other 0 a 3 held (λ e. omega arith) ∙ own_i in
       let c : Evaluated memory i first (layout_of program) 1 last b =
       evaluated_as last 1 b first own_first is.0
-      (shallow_front front (sub ∷ []) (shallow_rest (own_load 0 (loop_cells (layout_of program) nest)) (front ++ sub ∷ []) shallow))
+      (shallow_front front (sub ∷ [])
+      (shallow_rest (own_load 0 (loop_cells (layout_of program) nest)) (front ++ sub ∷ [])
+      shallow))
       (common_is program source of last is i) in
       let variable : c.now 0 ≡ a = c.keeps 0 (inl (omega arith)) ∙ put_same 0 a held in
-      let end : Registers = put 1 ((c.now 0 + (2 ^ 32 - operand_in c.now (operand_of 1 last))) % 2 ^ 32) c.now in record {
+      let end : Registers = put 1 ((c.now 0 + (2 ^ 32 - operand_in c.now (operand_of 1 last))) % 2 ^
+      32) c.now in record {
         now = end;
         runs = ap (option_and_then (after_all memory i (front ++ sub ∷ []))) loads
             ∙ after_front memory i front (sub ∷ []) first c.now c.runs;
-        variable = put_other 1 ((c.now 0 + (2 ^ 32 - operand_in c.now (operand_of 1 last))) % 2 ^ 32) 0 c.now (λ e. omega arith) ∙ variable;
-        rest = put_same 1 ((c.now 0 + (2 ^ 32 - operand_in c.now (operand_of 1 last))) % 2 ^ 32) c.now
+        variable = put_other 1 ((c.now 0 + (2 ^ 32 - operand_in c.now (operand_of 1 last))) % 2 ^
+            32) 0 c.now (λ e. omega arith) ∙ variable;
+        rest = put_same 1 ((c.now 0 + (2 ^ 32 - operand_in c.now (operand_of 1 last))) % 2 ^ 32)
+            c.now
             ∙ (λ k. (variable k + (2 ^ 32 - c.gives k)) % 2 ^ 32);
-        own = put_other 1 ((c.now 0 + (2 ^ 32 - operand_in c.now (operand_of 1 last))) % 2 ^ 32) 3 c.now (λ e. omega arith)
+        own = put_other 1 ((c.now 0 + (2 ^ 32 - operand_in c.now (operand_of 1 last))) % 2 ^ 32) 3
+            c.now (λ e. omega arith)
             ∙ c.keeps 3 (inr refl) ∙ own_first;
-        low = subst (λ n. n < 2 ^ 32) (sees.loops nest low) (sees.fits ((loop_cells (layout_of program) nest).base + i));
+        low = subst (λ n. n < 2 ^ 32) (sees.loops nest low)
+            (sees.fits ((loop_cells (layout_of program) nest).base + i));
         last_low = c.fits;
       }

@@ -89,7 +89,8 @@ IsNamedAt job (Some local) =
     (instr : Instr) → slice_get job.code local.0 ≡ Some instr → IsNamed instr
 
 -- after a step the processor is there where it went by itself, and it wrote what it stored alone
-pub record Follows (job : JobData) (state : State) (i : ℕ) (local : Local) (store : Option (ℕ × ℕ)) :
+pub record Follows (job : JobData) (state : State) (i : ℕ) (local : Local) (store : Option (ℕ × ℕ))
+    :
     Type 0 where
   pub local_is : IsLocal job (next_state job state) i local
   pub wrote : (cell value : ℕ) → cell < job.cells →

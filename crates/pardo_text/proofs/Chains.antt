@@ -40,7 +40,8 @@ level_at_zero operand level scope tokens e = rw e refl
 pub level_at_more : (operand : Inner) (level : ℕ) (scope : Scope) (tokens : List Token) →
     0 < level → level_at operand level scope tokens
     ≡ (level_at operand (level - 1) scope tokens >>= λ first.
-    chained (level_at operand (level - 1) scope) scope level (turns_at level first.1) first.0 first.1)
+    chained (level_at operand (level - 1) scope) scope level (turns_at level first.1) first.0
+    first.1)
 unfolding level_at
 level_at_more operand zero scope tokens lt = absurd (omega arith)
 level_at_more operand (suc level) scope tokens lt =

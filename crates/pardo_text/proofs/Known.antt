@@ -14,13 +14,15 @@ use Rattle.pram_text.specs.Lines.{Word}
 use Rattle.pardo_text.specs.Names.{named, unnamed}
 
 pub names_in-insert : (old new : BTreeMap (Bor Word) Named) (word : Word) (thing : Named) →
-    UpdatesBy (λ x y. slice_cmp nat_cmp x.now y.now) (λ key. slice_cmp nat_cmp word key.now) old new (Some thing) →
+    UpdatesBy (λ x y. slice_cmp nat_cmp x.now y.now) (λ key. slice_cmp nat_cmp word key.now) old new
+    (Some thing) →
     names_in new ≡ named word thing (names_in old)
 names_in-insert old new word thing updates =
     fun_ext (λ other. btree_map_updates_str word old new (Some thing) updates other)
 
 pub names_in-remove : (old new : BTreeMap (Bor Word) Named) (word : Word) →
-    UpdatesBy (λ x y. slice_cmp nat_cmp x.now y.now) (λ key. slice_cmp nat_cmp word key.now) old new None →
+    UpdatesBy (λ x y. slice_cmp nat_cmp x.now y.now) (λ key. slice_cmp nat_cmp word key.now) old new
+    None →
     names_in new ≡ unnamed word (names_in old)
 names_in-remove old new word updates =
     fun_ext (λ other. btree_map_updates_str word old new None updates other)

@@ -114,7 +114,8 @@ as_number b tree value e is = subst (IsTree b) e is
 applied_tree : (b : Bounds) (op : Op) (first second : Tree) → is_division op ≡ false →
     IsTree b first → IsTree b second → IsTree b (applied op first second)
 applied_tree b op first second whole p q = applied_keeps (IsTree b) op first second
-    (λ x y e f. value_small op x y (as_number b first x e p) (as_number b second y f q)) (whole, p, q)
+    (λ x y e f. value_small op x y (as_number b first x e p) (as_number b second y f q))
+    (whole, p, q)
 
 before_no_division : (op : Op) → level_of op ≡ 0 → is_division op ≡ false
 unfolding level_of is_division
@@ -192,7 +193,8 @@ pub keeps_common : (b : Bounds) (names : Names) (scope : Scope) → divides scop
 keeps_common b names scope code common are = record {
   numbers = λ value few. (few, tt);
   bare = λ word found e f is. bare_common b scope found common is f (are word found e);
-  placed = λ word array index e f p. absurd (let no : false ≡ true = sym (common.2 array) ∙ f in cc);
+  placed = λ word array index e f p. absurd
+      (let no : false ≡ true = sym (common.2 array) ∙ f in cc);
   joins = λ op first second p q. joined_common b scope op first second code p q;
   pairs = λ op first second e p q. applied_common b op first second (before_no_division op e) p q;
 }

@@ -16,7 +16,8 @@ use Rattle.pardo_text.specs.declared.statement.Statement.TheVariants as statemen
 use Rattle.pardo_text.specs.declared.statement.Target.{Target}
 use Rattle.pardo_text.specs.declared.symbol.Symbol.TheVariants as the
 use Rattle.pardo_text.specs.Blocks.{depth_of}
-use Rattle.pardo_text.specs.Code.{whole_at, place_of, bare_target, target_of, assignment_at, if_line}
+use Rattle.pardo_text.specs.Code.{whole_at, place_of, bare_target, target_of, assignment_at}
+use Rattle.pardo_text.specs.Code.{if_line}
 use Rattle.pardo_text.specs.Code.{while_line, way_at, for_line, else_of, end_of, statement_line}
 use Rattle.pardo_text.specs.Drafts.{Draft, cells_of, fitting, with_line, with_block, with_loop}
 use Rattle.pardo_text.specs.Drafts.{without, with_end}
@@ -84,7 +85,8 @@ place_kept b names array None few are = tt
 place_kept b names array (Some inside) few are =
     ok_bind (expression_at names Any inside) _ (λ read. IsTree b read.0)
     (λ read. IsTarget b read.0) (read_kept b names Any inside refl are)
-    (λ index p. ok_after (rest_after mark.CloseIndex index.1) _ (λ read. IsTarget b read.0) (λ rest. (few, p)))
+    (λ index p. ok_after (rest_after mark.CloseIndex index.1) _ (λ read. IsTarget b read.0)
+    (λ rest. (few, p)))
 
 bare_kept : (b : Bounds) (to : Target) (tokens : List Token) → IsTarget b to →
     IfOk (bare_target to tokens) (λ read. IsTarget b read.0)
@@ -122,13 +124,18 @@ assignment_kept b names word tokens are =
 -- ---- lines in which no block is opened
 
 -- a draft with more lines, and all else as before
-line_grows : (n : ℕ) (said : Statement) (d : Draft) → Grows (bounds_in d) (bounds_in (with_line n said d))
+line_grows : (n : ℕ) (said : Statement) (d : Draft) →
+    Grows (bounds_in d) (bounds_in (with_line n said d))
 line_grows n said d = record {
   arrays = omega arith;
   privates = omega arith;
   loops = omega arith;
   choices = omega arith;
-  lines = omega (arith, one_longer d.lines (record { statement = said; depth = depth_of d.blocks; number = n }));
+  lines = omega (
+    arith,
+    one_longer d.lines
+        (record { statement = said; depth = depth_of d.blocks; number = n }),
+  );
 }
 
 -- one line more that is lawful already before it
@@ -151,13 +158,16 @@ opened_line : (n : ℕ) (said : Statement) (opened : Block) (d : Draft) → 0 < 
     depth_of d.blocks + masks_of said ≤ max d.most_choices (depth_of (opened ∷ d.blocks)) →
     ((m : ℕ) → length d.lines < m → IsBlock m opened) →
     IsDraft (bounds_in d) d →
-    IsDraft (bounds_in (with_block opened (with_line n said d))) (with_block opened (with_line n said d))
+    IsDraft (bounds_in (with_block opened (with_line n said d)))
+    (with_block opened (with_line n said d))
 opened_line n said opened d some is_said few begins is =
     let lined = with_line n said d in
     let next = with_block opened lined in
-    let longer = one_longer d.lines (record { statement = said; depth = depth_of d.blocks; number = n }) in
+    let longer = one_longer d.lines
+    (record { statement = said; depth = depth_of d.blocks; number = n }) in
     block_kept (bounds_in next) opened lined some (begins (length lined.lines) longer)
-    (line_kept (bounds_in next) n said d is_said few (more_kept (bounds_in d) (bounds_in next) d (record {
+    (line_kept (bounds_in next) n said d is_said few
+    (more_kept (bounds_in d) (bounds_in next) d (record {
       arrays = omega arith;
       privates = omega arith;
       loops = omega arith;
@@ -179,7 +189,11 @@ if_kept n d tokens some is =
       privates = omega arith;
       loops = omega arith;
       choices = omega arith;
-      lines = omega (arith, one_longer d.lines (record { statement = statement.If condition; depth = depth_of d.blocks; number = n }));
+      lines = omega (
+        arith,
+        one_longer d.lines
+            (record { statement = statement.If condition; depth = depth_of d.blocks; number = n }),
+      );
     }) condition p) (omega arith) (λ m lt. tt) is.0))
 
 -- the cells of a draft in which no more `if`s were open than before
@@ -199,7 +213,8 @@ while_kept n d tokens some is =
     (λ condition p.
     let said : Statement = statement.While condition 0 in
     let opened : Block = block.While (length d.lines) in
-    let longer = one_longer d.lines (record { statement = said; depth = depth_of d.blocks; number = n }) in
+    let longer = one_longer d.lines
+    (record { statement = said; depth = depth_of d.blocks; number = n }) in
     let next = with_block opened (with_line n said d) in (
       opened_line n said opened d some (
         common_more (bounds_in d) (bounds_in next) (record {
@@ -222,7 +237,8 @@ for_made : (n : ℕ) (d : Draft) (word : Word) (first last : Tree) (up : Bool) �
 for_made n d word first last up some p q is =
     let said : Statement = statement.For (length d.loops) first last up 0 in
     let opened : Block = block.For (length d.lines) in
-    let longer = one_longer d.lines (record { statement = said; depth = depth_of d.blocks; number = n }) in
+    let longer = one_longer d.lines
+    (record { statement = said; depth = depth_of d.blocks; number = n }) in
     let lined = with_line n said d in
     let deeper = with_block opened lined in
     let next = with_loop word deeper in
@@ -246,7 +262,8 @@ unfolding for_line
 for_kept n d tokens some is =
     ok_after (new_name d.names tokens) _ IsLawful (λ word.
     ok_after (rest_after mark.Equals word.1) _ IsLawful (λ after.
-    ok_bind (expression_at d.names Bound after) _ (λ read. IsCommonTree (bounds_in d) read.0) IsLawful
+    ok_bind (expression_at d.names Bound after) _ (λ read. IsCommonTree (bounds_in d) read.0)
+    IsLawful
     (common_kept (bounds_in d) d.names Bound after refl bound_is_common is.0.names) (λ first p.
     ok_after (way_at first.1) _ IsLawful (λ way.
     ok_bind (whole_at d.names Bound way.1) _ (IsCommonTree (bounds_in d)) IsLawful
@@ -277,8 +294,10 @@ loop_ended n begin said d is_said none is =
     let told = with_end begin d in
     let next = with_line n said told in
     let same = ended_at_length begin d.lines in
-    let longer = one_longer told.lines (record { statement = said; depth = depth_of told.blocks; number = n }) in (
-      line_kept (bounds_in next) n said told (is_said (bounds_in next) (omega (arith, longer, same)))
+    let longer = one_longer told.lines
+    (record { statement = said; depth = depth_of told.blocks; number = n }) in (
+      line_kept (bounds_in next) n said told
+          (is_said (bounds_in next) (omega (arith, longer, same)))
           (omega (arith, is.0.depth, none))
           (end_kept (bounds_in next) begin d (omega (arith, longer, same))
           (more_kept (bounds_in d) (bounds_in next) d (record {
@@ -314,7 +333,10 @@ end_line_kept n d (block.While begin ∷ blocks) e is =
     All-head (IsBlock (length d.lines)) (block.While begin) blocks
     (subst (All (IsBlock (length d.lines))) e is.0.blocks) in
     loop_ended n begin (statement.EndWhile begin) (record d { blocks = blocks })
-    (λ b more. omega arith) refl (popped_kept (bounds_in d) (block.While begin) blocks d e is.0, is.1)
+    (λ b more. omega arith) refl (
+      popped_kept (bounds_in d) (block.While begin) blocks d e is.0,
+      is.1,
+    )
 end_line_kept n d (block.For begin ∷ blocks) e is =
     let begun : begin < length d.lines =
     All-head (IsBlock (length d.lines)) (block.For begin) blocks

@@ -49,4 +49,5 @@ keeps_number names = record {
 }
 
 pub constants_are_numbers : ConstantsAreNumbers
-constants_are_numbers names tokens = expression_kept names Fixed IsNumber (keeps_number names) tokens
+constants_are_numbers names tokens =
+    expression_kept names Fixed IsNumber (keeps_number names) tokens

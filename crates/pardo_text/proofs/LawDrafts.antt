@@ -87,7 +87,8 @@ more_kept b c d g is = record {
 found_thing : (b : Bounds) (test : Bool) (new found : Named) (old : Option Named) → IsThing b new →
     (old ≡ Some found → IsThing b found) → (if test then Some new else old) ≡ Some found →
     IsThing b found
-found_thing b true new found old is else_is e = let same : new ≡ found = cc in subst (IsThing b) same is
+found_thing b true new found old is else_is e = let same : new ≡ found = cc in
+    subst (IsThing b) same is
 found_thing b false new found old is else_is e = else_is e
 
 left_thing : (b : Bounds) (test : Bool) (found : Named) (old : Option Named) →

@@ -116,7 +116,8 @@ procs_line_kept d tokens is =
     ended_kept IsLawful (with_name word.0 thing.Own next) procs.1 (
       name_kept (bounds_in d) word.0 thing.Own next tt
           (procs_kept (bounds_in d) procs.0 d none (omega (arith, p.0)) p.1 is.0),
-      no_own_cells (shared_cells d.arrays) procs.0 (length d.privates + d.most_loops + d.most_choices)
+      no_own_cells (shared_cells d.arrays) procs.0
+          (length d.privates + d.most_loops + d.most_choices)
           (is.0.before none) (omega (arith, is.1)),
     ))))) (λ _. tt)
 
@@ -130,7 +131,8 @@ length_kept names tokens None = omega arith
 length_kept names tokens (Some inside) =
     ok_bind (fixed_at names 1 MAX_CELLS inside) _ (Between 1 MAX_CELLS) HasPlaces
     (fixed_kept names 1 MAX_CELLS inside)
-    (λ places p. ok_after (rest_after mark.CloseIndex places.1) _ HasPlaces (λ rest. omega (arith, p.0)))
+    (λ places p. ok_after (rest_after mark.CloseIndex places.1) _ HasPlaces
+    (λ rest. omega (arith, p.0)))
 
 array_line : (d : Draft) (word : Word) (is_scalar : Bool) (start : List ℕ) → 0 < length start →
     AreNumbers start → IsLawful d → IfOk (fitting (with_array word is_scalar start d)) IsLawful

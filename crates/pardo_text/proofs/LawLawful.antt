@@ -64,7 +64,8 @@ program_kept d is = finished_kept d.stage d.blocks d.lines d refl refl is
 
 -- ---- lines one after another
 
-pub on_line_kept : {A : Type 0} → (P : A → Type 0) (n : ℕ) (read : Result A PardoKind) → IfOk read P →
+pub on_line_kept : {A : Type 0} → (P : A → Type 0) (n : ℕ) (read : Result A PardoKind) →
+    IfOk read P →
     IfOk (on_line n read) P
 on_line_kept P n (Ok x) is = is
 on_line_kept P n (Err kind) is = tt
@@ -80,7 +81,8 @@ after_kept : (lines : List (List ℕ)) (n : ℕ) (d : Draft) → IsLawful d →
 after_kept [] n d is = on_line_kept IsProgram n (program_in d) (program_kept d is)
 after_kept (line ∷ lines) n d is =
     and_then_kept IsLawful IsProgram (on_line (n + 1) (with_text_line (n + 1) d line)) _
-    (on_line_kept IsLawful (n + 1) (with_text_line (n + 1) d line) (text_line_kept (n + 1) d line is))
+    (on_line_kept IsLawful (n + 1) (with_text_line (n + 1) d line)
+    (text_line_kept (n + 1) d line is))
     (λ next is_next. after_kept lines (n + 1) next is_next)
 
 empty_is_lawful : IsLawful empty

@@ -1,5 +1,6 @@
 -- `lg` gives the least k with 2^k at least the number.
-use Rattle.std.proofs.Common.{◌≡◌, ℕ, suc, ◌-◌, ◌*◌, ◌^◌, ◌<◌, ◌≤◌, arith, refl, Bool, true, false, nat_lt}
+use Rattle.std.proofs.Common.{◌≡◌, ℕ, suc, ◌-◌, ◌*◌, ◌^◌, ◌<◌, ◌≤◌, arith, refl, Bool, true, false}
+use Rattle.std.proofs.Common.{nat_lt}
 use Rattle.std.specs.Int.{w32, leading_zeros}
 use Rattle.std.proofs.lemmas.Nat.{leading_length, pow_pos}
 use Rattle.std.proofs.lemmas.Bool.Decides.{nat_tests}

@@ -65,7 +65,14 @@ run is_of front after token other = λ t o rest e f.
     let here = unwrap_or-position (λ x. not (is_of x)) front in
     let there = unwrap_or-position (λ x. not (is_of x)) (front ++ after) in
     let more = run_on (λ x. not (not (is_of x))) front after (omega (arith, few, here)) in
-    omega (arith, more, there, ap length left, length-drop (run_len is_of (front ++ after)) (front ++ after), length-append front after)
+    omega (
+      arith,
+      more,
+      there,
+      ap length left,
+      length-drop (run_len is_of (front ++ after)) (front ++ after),
+      length-append front after,
+    )
 
 -- ---- marks
 
@@ -106,7 +113,12 @@ taken : (row : Word × Symbol) (front after rest : List ℕ) →
     drop (length row.0) (front ++ after) ≡ rest → length front ≤ length row.0 →
     length front + length rest ≤ length (front ++ after)
 taken row front after rest e few =
-    omega (arith, ap length e, length-drop (length row.0) (front ++ after), length-append front after)
+    omega (
+      arith,
+      ap length e,
+      length-drop (length row.0) (front ++ after),
+      length-append front after,
+    )
 
 -- what a front is spelled by, its line begins with
 begins_too : (row : Word × Symbol) (front after : List ℕ) →
@@ -142,7 +154,8 @@ longest_mark [] front after ordered = λ token other rest e f.
 longest_mark (row ∷ rows) front after ordered =
     let parts = and_parts (at_most (length row.0) rows) (longest_first rows) ordered in
     both_rows row front after (bytes_eq (take (length row.0) (front ++ after)) row.0)
-    (bytes_eq (take (length row.0) front) row.0) (mark_by rows (front ++ after)) (mark_by rows front)
+    (bytes_eq (take (length row.0) front) row.0) (mark_by rows (front ++ after))
+    (mark_by rows front)
     refl refl (λ other. within_bound rows (length row.0) front other parts.0)
     (longest_mark rows front after parts.1)
 

@@ -19,7 +19,8 @@ use Rattle.pardo_text.specs.declared.symbol.Symbol.TheVariants as the
 use Rattle.pardo_text.specs.Blocks.{depth_of}
 use Rattle.pardo_text.specs.Code.{whole_at, target_of, assignment_at, if_line}
 use Rattle.pardo_text.specs.Code.{while_line, way_at, for_line, else_of, end_of, statement_line}
-use Rattle.pardo_text.specs.Drafts.{Draft, empty, cells_of, fitting, with_line, with_block, with_loop}
+use Rattle.pardo_text.specs.Drafts.{Draft, empty, cells_of, fitting, with_line, with_block}
+use Rattle.pardo_text.specs.Drafts.{with_loop}
 use Rattle.pardo_text.specs.Drafts.{without, with_end, with_name, with_array, with_private}
 use Rattle.pardo_text.specs.Expression.{Tree}
 use Rattle.pardo_text.specs.Expressions.{new_name, rest_after, indexed}
@@ -40,8 +41,10 @@ use Rattle.pardo_text.specs.Values.{most, values_for, start_at}
 use Rattle.pardo_text.proofs.Ifs.{ok_bind, ok_after, ok_if}
 use Rattle.pardo_text.proofs.LawHeader.{ended_kept}
 use Rattle.pardo_text.proofs.LawLawful.{on_line_kept, and_then_kept}
-use Rattle.pardo_text.proofs.LawOpen.{IsCode, IsLeft, AreOpen, no_code, open_push, open_more, loop_left}
-use Rattle.pardo_text.proofs.LawTied.{end_at, leads_last, tied_push, Among, begins_push, begins_last}
+use Rattle.pardo_text.proofs.LawOpen.{IsCode, IsLeft, AreOpen, no_code, open_push, open_more}
+use Rattle.pardo_text.proofs.LawOpen.{loop_left}
+use Rattle.pardo_text.proofs.LawTied.{end_at, leads_last, tied_push, Among, begins_push}
+use Rattle.pardo_text.proofs.LawTied.{begins_last}
 use Rattle.pardo_text.specs.declared.part.Mark.TheVariants as mark
 
 -- what a draft says of its code
@@ -159,11 +162,16 @@ assignment_is names word tokens =
 assigned : (n : ℕ) (d : Draft) (to : Target) (value : Tree) → Code d →
     Code (with_line n (statement.Assign to value) d)
 assigned n d to value is =
-    let line : Line = record { statement = statement.Assign to value; depth = depth_of d.blocks; number = n } in
+    let line : Line = record {
+      statement = statement.Assign to value;
+      depth = depth_of d.blocks;
+      number = n;
+    } in
     let more = pushed d.lines d.blocks line is.leads is.tied (tt, refl) refl in record {
       leads = more.0;
       tied = more.1;
-      begun = begins_push d.lines line d.blocks d.blocks (λ k among. among) (λ end e. absurd (let none : None ≡ Some end = e in cc)) is.begun;
+      begun = begins_push d.lines line d.blocks d.blocks (λ k among. among)
+          (λ end e. absurd (let none : None ≡ Some end = e in cc)) is.begun;
       opened = still_open d.lines line d.blocks is.opened;
       loops = is.loops;
     }
@@ -172,12 +180,17 @@ if_code : (n : ℕ) (d : Draft) (tokens : List Token) → Code d → IfOk (if_li
 unfolding if_line
 if_code n d tokens is =
     ok_after (whole_at d.names Any tokens) _ Code (λ condition.
-    let line : Line = record { statement = statement.If condition; depth = depth_of d.blocks; number = n } in
+    let line : Line = record {
+      statement = statement.If condition;
+      depth = depth_of d.blocks;
+      number = n;
+    } in
     let more = pushed d.lines d.blocks line is.leads is.tied (tt, refl) refl in
     fitting_code (with_block block.If (with_line n (statement.If condition) d)) (record {
       leads = more.0;
       tied = more.1;
-      begun = begins_push d.lines line d.blocks (block.If ∷ d.blocks) (λ k among. among) (λ end e. absurd (let none : None ≡ Some end = e in cc)) is.begun;
+      begun = begins_push d.lines line d.blocks (block.If ∷ d.blocks) (λ k among. among)
+          (λ end e. absurd (let none : None ≡ Some end = e in cc)) is.begun;
       opened = still_open d.lines line d.blocks is.opened;
       loops = is.loops;
     }))
@@ -186,7 +199,11 @@ while_code : (n : ℕ) (d : Draft) (tokens : List Token) → Code d → IfOk (wh
 unfolding while_line
 while_code n d tokens is =
     ok_after (whole_at d.names Uniform tokens) _ Code (λ condition.
-    let line : Line = record { statement = statement.While condition 0; depth = depth_of d.blocks; number = n } in
+    let line : Line = record {
+      statement = statement.While condition 0;
+      depth = depth_of d.blocks;
+      number = n;
+    } in
     let more = pushed d.lines d.blocks line is.leads is.tied (tt, refl) refl in record {
       leads = more.0;
       tied = more.1;
@@ -211,7 +228,8 @@ for_code n d tokens is =
     let said : Statement = statement.For (length d.loops) first.0 last way.0 0 in
     let line : Line = record { statement = said; depth = depth_of d.blocks; number = n } in
     let more = pushed d.lines d.blocks line is.leads is.tied (is.loops, refl) refl in
-    fitting_code (with_loop word.0 (with_block (block.For (length d.lines)) (with_line n said d))) (record {
+    fitting_code (with_loop word.0 (with_block (block.For (length d.lines)) (with_line n said d)))
+    (record {
       leads = more.0;
       tied = more.1;
       begun = begins_push d.lines line d.blocks (block.For (length d.lines) ∷ d.blocks)
@@ -234,7 +252,8 @@ else_code n d (block.If ∷ blocks) e is =
     let now : IsCode d.lines (block.If ∷ blocks) (length d.loops) =
     subst (λ (opening : List Block). IsCode d.lines opening (length d.loops)) e is in
     let line : Line = record { statement = statement.Else; depth = depth_of blocks; number = n } in
-    let more = pushed d.lines (block.If ∷ blocks) line now.leads now.tied ((blocks, refl), refl) refl in record {
+    let more = pushed d.lines (block.If ∷ blocks) line now.leads now.tied ((blocks, refl), refl)
+    refl in record {
       leads = more.0;
       tied = more.1;
       begun = begins_push d.lines line (block.If ∷ blocks) (block.Else ∷ blocks) (λ k among. among)
@@ -255,29 +274,33 @@ choice_code n d choice blocks is stands opened loops same =
     let more = pushed d.lines (choice ∷ blocks) line is.leads is.tied stands refl in record {
       leads = more.0;
       tied = more.1;
-      begun = begins_push d.lines line (choice ∷ blocks) blocks same (λ end e. absurd (let none : None ≡ Some end = e in cc)) is.begun;
+      begun = begins_push d.lines line (choice ∷ blocks) blocks same
+          (λ end e. absurd (let none : None ≡ Some end = e in cc)) is.begun;
       opened = still_open d.lines line blocks opened;
       loops = loops;
     }
 
 -- the end of a loop
 loop_code : (lines : List Line) (begin : ℕ) (closed : Block) (blocks : List Block) (line : Line)
-    (end loops : ℕ) → IsLeft lines begin closed blocks end → end_at lines begin ≡ Some end → begin < end →
+    (end loops : ℕ) → IsLeft lines begin closed blocks end → end_at lines begin ≡ Some end →
+    begin < end →
     Stands (closed ∷ blocks) line → loop_begin line.statement ≡ Some begin →
-    loop_end line.statement ≡ None → opened_by (length lines) line.statement ++ around line.statement (closed ∷ blocks) ≡ blocks →
+    loop_end line.statement ≡ None → opened_by (length lines) line.statement ++
+    around line.statement (closed ∷ blocks) ≡ blocks →
     loops ≡ loops_of blocks → IsCode (lines ++ line ∷ []) blocks loops
-loop_code lines begin closed blocks line end loops is told few stands ends plain after same = record {
-  leads = subst (Leads 0 [] (lines ++ line ∷ [])) after
-      (leads_last lines (closed ∷ blocks) line is.leads stands);
-  tied = tied_push lines line is.tied (λ other e.
-      let one : begin ≡ other = (let both : Some begin ≡ Some other = sym ends ∙ e in cc) in (
-        omega (arith, one, is.many, few),
-        ap (end_at lines) (sym one) ∙ told ∙ ap Some (sym is.many),
-      ));
-  begun = begins_last lines line begin end blocks is.begun is.many ends plain;
-  opened = still_open lines line blocks is.opened;
-  loops = same;
-}
+loop_code lines begin closed blocks line end loops is told few stands ends plain after same =
+    record {
+      leads = subst (Leads 0 [] (lines ++ line ∷ [])) after
+          (leads_last lines (closed ∷ blocks) line is.leads stands);
+      tied = tied_push lines line is.tied (λ other e.
+          let one : begin ≡ other = (let both : Some begin ≡ Some other = sym ends ∙ e in cc) in (
+            omega (arith, one, is.many, few),
+            ap (end_at lines) (sym one) ∙ told ∙ ap Some (sym is.many),
+          ));
+      begun = begins_last lines line begin end blocks is.begun is.many ends plain;
+      opened = still_open lines line blocks is.opened;
+      loops = same;
+    }
 
 for_end_code : (n begin : ℕ) (d : Draft) (loops : List Word) (blocks : List Block) →
     d.loops ≡ loops → IsCode d.lines (block.For begin ∷ blocks) (length d.loops) →
@@ -286,7 +309,12 @@ for_end_code : (n begin : ℕ) (d : Draft) (loops : List Word) (blocks : List Bl
 for_end_code n begin d [] blocks e is =
     absurd (let none : length d.loops ≡ 0 = ap length e in omega (arith, none, is.loops))
 for_end_code n begin d (word ∷ loops) blocks e is =
-    let line : Line = record { statement = statement.EndFor begin; depth = depth_of blocks; number = n } in
+    let line : Line = record {
+      statement = statement.EndFor begin;
+      depth = depth_of blocks;
+      number =
+          n;
+    } in
     let left = loop_left d.lines begin (block.For begin) blocks is.opened.0 is.opened.1 is.opened.2
     is.leads is.tied is.begun in
     let many : length d.loops ≡ length (word ∷ loops) = ap length e in
@@ -299,18 +327,25 @@ end_code n d [] e is = tt
 end_code n d (block.If ∷ blocks) e is =
     let now : IsCode d.lines (block.If ∷ blocks) (length d.loops) =
     subst (λ (opening : List Block). IsCode d.lines opening (length d.loops)) e is in
-    choice_code n d block.If blocks now ((block.If, blocks, refl, refl), refl) now.opened now.loops (λ k among. among)
+    choice_code n d block.If blocks now ((block.If, blocks, refl, refl), refl) now.opened now.loops
+    (λ k among. among)
 end_code n d (block.Else ∷ blocks) e is =
     let now : IsCode d.lines (block.Else ∷ blocks) (length d.loops) =
     subst (λ (opening : List Block). IsCode d.lines opening (length d.loops)) e is in
-    choice_code n d block.Else blocks now ((block.Else, blocks, refl, refl), refl) now.opened now.loops (λ k among. among)
+    choice_code n d block.Else blocks now ((block.Else, blocks, refl, refl), refl) now.opened
+    now.loops (λ k among. among)
 end_code n d (block.While begin ∷ blocks) e is =
     let now : IsCode d.lines (block.While begin ∷ blocks) (length d.loops) =
     subst (λ (opening : List Block). IsCode d.lines opening (length d.loops)) e is in
-    let line : Line = record { statement = statement.EndWhile begin; depth = depth_of blocks; number = n } in
+    let line : Line = record {
+      statement = statement.EndWhile begin;
+      depth = depth_of blocks;
+      number = n;
+    } in
     let left = loop_left d.lines begin (block.While begin) blocks now.opened.0 now.opened.1
     now.opened.2 now.leads now.tied now.begun in
-    loop_code _ begin (block.While begin) blocks line (length d.lines) (length d.loops) left.0 left.1
+    loop_code _ begin (block.While begin) blocks line (length d.lines) (length d.loops) left.0
+    left.1
     now.opened.0 ((blocks, refl), refl) refl refl refl now.loops
 end_code n d (block.For begin ∷ blocks) e is =
     let now : IsCode d.lines (block.For begin ∷ blocks) (length d.loops) =
@@ -341,7 +376,8 @@ at_code stage.Rule n d tokens is = rule_code d tokens is
 at_code stage.Header n d tokens is = header_code d tokens is
 at_code stage.Code n d tokens is = statement_code n d tokens is
 
-tokens_code : (n : ℕ) (d : Draft) (tokens : List Token) → Code d → IfOk (with_tokens n d tokens) Code
+tokens_code : (n : ℕ) (d : Draft) (tokens : List Token) → Code d →
+    IfOk (with_tokens n d tokens) Code
 tokens_code n d [] is = is
 tokens_code n d (token ∷ tokens) is = at_code d.stage n d (token ∷ tokens) is
 

@@ -130,10 +130,14 @@ loop_left lines begin closed blocks few opening others leads tied begun =
     ended_found (slice_get lines begin) there.0 there.1 in
     subst (λ (new : List Line). IsLeft new begin closed blocks (length lines)
     × (end_at new begin ≡ Some (length lines))) (sym told_is)
-    (loop_told lines begin closed blocks there.0 there.1 there.2 few opening others leads tied begun)
+    (loop_told lines begin closed blocks there.0 there.1 there.2 few opening others leads tied
+    begun)
   where
     ended_found : (found : Option Line) (line : Line) → found ≡ Some line →
-        (elim found [ None ↦ lines | Some first ↦ slice_set lines begin (told (length lines) first) ])
+        (elim found [
+          | None ↦ lines
+          | Some first ↦ slice_set lines begin (told (length lines) first)
+        ])
         ≡ slice_set lines begin (told (length lines) line)
     ended_found None line e = absurd (let none : None ≡ Some line = e in cc)
     ended_found (Some first) line e =

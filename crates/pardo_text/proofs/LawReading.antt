@@ -47,7 +47,8 @@ record BadFrom (from : Draft) (n : ℕ) (lines : List (List ℕ)) (fault : Pardo
   taken : drafted from n before ≡ Ok draft
   bad : with_text_line fault.line draft line ≡ Err fault.kind
 
-record IncompleteFrom (from : Draft) (n : ℕ) (lines : List (List ℕ)) (fault : PardoFault) : Type 0 where
+record IncompleteFrom (from : Draft) (n : ℕ) (lines : List (List ℕ)) (fault : PardoFault) :
+    Type 0 where
   draft : Draft
   number : fault.line ≡ n + length lines
   taken : drafted from n lines ≡ Ok draft
@@ -166,7 +167,8 @@ taken_at_line line lines draft n program (Err kind) all is e =
 all_taken : (lines : List (List ℕ)) → AllTaken lines
 all_taken [] draft n program e = taken_at_end draft n program (program_in draft) refl e
 all_taken (line ∷ lines) draft n program e =
-    taken_at_line line lines draft n program (with_text_line (n + 1) draft line) (all_taken lines) refl e
+    taken_at_line line lines draft n program (with_text_line (n + 1) draft line) (all_taken lines)
+    refl e
 
 pub all_lines_are_taken : AllLinesAreTaken
 unfolding program_of

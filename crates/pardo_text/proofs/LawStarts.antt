@@ -16,7 +16,8 @@ use Rattle.pardo_text.specs.Lawful.{AreNumbers}
 use Rattle.pardo_text.specs.Names.{Names}
 use Rattle.pardo_text.specs.Operations.{is_division}
 use Rattle.pardo_text.specs.Tokens.{Token}
-use Rattle.pardo_text.specs.Values.{most, quotient_of, value_for, values_for, values_in, values_after}
+use Rattle.pardo_text.specs.Values.{most, quotient_of, value_for, values_for, values_in}
+use Rattle.pardo_text.specs.Values.{values_after}
 use Rattle.pardo_text.specs.Values.{values_next, after_dots, filled, start_at}
 use Rattle.pardo_text.proofs.Ifs.{ok_bind, ok_after, ok_if}
 use Rattle.pardo_text.proofs.LawBounds.{IsStart}
@@ -31,7 +32,11 @@ limited_kept : (low high value : ℕ) (rest : List Token) →
     IfOk (limited low high value rest) (Between low high)
 limited_kept low high value rest =
     ok_if (nat_lt value low || nat_lt high value) _ _ (Between low high) (λ _. tt)
-    (λ e. (let up : low ≤ value = grind (arith, nat_tests) in up, let few : value ≤ high = grind (arith, nat_tests) in few))
+    (λ e. (
+      let up : low ≤ value = grind (arith, nat_tests) in up,
+      let few : value ≤ high =
+          grind (arith, nat_tests) in few,
+    ))
 
 pub fixed_kept : (names : Names) (low high : ℕ) (tokens : List Token) →
     IfOk (fixed_at names low high tokens) (Between low high)
@@ -115,7 +120,8 @@ in_kept names zero tokens = tt
 in_kept names (suc turns) tokens =
     ok_bind (fixed_at names 0 most tokens) _ (Between 0 most) AreSome
     (fixed_kept names 0 most tokens)
-    (λ value p. after_kept (values_in names turns) value.0 value.1 (omega (arith, p.1)) (in_kept names turns))
+    (λ value p. after_kept (values_in names turns) value.0 value.1 (omega (arith, p.1))
+    (in_kept names turns))
 
 filled_kept : (places : ℕ) (values : List ℕ) (fills : Bool) → 0 < length values →
     AreNumbers values → IfOk (filled places values fills) (AreSoMany places)

@@ -43,7 +43,8 @@ pub begin_set : (lines : List Line) (i : ℕ) (new : Line) (k begin : ℕ) →
     loop_begin new.statement ≡ None → begin_at (slice_set lines i new) k ≡ Some begin →
     begin_at lines k ≡ Some begin
 begin_set [] i new k begin none e = e
-begin_set (first ∷ lines) zero new zero begin none e = absurd (let other : None ≡ Some begin = sym none ∙ e in cc)
+begin_set (first ∷ lines) zero new zero begin none e =
+    absurd (let other : None ≡ Some begin = sym none ∙ e in cc)
 begin_set (first ∷ lines) zero new (suc k) begin none e = e
 begin_set (first ∷ lines) (suc i) new zero begin none e = e
 begin_set (first ∷ lines) (suc i) new (suc k) begin none e = begin_set lines i new k begin none e
@@ -65,7 +66,8 @@ end_set_same (first ∷ lines) (suc i) end new e = end_set_same lines i end new 
 
 -- ---- blocks that lines lead to
 
-pub leads_push : (at : ℕ) (blocks : List Block) (lines : List Line) (mid : List Block) (line : Line) →
+pub leads_push : (at : ℕ) (blocks : List Block) (lines : List Line) (mid : List Block)
+    (line : Line) →
     Leads at blocks lines mid → Stands mid line →
     Leads at blocks (lines ++ line ∷ [])
     (opened_by (at + length lines) line.statement ++ around line.statement mid)
@@ -78,7 +80,8 @@ leads_push at blocks [] mid line is stands =
 leads_push at blocks (first ∷ lines) mid line is stands =
     let there : at + 1 + length lines ≡ at + length (first ∷ lines) = omega arith in (
       is.0,
-      subst (λ (n : ℕ). Leads (at + 1) (opened_by at first.statement ++ around first.statement blocks)
+      subst (λ (n : ℕ). Leads (at + 1)
+          (opened_by at first.statement ++ around first.statement blocks)
           (lines ++ line ∷ []) (opened_by n line.statement ++ around line.statement mid)) there
           (leads_push (at + 1) _ lines mid line is.1 stands),
     )
@@ -268,14 +271,15 @@ pub begins_push : (lines : List Line) (line : Line) (blocks new : List Block) �
     ((begin : ℕ) → Among begin blocks → Among begin new) →
     ((end : ℕ) → loop_end line.statement ≡ Some end → Among (length lines) new) →
     BeginsEnd lines blocks → BeginsEnd (lines ++ line ∷ []) new
-begins_push lines line blocks new more begins is begin end e = elim (end_cases lines line begin end e) [
-  | inl before ↦ elim (is begin end before) [
-    | inl among ↦ inl (more begin among)
-    | inr there ↦ inr (begin_kept lines line end begin there)
-  ]
-  | inr last ↦
-      inl (subst (λ (n : ℕ). Among n new) (sym last.0) (begins end last.1))
-]
+begins_push lines line blocks new more begins is begin end e =
+    elim (end_cases lines line begin end e) [
+      | inl before ↦ elim (is begin end before) [
+        | inl among ↦ inl (more begin among)
+        | inr there ↦ inr (begin_kept lines line end begin there)
+      ]
+      | inr last ↦
+          inl (subst (λ (n : ℕ). Among n new) (sym last.0) (begins end last.1))
+    ]
 
 pub end_set_cases : (lines : List Line) (i : ℕ) (new : Line) (k end : ℕ) →
     end_at (slice_set lines i new) k ≡ Some end →
@@ -311,7 +315,8 @@ begins_set lines here end found blocks first says is begin was e =
         ]
         | inr there ↦
             let other : was ≢ here = λ same.
-            not_both_at (slice_get lines here) begin 0 first (ap (begin_at lines) (sym same) ∙ there) in
+            not_both_at (slice_get lines here) begin 0 first
+            (ap (begin_at lines) (sym same) ∙ there) in
             inl (inr (begin_set_other lines here (told end found) was other ∙ there))
       ]
     ]

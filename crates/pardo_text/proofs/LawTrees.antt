@@ -58,7 +58,8 @@ module _ (names : Names) (scope : Scope) (P : Tree → Type 0) (keeps : Keeps na
   placed_at inner word array None kept e f = tt
   placed_at inner word array (Some tokens) kept e f =
       ok_bind (inner scope tokens) _ Kept Kept (kept tokens) (λ index p.
-      ok_after (rest_after mark.CloseIndex index.1) _ Kept (λ rest. keeps.placed word array index.0 e f p))
+      ok_after (rest_after mark.CloseIndex index.1) _ Kept
+      (λ rest. keeps.placed word array index.0 e f p))
 
   bare_at : (word : Word) (found : Named) (tokens : List Token) → names word ≡ Some found →
       admits scope found ≡ true → IsBare found →
@@ -93,14 +94,16 @@ module _ (names : Names) (scope : Scope) (P : Tree → Type 0) (keeps : Keeps na
       ok_bind (inner scope opened) _ Kept Kept (kept opened) (λ first p.
       ok_after (rest_after mark.Comma first.1) _ Kept (λ between.
       ok_bind (inner scope between) _ Kept Kept (kept between) (λ second q.
-      ok_after (rest_after mark.Close second.1) _ Kept (λ rest. keeps.pairs op first.0 second.0 e p q)))))
+      ok_after (rest_after mark.Close second.1) _ Kept
+      (λ rest. keeps.pairs op first.0 second.0 e p q)))))
 
   operand : (inner : Inner) → KeptIn (inner scope) → KeptIn (operand_at names inner scope)
   unfolding operand_at
   operand inner kept [] = tt
   operand inner kept (literal value ∷ rest) =
       ok_if (nat_lt value (2 ^ 32)) _ _ Kept
-      (λ e. keeps.numbers value (let few : value < 2 ^ 32 = grind (arith, nat_tests) in few)) (λ _. tt)
+      (λ e. keeps.numbers value (let few : value < 2 ^ 32 = grind (arith, nat_tests) in few))
+      (λ _. tt)
   operand inner kept (name word ∷ rest) = named inner word (names word) rest kept refl
   operand inner kept (symbol the.Open ∷ rest) =
       ok_bind (inner scope rest) _ Kept Kept (kept rest)
@@ -112,7 +115,8 @@ module _ (names : Names) (scope : Scope) (P : Tree → Type 0) (keeps : Keeps na
       keeps.numbers (log_of (fixed_value tree.0)) (log_small (fixed_value tree.0)))))
   operand inner kept (symbol (the.Operator op) ∷ rest) =
       ok_if (level_of op == 0) _ _ Kept
-      (λ e. pair inner op rest kept (let none : level_of op ≡ 0 = grind (arith, nat_tests) in none)) (λ _. tt)
+      (λ e. pair inner op rest kept (let none : level_of op ≡ 0 = grind (arith, nat_tests) in none))
+      (λ _. tt)
   operand inner kept (symbol other ∷ rest) = tt
 
   abbrev KeptAfter : (Tree → List Token → Read Tree) → Type 0

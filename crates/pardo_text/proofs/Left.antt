@@ -12,4 +12,5 @@ pub left-cons : (tokens : List Held) (at : ℕ) (d : Held) → at < length token
 left-cons tokens at d lt =
     let few : at < length (plain_all tokens) = rw length-map lt in
     rw (add-one) (drop-cons (plain_all tokens) at (plain d) few
-    ∙ ap (λ token. token ∷ drop (suc at) (plain_all tokens)) (get_or-map plain tokens at d (plain d) lt))
+    ∙ ap (λ token. token ∷ drop (suc at) (plain_all tokens))
+    (get_or-map plain tokens at d (plain d) lt))

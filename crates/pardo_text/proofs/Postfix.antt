@@ -69,10 +69,13 @@ pub applied-numbers : (op : Op) (first second : Tree) (a b : ℕ) (both : Tree) 
     both ≡ applied op (number a) (number b) → both ≡ applied op first second
 applied-numbers op (number x) (number y) a b both e f g =
     let same : x ≡ a = cc in let other : y ≡ b = cc in
-    g ∙ ap (λ v. applied op (number v) (number b)) (sym same) ∙ ap (λ v. applied op (number x) (number v)) (sym other)
+    g ∙ ap (λ v. applied op (number v) (number b)) (sym same) ∙
+    ap (λ v. applied op (number x) (number v)) (sym other)
 applied-numbers op (number x) own a b both e f g = absurd (let none : None ≡ Some b = f in cc)
-applied-numbers op (number x) (loop nest) a b both e f g = absurd (let none : None ≡ Some b = f in cc)
-applied-numbers op (number x) (private y) a b both e f g = absurd (let none : None ≡ Some b = f in cc)
+applied-numbers op (number x) (loop nest) a b both e f g =
+    absurd (let none : None ≡ Some b = f in cc)
+applied-numbers op (number x) (private y) a b both e f g =
+    absurd (let none : None ≡ Some b = f in cc)
 applied-numbers op (number x) (place array index) a b both e f g =
     absurd (let none : None ≡ Some b = f in cc)
 applied-numbers op (number x) (apply other left right) a b both e f g =

@@ -20,7 +20,8 @@ passes false e = absurd (let other : true ≡ false = e in cc)
 -- a run passes
 pub run_passes : (p : ℕ → Bool) (xs : List ℕ) → AllPass p (take (run_len p xs) xs)
 run_passes p xs k d few =
-    let len : run_len p xs ≡ position_or_len (λ x. not (p x)) xs = unwrap_or-position (λ x. not (p x)) xs in
+    let len : run_len p xs ≡ position_or_len (λ x. not (p x)) xs =
+    unwrap_or-position (λ x. not (p x)) xs in
     let lt : k < run_len p xs = omega (arith, length-take (run_len p xs) xs) in
     rw (get_or-take (run_len p xs) xs k d lt)
     (passes (p (get_or xs k d)) (fails_before_first (λ x. not (p x)) xs k d (omega arith)))

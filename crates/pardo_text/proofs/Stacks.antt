@@ -1,5 +1,6 @@
 -- The value of an expression by a stack.
-use Rattle.std.proofs.Common.{◌≡◌, ℕ, zero, suc, ◌+◌, ◌<◌, ◌≤◌, List, [], ◌∷◌, ◌++◌, length, drop, get_or}
+use Rattle.std.proofs.Common.{◌≡◌, ℕ, zero, suc, ◌+◌, ◌<◌, ◌≤◌, List, [], ◌∷◌, ◌++◌, length, drop}
+use Rattle.std.proofs.Common.{get_or}
 use Rattle.std.proofs.Common.{Result, Ok, Err, refl, sym, ap, ◌∙◌, arith, append_assoc, append-nil}
 use Rattle.std.proofs.Common.{drop-cons, add-one}
 use Rattle.std.proofs.lemmas.List.{drop_all}
@@ -52,7 +53,8 @@ value_after-postfix i (apply op first second) nodes stack =
 
 pub value_after-tree : (i : ℕ) (tree : Tree) (nodes : List Node) → nodes ≡ postfix tree →
     value_for i tree ≡ value_after i nodes []
-value_after-tree i tree nodes e = sym (ap (λ all. value_after i all []) (e ∙ sym (append-nil (postfix tree)))
+value_after-tree i tree nodes e =
+    sym (ap (λ all. value_after i all []) (e ∙ sym (append-nil (postfix tree)))
     ∙ value_after-postfix i tree [] [] ∙ bind_ok (value_for i tree))
 
 -- ---- the nodes that are left

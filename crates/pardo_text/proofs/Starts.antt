@@ -75,7 +75,8 @@ pub take_last : (names : Names) (n i value : ℕ) (front new : List ℕ) (tokens
     new ≡ front ++ value ∷ [] →
     after_values front (values_in names (n - i) tokens) ≡ Ok (new, false)
 take_last names n i value front new tokens rest lt e f g =
-    rw (value_first names n i tokens lt, e, value_alone _ value rest f) (ap (λ all. Ok (all, false)) (sym g))
+    rw (value_first names n i tokens lt, e, value_alone _ value rest f)
+    (ap (λ all. Ok (all, false)) (sym g))
 
 pub take_comma : (names : Names) (n i value : ℕ) (front : List ℕ) (tokens rest : List Token)
     (kind : PardoKind) → i < n → fixed_at names 0 most tokens ≡ Ok (value, rest) →
@@ -87,17 +88,20 @@ take_comma names n i value front tokens rest kind lt e f g =
 pub take_end : (names : Names) (n i value : ℕ) (front new : List ℕ)
     (tokens rest after end : List Token) → i < n →
     fixed_at names 0 most tokens ≡ Ok (value, rest) → 0 < length rest →
-    rest_after mark.Comma rest ≡ Ok after → after_dots after ≡ Some end → Ok (tt {0}) ≡ ended (tt {0}) end →
+    rest_after mark.Comma rest ≡ Ok after → after_dots after ≡ Some end → Ok (tt {0}) ≡
+    ended (tt {0}) end →
     new ≡ front ++ value ∷ [] →
     after_values front (values_in names (n - i) tokens) ≡ Ok (new, true)
 take_end names n i value front new tokens rest after end lt e f g h k new_is =
     rw (value_first names n i tokens lt, e, value_comma _ value rest f, g)
-    (rw (h) (rw (ended-ok {A = List ℕ × Bool} (value ∷ [], true) end k) (ap (λ all. Ok (all, true)) (sym new_is))))
+    (rw (h) (rw (ended-ok {A = List ℕ × Bool} (value ∷ [], true) end k)
+    (ap (λ all. Ok (all, true)) (sym new_is))))
 
 pub take_left : (names : Names) (n i value : ℕ) (front : List ℕ)
     (tokens rest after end : List Token) (kind : PardoKind) → i < n →
     fixed_at names 0 most tokens ≡ Ok (value, rest) → 0 < length rest →
-    rest_after mark.Comma rest ≡ Ok after → after_dots after ≡ Some end → Err kind ≡ ended (tt {0}) end →
+    rest_after mark.Comma rest ≡ Ok after → after_dots after ≡ Some end → Err kind ≡
+    ended (tt {0}) end →
     after_values front (values_in names (n - i) tokens) ≡ Err kind
 take_left names n i value front tokens rest after end kind lt e f g h k =
     rw (value_first names n i tokens lt, e, value_comma _ value rest f, g)

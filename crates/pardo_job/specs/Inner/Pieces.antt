@@ -1,5 +1,6 @@
 -- Pieces of the code of lines.
-use Rattle.std.specs.Prelude.{◌≡◌, ℕ, ◌+◌, ◌*◌, ◌<◌, ◌==◌, if◌then◌else◌, true, false, List, [], ◌++◌, ◌∷◌, length}
+use Rattle.std.specs.Prelude.{◌≡◌, ℕ, ◌+◌, ◌*◌, ◌<◌, ◌==◌, if◌then◌else◌, true, false, List, []}
+use Rattle.std.specs.Prelude.{◌++◌, ◌∷◌, length}
 use Rattle.std.specs.Prelude.{Result, OnOk, IfErr}
 use Rattle.pram_text.specs.declared.instr.Instr.{Instr}
 use Rattle.pram_text.specs.declared.instr.Instr.TheVariants.{Eq, Jmp, Jz, Lt}

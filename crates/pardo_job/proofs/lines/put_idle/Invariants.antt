@@ -3,4 +3,5 @@ use Rattle.pardo_job.specs.Lines.{idle}
 use Rattle.pardo_job.proofs.lines.put_idle.Given as goal
 
 abbrev pub invariant-loop-pad : goal.invariant-loop-pad
-invariant-loop-pad l = l.code.items ≡ l.initial.code.items ++ idle (length l.initial.code.items) l._pad
+invariant-loop-pad l = l.code.items ≡ l.initial.code.items ++
+    idle (length l.initial.code.items) l._pad

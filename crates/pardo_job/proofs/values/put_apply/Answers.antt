@@ -10,10 +10,13 @@ pub returns-in_err-put_operation : goal.returns-in_err-put_operation
 returns-in_err-put_operation c = λ before base trees h ready.
     let q = c.pop-first.new.self in
     let e : c.from_residual.result ≡ Err c.in_err-put_operation.field-0.0 = search rules in
-    let fault : IsFaultOf (joined_code q.taken c.args.op c.pop-first.result c.pop-second.result) c.in_err-put_operation.field-0.0 =
-    subst (λ (n : ℕ). IsFaultOf (joined_code n c.args.op c.pop-first.result c.pop-second.result) c.in_err-put_operation.field-0.0)
+    let fault : IsFaultOf (joined_code q.taken c.args.op c.pop-first.result c.pop-second.result)
+    c.in_err-put_operation.field-0.0 =
+    subst (λ (n : ℕ). IsFaultOf (joined_code n c.args.op c.pop-first.result c.pop-second.result)
+    c.in_err-put_operation.field-0.0)
     c.free-at.ensures.value c.in_err-put_operation.ensures.fault in
-    apply_fails_as c.args.stack.now q q _ _ _ _ c.args.layout.now c.args.op c.pop-first.result c.pop-second.result before base trees e
+    apply_fails_as c.args.stack.now q q _ _ _ _ c.args.layout.now c.args.op c.pop-first.result
+    c.pop-second.result before base trees e
     (record {
       between = c.pop-second.new.self;
       few = omega arith;
@@ -27,12 +30,20 @@ returns-in_err-put_operation c = λ before base trees h ready.
 pub returns : goal.returns
 returns c = λ before base trees h ready.
     let q = c.pop-first.new.self in
-    let puts : Puts c.args.code.now.items c.put_operation.new.code.items (Ok c.in_ok-put_operation.field-0) (joined_code q.taken c.args.op c.pop-first.result c.pop-second.result) =
-    subst (λ (n : ℕ). Puts c.args.code.now.items c.put_operation.new.code.items (Ok c.in_ok-put_operation.field-0) (joined_code n c.args.op c.pop-first.result c.pop-second.result))
+    let puts : Puts c.args.code.now.items c.put_operation.new.code.items
+    (Ok c.in_ok-put_operation.field-0)
+    (joined_code q.taken c.args.op c.pop-first.result c.pop-second.result) =
+    subst (λ (n : ℕ). Puts c.args.code.now.items c.put_operation.new.code.items
+    (Ok c.in_ok-put_operation.field-0)
+    (joined_code n c.args.op c.pop-first.result c.pop-second.result))
     c.free-at.ensures.value c.in_ok-put_operation.ensures in
-    let values : c.push.new.self.values.items ≡ q.values.items ++ made q.taken c.args.op c.pop-first.result c.pop-second.result ∷ [] = first_of (cc, search rules, grind (arith, common_steps)) in
-    let taken : c.push.new.self.taken ≡ q.taken + taken_by (Register q.taken) = first_of (cc, search rules, grind (arith, common_steps)) in
-    apply_taken c.args.stack.now q c.push.new.self _ _ _ _ c.args.layout.now c.args.op c.pop-first.result c.pop-second.result before base trees
+    let values : c.push.new.self.values.items ≡ q.values.items ++
+    made q.taken c.args.op c.pop-first.result c.pop-second.result ∷ [] =
+    first_of (cc, search rules, grind (arith, common_steps)) in
+    let taken : c.push.new.self.taken ≡ q.taken + taken_by (Register q.taken) =
+    first_of (cc, search rules, grind (arith, common_steps)) in
+    apply_taken c.args.stack.now q c.push.new.self _ _ _ _ c.args.layout.now c.args.op
+    c.pop-first.result c.pop-second.result before base trees
     (record {
       between = c.pop-second.new.self;
       few = omega arith;

@@ -12,13 +12,15 @@ loop-node-init c = record {
 pub returns-in_err-put_node-clause-put : goal.returns-in_err-put_node-clause-put
 returns-in_err-put_node-clause-put c =
     let e : c.from_residual.result ≡ Err c.in_err-put_node.field-0.0 = search rules in
-    put_fails _ _ c.args.expr.now _ _ _ _ _ _ _ _ _ c.loop-node.invariant.nodes c.loop-node-test.true
+    put_fails _ _ c.args.expr.now _ _ _ _ _ _ _ _ _ c.loop-node.invariant.nodes
+    c.loop-node-test.true
     c.in_err-put_node.ensures c.loop-node.invariant.so_far _ e
 
 pub loop-node-preserved : goal.loop-node-preserved
 loop-node-preserved c = record {
   nodes = c.loop-node.invariant.nodes;
-  so_far = put_more _ _ _ _ _ _ _ _ _ _ _ c.loop-node-test.true c.in_ok-put_node.ensures c.loop-node.invariant.so_far;
+  so_far = put_more _ _ _ _ _ _ _ _ _ _ _ c.loop-node-test.true c.in_ok-put_node.ensures
+      c.loop-node.invariant.so_far;
 }
 
 pub pop-requires : goal.pop-requires
@@ -26,22 +28,32 @@ pop-requires c = omega (
   arith,
   c.loop-node.stack.values.ok,
   is_there c.loop-node.stack c.args.at c.args.expr.now
-      (put_all c.args.layout.now c.args.at c.args.expr.now _ _ c.args.code.now.items c.loop-node.code.items c.loop-node.stack c.loop-node.invariant.nodes c.loop-node-test.false c.loop-node.invariant.so_far).holds,
+      (put_all c.args.layout.now c.args.at c.args.expr.now _ _ c.args.code.now.items
+      c.loop-node.code.items c.loop-node.stack c.loop-node.invariant.nodes c.loop-node-test.false
+      c.loop-node.invariant.so_far).holds,
 )
 
 pub returns-clause-put : goal.returns-clause-put
 returns-clause-put c =
-    let all = put_all c.args.layout.now c.args.at c.args.expr.now _ _ c.args.code.now.items c.loop-node.code.items c.loop-node.stack c.loop-node.invariant.nodes c.loop-node-test.false c.loop-node.invariant.so_far in
+    let all = put_all c.args.layout.now c.args.at c.args.expr.now _ _ c.args.code.now.items
+    c.loop-node.code.items c.loop-node.stack c.loop-node.invariant.nodes c.loop-node-test.false
+    c.loop-node.invariant.so_far in
     record { all = all.code; shallow = all.shallow; fault = tt }
 
 pub returns-clause-held : goal.returns-clause-held
 returns-clause-held c =
-    let all = put_all c.args.layout.now c.args.at c.args.expr.now _ _ c.args.code.now.items c.loop-node.code.items c.loop-node.stack c.loop-node.invariant.nodes c.loop-node-test.false c.loop-node.invariant.so_far in
-    (value_taken c.loop-node.stack c.pop.new.self c.pop.result c.args.at c.args.expr.now c.loop-node.stack.few all.holds
+    let all = put_all c.args.layout.now c.args.at c.args.expr.now _ _ c.args.code.now.items
+    c.loop-node.code.items c.loop-node.stack c.loop-node.invariant.nodes c.loop-node-test.false
+    c.loop-node.invariant.so_far in
+    (value_taken c.loop-node.stack c.pop.new.self c.pop.result c.args.at c.args.expr.now
+    c.loop-node.stack.few all.holds
     c.pop.ensures.values c.pop.ensures.taken).is
 
 pub returns-clause-taken : goal.returns-clause-taken
 returns-clause-taken c =
-    let all = put_all c.args.layout.now c.args.at c.args.expr.now _ _ c.args.code.now.items c.loop-node.code.items c.loop-node.stack c.loop-node.invariant.nodes c.loop-node-test.false c.loop-node.invariant.so_far in
-    (value_taken c.loop-node.stack c.pop.new.self c.pop.result c.args.at c.args.expr.now c.loop-node.stack.few all.holds
+    let all = put_all c.args.layout.now c.args.at c.args.expr.now _ _ c.args.code.now.items
+    c.loop-node.code.items c.loop-node.stack c.loop-node.invariant.nodes c.loop-node-test.false
+    c.loop-node.invariant.so_far in
+    (value_taken c.loop-node.stack c.pop.new.self c.pop.result c.args.at c.args.expr.now
+    c.loop-node.stack.few all.holds
     c.pop.ensures.values c.pop.ensures.taken).takes_as

@@ -8,7 +8,8 @@ use Rattle.pardo_text.proofs.parse.+operand.Goals as goal
 pub within-returns-in-Some : goal.within-returns-in-Some
 within-returns-in-Some t c =
     let some = c.in-Some.ensures in
-    rw (within_at_more _ c.args.around.brackets c.in-Some.brackets _ _ (omega (arith, some))) c.leveled.ensures
+    rw (within_at_more _ c.args.around.brackets c.in-Some.brackets _ _ (omega (arith, some)))
+    c.leveled.ensures
 
 pub within-returns-in-None : goal.within-returns-in-None
 within-returns-in-None t c = λ ne. within_at_none _ _ _ _ (omega (arith, c.in-None.ensures))
@@ -20,7 +21,8 @@ leveled-returns-then-level-eq0 t c =
 pub leveled-returns-in_err-first : goal.leveled-returns-in_err-first
 leveled-returns-in_err-first t c =
     let p = err_from_is_err_and c.from_residual.result c.from_residual.ensures.1 in
-    rw (p.1, p.2, level_at_more _ c.args.level _ _ (omega arith)) (λ ne. rw (c.in_err-first.ensures ne) refl)
+    rw (p.1, p.2, level_at_more _ c.args.level _ _ (omega arith))
+    (λ ne. rw (c.in_err-first.ensures ne) refl)
 
 pub leveled-returns : goal.leveled-returns
 leveled-returns t c =
@@ -40,17 +42,21 @@ pub chain-returns-in_err-second : goal.chain-returns-in_err-second
 chain-returns-in_err-second t c =
     let p = err_from_is_err_and c.from_residual.result c.from_residual.ensures.1 in
     rw (p.1, p.2) (λ ne. c.loop-turn.invariant
-    ∙ chained_operand _ _ _ c.turns-turn-end.result c.loop-turn._turn _ _ _ _ _ c.loop-turn-test.true c.in-Some.ensures (c.in_err-second.ensures ne))
+    ∙ chained_operand _ _ _ c.turns-turn-end.result c.loop-turn._turn _ _ _ _ _
+    c.loop-turn-test.true c.in-Some.ensures (c.in_err-second.ensures ne))
 
 pub chain-returns-in_err-expr : goal.chain-returns-in_err-expr
 chain-returns-in_err-expr t c =
-    let p = err_from_is_err_and c.from_residual-in_err-expr.result c.from_residual-in_err-expr.ensures.1 in
+    let p = err_from_is_err_and c.from_residual-in_err-expr.result
+    c.from_residual-in_err-expr.ensures.1 in
     rw (p.1, p.2) (λ ne. c.loop-turn.invariant
-    ∙ chained_join _ _ _ c.turns-turn-end.result c.loop-turn._turn _ _ _ _ _ _ _ c.loop-turn-test.true c.in-Some.ensures c.in_ok-second.ensures (c.in_err-expr.ensures ne))
+    ∙ chained_join _ _ _ c.turns-turn-end.result c.loop-turn._turn _ _ _ _ _ _ _
+    c.loop-turn-test.true c.in-Some.ensures c.in_ok-second.ensures (c.in_err-expr.ensures ne))
 
 pub chain-loop-turn-preserved : goal.chain-loop-turn-preserved
 chain-loop-turn-preserved t c = c.loop-turn.invariant
-    ∙ chained_more _ _ _ c.turns-turn-end.result c.loop-turn._turn _ _ _ _ _ _ _ c.loop-turn-test.true c.in-Some.ensures c.in_ok-second.ensures c.in_ok-expr.ensures
+    ∙ chained_more _ _ _ c.turns-turn-end.result c.loop-turn._turn _ _ _ _ _ _ _
+    c.loop-turn-test.true c.in-Some.ensures c.in_ok-second.ensures c.in_ok-expr.ensures
 
 pub chain-returns : goal.chain-returns
 chain-returns t c = c.loop-turn.invariant

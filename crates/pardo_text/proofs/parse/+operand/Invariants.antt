@@ -35,5 +35,6 @@ abbrev pub invariant-chain-loop-turn : goal.invariant-chain-loop-turn
 invariant-chain-loop-turn l =
     let operand = level_at (operand_at (names_in l.around.names.now)
     (within_at (names_in l.around.names.now) l.around.brackets)) (l.level - 1) l.around.scope in
-    chained operand l.around.scope l.level (turns_at l.level l.initial.tokens) l.initial.expr l.initial.tokens
+    chained operand l.around.scope l.level (turns_at l.level l.initial.tokens) l.initial.expr
+    l.initial.tokens
     ≡ chained operand l.around.scope l.level (l._turn-end - l._turn) l.expr l.tokens

@@ -21,7 +21,8 @@ left : (c : In-Some) → program_of c.args.text.now
     ≡ program_after (draft_of c.loop-line.draft) (taken_of c.loop-line.lines)
     (c.in-Some.line.now ∷ left_of c.take_line.new.self)
 left c = c.loop-line.invariant
-    ∙ ap (program_after (draft_of c.loop-line.draft) (taken_of c.loop-line.lines)) c.in-Some.ensures.0
+    ∙ ap (program_after (draft_of c.loop-line.draft) (taken_of c.loop-line.lines))
+    c.in-Some.ensures.0
 
 pub loop-line-preserved : goal.loop-line-preserved
 loop-line-preserved c =

@@ -24,7 +24,8 @@ loop-first-preserved-then-is_blank c =
     (sym c.is_blank.ensures ∙ c.if-is_blank.true) in (
       next.0,
       next.1,
-      held.2 ∙ ap (λ rest. preceded (plain_all c.loop-first.tokens.items) (tokens_in held.0 rest)) here
+      held.2 ∙ ap (λ rest. preceded (plain_all c.loop-first.tokens.items) (tokens_in held.0 rest))
+          here
           ∙ ap (preceded (plain_all c.loop-first.tokens.items)) next.2,
     )
 
@@ -40,10 +41,12 @@ loop-first-preserved c =
     ap token_at (sym here) ∙ sym c.in-Some-next_token.ensures.token in
     let next = tokens_in-token held.0 c.in-Some.first.now c.in-Some.after.now
     (plain c.in-Some-next_token.token, c.in-Some-next_token.after.now) few
-    (sym c.is_blank.ensures ∙ c.if-is_blank.false) found (omega (arith, ap length here, c.in-Some-next_token.ensures.shorter)) in (
+    (sym c.is_blank.ensures ∙ c.if-is_blank.false) found
+    (omega (arith, ap length here, c.in-Some-next_token.ensures.shorter)) in (
       next.0,
       next.1,
-      held.2 ∙ ap (λ rest. preceded (plain_all c.loop-first.tokens.items) (tokens_in held.0 rest)) here
+      held.2 ∙ ap (λ rest. preceded (plain_all c.loop-first.tokens.items) (tokens_in held.0 rest))
+          here
           ∙ ap (preceded (plain_all c.loop-first.tokens.items)) next.2
           ∙ preceded-onto _ _ _
           ∙ ap (λ front. preceded front (tokens_in next.0 c.in-Some-next_token.after.now))

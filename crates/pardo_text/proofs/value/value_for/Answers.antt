@@ -7,8 +7,10 @@ use Rattle.pardo_text.proofs.value.value_for.Goals as goal
 
 pub loop-node-init : goal.loop-node-init
 loop-node-init c =
-    value_after-tree c.args.i c.args.expr.now c.nodes-node-items.result.now c.nodes-node-items.ensures
-    ∙ ap (λ stack. value_after c.args.i c.nodes-node-items.result.now (reverse stack)) (sym c.requires)
+    value_after-tree c.args.i c.args.expr.now c.nodes-node-items.result.now
+    c.nodes-node-items.ensures
+    ∙ ap (λ stack. value_after c.args.i c.nodes-node-items.result.now (reverse stack))
+    (sym c.requires)
 
 pub returns-in_err-step : goal.returns-in_err-step
 returns-in_err-step c =

@@ -1,4 +1,5 @@
-use Rattle.std.proofs.Common.{◌≡◌, ◌+◌, ◌-◌, ◌<◌, ◌∙◌, ◌∷◌, [], ◌++◌, ℕ, List, ap, arith, length, replicate, take}
+use Rattle.std.proofs.Common.{◌≡◌, ◌+◌, ◌-◌, ◌<◌, ◌∙◌, ◌∷◌, [], ◌++◌, ℕ, List, ap, arith, length}
+use Rattle.std.proofs.Common.{replicate, take}
 use Rattle.pardo_text.specs.declared.statement.Line.{Line}
 use Rattle.pardo_job.specs.Lines.{place_of}
 use Rattle.pardo_job.proofs.Placed.{line_there, numbers_more, numbers_none}
@@ -10,7 +11,8 @@ loop-index-init c = numbers_none c.args.self.now.program.now c.push.new.self.ite
 
 pub loop-index-preserved : goal.loop-index-preserved
 loop-index-preserved c =
-    let there = line_there c.args.self.now.program.now.lines c.lines-line-items.result.now c.loop-index.index c.line-item.result
+    let there = line_there c.args.self.now.program.now.lines c.lines-line-items.result.now
+    c.loop-index.index c.line-item.result
     c.lines-line-items.ensures c.loop-index-test.true c.line-item.is in
     let lt : c.loop-index.index < length c.args.self.now.program.now.lines =
     omega (arith, ap (λ (l : List Line). length l) c.lines-line-items.ensures) in
@@ -18,6 +20,9 @@ loop-index-preserved c =
     c.place_after.ensures ∙ c.requires.each (c.loop-index.index + 1) (omega arith) in
     let old : List ℕ = c.loop-index.numbers.items in
     let number : ℕ = c.line-item.result.number in
-    numbers_more c.args.self.now.program.now c.loop-index.index c.loop-index.last c.line-item.result old c.resize.new.self.items there
-    (c.in_ok-resize.ensures.items ∙ ap (λ (n : ℕ). take c.place_after.result old ++ replicate (c.place_after.result - n) number) c.loop-index.numbers.ok.0
+    numbers_more c.args.self.now.program.now c.loop-index.index c.loop-index.last c.line-item.result
+    old c.resize.new.self.items there
+    (c.in_ok-resize.ensures.items ∙
+    ap (λ (n : ℕ). take c.place_after.result old ++ replicate (c.place_after.result - n) number)
+    c.loop-index.numbers.ok.0
     ∙ ap (λ (n : ℕ). take n old ++ replicate (n - length old) number) is) c.loop-index.invariant
