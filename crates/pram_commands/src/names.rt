@@ -33,10 +33,10 @@ impl Model for Naming {
     ghost Value = { NamingData };
 
     ghost use Rattle.std.specs.Coded.{codes};
-    ghost use Rattle.pardo_text.specs.contracts.program.Program as program;
-    ghost use Rattle.pardo_answers.specs.contracts.ended.Lines as lines;
+    ghost use Rattle.pardo_text.specs.contracts.program.Program as a_program;
+    ghost use Rattle.pardo_answers.specs.contracts.ended.Lines as some_lines;
 
-    ghost coded = { Prim.hlevel (codes, program.the_row.coded, lines.the_row.coded) };
+    ghost coded = { Prim.hlevel (codes, a_program.the_row.coded, some_lines.the_row.coded) };
 
     ghost view = { λ n. record { program = n.program; numbers = n.numbers.items; lines = n.lines } };
 }
