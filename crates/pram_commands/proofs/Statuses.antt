@@ -113,6 +113,7 @@ wrote-none : (command : Command) (r : Reading) (w : Writing) (fault : CommandFau
 wrote-none command r w OutDevice two wrote = absurd (omega (arith, two))
 wrote-none command r w Memory two wrote = absurd (omega (arith, two))
 wrote-none command r w (Text number kind) two wrote = wrote
+wrote-none command r w (Program refusal) two wrote = wrote
 wrote-none command r w (Plan row kind) two wrote = wrote
 wrote-none command r w (OutsideCell cell) two wrote = wrote
 wrote-none command r w (OutsideStep step) two wrote = wrote
@@ -126,6 +127,7 @@ wrote-some : (command : Command) (r : Reading) (w : Writing) (fault : CommandFau
 wrote-some command r w OutDevice wrote = inr wrote
 wrote-some command r w Memory wrote = elim wrote [ inl none ↦ inl none | inr some ↦ inr some.1 ]
 wrote-some command r w (Text number kind) wrote = inl wrote
+wrote-some command r w (Program refusal) wrote = inl wrote
 wrote-some command r w (Plan row kind) wrote = inl wrote
 wrote-some command r w (OutsideCell cell) wrote = inl wrote
 wrote-some command r w (OutsideStep step) wrote = inl wrote
