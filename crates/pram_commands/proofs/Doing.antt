@@ -12,7 +12,7 @@ use Rattle.pram_streams.specs.Transfer.{AppendsBeginning, GivesSome}
 use Rattle.pram_streams.specs.declared.print.PrintFault.{PrintFault}
 use Rattle.pram_streams.specs.declared.print.PrintFault.TheVariants as print
 use Rattle.stop_plan.specs.Plan.{PlanData}
-use Rattle.pram_commands.specs.Did.{Answering, Command, Did, Given, Showing, Writing}
+use Rattle.pram_commands.specs.Did.{Command, Did, Given, Showing, Writing}
 use Rattle.pram_commands.specs.Did.{ending, ends_with, tells, tells_status}
 use Rattle.pram_commands.specs.Inner.Puts.{PutBeginning, Puts, printed_as, status_result}
 use Rattle.pram_commands.specs.Inputs.{Taking}

@@ -11,7 +11,7 @@ use Rattle.pardo_answers.specs.Language.{is_program}
 use Rattle.pardo_answers.specs.declared.ended.Lines.{Lines}
 use Rattle.pram_commands.specs.Inner.Refusals.{IsBadOrMemory}
 use Rattle.pram_commands.specs.Inputs.{ExplainsJob}
-use Rattle.pram_commands.specs.Names.{IsNaming, NamingData}
+use Rattle.pram_commands.specs.Names.{IsNaming}
 use Rattle.pram_commands.specs.declared.fault.CommandFault.{CommandFault}
 use Rattle.pram_commands.specs.declared.fault.CommandFault.TheVariants.{Text, Program, Plan}
 use Rattle.pram_commands.specs.declared.fault.CommandFault.TheVariants.{OutsideCell, OutsideStep}

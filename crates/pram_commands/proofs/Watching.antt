@@ -3,7 +3,6 @@ use Rattle.std.proofs.Common.{◌≡◌, ℕ, List, Option, Result, Ok, Err, IsT
 use Rattle.std.proofs.Common.{refl, sym, ap, subst, inl, inr, ◌∙◌}
 use Rattle.std.specs.Io.KnownBytes.{Appends}
 use Rattle.std.specs.Prelude.{◌↔◌, IfOk, IsErrOf, OnOk, ⊤}
-use Rattle.pram_text.specs.Job.{JobData}
 use Rattle.pram_step.specs.declared.answer.RunAnswer.{RunAnswer}
 use Rattle.pram_streams.specs.Transfer.{AppendsBeginning}
 use Rattle.pram_streams.specs.declared.device.Sink as a_sink
@@ -16,7 +15,6 @@ use Rattle.pram_run.specs.Heard.{Ended}
 use Rattle.pram_run.specs.Printed.{sights_text}
 use Rattle.pram_run.specs.PutReads.{Printing, PutWatch}
 use Rattle.pram_run.specs.Watching.{HasWatchedWith, ReadsAndHears}
-use Rattle.pram_run.specs.declared.sight.Sight.{Sight}
 use Rattle.pram_commands.specs.Did.{Answering, tells, writing}
 use Rattle.pram_commands.specs.Inner.Hearing.{HasPrinted}
 use Rattle.pram_commands.specs.Inner.Puts.{Puts, outcome}

@@ -1,8 +1,5 @@
 -- What comes of a watch whose reads are printed as they are made.
-use Rattle.std.specs.Prelude.{◌≡◌, ◌⊎◌, ℕ, List, Option, Result, Ok, Err, OnOk}
-use Rattle.pram_step.specs.declared.answer.RunAnswer.{RunAnswer}
-use Rattle.pram_streams.specs.declared.print.PrintFault.{PrintFault}
-use Rattle.pram_streams.specs.declared.print.PrintFault.TheVariants.{Memory}
+use Rattle.std.specs.Prelude.{◌≡◌, ℕ, List, Option, Ok, Err, OnOk}
 use Rattle.stop_plan.specs.Plan.{PlanData}
 use Rattle.pram_board.specs.declared.task.Task.{Task}
 use Rattle.pram_board.specs.Seats.{Desk, SeatData}

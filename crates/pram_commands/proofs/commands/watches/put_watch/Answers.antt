@@ -1,6 +1,5 @@
-use Rattle.std.proofs.Common.{◌∙◌, ap, inl, inr, refl, subst, sym}
+use Rattle.std.proofs.Common.{◌∙◌, ap, inl, inr, subst, sym}
 use Rattle.pram_commands.proofs.Watching.{puts_alone, puts_read, told_by}
-use Rattle.pram_commands.specs.Did.{writing}
 use Rattle.pram_commands.specs.Names.{AreNames}
 use Rattle.pram_commands.proofs.commands.watches.put_watch.Goals as goal
 
