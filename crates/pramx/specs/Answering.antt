@@ -5,7 +5,7 @@ use Rattle.pram_commands.specs.Did.{Writing}
 use Rattle.pram_commands.specs.Files.{ServesFiles}
 use Rattle.pram_commands.specs.declared.line.Line.{Line}
 use Rattle.pram_commands.specs.declared.refusal.TheConstants.{MEMORY}
-use Rattle.pramx.specs.CommandLine.{AreRefused, IsMet, pramx}
+use Rattle.command_line.specs.CommandLine.{AreRefused, IsMet, pramx}
 
 -- The words mean a line, and it was served from the files that it names.
 pub record ServesWords (Holds : List ℕ → Option (List ℕ) → Type 0) (words : List Text)

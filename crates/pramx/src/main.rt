@@ -7,16 +7,15 @@ ghost use Rattle.std.specs.Prelude.{◌≡◌, ◌≢◌, ◌⊎◌, ◌≤◌, 
 ghost use Rattle.clap.specs.Words.{kind_of};
 ghost use Rattle.pram_commands.specs.Did.{writing};
 ghost use Rattle.pramx.specs.Answering.{AnswersWords};
-ghost use Rattle.pramx.specs.CommandLine.{EndsByWords};
+ghost use Rattle.command_line.specs.CommandLine.{EndsByWords};
 
 mod input;
-mod line;
 #[cfg(test)]
 mod tests;
 
 use crate::input::RealFiles;
-use crate::line::read_line;
 use clap::error::ErrorKind;
+use command_line::read_line;
 use pram_commands::{Console, DONE, FAILED, Folder, MEMORY, Refusal, serve_files, tell};
 use pram_streams::{IntoWrite, Sink, put};
 use std::alloc::{AllocError, Global};
