@@ -1,6 +1,6 @@
 //! Files and standard input as sources.
 ghost use Rattle.std.specs.Prelude.{⊤};
-ghost use Rattle.pramx.specs.Input.{remaining_of};
+ghost use Rattle.command_line.specs.Input.{remaining_of};
 
 use pram_commands::Folder;
 use pram_streams::FromRead;

@@ -1,5 +1,5 @@
 //! Files as sources.
-use crate::input::Input;
+use command_line::Input;
 use pram_streams::{FromRead, Reason, Source, TakeFault, take};
 use std::io::ErrorKind;
 use std::test::Fail;
