@@ -127,7 +127,12 @@ fn blocks_of_four(rt: HostRuntime) -> Result<(), Fail> {
     let layout = Layout::with_blocks(&job, 2, 4);
     assert_eq!(rt; (layout.grain(), layout.leaves()), (4, 4));
     for (node, word) in [(1, 8), (3, 24), (4, 48), (5, 112), (6, 176), (7, 240)] {
-        at(&rt, node, u64::from(layout.node_word(node)), u64::from(word));
+        at(
+            &rt,
+            node,
+            u64::from(layout.node_word(node)),
+            u64::from(word),
+        );
         is_word(&rt, word, layout.word(word), Word::Node(node));
     }
     for (processor, word) in [(0, 49), (3, 97), (4, 113), (9, 193)] {
@@ -140,7 +145,12 @@ fn blocks_of_four(rt: HostRuntime) -> Result<(), Fail> {
         is_word(&rt, number, layout.word(number), Word::Spare(number));
     }
     for (place, word) in [(0, 304), (3, 54), (42, 204), (43, 52), (52, 196)] {
-        at(&rt, place, u64::from(layout.place_word(place)), u64::from(word));
+        at(
+            &rt,
+            place,
+            u64::from(layout.place_word(place)),
+            u64::from(word),
+        );
         is_word(&rt, word, layout.word(word + 1), Word::Stored(place, 1));
     }
     assert_eq!(rt; layout.length(), 310);
@@ -193,7 +203,12 @@ fn workers_of_a_wide_board_start_far_apart(rt: HostRuntime) -> Result<(), Fail> 
     }
     assert_eq!(rt; layout.leaves(), 8);
     for (node, right) in [(1, true), (3, false), (6, false)] {
-        at(&rt, node, u64::from(layout.goes_right(1, node)), u64::from(right));
+        at(
+            &rt,
+            node,
+            u64::from(layout.goes_right(1, node)),
+            u64::from(right),
+        );
     }
     let alone = Layout::with_blocks(&job, 1, 1);
     let compact = Layout::new(&job, 4);

@@ -63,7 +63,13 @@ const CASES: [(Case, &str); 3] = [
 ];
 
 fn told(alloc: Global, case: Case) -> Result<Vec<u8>, Fail> {
-    let Case { rule, program, steps, job, numbers } = case;
+    let Case {
+        rule,
+        program,
+        steps,
+        job,
+        numbers,
+    } = case;
     let program = format!(in alloc; "pardo 1\nrule {rule}\n{NAMES}{program}")?;
     let job = format!(in alloc;
         "pram 3\ncells 4\nprocs 4\nsteps {steps}\nrule {rule}\n{CELLS}{job}"
