@@ -29,6 +29,18 @@ fn job<R: AllocGlobal + Abort>(rt: &R, rule: Rule, cells: u32, procs: u32) -> Re
     Ok(job)
 }
 
+// Checks what was found at a node, a place, a worker or a word of this number.
+fn at<R: Abort>(rt: &R, number: u32, found: u64, wanted: u64)
+    ensures { found ≡ wanted }
+{
+    assert_eq!(rt; found, wanted, "at {number}");
+}
+
+// Checks which word has this number.
+fn is_word<R: Abort>(rt: &R, number: u32, found: Word, wanted: Word) {
+    assert_eq!(rt; found, wanted, "word {number}");
+}
+
 #[test]
 fn stamps_and_payloads(rt: HostRuntime) {
     let words = (stamped(3, 30), stamped(u32::MAX, u32::MAX));
@@ -63,7 +75,7 @@ fn layout_of_three_cells(rt: HostRuntime) -> Result<(), Fail> {
     assert_eq!(rt; (requests, positions), ((8, 16), (17, 18)));
     let words = [19, 21, 23, 25, 47, 49, 53];
     for (place, word) in [0, 1, 2, 3, 14, 15, 17].into_iter().zip(words) {
-        assert_eq!(rt; layout.place_word(place), word, "place {place}");
+        at(&rt, place, u64::from(layout.place_word(place)), word);
     }
     assert_eq!(rt; layout.length(), 55);
     assert_eq!(rt; layout.word(54), Word::Stored(17, 1));
@@ -77,7 +89,7 @@ fn wide_layout_of_three_cells(rt: HostRuntime) -> Result<(), Fail> {
     assert_eq!(rt; (layout.form(), layout.leaves()), (Form::Wide(1), 4));
     assert_eq!(rt; layout.conflict_word(), 0);
     for (node, word) in [(1, 8), (3, 24), (4, 48), (5, 64), (7, 96)] {
-        assert_eq!(rt; layout.node_word(node), word, "node {node}");
+        at(&rt, node, u64::from(layout.node_word(node)), word);
     }
     let requests = (layout.request_word(0, 0), layout.request_word(2, 2));
     let positions = (layout.position_word(0), layout.position_word(1));
@@ -91,7 +103,7 @@ fn wide_layout_of_three_cells(rt: HostRuntime) -> Result<(), Fail> {
         (15, 52),
         (17, 84),
     ] {
-        assert_eq!(rt; layout.place_word(place), word, "place {place}");
+        at(&rt, place, u64::from(layout.place_word(place)), word);
     }
     assert_eq!(rt; layout.length(), 118);
     for (number, word) in [
@@ -103,7 +115,7 @@ fn wide_layout_of_three_cells(rt: HostRuntime) -> Result<(), Fail> {
         (97, Word::Spare(97)),
         (117, Word::Stored(2, 1)),
     ] {
-        assert_eq!(rt; layout.word(number), word, "word {number}");
+        is_word(&rt, number, layout.word(number), word);
     }
     Ok(())
 }
@@ -115,28 +127,31 @@ fn blocks_of_four(rt: HostRuntime) -> Result<(), Fail> {
     let layout = Layout::with_blocks(&job, 2, 4);
     assert_eq!(rt; (layout.grain(), layout.leaves()), (4, 4));
     for (node, word) in [(1, 8), (3, 24), (4, 48), (5, 112), (6, 176), (7, 240)] {
-        assert_eq!(rt; layout.node_word(node), word, "node {node}");
-        assert_eq!(rt; layout.word(word), Word::Node(node), "word {word}");
+        at(
+            &rt,
+            node,
+            u64::from(layout.node_word(node)),
+            u64::from(word),
+        );
+        is_word(&rt, word, layout.word(word), Word::Node(node));
     }
     for (processor, word) in [(0, 49), (3, 97), (4, 113), (9, 193)] {
-        assert_eq!(rt;
-            layout.request_word(processor, 0),
-            word,
-            "processor {processor}"
-        );
-        assert_eq!(rt; layout.word(word), Word::Asked(processor, 0), "word {word}");
+        let request = layout.request_word(processor, 0);
+        at(&rt, processor, u64::from(request), u64::from(word));
+        is_word(&rt, word, layout.word(word), Word::Asked(processor, 0));
     }
     for number in [64, 96, 128, 209, 241, 303] {
         assert!(rt; number < layout.length());
-        assert_eq!(rt; layout.word(number), Word::Spare(number), "word {number}");
+        is_word(&rt, number, layout.word(number), Word::Spare(number));
     }
     for (place, word) in [(0, 304), (3, 54), (42, 204), (43, 52), (52, 196)] {
-        assert_eq!(rt; layout.place_word(place), word, "place {place}");
-        assert_eq!(rt;
-            layout.word(word + 1),
-            Word::Stored(place, 1),
-            "word {word}"
+        at(
+            &rt,
+            place,
+            u64::from(layout.place_word(place)),
+            u64::from(word),
         );
+        is_word(&rt, word, layout.word(word + 1), Word::Stored(place, 1));
     }
     assert_eq!(rt; layout.length(), 310);
     Ok(())
@@ -184,11 +199,16 @@ fn workers_of_a_wide_board_start_far_apart(rt: HostRuntime) -> Result<(), Fail> 
     let job = job(&rt, Rule::Common, 1, 8)?;
     let layout = Layout::with_blocks(&job, 4, 1);
     for (worker, leaf) in [(0, 8), (1, 12), (2, 11), (3, 15)] {
-        assert_eq!(rt; layout.first_leaf(worker), leaf, "worker {worker}");
+        at(&rt, worker, u64::from(layout.first_leaf(worker)), leaf);
     }
     assert_eq!(rt; layout.leaves(), 8);
     for (node, right) in [(1, true), (3, false), (6, false)] {
-        assert_eq!(rt; layout.goes_right(1, node), right, "node {node}");
+        at(
+            &rt,
+            node,
+            u64::from(layout.goes_right(1, node)),
+            u64::from(right),
+        );
     }
     let alone = Layout::with_blocks(&job, 1, 1);
     let compact = Layout::new(&job, 4);
@@ -203,7 +223,7 @@ fn layout_of_a_job(rt: HostRuntime) -> Result<(), Fail> {
     assert_eq!(rt; layout.length(), 55);
     for (word, value) in [(0, 0), (17, 4), (18, 5), (19, 7), (20, 7), (54, 0)] {
         assert!(rt; word < layout.length());
-        assert_eq!(rt; layout.start_word(&job, word), value, "word {word}");
+        at(&rt, word, layout.start_word(&job, word), value);
     }
     for (word, value, admitted) in [
         (1, 12, true),
@@ -214,7 +234,8 @@ fn layout_of_a_job(rt: HostRuntime) -> Result<(), Fail> {
         (49, stamped(4, 3), false),
         (55, 0, false),
     ] {
-        assert_eq!(rt; layout.admits(&job, word, value), admitted, "word {word}");
+        let found = layout.admits(&job, word, value);
+        at(&rt, word, u64::from(found), u64::from(admitted));
     }
     Ok(())
 }
