@@ -57,15 +57,10 @@ fn answer<R: Threads + Wait + Clock + Eprint + Sync>(
     }
 }
 
-#[test]
-fn words_are_answered_over_the_files_that_they_name(rt: HostRuntime) -> Result<(), Fail> {
-    let alloc = rt.alloc();
-    let done = answer(&rt, alloc, &["pramx", "plain", "job"]);
-    assert_eq!(rt; done.status, 0);
-    assert_eq!(rt; done.out.as_slice(), "done steps=1\n0: 0\n".as_bytes());
-    let stopped = answer(
-        &rt,
-        alloc,
+// Words, the status, and what goes to the output and to standard error.
+const ANSWERS: [(&[&str], u8, &str, &str); 4] = [
+    (&["pramx", "plain", "job"], 0, "done steps=1\n0: 0\n", ""),
+    (
         &[
             "pramx",
             "run",
@@ -76,26 +71,33 @@ fn words_are_answered_over_the_files_that_they_name(rt: HostRuntime) -> Result<(
             "plan",
             "--why",
         ],
-    );
-    assert_eq!(rt; stopped.status, 3);
-    assert_eq!(rt;
-        stopped.out.as_slice(),
-        "unfinished step=0\nrunning count=1 first=0 line=6\n".as_bytes()
-    );
-    let swapped = answer(&rt, alloc, &["pramx", "check", "plan"]);
-    assert_eq!(rt; swapped.status, 2);
-    assert_eq!(rt;
-        swapped.err.as_slice(),
-        "text line=1 kind=BadHeader\n".as_bytes()
-    );
-    let explained = answer(&rt, alloc, &["pramx", "check", "plan", "--explain"]);
-    assert_eq!(rt; explained.status, 2);
-    assert_eq!(rt;
-        explained.err.as_slice(),
+        3,
+        "unfinished step=0\nrunning count=1 first=0 line=6\n",
+        "",
+    ),
+    (
+        &["pramx", "check", "plan"],
+        2,
+        "",
+        "text line=1 kind=BadHeader\n",
+    ),
+    (
+        &["pramx", "check", "plan", "--explain"],
+        2,
+        "",
         "text line=1 kind=BadHeader\n\
-         plan, line 1: a line of the header is wrong, missing or repeated\n"
-            .as_bytes()
-    );
+         plan, line 1: a line of the header is wrong, missing or repeated\n",
+    ),
+];
+
+#[test]
+fn words_are_answered_over_the_files_that_they_name(rt: HostRuntime) -> Result<(), Fail> {
+    for (words, status, out, err) in ANSWERS {
+        let answered = answer(&rt, rt.alloc(), words);
+        let prints = answered.out.as_slice() == out.as_bytes();
+        let tells = answered.err.as_slice() == err.as_bytes();
+        assert!(rt; answered.status == status && prints && tells, "{out}{err}");
+    }
     Ok(())
 }
 
@@ -103,10 +105,8 @@ fn words_are_answered_over_the_files_that_they_name(rt: HostRuntime) -> Result<(
 fn help_goes_to_the_output_and_a_bad_line_to_standard_error(rt: HostRuntime) -> Result<(), Fail> {
     let alloc = rt.alloc();
     let help = answer(&rt, alloc, &["pramx", "--help"]);
-    assert_eq!(rt; help.status, 0);
-    assert!(rt; !help.out.is_empty() && help.err.is_empty());
+    assert!(rt; help.status == 0 && !help.out.is_empty() && help.err.is_empty());
     let bad = answer(&rt, alloc, &["pramx", "plan"]);
-    assert_eq!(rt; bad.status, 4);
-    assert!(rt; bad.out.is_empty() && !bad.err.is_empty());
+    assert!(rt; bad.status == 4 && bad.out.is_empty() && !bad.err.is_empty());
     Ok(())
 }

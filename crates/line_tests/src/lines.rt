@@ -145,7 +145,7 @@ fn progress_is_one_line_on_a_terminal(rt: HostRuntime) -> Result<(), Fail> {
         Line::Run { manner, .. } => Some(manner.progress),
         _ => None,
     };
-    assert_eq!(rt; told, Some(Telling::OneLine));
+    assert!(rt; told == Some(Telling::OneLine));
     Ok(())
 }
 
