@@ -39,14 +39,14 @@ by_names text job naming answer is answers =
       program = naming.program;
       reads = is.reads;
       answers = printed_answers_are_the_programs naming.program job (slice_index naming.numbers)
-          answer naming.lines
+          answer naming.ended.lines
           (record {
             lawful = lawful;
             made = is.makes.made;
             carries = jobs_carry_programs naming.program job (slice_index naming.numbers) lawful
                 nested is.makes;
           })
-          answers is.ends_in;
+          answers is.ends.ends_in;
     }
 
 -- the text of a program is no text of the machine

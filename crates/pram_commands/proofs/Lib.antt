@@ -2,7 +2,6 @@ pub mod Blocks
 pub mod Cells
 pub mod Doing
 pub mod Ends
-pub mod Reading
 pub mod Statuses
 pub mod Told
 pub mod Hearing

@@ -8,17 +8,17 @@ use Rattle.pram_streams.specs.Printed.{printed}
 use Rattle.pardo_text.specs.Program.{ProgramData}
 use Rattle.pardo_text.specs.Reading.{program_of}
 use Rattle.pardo_job.specs.Compiled.{IsCompiled}
-use Rattle.pardo_answers.specs.Ends.{EndsIn}
+use Rattle.pardo_answers.specs.Ends.{HasEnded}
 use Rattle.pardo_answers.specs.Language.{is_program}
 use Rattle.pardo_answers.specs.Named.{named}
-use Rattle.pardo_answers.specs.declared.ended.Lines.{Lines}
+use Rattle.pardo_answers.specs.declared.ended.Ended.{Ended}
 
 -- What the answers of a program are told by: the program, the numbers of the lines that its job's
--- instructions came from, and the lines in which the job ends.
+-- instructions came from, and how the job ends, and in which lines.
 pub record NamingData : Type 0 where
   pub program : ProgramData
   pub numbers : List ℕ
-  pub lines : Lines
+  pub ended : Ended
 
 -- the text is one of the machine, and spells the job
 pub record IsMachines (text : List ℕ) (job : JobData) : Type 0 where
@@ -30,7 +30,7 @@ pub record IsNaming (text : List ℕ) (job : JobData) (naming : NamingData) : Ty
   pub is_one : is_program text ≡ true
   pub reads : program_of text ≡ Ok naming.program
   pub makes : IsCompiled naming.program job (slice_index naming.numbers)
-  pub ends_in : EndsIn job (slice_index naming.numbers) naming.lines
+  pub ends : HasEnded job (slice_index naming.numbers) naming.ended
 
 -- what the answers of the job of a text are told by: nothing more where it is the machine's
 abbrev pub AreNames : List ℕ → JobData → Option NamingData → Type 0
@@ -44,7 +44,7 @@ Means text job = (names : Option NamingData) × AreNames text job names
 -- the printed answer of a job of so many steps
 abbrev pub told : Option NamingData → RunAnswer → ℕ → List ℕ
 told None answer steps = printed answer steps
-told (Some naming) answer steps = named naming.program steps naming.lines answer
+told (Some naming) answer steps = named naming.program steps naming.ended.lines answer
 
 -- the number of the line that an instruction came from
 abbrev pub line_at : List ℕ → Option NamingData → ℕ → ℕ

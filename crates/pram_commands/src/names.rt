@@ -8,23 +8,23 @@ ghost use Rattle.pram_commands.specs.Inner.Refusals.{IsBadOrMemory, IsFaultOf};
 ghost use Rattle.pram_commands.specs.Names.{AreNames, IsMachines, line_at, told};
 
 use crate::fault::CommandFault;
-use pardo_answers::{Ended, Lines, Names, is_program, plain_end, print_named};
+use pardo_answers::{Ended, Names, is_program, plain_end, print_named};
 use pardo_job::{JobFault, JobKind, Refusal as ProgramRefusal, compile};
 use pardo_text::{PardoFault, PardoKind, Program};
 use pram_fates::Origin;
-use pram_step::RunAnswer;
+use pram_step::{Cells, RunAnswer};
 use pram_streams::{PrintFault, Sink, print_answer};
 use pram_text::{Job, TextFault, TextKind, read_job};
-use std::alloc::Global;
+use std::alloc::{AllocError, Global};
 use std::marker::Model;
 
 /// What the answers of a program are told by: the program, the numbers of the lines that its job's
-/// instructions came from, and the lines in which the job ends.
+/// instructions came from, and how the job ends, and in which lines.
 #[derive(Drop)]
 pub struct Naming {
     program: Program,
     numbers: Vec<u64>,
-    lines: Lines,
+    ended: Ended,
 }
 
 impl Model for Naming {
@@ -34,11 +34,20 @@ impl Model for Naming {
 
     ghost use Rattle.std.specs.Coded.{codes};
     ghost use Rattle.pardo_text.specs.contracts.program.Program as a_program;
-    ghost use Rattle.pardo_answers.specs.contracts.ended.Lines as some_lines;
+    ghost use Rattle.pardo_answers.specs.contracts.ended.Ended as an_end;
 
-    ghost coded = { Prim.hlevel (codes, a_program.the_row.coded, some_lines.the_row.coded) };
+    ghost coded = { Prim.hlevel (codes, a_program.the_row.coded, an_end.the_row.coded) };
 
-    ghost view = { λ n. record { program = n.program; numbers = n.numbers.items; lines = n.lines } };
+    ghost view = { λ n. record { program = n.program; numbers = n.numbers.items; ended = n.ended } };
+}
+
+impl Naming {
+    /// The answer of the job, which was found with its lines.
+    pub(crate) fn answer(&self, alloc: Global) -> Result<RunAnswer, AllocError>
+        ensures { IfOk result (λ answer. answer ≡ self.now.ended.answer) }
+    {
+        copy_of(alloc, &self.ended.answer)
+    }
 }
 
 /// What the answer of a job of so many steps is told by: by a program's names, or by cells.
@@ -73,11 +82,11 @@ fn read_program(alloc: Global, text: &[u8]) -> Result<(Job, Naming), CommandFaul
         Err(refusal) => return Err(fault_of(refusal)),
     };
     let (job, numbers) = compiled.into_parts();
-    let Ended { lines, .. } = plain_end(alloc, &job, numbers.as_slice())?;
+    let ended = plain_end(alloc, &job, numbers.as_slice())?;
     let naming = Naming {
         program,
         numbers,
-        lines,
+        ended,
     };
     Ok((job, naming))
 }
@@ -121,6 +130,19 @@ fn fault_of(refusal: ProgramRefusal) -> CommandFault
     }
 }
 
+fn copy_of(alloc: Global, answer: &RunAnswer) -> Result<RunAnswer, AllocError>
+    ensures { IfOk result (λ copy. copy ≡ answer.now) }
+{
+    match answer {
+        RunAnswer::Final(cells) => {
+            let values = Vec::from_slice(alloc, cells.as_slice())?;
+            Ok(RunAnswer::Final(Cells::new(values)))
+        }
+        RunAnswer::Conflict(fault) => Ok(RunAnswer::Conflict(*fault)),
+        RunAnswer::Unfinished { step } => Ok(RunAnswer::Unfinished { step: *step }),
+    }
+}
+
 /// Prints an answer, or a beginning of it where the sink fails. Nothing is printed before memory
 /// for all of it was found.
 pub(crate) fn print_told<O: Sink>(
@@ -139,7 +161,7 @@ pub(crate) fn print_told<O: Sink>(
             let names = Names {
                 program: &naming.program,
                 steps: words.steps,
-                lines: &naming.lines,
+                lines: &naming.ended.lines,
             };
             print_named(alloc, out, &names, answer)
         }

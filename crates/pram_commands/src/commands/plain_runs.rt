@@ -1,5 +1,6 @@
 //! Jobs on the plain machine.
-ghost use Rattle.std.specs.Prelude.{◌≡◌, false};
+ghost use Rattle.std.specs.Prelude.{◌≡◌, false, IfOk};
+ghost use Rattle.pram_step.specs.Runs.{IsAnswer};
 ghost use Rattle.pram_commands.specs.Did.{Did, tells, writing};
 ghost use Rattle.pram_commands.specs.Inner.Puts.{Puts};
 ghost use Rattle.pram_commands.specs.Inputs.{AreReady, taking};
@@ -13,7 +14,7 @@ use crate::sources::Sources;
 use crate::why::{Question, put_told};
 use pram_step::{RunAnswer, plain_answer};
 use pram_streams::{PrintFault, Sink, Source};
-use std::alloc::Global;
+use std::alloc::{AllocError, Global};
 
 /// Reads a job, and prints its answer, and if it is asked for what became of the processors. The
 /// time is that of reading the text and running the job, or of running it twice.
@@ -47,7 +48,18 @@ fn put_plain<O: Sink>(
     ensures { Puts ((plainly question.now.why).Comes question.now.text.now question.now.job.now
         no_plan) (plainly false).InPieces (writing O.Sink out.old out.new) tells result }
 {
-    let answer = plain_answer(alloc, question.job)?;
+    let answer = answer_of(alloc, question)?;
     put_told(alloc, out, question, &answer)?;
     Ok(answer)
+}
+
+// The answer of the job. That of a program's is known already.
+fn answer_of(alloc: Global, question: &Question<'_>) -> Result<RunAnswer, AllocError>
+    requires { AreNames question.now.text.now question.now.job.now question.now.names.now }
+    ensures { IfOk result (IsAnswer question.now.job.now) }
+{
+    match question.names {
+        None => plain_answer(alloc, question.job),
+        Some(naming) => naming.answer(alloc),
+    }
 }
