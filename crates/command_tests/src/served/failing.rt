@@ -1,8 +1,9 @@
 //! Devices that fail at each place in turn.
 ghost use Rattle.std.specs.Prelude.{◌≡◌, false};
 
-use crate::tests::served::{Drip, of_text};
-use crate::{CommandFault, Sources, check, plain};
+use crate::served::of_text;
+use failing_devices::Drip;
+use pram_commands::{CommandFault, Sources, check, plain};
 use pram_streams::{Empty, IntoWrite, MOST, Source};
 use pram_text::TextKind;
 use std::test::Fail;

@@ -1,8 +1,8 @@
 //! Lines of progress.
 ghost use Rattle.std.specs.Prelude.{◌≡◌};
 
-use crate::progress::{Teller, Telling, tell_steps};
 use pram_board::{Board, Seat};
+use pram_commands::{Teller, Telling, tell_steps};
 use pram_run::run;
 use pram_text::read_job;
 use std::alloc::Global;

@@ -1,7 +1,6 @@
 //! The sentence that explains a refusal.
-use crate::explanation::{Explanation, Reasons};
-use crate::tests::served::{CHECK, of_text};
-use crate::{CommandFault, Console, Line, Workers, serve};
+use crate::served::{CHECK, of_text};
+use pram_commands::{CommandFault, Console, Explanation, Line, Reasons, Workers, serve};
 use pram_streams::{IntoWrite, Reason};
 use pram_text::TextKind;
 use std::test::Fail;
