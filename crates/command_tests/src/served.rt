@@ -7,6 +7,8 @@ mod explanations;
 mod failing;
 mod gallery;
 mod inputs;
+mod named;
+mod programs;
 mod progress;
 mod refusals;
 mod replays;

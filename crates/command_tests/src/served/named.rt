@@ -2,9 +2,9 @@
 //! refused.
 ghost use Rattle.std.specs.Prelude.{◌≤◌};
 
-use crate::tests::programs::PROGRAMS;
-use crate::tests::served::{CHECK, FILE, PLAIN, of_text, serve_text};
-use crate::{Console, Line, Manner, Telling, Workers, serve};
+use crate::served::programs::PROGRAMS;
+use crate::served::{CHECK, FILE, PLAIN, of_text, serve_text};
+use pram_commands::{Console, Line, Manner, Telling, Workers, serve};
 use pram_streams::IntoWrite;
 use std::alloc::Global;
 use std::process::Abort;
@@ -38,7 +38,7 @@ fn programs_are_answered_by_names(rt: HostRuntime) {
             let served = serve_text(&rt, rt.alloc(), &line, text.as_bytes());
             assert!(rt; served.out.as_slice() == answer.as_bytes(), "{text}");
             assert!(rt; served.err.is_empty(), "{text}");
-            assert_eq!(rt; served.status, status, "{text}");
+            assert!(rt; served.status == status, "{text}");
         }
     }
 }
@@ -59,7 +59,7 @@ fn replays_of_programs_end_with_their_answers(rt: HostRuntime) {
                 served.out.as_slice().ends_with(answer.as_bytes()),
                 "{text}"
             );
-            assert_eq!(rt; served.status, status, "{text}");
+            assert!(rt; served.status == status, "{text}");
         }
     }
 }
@@ -114,7 +114,7 @@ fn expect_refused<R: Abort + Threads + Wait + Clock + Eprint + Sync>(
     };
     let status = serve(rt, alloc, &CHECK, &mut of_text(text), &mut console);
     let Console { out, err, .. } = console;
-    assert_eq!(rt; status, 2, "{said}");
+    assert!(rt; status == 2, "{said}");
     assert!(rt; out.into_inner().is_empty(), "{said}");
     assert!(rt; err.into_inner().as_slice() == said.as_bytes(), "{said}");
     Ok(())
@@ -160,7 +160,7 @@ fn a_program_too_long_is_refused(rt: HostRuntime) -> Result<(), Fail> {
         text.extend_from_slice(b"x := x + s + A[x] + A[x + 1]\n")?;
     }
     let served = serve_text(&rt, alloc, &CHECK, text.as_slice());
-    assert_eq!(rt; served.status, 2);
+    assert!(rt; served.status == 2);
     assert!(rt; served.err.as_slice().ends_with(b" kind=TooLong\n"));
     Ok(())
 }
@@ -170,7 +170,7 @@ fn who_left_is_named(rt: HostRuntime) -> Result<(), Fail> {
     let alloc = rt.alloc();
     let text = with_lines(alloc, HEADER, "A[i] := i~~x := A[i + 2]~s := 7~")?;
     let served = serve_text(&rt, alloc, &PLAIN, text.as_slice());
-    assert_eq!(rt; served.status, 0);
+    assert!(rt; served.status == 0);
     assert!(rt; served.out.as_slice().starts_with(b"done steps="));
     assert!(rt;
         served.out.as_slice().ends_with(
