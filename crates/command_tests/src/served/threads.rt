@@ -92,7 +92,10 @@ fn blocks_of_each_size(rt: HostRuntime) -> Result<(), Fail> {
     let rows = [(MANY, "0,go,40/0,back,0/", answer, 0)];
     for size in 0..130_u32 {
         let block = Block::of(size);
-        assert!(rt; block.is_some() == size <= 64 && size.is_power_of_two(), "{size}");
+        assert!(rt;
+            block.is_some() == (size <= 64 && size.is_power_of_two()),
+            "{size}"
+        );
         if block.is_some() {
             let line = run_line(Manner { block, ..TWO });
             expect(&rt, rt.alloc(), &line, &rows)?;
