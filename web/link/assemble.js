@@ -36,24 +36,29 @@ function instructionsOf(file) {
   return [...rows].map(([, name, operands]) => [name, operands]);
 }
 
-// The sentences on a text, in the order of its faults.
-function sentencesOf(file) {
-  const rows = readFileSync(file, 'utf8').matchAll(/TextKind::\w+ => "([^"]*)"/g);
-  return [...rows].map(([, sentence]) => sentence);
+// The sentences on texts of some kinds, in the order of their faults. Out of memory is none.
+function sentencesOf(file, kinds) {
+  const row = new RegExp(`(?:${kinds})::(\\w+) =>\\s*"([^"]*)"`, 'g');
+  return [...readFileSync(file, 'utf8').matchAll(row)]
+    .filter(([, kind]) => kind !== 'Memory').map(([, , sentence]) => sentence);
 }
 
 const bundleOf = (name) => `\n${[...modulesOf(name)].map(enclosed).join('\n')}`;
 
 const bundle = (table, sentences) => bundleOf('main')
   .replace('/*INSTRUCTIONS*/[]', JSON.stringify(instructionsOf(table)))
-  .replace('/*SENTENCES*/[]', JSON.stringify(sentencesOf(sentences)));
+  .replace('/*SENTENCES*/[]', JSON.stringify(sentencesOf(sentences, 'TextKind')))
+  .replace('/*PROGRAM_SENTENCES*/[]',
+    JSON.stringify(sentencesOf(sentences, 'PardoKind|JobKind')));
 
+// Programs of `pardo`, and then texts of the machine, which have their names without an end.
 function examplesOf(folder) {
-  const names = readdirSync(folder).filter((name) => name.endsWith('.pram')).sort();
-  return names.map((name) => ({
-    name: name.replace(/\.pram$/, ''),
-    text: readFileSync(join(folder, name), 'utf8'),
-  }));
+  const names = readdirSync(folder).sort();
+  return ['.pardo', '.pram'].flatMap((end) => names.filter((name) => name.endsWith(end)))
+    .map((name) => ({
+      name: name.replace(/\.pram$/, ''),
+      text: readFileSync(join(folder, name), 'utf8'),
+    }));
 }
 
 const hash = (text) => `'sha256-${createHash('sha256').update(text).digest('base64')}'`;

@@ -3,8 +3,11 @@
 // asked for again. Far ones are asked for in another thread.
 import { CODE } from './core.js';
 
-const MOST = 16;
+const MOST = 96;
 const NEAR = 500000;
+
+// What the core is told of a job's sizes.
+const sizesOf = ({ cells, procs, places }) => ({ cells, procs, places });
 
 export class Moments {
   // `onTold` is called when something far was told.
@@ -14,12 +17,12 @@ export class Moments {
   }
 
   forget() {
-    this.text = this.app.text;
+    this.text = this.app.job?.text;
     this.kept = new Map();
   }
 
   check() {
-    if (this.text !== this.app.text) this.forget();
+    if (this.text !== this.app.job.text) this.forget();
   }
 
   keep(step, told) {
@@ -30,8 +33,8 @@ export class Moments {
   }
 
   wantedFor(step) {
-    const { text, job, most } = this.app;
-    return [text, job, step, most];
+    const { job, most } = this.app;
+    return [job.text, sizesOf(job), step, most];
   }
 
   moment(step) {

@@ -61,7 +61,7 @@ async function judged(what, wanted) {
 
 export async function testExercises() {
   await open();
-  is('a program that stays', await valueOf('#example'), 'maximum');
+  is('a program that stays', await valueOf('#example'), 'prefix.pardo');
   for (const [k, solution] of SOLUTIONS.entries()) {
     await page.choose('#lesson', `exercise ${k + 1}`);
     await has(`exercise ${k + 1}`, '#lesson-title', `Exercise ${k + 1} of 10`);

@@ -35,11 +35,15 @@ pub one_few : (b : Bool) → cond b 1 0 ≤ 1
 one_few true = omega arith
 one_few false = omega arith
 
--- a row is its three numbers
-pub row_is : (row : StepRow) (a b c : ℕ) → row.running ≡ a → row.reading ≡ b → row.writing ≡ c →
-    row ≡ record { running = a; reading = b; writing = c }
-row_is row a b c running reading writing =
-    subst (λ (n : ℕ). row ≡ record { running = n; reading = b; writing = c }) running
-    (subst (λ (n : ℕ). row ≡ record { running = row.running; reading = n; writing = c }) reading
+-- a row is its four numbers
+pub row_is : (row : StepRow) (a b c d : ℕ) → row.running ≡ a → row.reading ≡ b →
+    row.writing ≡ c → row.at ≡ d →
+    row ≡ record { running = a; reading = b; writing = c; at = d }
+row_is row a b c d running reading writing at =
+    subst (λ (n : ℕ). row ≡ record { running = n; reading = b; writing = c; at = d }) running
+    (subst (λ (n : ℕ). row ≡ record { running = row.running; reading = n; writing = c; at = d })
+    reading
     (subst (λ (n : ℕ). row
-    ≡ record { running = row.running; reading = row.reading; writing = n }) writing refl))
+    ≡ record { running = row.running; reading = row.reading; writing = n; at = d }) writing
+    (subst (λ (n : ℕ). row ≡ record { running = row.running; reading = row.reading;
+    writing = row.writing; at = n }) at refl)))

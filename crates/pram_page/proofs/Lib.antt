@@ -6,3 +6,4 @@ mod Counting
 mod Lasts
 mod Moments
 mod ReadCells
+mod Landing

@@ -1,0 +1,88 @@
+// A program of `pardo`, as the core tells it: its lines of code, and the names of the cells of its
+// job.
+import { instructionsOf } from './text_lines.js';
+
+export const KIND = { SCALAR: 0, ARRAY: 1, PRIVATE: 2, LOOP: 3, MASK: 4 };
+
+const encoder = new TextEncoder();
+const decoder = new TextDecoder();
+
+// The rows of cells, each with its own name. Names are told one after the other, by bytes.
+function namedRows({ cells, names }) {
+  const bytes = encoder.encode(names);
+  let at = 0;
+  return cells.map(({ base, len, name, kind }) => {
+    at += name;
+    return { base, len, kind, name: decoder.decode(bytes.subarray(at - name, at)) };
+  });
+}
+
+// The words of an instruction, with the arrays' own names in place of those of the job's text,
+// which say where an array lies.
+function withNames(words, rows) {
+  return words.replace(/\.a(\d+)_(\d+)/g, (given, base, len) =>
+    rows.find((row) => row.base === Number(base) && row.len === Number(len))?.name || given);
+}
+
+export class Source {
+  // `lines` are the lines of code, `made` is what the core made of the program.
+  constructor(lines, made) {
+    this.text = made.text;
+    this.rows = namedRows(made);
+    this.lineOf = made.lineOf;
+    this.depths = new Map(lines.map(({ number, depth }) => [number, depth]));
+    this.masks = this.rows.filter(({ kind }) => kind === KIND.MASK);
+    this.loops = this.rows.filter(({ kind }) => kind === KIND.LOOP);
+    this.privates = this.rows.filter(({ kind }) => kind === KIND.PRIVATE);
+    this.arrays = this.rows.filter(({ kind }) => kind <= KIND.ARRAY);
+  }
+
+  // The instructions of the job, each by the line that it came from.
+  get program() {
+    return instructionsOf(this.text).map(({ line, words }, index) => (
+      { line: this.lineOf[index], words: withNames(words, this.rows), at: line }));
+  }
+
+  // The instructions at which a line begins. The last one is no line's.
+  get starts() {
+    const { lineOf } = this;
+    return lineOf.flatMap((line, index) => (index > 0 && index < lineOf.length - 1 &&
+      line !== lineOf[index - 1] ? [index] : []));
+  }
+
+  // How many cells the shared arrays have: they are the first ones.
+  get shared() {
+    const last = this.arrays.at(-1);
+    return last ? last.base + last.len : 0;
+  }
+
+  rowOf(cell) {
+    return this.rows.find(({ base, len }) => cell >= base && cell < base + len);
+  }
+
+  // Whether a cell is the first of an array, or of scalars that follow one another.
+  isFirst(cell) {
+    const at = this.rows.findIndex(({ base }) => base === cell);
+    const { kind } = this.rows[at] ?? { kind: KIND.SCALAR };
+    return at >= 0 && (kind !== KIND.SCALAR || this.rows[at - 1]?.kind !== KIND.SCALAR);
+  }
+
+  nameOfCell(cell) {
+    const row = this.rowOf(cell);
+    if (!row) return `cell ${cell}`;
+    const index = cell - row.base;
+    switch (row.kind) {
+      case KIND.SCALAR: return row.name;
+      case KIND.ARRAY: return `${row.name}[${index}]`;
+      case KIND.PRIVATE: return `${row.name} of P${index}`;
+      case KIND.LOOP: return `loop ${this.loops.indexOf(row) + 1} of P${index}`;
+      default: return `mask ${this.masks.indexOf(row) + 1} of P${index}`;
+    }
+  }
+
+  // Whether a processor is active in a line: it is in all the `if`s that are open before it.
+  isActive(places, processor, line) {
+    const mask = this.masks[(this.depths.get(line) ?? 0) - 1];
+    return mask === undefined || places[mask.base + processor] !== 0;
+  }
+}
