@@ -41,8 +41,8 @@ pub extern "C" fn pram_page_names(
     ensures names { IsKeptBehind (bytes_told told.new) names.old names.new }
     ensures cells { IsKeptBehind (rows_told told.new) cells.old cells.new }
 {
-    *told = match named(alloc, text) {
-        Ok(named) => put(named.names.as_slice(), named.rows.as_slice(), names, cells),
+    *told = match take_names(alloc, text) {
+        Ok(found) => put(found.names.as_slice(), found.rows.as_slice(), names, cells),
         Err(why) => tell_none(why),
     };
 }
@@ -55,7 +55,7 @@ struct Named {
 }
 
 // The names of the program that a text spells.
-fn named(alloc: Global, text: &[u8]) -> Result<Named, NoProgram>
+fn take_names(alloc: Global, text: &[u8]) -> Result<Named, NoProgram>
     ensures names { IfOk result (λ named. AreNamesOf text.now named.names.items named.rows.items) }
     ensures none { IfErr result (IsNoProgram text.now) }
 {
