@@ -43,9 +43,11 @@ header_read job h = record {
   rule_lines = (codes "rule" ∷ rule_word job.rule ∷ []) ∷ [];
   parts = refl;
   version_said = version_read;
-  cells_said = number_read (codes "cells") 1 MAX_CELLS job.cells (omega (arith, h.cells.1)) h.cells.0
+  cells_said = number_read (codes "cells") 1 MAX_CELLS job.cells (omega (arith, h.cells.1))
+      h.cells.0
       h.cells.1;
-  procs_said = number_read (codes "procs") 1 MAX_PROCS job.procs (omega (arith, h.procs.1)) h.procs.0
+  procs_said = number_read (codes "procs") 1 MAX_PROCS job.procs (omega (arith, h.procs.1))
+      h.procs.0
       h.procs.1;
   steps_said = number_read (codes "steps") 0 most job.steps (omega (arith, h.steps)) (omega arith)
       (omega (arith, h.steps));

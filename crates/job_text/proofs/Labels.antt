@@ -63,7 +63,8 @@ unlabelled_read true index instr =
     ap (λ is. if is then words_for instr else (label index ++ 58 ∷ []) ∷ words_for instr)
     (is_label-colon (label index))
 unlabelled_read false index instr =
-    ap (λ is. if is then operand_words (row_of instr).1 else words_for instr) (name_is_no_label instr)
+    ap (λ is. if is then operand_words (row_of instr).1 else words_for instr)
+    (name_is_no_label instr)
 
 abbrev label_if : Bool → ℕ → Option Word
 label_if b index = if b then Some (label index) else None

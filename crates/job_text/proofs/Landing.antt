@@ -83,7 +83,8 @@ module _ (len : ℕ) where
 
       one : (make : ℕ → Instr) → ((r : ℕ) → row_of (make r) ≡ (name, o.Target r)) →
           (words : Line) → Lands (one_register make words)
-      one make is (r ∷ []) = after (register_of r) _ (λ x. made name (make x) (o.Target x) (is x) tt)
+      one make is (r ∷ []) = after (register_of r) _
+          (λ x. made name (make x) (o.Target x) (is x) tt)
       one make is _ = bad WrongOperands
 
       number : (make : ℕ → ℕ → Instr) →

@@ -67,7 +67,8 @@ pub decimal_in : (low high n : ℕ) → n < 2 ^ 64 → low ≤ n → n ≤ high 
     number_in low high (decimal n) ≡ Ok n
 unfolding number_in
 decimal_in low high n h l k =
-    rw (decimal_is_number n h) (rw (decimal_value n h) (rw (le-leb low n l) (rw (le-leb n high k) refl)))
+    rw (decimal_is_number n h) (rw (decimal_value n h)
+    (rw (le-leb low n l) (rw (le-leb n high k) refl)))
 
 -- ---- registers
 

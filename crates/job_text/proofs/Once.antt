@@ -1,7 +1,8 @@
 -- Arrays, each once, with one array more.
 use Rattle.std.proofs.Common.{◌≡◌, ℕ, Bool, true, false, ◌&&◌, ◌||◌, ◌==◌, if◌then◌else◌}
 use Rattle.std.proofs.Common.{List, [], ◌∷◌, ◌++◌, filter, refl, sym, ap, ap₂, subst, ◌∙◌}
-use Rattle.std.proofs.Common.{⊎_elim, append-nil, nat_cmp, cond, arith, ◌+◌, ◌<◌, length, take, get_or}
+use Rattle.std.proofs.Common.{⊎_elim, append-nil, nat_cmp, cond, arith, ◌+◌, ◌<◌, length, take}
+use Rattle.std.proofs.Common.{get_or}
 use Rattle.std.specs.BTreeSet.{BTreeSet, contains, Updates}
 use Rattle.std.specs.List.{list_any}
 use Rattle.std.specs.Ordering.{is_eq, ordering_then}

@@ -104,7 +104,8 @@ split_words : (words : Line) → PlainWords words →
     filter is_filled (slice_split is_blank (join_with_byte 32 words)) ≡ words
 split_words [] h = refl
 split_words (w ∷ []) h =
-    ap (filter is_filled) (slice_split_none is_blank w (each_of is_blank false no_blank w h.0.plain))
+    ap (filter is_filled) (slice_split_none is_blank w
+    (each_of is_blank false no_blank w h.0.plain))
     ∙ kept w [] h.0.filled
 split_words (w ∷ x ∷ words) h =
     ap (filter is_filled) (slice_split_at is_blank w 32 (join_with_byte 32 (x ∷ words))

@@ -14,7 +14,8 @@ use Rattle.pram_text.specs.declared.instr.Instr.{Instr}
 use Rattle.pram_text.specs.Instructions.{row_of}
 use Rattle.pram_text.specs.Lines.{Word, Line}
 use Rattle.job_text.specs.Inner.Printing.{aims_of, spaced}
-use Rattle.job_text.specs.Printed.{aims_at, instruction_line, instruction_lines, is_aim, line_if_any}
+use Rattle.job_text.specs.Printed.{aims_at, instruction_line, instruction_lines, is_aim}
+use Rattle.job_text.specs.Printed.{line_if_any}
 use Rattle.job_text.specs.Printed.{line_text, lines_text, run_lines, array_line, arrays_in, once}
 use Rattle.job_text.specs.Printed.{header_lines, init_lines, text_of}
 use Rattle.pram_text.specs.declared.instr.Array.{Array}

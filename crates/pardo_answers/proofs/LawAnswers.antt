@@ -58,7 +58,8 @@ arrays_same cells other (array ∷ arrays) base are same =
 
 -- ---- lines in which processors leave
 
-module _ (job : JobData) (line_of : ℕ → ℕ) (is_job : IsJob job) (i : ℕ) (within : i < job.procs) where
+module _ (job : JobData) (line_of : ℕ → ℕ) (is_job : IsJob job) (i : ℕ)
+    (within : i < job.procs) where
   -- once gone, for good
   gone_on : (t later : ℕ) → t ≤ later → counter job (state_after job t) i ≡ out_of_range job →
       counter job (state_after job later) i ≡ out_of_range job
@@ -133,7 +134,8 @@ module _ (program : ProgramData) (job : JobData) (line_of : ℕ → ℕ) (lines 
       (ends.gone is_after.reached i (omega (arith, procs)))
       ((c.carries.ends n is_end).0.gone i (omega arith))) in
       ap₂ (λ (x y : List ℕ). codes "done steps=" ++ decimal job.steps ++ codes "\n" ++ x ++ y)
-      (arrays_same (slice_index cells) (after program n).cells program.arrays 0 c.lawful.arrays held)
+      (arrays_same (slice_index cells) (after program n).cells program.arrays 0 c.lawful.arrays
+      held)
       (flat_map-range_same (λ i. gone_line i (gone_in lines.gone.items i))
       (λ i. gone_line i ((after program n).gone i)) 0 program.procs left)
 
@@ -154,16 +156,17 @@ module _ (program : ProgramData) (job : JobData) (line_of : ℕ → ℕ) (lines 
       ap₂ (conflict_text program) line (ap dispute_of same)
 
 pub printed_answers_are_the_programs : PrintedAnswersAreThePrograms
-printed_answers_are_the_programs program job line_of (Final cells) lines c is ends = elim c.carries.over.1 [
-  | inl is_end ↦ inl (
-    c.carries.over.0,
-    is_end,
-    end_same program job line_of lines c ends c.carries.over.0 cells is.0 is.1 is.2 is_end,
-  )
-  | inr (dispute, conflict) ↦
-      let d = c.carries.disputes c.carries.over.0 dispute conflict in
-      absurd (conflict_ends job _ job.steps d.3.first d.3.within is.1.reached)
-]
+printed_answers_are_the_programs program job line_of (Final cells) lines c is ends =
+    elim c.carries.over.1 [
+      | inl is_end ↦ inl (
+        c.carries.over.0,
+        is_end,
+        end_same program job line_of lines c ends c.carries.over.0 cells is.0 is.1 is.2 is_end,
+      )
+      | inr (dispute, conflict) ↦
+          let d = c.carries.disputes c.carries.over.0 dispute conflict in
+          absurd (conflict_ends job _ job.steps d.3.first d.3.within is.1.reached)
+    ]
 printed_answers_are_the_programs program job line_of (Conflict fault) lines c is ends =
     elim c.carries.over.1 [
       | inl is_end ↦ absurd (conflict_ends job fault job.steps is.first is.within

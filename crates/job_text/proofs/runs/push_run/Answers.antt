@@ -1,4 +1,5 @@
-use Rattle.std.proofs.Common.{◌≡◌, ◌++◌, ◌∙◌, [], append-nil, ap, decimal, drop, map, string_bytes, sym}
+use Rattle.std.proofs.Common.{◌≡◌, ◌++◌, ◌∙◌, [], append-nil, ap, decimal, drop, map, string_bytes}
+use Rattle.std.proofs.Common.{sym}
 use Rattle.std.proofs.lemmas.List.{drop_all}
 use Rattle.job_text.specs.Inner.Printing.{spaced}
 use Rattle.job_text.proofs.Streaming.{on_ok, run_text}

@@ -15,7 +15,8 @@ pub loop-made-init : goal.loop-made-init
 loop-made-init c = record {
   after = subst (λ (s : State). IsStateAfter c.args.job.now 0 s) (sym c.in_ok-state.ensures)
       (c.start_is_a_state.ensures c.args.job.now);
-  noted = subst (λ (g : List (Option ℕ)). AreNoted c.args.job.now (slice_index c.args.numbers.now) 0 g)
+  noted = subst (λ (g : List (Option ℕ)). AreNoted c.args.job.now (slice_index c.args.numbers.now) 0
+      g)
       (sym (c.in_ok-gone.ensures.items_if_clones_equal (same_none _ (λ x other. other))))
       (none_at_start c.args.job.now (slice_index c.args.numbers.now) c.procs.result
       c.limits_hold.ensures c.procs.ensures.value);

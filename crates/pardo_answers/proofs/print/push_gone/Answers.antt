@@ -6,7 +6,8 @@ use Rattle.pardo_answers.proofs.print.push_gone.Goals as goal
 
 pub loop-processor-preserved : goal.loop-processor-preserved
 loop-processor-preserved c =
-    range_told (λ i. gone_line i (gone_in c.args.lines.now.gone.items i)) c.loop-processor.text.items
+    range_told (λ i. gone_line i (gone_in c.args.lines.now.gone.items i))
+    c.loop-processor.text.items
     c.push_gone_line.new.text.items _ c.loop-processor.processor _ _ _ refl (omega arith)
     (c.in_ok-push_gone_line.ensures
     ∙ ap (λ line. c.loop-processor.text.items ++ gone_line c.loop-processor.processor line)

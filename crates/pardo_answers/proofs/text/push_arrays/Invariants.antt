@@ -6,5 +6,6 @@ use Rattle.pardo_answers.proofs.text.push_arrays.Given as goal
 -- the lines so far and those to come are all lines
 abbrev pub invariant-loop-array : goal.invariant-loop-array
 invariant-loop-array l =
-    l.text.items ++ flat_map (array_line (λ cell. get_or l.cells cell 0)) (drop l.array-index l.arrays)
+    l.text.items ++ flat_map (array_line (λ cell. get_or l.cells cell 0))
+    (drop l.array-index l.arrays)
     ≡ l.fn.text.items ++ flat_map (array_line (λ cell. get_or l.cells cell 0)) l.arrays

@@ -8,7 +8,8 @@ pub loop-offset-preserved : goal.loop-offset-preserved
 loop-offset-preserved c =
     let few : length c.args.cells.now < 2 ^ 63 = search rules in
     let base = c.base.ensures in
-    let value : c.from.result ≡ get_or c.args.cells.now (c.args.array.now.base + c.loop-offset.offset) 0 =
+    let value : c.from.result ≡ get_or c.args.cells.now
+    (c.args.array.now.base + c.loop-offset.offset) 0 =
     c.from.ensures ∙ c.value_at.ensures
     ∙ far_cell c.args.cells.now (c.args.array.now.base + c.loop-offset.offset)
     c.saturating_add-cell.result few
@@ -18,4 +19,6 @@ loop-offset-preserved c =
     (c.args.array.now.base + c.loop-offset.offset) _ _ _ (omega arith)
     (omega (arith, ap length c.start-offset-end.ensures))
     (c.in_ok-push_labelled.ensures
-    ∙ append_assoc c.loop-offset.text.items (codes " ") (decimal c.from.result) ∙ ap (λ (n : ℕ). c.loop-offset.text.items ++ (codes " " ++ decimal n)) value) c.loop-offset.invariant
+    ∙ append_assoc c.loop-offset.text.items (codes " ") (decimal c.from.result) ∙
+    ap (λ (n : ℕ). c.loop-offset.text.items ++ (codes " " ++ decimal n)) value)
+    c.loop-offset.invariant
