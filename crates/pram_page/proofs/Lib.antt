@@ -7,3 +7,4 @@ mod Lasts
 mod Moments
 mod ReadCells
 mod Landing
+mod Telling
