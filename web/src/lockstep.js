@@ -19,7 +19,7 @@ import { ProgramView } from './program_view.js';
 import { Search, hasAccess, isAtLine } from './seek.js';
 
 // A line shows what all of its steps ask for, where that is quickly made.
-const MOST_ASKED = 100000;
+const MOST_ASKED = 400000;
 
 export class LockstepView {
   constructor(app) {
@@ -218,12 +218,12 @@ export class LockstepView {
     this.showRun();
   }
 
-  // What the processors ask for in these steps; in the first of them alone, where more take long.
+  // What the processors ask for in these steps; where that takes long, in those that are kept.
   askedIn(steps) {
     const { moments, app: { job } } = this;
     const cost = steps.reduce((sum, step) => sum + step * job.procs, 0);
-    const quick = cost <= MOST_ASKED ? steps : steps.slice(0, 1);
-    return quick.map((step) => moments.requests(step));
+    return steps.filter((step) => cost <= MOST_ASKED || moments.hasKept(step))
+      .map((step) => moments.requests(step));
   }
 
   momentOf(pace, places) {

@@ -48,7 +48,7 @@ export const TOUR = [
   },
   {
     title: 'asleep, and late',
-    address: `${WORKERS}&acts=0.1.2*60~s2~0.1*120~w2`,
+    address: `${WORKERS}&acts=0.1.2*60~s2~0.1*100~w2`,
     task: 'A lost worker does nothing more. One that slept does: worker 2 wakes, as if no time ' +
       'had passed, and goes on with what it meant to do then. Step it six times and more: it ' +
       'finds its words written and its leaf raised already, changes nothing, and walks on.',

@@ -128,7 +128,8 @@ export async function testProgramConflict() {
   is('after the line before', await EACH('#program-processors td:nth-child(3)'), '2 4 6 8');
   is('marked in the text', await text('.line-number.clash'), '8');
   is('marked in the cell', await count('.cell.is-disputed'), 1);
-  await has('why no weaker model', '#cost-reasons', 'in line 8, step 1');
+  await has('why no weaker model', '#cost-reasons',
+    'Not EREW: in line 8, step 5, processors 0 and 1 read sum.');
   await picture('program-conflict');
 }
 
