@@ -136,6 +136,7 @@ class Playground {
   // a moment.
   compile(lines) {
     const { text } = this;
+    this.isCompiling = true;
     this.late = setTimeout(() => {
       this.job = undefined;
       showCompiling();
@@ -151,7 +152,7 @@ class Playground {
   // What the core says of the text.
   hear(found) {
     const { job, answer, most, isAnswering } = found;
-    Object.assign(this, { job, answer, most, isAnswering });
+    Object.assign(this, { job, answer, most, isAnswering, isCompiling: false });
     showJudgement(found, this, job && !isAnswering ? this.whole.lines() : undefined);
     if (isAnswering) answerFar(this.far, found, (told) => this.hear(told));
     this.show();

@@ -5,6 +5,7 @@ import { CODE } from './core.js';
 
 const MOST = 96;
 const NEAR = 500000;
+const NOTHING = { list: [], code: CODE.DONE };
 
 // What the core is told of a job's sizes.
 const sizesOf = ({ cells, procs, places }) => ({ cells, procs, places });
@@ -64,12 +65,12 @@ export class Moments {
 
   // What the processors ask for after so many steps; nothing after the last one.
   requests(step) {
-    return this.hasRequests(step) ? this.moment(step).requests : { list: [], code: CODE.DONE };
+    return this.hasRequests(step) ? this.moment(step).requests : NOTHING;
   }
 
   // The same of a far step, as a promise; what is asked for meanwhile is forgotten.
   farRequests(step) {
-    if (!this.hasRequests(step)) return Promise.resolve(this.requests(step));
+    if (!this.hasRequests(step) || this.app.isCompiling) return Promise.resolve(NOTHING);
     this.app.far.forget();
     return new Promise((done) => {
       this.app.far.ask('moment', this.wantedFor(step), (told) =>

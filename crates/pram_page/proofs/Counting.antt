@@ -55,5 +55,9 @@ row_is row a b c d running reading writing at =
     reading
     (subst (λ (n : ℕ). row
     ≡ record { running = row.running; reading = row.reading; writing = n; at = d }) writing
-    (subst (λ (n : ℕ). row ≡ record { running = row.running; reading = row.reading;
-    writing = row.writing; at = n }) at refl)))
+    (subst (λ (n : ℕ). row ≡ record {
+      running = row.running;
+      reading = row.reading;
+      writing = row.writing;
+      at = n;
+    }) at refl)))

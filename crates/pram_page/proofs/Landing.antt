@@ -39,8 +39,11 @@ unfolding place_of
 places_within program j =
     let all : take (length program.lines) program.lines ≡ program.lines =
     take_all (length program.lines) program.lines (omega arith) in
-    omega (arith, sum_by-take-le (length_of program) program.lines j,
-    ap (λ (l : List Line). sum_by (length_of program) l) all)
+    omega (
+      arith,
+      sum_by-take-le (length_of program) program.lines j,
+      ap (λ (l : List Line). sum_by (length_of program) l) all,
+    )
 
 -- ---- code whose jumps go at most to the last instruction
 

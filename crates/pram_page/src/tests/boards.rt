@@ -1,5 +1,4 @@
 //! What is told of boards.
-use crate::tests::{DISPUTED, NOTHING};
 use crate::board::Event;
 use crate::bodies::BodyRow;
 use crate::codes::{BAD_EVENT, BAD_WORKERS, CONFLICT, DONE, NO_ROOM, UNFINISHED};
@@ -7,6 +6,7 @@ use crate::outcome::pram_page_outcome;
 use crate::reads::ReadRow;
 use crate::rows::EventRow;
 use crate::scene::{Scene, pram_page_scene};
+use crate::tests::{DISPUTED, NOTHING};
 use crate::words::WordRow;
 use std::test::Fail;
 

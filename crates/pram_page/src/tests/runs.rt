@@ -1,10 +1,10 @@
 //! What is told of a whole run.
-use crate::tests::{DISPUTED, NOTHING, SWAP};
 use crate::codes::{CONFLICT, DONE, NO_JOB, NO_ROOM, NO_STEP, TOO_FAR};
 use crate::cost::{CostTold, MeetingRow, pram_page_cost};
 use crate::fates::{EndRow, FatesTold, LostRow, pram_page_fates};
 use crate::last::{LastRow, pram_page_last};
 use crate::steps::{StepRow, pram_page_steps};
+use crate::tests::{DISPUTED, NOTHING, SWAP};
 use std::test::Fail;
 
 // Processor 1 names a cell that there is not in step 3, the last one.
