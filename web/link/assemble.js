@@ -10,6 +10,7 @@ import { deflateRawSync } from 'node:zlib';
 const source = join(dirname(fileURLToPath(import.meta.url)), '..', 'src');
 const read = (name) => readFileSync(join(source, name), 'utf8');
 const IMPORT = /^import \{([^}]*)\} from '\.\/([a-z_]+)\.js';\n/gm;
+const COMMENT = /^ *\/\/.*\n/gm;
 const EXPORT = /^export (?:async )?(?:function|const|let|class) (\w+)/gm;
 
 // A module and those that it imports, each after its own imports.
@@ -20,11 +21,13 @@ function modulesOf(name, found = new Set()) {
   return found.add(name);
 }
 
-// A module as a function of its own, which gives what it exports.
+// A module as a function of its own, which gives what it exports; without its comments, which stand
+// in lines of their own.
 function enclosed(name) {
   const text = read(`${name}.js`);
   const exported = [...text.matchAll(EXPORT)].map(([, word]) => word);
   const body = text
+    .replace(COMMENT, '')
     .replace(IMPORT, (_, words, module) => `const {${words}} = ${module}_module;\n`)
     .replace(/^export /gm, '');
   return `const ${name}_module = (() => {\n${body}return { ${exported.join(', ')} };\n})();\n`;

@@ -76,8 +76,9 @@ function fieldsOf(struct) {
   });
 }
 
-const FIELDS = new Map([JUDGEMENT, TOLD, REQUEST, BODY, EFFECT, WORD, SCENE, READ, VALUE, FATES,
-  COST, MEETING, STEP, LAST, PROGRAM, NUMBER, LINE, CELLS].map((struct) => [struct, fieldsOf(struct)]));
+const STRUCTS = [JUDGEMENT, TOLD, REQUEST, BODY, EFFECT, WORD, SCENE, READ, VALUE, FATES,
+  COST, MEETING, STEP, LAST, PROGRAM, NUMBER, LINE, CELLS];
+const FIELDS = new Map(STRUCTS.map((struct) => [struct, fieldsOf(struct)]));
 
 const wide = (memory, at) => memory[at] + memory[at + 1] * 2 ** 32;
 

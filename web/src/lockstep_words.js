@@ -64,5 +64,6 @@ export function lineInWords(app, { line, number, places, active, requests, fault
   const who = active.length === 0 ? 'No processor is active'
     : `${named(active, 24)}, ${grouped(active.length)} of ${grouped(job.procs)}, ${
       active.length === 1 ? 'is' : 'are'} active`;
-  return `Line ${grouped(line)}: ${says}. ${who}${loops && ` with ${loops}`}. Done so far: ${lines}.`;
+  const around = loops && ` with ${loops}`;
+  return `Line ${grouped(line)}: ${says}. ${who}${around}. Done so far: ${lines}.`;
 }

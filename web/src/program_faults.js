@@ -41,8 +41,8 @@ const HELP = {
   3: () => HEADER,
   4: badLine,
   6: duplicateName,
-  7: () => 'An array needs an index and a scalar has none; no value goes to a constant, to the own ' +
-    'number or to a loop’s variable; loops go by what is the same for all processors.',
+  7: () => 'An array needs an index and a scalar has none; no value goes to a constant, to the ' +
+    'own number or to a loop’s variable; loops go by what is the same for all processors.',
   8: () => 'Work it out in a const or a private line.',
   9: () => 'Numbers go up to 4,294,967,295, processors to 1,024, places of an array to 65,536.',
   11: () => 'A private variable, a depth of loops and a depth of ifs each take one for each ' +

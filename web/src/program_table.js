@@ -7,6 +7,8 @@ import { openWindow } from './window.js';
 
 const IN_SIGHT = 32;
 
+const makeRow = () => make('tr', {}, make('th', { scope: 'row' }));
+
 // A processor that is gone left in the line that it executed last.
 function stateInWords(state, last, program) {
   if (state !== STATE.GONE || !last) return state;
@@ -34,7 +36,7 @@ export function openProgramTable(onMove) {
       const { privates } = job.source;
       showHead(privates.map(({ name }) => name));
       const range = sight.range(job.procs);
-      fit(body, range.length, () => make('tr', {}, make('th', { scope: 'row' }))).forEach((row, k) => {
+      fit(body, range.length, makeRow).forEach((row, k) => {
         const processor = range.first + k;
         const state = states[processor];
         const last = state === STATE.GONE ? lasts()?.[processor] : undefined;

@@ -17,11 +17,13 @@ function namedRows({ cells, names }) {
   });
 }
 
-// The words of an instruction, with the arrays' own names in place of those of the job's text,
-// which say where an array lies.
-function withNames(words, rows) {
-  return words.replace(/\.a(\d+)_(\d+)/g, (given, base, len) =>
-    rows.find((row) => row.base === Number(base) && row.len === Number(len))?.name || given);
+// The words of an instruction, with the names of the program's cells in place of those that the
+// job's text has, which say where cells lie.
+function withNames(words, source) {
+  return words.replace(/\.a(\d+)_(\d+)/g, (given, base, len) => {
+    const row = source.rows.find((one) => one.base === Number(base) && one.len === Number(len));
+    return row ? source.nameOf(row).replace(' ', '') : given;
+  });
 }
 
 export class Source {
@@ -40,7 +42,7 @@ export class Source {
   // The instructions of the job, each by the line that it came from.
   get program() {
     return instructionsOf(this.text).map(({ line, words }, index) => (
-      { line: this.lineOf[index], words: withNames(words, this.rows), at: line }));
+      { line: this.lineOf[index], words: withNames(words, this), at: line }));
   }
 
   // The instructions at which a line begins. The last one is no line's.
@@ -67,6 +69,15 @@ export class Source {
     return at >= 0 && (kind !== KIND.SCALAR || this.rows[at - 1]?.kind !== KIND.SCALAR);
   }
 
+  // Loops and masks have no name in the text: they are counted by their depth.
+  nameOf(row) {
+    switch (row.kind) {
+      case KIND.LOOP: return `loop ${this.loops.indexOf(row) + 1}`;
+      case KIND.MASK: return `mask ${this.masks.indexOf(row) + 1}`;
+      default: return row.name;
+    }
+  }
+
   nameOfCell(cell) {
     const row = this.rowOf(cell);
     if (!row) return `cell ${cell}`;
@@ -74,9 +85,7 @@ export class Source {
     switch (row.kind) {
       case KIND.SCALAR: return row.name;
       case KIND.ARRAY: return `${row.name}[${index}]`;
-      case KIND.PRIVATE: return `${row.name} of P${index}`;
-      case KIND.LOOP: return `loop ${this.loops.indexOf(row) + 1} of P${index}`;
-      default: return `mask ${this.masks.indexOf(row) + 1} of P${index}`;
+      default: return `${this.nameOf(row)} of P${index}`;
     }
   }
 

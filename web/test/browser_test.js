@@ -84,6 +84,7 @@ async function testGallery() {
     const [, steps] = /^done steps=(\d+)/.exec(out) ?? [];
     await has(file, '#answer', steps ? `done after ${steps} steps` : 'a conflict in ');
     await page.click('#tab-workers');
+    await page.choose('#worker-count', '2');
     await page.click('#to-end');
     await page.until('/^(Done|Conflict)/.test(document.getElementById("outcome").textContent)');
     await has(`${file} by workers`, '#outcome', 'the same answer as the plain machine');
@@ -290,7 +291,7 @@ async function testLink() {
   is('a link carries a text', await valueOf('#text'), 'pram 1 ; “own”\n');
   for (const bad of HOSTILE_ADDRESSES) {
     await open(bad);
-    await has(`a hostile address ${bad}`, '#answer', 'done after 73 steps');
+    await has(`a hostile address ${bad}`, '#answer', 'done after 72 steps');
   }
 }
 

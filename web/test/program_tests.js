@@ -65,7 +65,7 @@ export async function testProgramByLines() {
   await page.press('ArrowLeft');
   is('a key goes a line back', await valueOf('#step'), '2');
   await page.press('End');
-  await has('the end', '#plain-said', 'Done: the program is over after 10 lines, 73 steps of');
+  await has('the end', '#plain-said', 'Done: the program is over after 10 lines, 72 steps of');
   is('the answer', await EACH('#plain-cells .cell-value'), '3 4 8 9 14 23 25 31');
   is('no arrow at the end', await count('.line-number.next'), 0);
 }
@@ -98,14 +98,14 @@ export async function testMachineSteps() {
   await open('#example=prefix.pardo');
   await clicks('#step-on', 2);
   await page.click('#by-machine');
-  is('the steps of the machine', await valueOf('#step'), '12');
+  is('the steps of the machine', await valueOf('#step'), '11');
   is('with registers', await count('#processors thead th'), 10);
   is('the table of lines goes', await isShown('#program-processors'), false);
-  await has('an instruction', '#processors tbody tr', 'ld r0 .mask');
+  await has('an instruction', '#processors tbody tr', 'ld r0 mask1 r3');
   is('all cells', await count('#plain-cells li'), 24);
   is('those of masks', await text('#plain-cells li:last-child .cell-number'), 'mask 1 of P7');
   await page.click('#step-on');
-  is('one by one', await valueOf('#step'), '13');
+  is('one by one', await valueOf('#step'), '12');
   is('within the line', await count('.mark.current'), 1);
   await page.click('#by-machine');
   is('back to the line', await valueOf('#step'), '2');
