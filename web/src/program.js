@@ -11,6 +11,7 @@ import { instructionsOf, lineOf } from './text_lines.js';
 const MOST_STEPS = 20000000;
 const NEAR_STEPS = 500000;
 const MOST_CHARACTERS = 600;
+const MOST_ARRAYS = 100;
 export const RULES = ['common', 'priority', 'crew'];
 
 // What the core says of a text of the machine; of one that it made of a program, with its source.
@@ -41,7 +42,7 @@ export function answerFar(far, found, onTold) {
 
 // What the arrays of a program hold, as `pramx plain` prints it.
 function arraysInWords({ source }, cells) {
-  const lines = (source?.arrays ?? []).map(({ name, base, len }) =>
+  const lines = (source?.arrays ?? []).slice(0, MOST_ARRAYS).map(({ name, base, len }) =>
     ` ${name} = ${cells.slice(base, base + len).join(' ')}.`);
   return shortened(lines.join(''), MOST_CHARACTERS);
 }

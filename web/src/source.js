@@ -1,8 +1,11 @@
 // A program of `pardo`, as the core tells it: its lines of code, and the names of the cells of its
 // job.
+import { shortened } from './numbers.js';
 import { instructionsOf } from './text_lines.js';
 
 export const KIND = { SCALAR: 0, ARRAY: 1, PRIVATE: 2, LOOP: 3, MASK: 4 };
+
+const MOST_LETTERS = 60;
 
 const encoder = new TextEncoder();
 const decoder = new TextDecoder();
@@ -13,7 +16,8 @@ function namedRows({ cells, names }) {
   let at = 0;
   return cells.map(({ base, len, name, kind }) => {
     at += name;
-    return { base, len, kind, name: decoder.decode(bytes.subarray(at - name, at)) };
+    const word = decoder.decode(bytes.subarray(at - name, at));
+    return { base, len, kind, name: shortened(word, MOST_LETTERS) };
   });
 }
 
@@ -21,8 +25,9 @@ function namedRows({ cells, names }) {
 // job's text has, which say where cells lie.
 function withNames(words, source) {
   return words.replace(/\.a(\d+)_(\d+)/g, (given, base, len) => {
-    const row = source.rows.find((one) => one.base === Number(base) && one.len === Number(len));
-    return row ? source.nameOf(row).replace(' ', '') : given;
+    const row = source.rowOf(Number(base));
+    return row?.base === Number(base) && row.len === Number(len)
+      ? source.nameOf(row).replace(' ', '') : given;
   });
 }
 
@@ -58,15 +63,28 @@ export class Source {
     return last ? last.base + last.len : 0;
   }
 
+  // Rows follow one another: the number of the last one that begins at this cell or before it.
+  numberOfRow(cell) {
+    let [low, high] = [0, this.rows.length - 1];
+    while (low < high) {
+      const middle = Math.ceil((low + high) / 2);
+      if (this.rows[middle].base <= cell) low = middle;
+      else high = middle - 1;
+    }
+    return low;
+  }
+
   rowOf(cell) {
-    return this.rows.find(({ base, len }) => cell >= base && cell < base + len);
+    const row = this.rows[this.numberOfRow(cell)];
+    return row && cell < row.base + row.len ? row : undefined;
   }
 
   // Whether a cell is the first of an array, or of scalars that follow one another.
   isFirst(cell) {
-    const at = this.rows.findIndex(({ base }) => base === cell);
-    const { kind } = this.rows[at] ?? { kind: KIND.SCALAR };
-    return at >= 0 && (kind !== KIND.SCALAR || this.rows[at - 1]?.kind !== KIND.SCALAR);
+    const at = this.numberOfRow(cell);
+    const row = this.rows[at];
+    if (row?.base !== cell) return false;
+    return row.kind !== KIND.SCALAR || this.rows[at - 1]?.kind !== KIND.SCALAR;
   }
 
   // Loops and masks have no name in the text: they are counted by their depth.

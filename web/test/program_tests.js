@@ -12,6 +12,13 @@ const EACH = (selector) => page.evaluate(`[...document.querySelectorAll(
 const lineOf = (program, words) => readFileSync(join(folders.examples, `${program}.pardo`), 'utf8')
   .split('\n').findIndex((line) => line.includes(words)) + 1;
 
+// Opens a program, which is compiled then.
+async function openProgram(hash) {
+  await open(hash);
+  is('it is compiled', await page.until(
+    'document.getElementById("answer").textContent.includes("done after")'), true);
+}
+
 const CONFLICT = `pardo 1
 rule common
 procs i < 4
@@ -71,7 +78,7 @@ export async function testProgramByLines() {
 }
 
 export async function testProgramLinesAndStops() {
-  await open('#example=prefix.pardo');
+  await openProgram('#example=prefix.pardo');
   const line = lineOf('prefix', 'A[i] :=');
   const part = (name) => `#gutter [data-line="${line}"] .${name}`;
   await page.click(part('number'));
@@ -95,7 +102,7 @@ export async function testProgramLinesAndStops() {
 }
 
 export async function testMachineSteps() {
-  await open('#example=prefix.pardo');
+  await openProgram('#example=prefix.pardo');
   await clicks('#step-on', 2);
   await page.click('#by-machine');
   is('the steps of the machine', await valueOf('#step'), '11');
@@ -147,7 +154,7 @@ export async function testProgramGone() {
 }
 
 export async function testProgramByWorkers() {
-  await open('#example=prefix.pardo&view=workers&workers=3');
+  await openProgram('#example=prefix.pardo&view=workers&workers=3');
   await has('cells by name', '#read-cells li:nth-child(3) .cell-number', 'A[2]');
   await page.click('#next-finish');
   await page.click('#next-finish');
