@@ -139,22 +139,34 @@ fn lost(rt: &(impl AllocGlobal + Abort), row: &Row, steps: u64) -> Result<bool, 
     Ok(false)
 }
 
+// A worker, and the seat that it works at.
+#[derive(Drop)]
+struct Hand {
+    seat: Seat,
+    worker: Worker,
+}
+
+// A worker that starts.
+fn starting(board: &Board, seat: Seat, number: u32) -> Hand
+    requires worker { number < board.now.task.layout.workers }
+    requires seat { seat.desk ≡ board.now }
+    ensures { Works board.now result.seat result.worker }
+{
+    Hand {
+        seat,
+        worker: Worker::start(number),
+    }
+}
+
 // Two workers take turns, so many steps each.
-fn take_turns(
-    board: &Board,
-    seat: &mut Seat,
-    worker: &mut Worker,
-    other: &mut Seat,
-    twin: &mut Worker,
-    steps: u64,
-)
-    requires works { Works board.now seat.old worker.old }
-    requires twin { Works board.now other.old twin.old }
-    ensures twin { Works board.now other.new twin.new }
+fn take_turns(board: &Board, first: &mut Hand, second: &mut Hand, steps: u64)
+    requires first { Works board.now first.old.seat first.old.worker }
+    requires second { Works board.now second.old.seat second.old.worker }
+    ensures second { Works board.now second.new.seat second.new.worker }
 {
     for _ in 0..steps {
-        board.tick(seat, worker);
-        board.tick(other, twin);
+        board.tick(&mut first.seat, &mut first.worker);
+        board.tick(&mut second.seat, &mut second.worker);
     }
 }
 
@@ -162,31 +174,44 @@ fn take_turns(
 // first was over before.
 fn twins(rt: &(impl AllocGlobal + Abort), row: &Row, steps: u64) -> Result<bool, Fail> {
     let (board, seat) = laid(rt, row)?;
-    let (mut seat, mut other) = board.split(seat);
-    let mut worker = Worker::start(0);
-    let mut twin = Worker::start(0);
-    take_turns(&board, &mut seat, &mut worker, &mut other, &mut twin, steps);
-    let answer = finished(rt, &board, &mut other, &mut twin)?;
+    let (seat, other) = board.split(seat);
+    let mut first = starting(&board, seat, 0);
+    let mut twin = starting(&board, other, 0);
+    take_turns(&board, &mut first, &mut twin, steps);
+    let answer = finished(rt, &board, &mut twin.seat, &mut twin.worker)?;
     assert!(rt; is_answer(&answer, row.answer), "{steps} steps");
-    Ok(worker.ended().is_some())
+    Ok(first.worker.ended().is_some())
 }
 
-fn survives_loss(rt: &(impl AllocGlobal + Abort), row: &Row) -> Result<(), Fail> {
+// What a worker is given up beside: another one that finishes, or a twin that takes turns with it.
+#[derive(Clone, Copy)]
+enum Beside {
+    Another,
+    Twin,
+}
+
+// A worker is given up after each number of its steps.
+fn survives(rt: &(impl AllocGlobal + Abort), row: &Row, beside: Beside) -> Result<(), Fail> {
     for steps in 0..2000 {
-        if lost(rt, row, steps)? {
+        let was_over = match beside {
+            Beside::Another => lost(rt, row, steps)?,
+            Beside::Twin => twins(rt, row, steps)?,
+        };
+        if was_over {
             return Ok(());
         }
     }
     panic!(rt; "not over")
 }
 
-fn survives_twins(rt: &(impl AllocGlobal + Abort), row: &Row) -> Result<(), Fail> {
-    for steps in 0..2000 {
-        if twins(rt, row, steps)? {
-            return Ok(());
-        }
+// A row of five cells, on a board with blocks or without.
+fn five_cells<'a>(text: &'a str, blocks: bool, answer: Option<&'a [u32]>) -> Row<'a> {
+    Row {
+        text,
+        cells: 5,
+        blocks,
+        answer,
     }
-    panic!(rt; "not over")
 }
 
 #[test]
@@ -197,59 +222,37 @@ fn a_worker_lost_at_each_step(rt: HostRuntime) -> Result<(), Fail> {
         blocks: false,
         answer: Some(&[9, 7]),
     };
-    survives_loss(&rt, &row)?;
-    survives_twins(&rt, &row)
+    survives(&rt, &row, Beside::Another)?;
+    survives(&rt, &row, Beside::Twin)
 }
 
 #[test]
 fn a_worker_lost_before_a_conflict(rt: HostRuntime) -> Result<(), Fail> {
-    let text = one_cell(&rt, "common", "r0")?;
-    let row = Row {
-        text: text.as_str(),
-        cells: 5,
-        blocks: false,
-        answer: None,
-    };
-    survives_loss(&rt, &row)?;
-    survives_twins(&rt, &row)
-}
-
-#[test]
-fn a_worker_lost_under_crew(rt: HostRuntime) -> Result<(), Fail> {
-    let text = one_cell(&rt, "crew", "r1")?;
-    let row = Row {
-        text: text.as_str(),
-        cells: 5,
-        blocks: false,
-        answer: None,
-    };
-    survives_loss(&rt, &row)?;
-    survives_twins(&rt, &row)
+    for (rule, value) in [("common", "r0"), ("crew", "r1")] {
+        let text = one_cell(&rt, rule, value)?;
+        let row = five_cells(text.as_str(), false, None);
+        survives(&rt, &row, Beside::Another)?;
+        survives(&rt, &row, Beside::Twin)?;
+    }
+    Ok(())
 }
 
 // A worker that comes back begins its block again.
 #[test]
 fn a_worker_lost_in_a_block(rt: HostRuntime) -> Result<(), Fail> {
-    survives_loss(&rt, &with_blocks(DOUBLED, Some(&[20, 22, 24, 26, 28])))
+    let row = five_cells(DOUBLED, true, Some(&[20, 22, 24, 26, 28]));
+    survives(&rt, &row, Beside::Another)
 }
 
 #[test]
 fn twins_in_a_block(rt: HostRuntime) -> Result<(), Fail> {
-    survives_twins(&rt, &with_blocks(DOUBLED, Some(&[20, 22, 24, 26, 28])))
+    let row = five_cells(DOUBLED, true, Some(&[20, 22, 24, 26, 28]));
+    survives(&rt, &row, Beside::Twin)
 }
 
 #[test]
 fn a_conflict_within_a_block(rt: HostRuntime) -> Result<(), Fail> {
-    survives_loss(&rt, &with_blocks(DISPUTED, None))
-}
-
-fn with_blocks<'a>(text: &'a str, answer: Option<&'a [u32]>) -> Row<'a> {
-    Row {
-        text,
-        cells: 5,
-        blocks: true,
-        answer,
-    }
+    survives(&rt, &five_cells(DISPUTED, true, None), Beside::Another)
 }
 
 // Two workers take turns and are given up, and a third one ends what they began.
@@ -257,11 +260,11 @@ fn with_blocks<'a>(text: &'a str, answer: Option<&'a [u32]>) -> Row<'a> {
 fn blocks_answer_as_the_plain_machine(rt: HostRuntime) -> Result<(), Fail> {
     let job = read_job(rt.alloc(), DOUBLED.as_bytes())?;
     let (board, seat) = Board::open_with_blocks(rt.alloc(), &job, 3, 4)?;
-    let (mut seat, rest) = board.split(seat);
-    let (mut other, mut last) = board.split(rest);
-    let mut worker = Worker::start(0);
-    let mut twin = Worker::start(1);
-    take_turns(&board, &mut seat, &mut worker, &mut other, &mut twin, 100);
+    let (seat, rest) = board.split(seat);
+    let (other, mut last) = board.split(rest);
+    let mut first = starting(&board, seat, 0);
+    let mut second = starting(&board, other, 1);
+    take_turns(&board, &mut first, &mut second, 100);
     let answer = finished(&rt, &board, &mut last, &mut Worker::start(2))?;
     match plain_answer(rt.alloc(), &job)? {
         RunAnswer::Final(cells) => assert!(rt; is_answer(&answer, Some(cells.as_slice()))),
@@ -273,22 +276,9 @@ fn blocks_answer_as_the_plain_machine(rt: HostRuntime) -> Result<(), Fail> {
 #[test]
 fn a_worker_lost_under_priority(rt: HostRuntime) -> Result<(), Fail> {
     let text = one_cell(&rt, "priority", "r0")?;
-    survives_loss(&rt, &under_priority(text.as_str()))
-}
-
-#[test]
-fn twins_under_priority(rt: HostRuntime) -> Result<(), Fail> {
-    let text = one_cell(&rt, "priority", "r0")?;
-    survives_twins(&rt, &under_priority(text.as_str()))
-}
-
-fn under_priority(text: &str) -> Row<'_> {
-    Row {
-        text,
-        cells: 5,
-        blocks: false,
-        answer: Some(&[0, 1, 0, 1, 1]),
-    }
+    let row = five_cells(text.as_str(), false, Some(&[0, 1, 0, 1, 1]));
+    survives(&rt, &row, Beside::Another)?;
+    survives(&rt, &row, Beside::Twin)
 }
 
 #[test]

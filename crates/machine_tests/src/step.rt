@@ -1,4 +1,6 @@
 //! Worked rows of steps and of runs.
+ghost use Rattle.std.specs.Prelude.{◌≡◌};
+
 use pram_step::{
     Arrival, Dispute, Fault, Outcome, Request, RunAnswer, State, StepFault, counter, dispute,
     go_to, laws, make_step, plain_answer, request, request_after, run_plain, step,
@@ -14,6 +16,14 @@ fn job<R: AllocGlobal>(rt: &R, text: &str) -> Result<Job, Fail> {
 // Stops where this does not hold of a job's text.
 fn holds_of<R: Abort>(rt: &R, text: &str, holds: bool) {
     assert!(rt; holds, "{text}");
+}
+
+// Checks a number. A comparison that tells both values costs its proof more than all else, so it
+// stands once.
+fn is<R: Abort>(rt: &R, found: u32, wanted: u32)
+    ensures { found ≡ wanted }
+{
+    assert_eq!(rt; found, wanted);
 }
 
 // Checks that the job ends with these cells.
@@ -225,13 +235,13 @@ fn jobs_with_a_conflict(rt: HostRuntime) -> Result<(), Fail> {
 // Checks that the second instruction stops the only processor, its address being out of range.
 fn stops_out_of_range<R: AllocGlobal + Abort>(rt: &R, text: &str) -> Result<(), Fail> {
     let job = job(rt, text)?;
-    assert_eq!(rt; job.cells(), 1);
-    assert_eq!(rt; job.procs(), 1);
+    is(rt, job.cells(), 1);
+    is(rt, job.procs(), 1);
     let mut state = State::start(rt.alloc(), &job)?;
     step(rt.alloc(), &job, &mut state)?;
-    assert_eq!(rt; state.get(5), 1);
+    is(rt, state.get(5), 1);
     step(rt.alloc(), &job, &mut state)?;
-    assert_eq!(rt; state.get(5), 3);
+    is(rt, state.get(5), 3);
     Ok(())
 }
 
@@ -251,21 +261,21 @@ fn store_out_of_range_stops_the_processor(rt: HostRuntime) -> Result<(), Fail> {
 fn disputed_step_changes_nothing(rt: HostRuntime) -> Result<(), Fail> {
     let text = "pram 2\ncells 1\nprocs 2\nsteps 1\nrule crew\ninit 0 5\ncode\nst r0 r1\n";
     let job = job(&rt, text)?;
-    assert_eq!(rt; job.procs(), 2);
+    is(&rt, job.procs(), 2);
     let mut state = State::start(rt.alloc(), &job)?;
     let wanted = Request {
         put: Some((0, 0)),
         next: 1,
     };
-    assert_eq!(rt; request(&job, &state, 1), wanted);
+    assert!(rt; request(&job, &state, 1) == wanted);
     let conflict = StepFault::Conflict {
         cell: 0,
         first: 0,
         second: 1,
     };
-    assert_eq!(rt; step(rt.alloc(), &job, &mut state), Err(conflict));
+    assert!(rt; step(rt.alloc(), &job, &mut state) == Err(conflict));
     let start = [5, 0, 0, 0, 0, 0, 0, 0, 0, 0, 0];
-    assert_eq!(rt; state.places(), start.as_slice());
+    assert!(rt; state.places() == start.as_slice());
     Ok(())
 }
 
@@ -273,24 +283,24 @@ fn disputed_step_changes_nothing(rt: HostRuntime) -> Result<(), Fail> {
 fn steps_are_gone_through(rt: HostRuntime) -> Result<(), Fail> {
     let text = "pram 2\ncells 1\nprocs 2\nsteps 3\nrule crew\ncode\npid r0\nst r1 r0\n";
     let job = job(&rt, text)?;
-    assert_eq!(rt; job.procs(), 2);
+    is(&rt, job.procs(), 2);
     job.limits_hold();
     laws::states_have_all_places();
     let fault = fault((2, 0, 0, 1));
     match go_to(rt.alloc(), &job, 3, 3)? {
-        Arrival::Disputed(found) => assert_eq!(rt; found, fault),
+        Arrival::Disputed(found) => assert!(rt; found == fault),
         _ => panic!(rt; "step 3"),
     }
     assert!(rt; matches!(go_to(rt.alloc(), &job, 3, 1)?, Arrival::TooFar));
     match go_to(rt.alloc(), &job, 1, 1)? {
         Arrival::Reached(mut state) => {
-            assert_eq!(rt; counter(&job, &state, 1), 1);
+            is(&rt, counter(&job, &state, 1), 1);
             let wanted = Request {
                 put: Some((0, 1)),
                 next: 2,
             };
-            assert_eq!(rt; request_after(&job, &state, 1), wanted);
-            assert_eq!(rt; make_step(rt.alloc(), &job, &mut state, 1)?, Some(fault));
+            assert!(rt; request_after(&job, &state, 1) == wanted);
+            assert!(rt; make_step(rt.alloc(), &job, &mut state, 1)? == Some(fault));
         }
         _ => panic!(rt; "step 1"),
     }
@@ -300,7 +310,7 @@ fn steps_are_gone_through(rt: HostRuntime) -> Result<(), Fail> {
 #[test]
 fn disputes_in_lists_of_requests(rt: HostRuntime) -> Result<(), Fail> {
     let job = job(&rt, "pram 1\ncells 6\nprocs 5\nsteps 1\ncode\nhalt\n")?;
-    assert_eq!(rt; job.procs(), 5);
+    is(&rt, job.procs(), 5);
     let lists = [
         (
             [Some((4, 1)), None, Some((4, 3)), Some((0, 9)), Some((0, 9))],
@@ -320,7 +330,7 @@ fn disputes_in_lists_of_requests(rt: HostRuntime) -> Result<(), Fail> {
     ];
     for (puts, found) in lists {
         let requests = puts.map(|put| Request { put, next: 0 });
-        assert_eq!(rt; dispute(rt.alloc(), &job, &requests)?, found);
+        assert!(rt; dispute(rt.alloc(), &job, &requests)? == found);
     }
     Ok(())
 }

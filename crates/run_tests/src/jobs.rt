@@ -1,6 +1,13 @@
 //! The jobs of the tests, and what is wanted of them.
 ghost use Rattle.std.specs.Prelude.{◌≡◌, IfOk};
 
+mod growths;
+mod heard;
+mod replays;
+mod streams;
+mod threads;
+mod watches;
+
 use pram_step::{Fault, RunAnswer};
 use std::process::Abort;
 use std::test::Fail;

@@ -3,16 +3,4 @@
 #![tactic(auto)]
 
 #[cfg(test)]
-mod growths;
-#[cfg(test)]
-mod heard;
-#[cfg(test)]
 mod jobs;
-#[cfg(test)]
-mod replays;
-#[cfg(test)]
-mod streams;
-#[cfg(test)]
-mod threads;
-#[cfg(test)]
-mod watches;

@@ -1,16 +1,15 @@
 //! A worker lost at each of its atomic steps, come back, and twinned; and each public call once.
 ghost use Rattle.std.specs.Prelude.{◌≡◌, IfOk};
-ghost use Rattle.walkx.specs.Reads.{LooksFit};
-ghost use Rattle.walkx.specs.Serving.{Follows};
-ghost use Rattle.walkx.specs.Walk.{IsLayoutOf};
 
+use crate::worker::{Bench, WRITTEN, sees_the_older_value};
 use pram_step::{Fault, RunAnswer};
-use pram_text::{Job, read_job};
-use pram_words::{Kind, Layout, phase, stamped};
+use pram_text::read_job;
+use pram_words::Layout;
 use pram_world::{Effect, Event, World, laws};
+use std::alloc::{AllocError, Global};
 use std::process::Abort;
 use std::test::Fail;
-use walkx::{Ended, Op, ReadOp, Reader, Reading};
+use walkx::{Ended, Op};
 
 const SWAP: &str = "pram 1\ncells 2\nprocs 2\nsteps 5\ninit 0 7\ninit 1 9\ncode\n\
     pid r0\nset r1 1\nsub r1 r1 r0\nld r2 r1\nst r0 r2\n";
@@ -46,9 +45,25 @@ fn go(world: &mut World, body: usize, steps: u32) -> bool {
     false
 }
 
-fn is_answer(world: &World, cells: &[u32], conflict: Option<Fault>) -> Result<bool, Fail> {
-    Ok(match (world.outcome()?, conflict) {
-        (RunAnswer::Final(found), None) => found.as_slice() == cells,
+// A job's text, and how it ends: with these cells, or with a conflict.
+#[derive(Drop)]
+struct Row<'a> {
+    text: &'a str,
+    cells: &'a [u32],
+    conflict: Option<Fault>,
+}
+
+fn row_of<'a>(text: &'a str, cells: &'a [u32], conflict: Option<Fault>) -> Row<'a> {
+    Row {
+        text,
+        cells,
+        conflict,
+    }
+}
+
+fn is_answer(world: &World, row: &Row) -> Result<bool, Fail> {
+    Ok(match (world.outcome()?, row.conflict) {
+        (RunAnswer::Final(found), None) => found.as_slice() == row.cells,
         (RunAnswer::Conflict(found), Some(fault)) => found == fault,
         _ => false,
     })
@@ -61,30 +76,25 @@ const AT_STEP_FIVE: Option<Fault> = Some(Fault {
     second: 3,
 });
 
-fn end_of(conflict: Option<Fault>) -> Ended {
-    match conflict {
+fn end_of(row: &Row) -> Ended {
+    match row.conflict {
         None => Ended::Done,
         Some(fault) => Ended::Conflict(fault.step),
     }
 }
 
 // Worker 0 is lost after each number of its steps, and comes back once worker 1 is over.
-fn survives_a_loss(
-    rt: &(impl AllocGlobal + Abort),
-    text: &str,
-    cells: &[u32],
-    conflict: Option<Fault>,
-) -> Result<(), Fail> {
-    let end = end_of(conflict);
+fn survives_a_loss(rt: &(impl AllocGlobal + Abort), row: &Row) -> Result<(), Fail> {
+    let end = end_of(row);
     for steps in 0..2000 {
-        let mut lost = world(rt, text)?;
+        let mut lost = world(rt, row.text)?;
         if go(&mut lost, 0, steps) {
             return Ok(());
         }
         lost.event(Event::Stop(0));
         assert_eq!(rt; lost.finish(0), None);
         assert_eq!(rt; lost.finish(1), Some(end), "{steps} steps");
-        assert!(rt; is_answer(&lost, cells, conflict)?, "{steps} steps");
+        assert!(rt; is_answer(&lost, row)?, "{steps} steps");
         lost.event(Event::Back(0));
         assert_eq!(rt; lost.finish(0), Some(end), "{steps} steps");
     }
@@ -92,15 +102,10 @@ fn survives_a_loss(
 }
 
 // Worker 0 and its twin take turns, until worker 0 is lost after each number of its steps.
-fn survives_beside_a_twin(
-    rt: &(impl AllocGlobal + Abort),
-    text: &str,
-    cells: &[u32],
-    conflict: Option<Fault>,
-) -> Result<(), Fail> {
-    let end = end_of(conflict);
+fn survives_beside_a_twin(rt: &(impl AllocGlobal + Abort), row: &Row) -> Result<(), Fail> {
+    let end = end_of(row);
     for steps in 0..2000 {
-        let mut twins = world(rt, text)?;
+        let mut twins = world(rt, row.text)?;
         let twin = twins.twin(0)?;
         for _ in 0..steps {
             twins.event(Event::Go(0));
@@ -111,53 +116,36 @@ fn survives_beside_a_twin(
         }
         twins.event(Event::Stop(0));
         assert_eq!(rt; twins.finish(twin), Some(end), "{steps} steps");
-        assert!(rt; is_answer(&twins, cells, conflict)?, "{steps} steps");
+        assert!(rt; is_answer(&twins, row)?, "{steps} steps");
     }
     panic!(rt; "not over")
 }
 
+fn survives(rt: &(impl AllocGlobal + Abort), row: &Row) -> Result<(), Fail> {
+    survives_a_loss(rt, row)?;
+    survives_beside_a_twin(rt, row)
+}
+
 #[test]
 fn a_lost_worker_leaves_two_cells_changed_places(rt: HostRuntime) -> Result<(), Fail> {
-    survives_a_loss(&rt, SWAP, &[9, 7], None)
+    survives(&rt, &row_of(SWAP, &[9, 7], None))
 }
 
 #[test]
 fn a_lost_worker_leaves_the_conflict(rt: HostRuntime) -> Result<(), Fail> {
-    survives_a_loss(&rt, DISPUTED, &[], AT_STEP_FIVE)
+    survives(&rt, &row_of(DISPUTED, &[], AT_STEP_FIVE))
 }
 
 #[test]
 fn a_lost_worker_leaves_the_least_writer(rt: HostRuntime) -> Result<(), Fail> {
     let text = one_cell(&rt, "priority", "r0")?;
-    survives_a_loss(&rt, text.as_str(), &[0, 1, 0, 1, 1], None)
+    survives(&rt, &row_of(text.as_str(), &[0, 1, 0, 1, 1], None))
 }
 
 #[test]
 fn a_lost_worker_leaves_the_second_writer(rt: HostRuntime) -> Result<(), Fail> {
     let text = one_cell(&rt, "crew", "r1")?;
-    survives_a_loss(&rt, text.as_str(), &[], AT_STEP_FIVE)
-}
-
-#[test]
-fn a_lost_twin_leaves_two_cells_changed_places(rt: HostRuntime) -> Result<(), Fail> {
-    survives_beside_a_twin(&rt, SWAP, &[9, 7], None)
-}
-
-#[test]
-fn a_lost_twin_leaves_the_conflict(rt: HostRuntime) -> Result<(), Fail> {
-    survives_beside_a_twin(&rt, DISPUTED, &[], AT_STEP_FIVE)
-}
-
-#[test]
-fn a_lost_twin_leaves_the_least_writer(rt: HostRuntime) -> Result<(), Fail> {
-    let text = one_cell(&rt, "priority", "r0")?;
-    survives_beside_a_twin(&rt, text.as_str(), &[0, 1, 0, 1, 1], None)
-}
-
-#[test]
-fn a_lost_twin_leaves_the_second_writer(rt: HostRuntime) -> Result<(), Fail> {
-    let text = one_cell(&rt, "crew", "r1")?;
-    survives_beside_a_twin(&rt, text.as_str(), &[], AT_STEP_FIVE)
+    survives(&rt, &row_of(text.as_str(), &[], AT_STEP_FIVE))
 }
 
 #[test]
@@ -168,7 +156,7 @@ fn twins_take_turns(rt: HostRuntime) -> Result<(), Fail> {
         world.run_events(&[Event::Go(0), Event::Go(2)]);
     }
     assert!(rt; !world.is_going(0) && !world.is_going(2));
-    assert!(rt; is_answer(&world, &[9, 7], None)?);
+    assert!(rt; is_answer(&world, &row_of(SWAP, &[9, 7], None))?);
     Ok(())
 }
 
@@ -206,71 +194,23 @@ fn events_and_effects(rt: HostRuntime) -> Result<(), Fail> {
     Ok(())
 }
 
-// A job, its board for one worker, and the world after these events.
-fn one_worker(
-    rt: &impl AllocGlobal,
-    text: &str,
-    events: &[Event],
-) -> Result<(Job, Layout, World), Fail>
-    ensures layout { IfOk result (λ b. IsLayoutOf b.0 b.1) }
-    ensures board { IfOk result (λ b. b.2.layout ≡ b.1) }
-{
-    let job = read_job(rt.alloc(), text.as_bytes())?;
-    let layout = Layout::new(&job, 1);
-    let mut world = World::new(rt.alloc(), &job, 1)?;
-    world.run_events(events);
-    Ok((job, layout, world))
-}
-
-// Makes one step of a reader: the operation, and the word.
-fn look(
-    rt: &impl Abort,
-    job: &Job,
-    layout: &Layout,
-    reader: &mut Reader,
-    world: &World,
-) -> (ReadOp, u64)
-    requires layout { IsLayoutOf job.now layout.now }
-    requires board { world.now.layout ≡ layout.now }
-    requires follows { Follows layout.now reader.old }
-    requires fits { LooksFit job.now layout.now reader.old.looking }
-    ensures follows { Follows layout.now reader.new }
-    ensures fits { LooksFit job.now layout.now reader.new.looking }
-{
-    let op = reader.ask(layout);
-    let ReadOp::Load(k) = op else {
-        return (op, 0);
-    };
-    let found = world.load(k);
-    assert!(rt; layout.admits(job, k, found));
-    reader.tell(job, layout, found);
-    (op, found)
+// The words of a world, as a reader loads them.
+fn words_of(alloc: Global, world: &World) -> Result<Vec<u64>, AllocError> {
+    let mut words = Vec::new(alloc);
+    for k in 0..world.layout().length() {
+        words.push(world.load(k))?;
+    }
+    Ok(words)
 }
 
 #[test]
 fn a_read_between_two_steps_sees_the_older_one(rt: HostRuntime) -> Result<(), Fail> {
-    let (job, layout, world) = one_worker(
-        &rt,
-        "pram 1\ncells 1\nprocs 1\nsteps 2\ninit 0 4\ncode\nset r1 7\nst r0 r1\n",
-        &[Event::Go(0); 53],
-    )?;
-    let mut reader = Reader::new(0);
-    assert_eq!(rt;
-        look(&rt, &job, &layout, &mut reader, &world),
-        (ReadOp::Load(1), phase(2, Kind::Compute))
-    );
-    assert_eq!(rt;
-        look(&rt, &job, &layout, &mut reader, &world),
-        (ReadOp::Load(6), stamped(2, 7))
-    );
-    assert_eq!(rt;
-        look(&rt, &job, &layout, &mut reader, &world),
-        (ReadOp::Load(7), 4)
-    );
-    assert_eq!(rt;
-        reader.ask(&layout),
-        ReadOp::Over(Reading::At { step: 1, value: 4 })
-    );
+    let job = read_job(rt.alloc(), WRITTEN.as_bytes())?;
+    let layout = Layout::new(&job, 1);
+    let mut world = World::new(rt.alloc(), &job, 1)?;
+    world.run_events(&[Event::Go(0); 53]);
+    let words = words_of(rt.alloc(), &world)?;
+    sees_the_older_value(&rt, &Bench { job, layout }, words.as_slice());
     Ok(())
 }
 

@@ -3,6 +3,6 @@ use Rattle.board_tests.proofs.board.take_turns.Given as goal
 
 abbrev pub invariant-loop : goal.invariant-loop
 invariant-loop l = record {
-  works : Works l.board l.seat l.worker;
-  twin : Works l.board l.other l.twin;
+  first : Works l.board l.first.seat l.first.worker;
+  second : Works l.board l.second.seat l.second.worker;
 }

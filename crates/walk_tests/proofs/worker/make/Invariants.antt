@@ -2,4 +2,4 @@ use Rattle.walkx.specs.Serving.{Serves}
 use Rattle.walk_tests.proofs.worker.make.Given as goal
 
 abbrev pub invariant-loop : goal.invariant-loop
-invariant-loop g l = Serves l.job l.layout l.worker
+invariant-loop g l = Serves l.bench.job l.bench.layout l.worker
