@@ -1,6 +1,6 @@
 //! Programs of `pardo`: why a text is none, the text of a program's job with the lines that its
 //! instructions came from, and the program's lines of code.
-ghost use Rattle.std.specs.Prelude.{◌≡◌, ◌⊎◌, [], IfErr, IfOk, map, slice_index, string_bytes};
+ghost use Rattle.std.specs.Prelude.{◌≡◌, [], IfErr, IfOk, map, slice_index, string_bytes};
 ghost use Rattle.pram_text.specs.Text.{Spells};
 ghost use Rattle.pardo_text.specs.Lawful.{IsProgram};
 ghost use Rattle.pardo_text.specs.Reading.{program_of};

@@ -30,6 +30,9 @@ fn a_job_of_a_program_is_told(rt: HostRuntime) -> Result<(), Fail> {
     pram_page_compile(rt.alloc(), text, &mut job, &mut lines, &mut told);
     assert_eq!(rt; (told.code, told.fault, told.line), (DONE, 0, 0));
     let (bytes, rows) = (told.bytes as usize, told.rows as usize);
+    assert!(rt; bytes < 900);
+    assert!(rt; rows < 60);
+    assert!(rt; 0 < rows);
     assert_eq!(rt; (job[bytes], lines[rows]), (b'-', 99));
     assert_eq!(rt; (lines[0], lines[1], lines[rows - 1]), (0, 8, 12));
     let mut judged = Judgement {

@@ -1,4 +1,4 @@
-use Rattle.std.proofs.Common.{◌≡◌, ℕ, List, ◌∙◌, ap, subst, sym}
+use Rattle.std.proofs.Common.{ℕ, List, ◌∙◌, ap, subst, sym}
 use Rattle.std.specs.Prelude.{slice_index}
 use Rattle.pram_text.specs.Text.{Spells}
 use Rattle.job_text.specs.Laws.{JumpsLand}
