@@ -291,10 +291,10 @@ fn looks_before_and_after_the_work(rt: HostRuntime) -> Result<(), Fail> {
         conflict: None,
     };
     let seen = (board.progress(&mut seat), board.read(&mut seat, 0));
-    assert_eq!(rt; seen, (fresh, Reading::At { step: 0, value: 0 }));
+    assert!(rt; seen == (fresh, Reading::At { step: 0, value: 0 }));
     let (mut seat, mut other) = board.split(seat);
     let stay = board.work(&mut seat, &mut Worker::start(0), &Open, None);
-    assert_eq!(rt; stay, Stay::Ended(Ended::Done));
+    assert!(rt; stay == Stay::Ended(Ended::Done));
     let last = Reading::At {
         step: 3,
         value: 4294967295,
@@ -302,7 +302,7 @@ fn looks_before_and_after_the_work(rt: HostRuntime) -> Result<(), Fail> {
     // The other seat hears it from the words.
     let seen = (board.read(&mut seat, 0), board.progress(&mut other).step);
     let mut joined = board.join(other, seat);
-    assert_eq!(rt; (seen, board.read(&mut joined, 0)), ((last, 3), last));
+    assert!(rt; (seen, board.read(&mut joined, 0)) == ((last, 3), last));
     Ok(())
 }
 
@@ -316,7 +316,7 @@ fn a_job_without_steps(rt: HostRuntime) -> Result<(), Fail> {
         conflict: None,
     };
     let seen = (board.progress(&mut seat), board.read(&mut seat, 0));
-    assert_eq!(rt; seen, (fresh, Reading::At { step: 0, value: 5 }));
+    assert!(rt; seen == (fresh, Reading::At { step: 0, value: 5 }));
     let answer = finished(&rt, &board, &mut seat, &mut Worker::start(63))?;
     assert!(rt; is_answer(&answer, Some(&[5])));
     Ok(())
@@ -343,7 +343,7 @@ fn passes_alone(rt: &(impl AllocGlobal + Abort)) -> Result<u64, Fail> {
         passes: AtomicU64::new(0),
     };
     let stay = board.work(&mut seat, &mut Worker::start(0), &gate, None);
-    assert_eq!(rt; stay, Stay::Ended(Ended::Conflict(5)));
+    assert!(rt; stay == Stay::Ended(Ended::Conflict(5)));
     Ok(gate.passes.load(Ordering::SeqCst))
 }
 
@@ -354,11 +354,8 @@ fn a_gate_is_passed_before_each_step(rt: HostRuntime) -> Result<(), Fail> {
     let (board, mut seat) = opened(&rt, DISPUTED, 5)?;
     let mut worker = Worker::start(0);
     let stay = board.work(&mut seat, &mut worker, &Open, passes.checked_sub(1));
-    assert_eq!(rt; stay, Stay::Stopped);
-    assert_eq!(rt;
-        board.tick(&mut seat, &mut worker),
-        Some(Ended::Conflict(5))
-    );
+    assert!(rt; stay == Stay::Stopped);
+    assert!(rt; board.tick(&mut seat, &mut worker) == Some(Ended::Conflict(5)));
     Ok(())
 }
 
@@ -371,12 +368,12 @@ fn a_position_that_was_stored_is_found(rt: HostRuntime) -> Result<(), Fail> {
         passes: AtomicU64::new(0),
     };
     let stay = board.work(&mut seat, &mut Worker::start(0), &gate, Some(15));
-    assert_eq!(rt; stay, Stay::Stopped);
-    assert_eq!(rt; gate.passes.load(Ordering::SeqCst), 15);
+    assert!(rt; stay == Stay::Stopped);
+    assert!(rt; gate.passes.load(Ordering::SeqCst) == 15);
     let mut worker = Worker::back(0);
     let stay = board.work(&mut seat, &mut worker, &Open, Some(88));
-    assert_eq!(rt; stay, Stay::Stopped);
-    assert_eq!(rt; board.tick(&mut seat, &mut worker), Some(Ended::Done));
+    assert!(rt; stay == Stay::Stopped);
+    assert!(rt; board.tick(&mut seat, &mut worker) == Some(Ended::Done));
     Ok(())
 }
 
@@ -396,9 +393,9 @@ fn look_after_conflict(
     };
     let held = Reading::At { step: 4, value: 0 };
     let seen = (board.progress(&mut seat), board.read(&mut seat, 4));
-    assert_eq!(rt; seen, (progress, held));
+    assert!(rt; seen == (progress, held));
     let seen = (board.progress(&mut other), board.read(&mut other, 4));
-    assert_eq!(rt; seen, (progress, held));
+    assert!(rt; seen == (progress, held));
     Ok(())
 }
 
@@ -432,7 +429,7 @@ fn read_beside(
     for _ in 0..2000 {
         let Reading::At { step, value } = board.read(reader, 0);
         assert!(rt; step == seen || step.checked_sub(1) == Some(seen));
-        assert_eq!(rt; AFTER_STEPS.get(step as usize), Some(&value));
+        assert!(rt; AFTER_STEPS.get(step as usize) == Some(&value));
         seen = step;
         if board.tick(seat, worker).is_some() {
             return seen;
@@ -446,7 +443,7 @@ fn reads_between_the_steps_of_a_worker(rt: HostRuntime) -> Result<(), Fail> {
     let (board, seat) = opened(&rt, EIGHT_STEPS, 1)?;
     let (mut seat, mut reader) = board.split(seat);
     let last = read_beside(&rt, &board, &mut reader, &mut seat, &mut Worker::start(0));
-    assert_eq!(rt; last, 8);
+    assert!(rt; last == 8);
     Ok(())
 }
 
@@ -457,11 +454,8 @@ fn a_read_beside_a_write_sees_the_older_value(rt: HostRuntime) -> Result<(), Fai
     let (board, seat) = opened(&rt, text, 1)?;
     let (mut seat, mut reader) = board.split(seat);
     let stay = board.work(&mut seat, &mut Worker::start(0), &Open, Some(53));
-    assert_eq!(rt; stay, Stay::Stopped);
-    assert_eq!(rt;
-        board.read(&mut reader, 0),
-        Reading::At { step: 1, value: 4 }
-    );
+    assert!(rt; stay == Stay::Stopped);
+    assert!(rt; board.read(&mut reader, 0) == (Reading::At { step: 1, value: 4 }));
     Ok(())
 }
 

@@ -3,22 +3,11 @@
 //! `pramx watch FILE --workers W --cells C,C,.. --rounds R`.
 #![tactic(auto)]
 
-ghost use Rattle.std.specs.Prelude.{◌≡◌, ◌≢◌, ◌⊎◌, ◌≤◌, false, map};
-ghost use Rattle.clap.specs.Words.{kind_of};
-ghost use Rattle.pram_commands.specs.Did.{writing};
-ghost use Rattle.pramx.specs.Answering.{AnswersWords};
-ghost use Rattle.pramx.specs.CommandLine.{EndsByWords};
+ghost use Rattle.std.specs.Prelude.{◌≡◌, ◌≤◌, false};
 
-mod input;
-mod line;
-#[cfg(test)]
-mod tests;
-
-use crate::input::RealFiles;
-use crate::line::read_line;
-use clap::error::ErrorKind;
-use pram_commands::{Console, DONE, FAILED, Folder, MEMORY, Refusal, serve_files, tell};
-use pram_streams::{IntoWrite, Sink, put};
+use command_line::{RealFiles, answer_words};
+use pram_commands::{Console, Folder, MEMORY, Refusal, tell};
+use pram_streams::{IntoWrite, Sink};
 use std::alloc::{AllocError, Global};
 use std::env::{self, Env};
 use std::io::{self, IsTerminal};
@@ -69,61 +58,4 @@ fn words_of<R: AllocGlobal + Env>(rt: &R) -> io::Result<Vec<String>> {
 
 fn texts_of<'a>(alloc: Global, words: &'a [String]) -> Result<Vec<&'a str>, AllocError> {
     words.iter().map(|word| word.as_str()).collect(alloc)
-}
-
-/// Does what the words ask, of which the first is the program's name, over files, standard output
-/// and standard error, and answers the exit status.
-fn answer_words<'a, R: Eprint + Threads + Wait + Clock + Sync, F: Folder, O: Sink, E: Sink>(
-    rt: &R,
-    alloc: Global,
-    folder: &F,
-    words: &'a [&'a str],
-    console: &mut Console<O, E>,
-) -> u8
-    requires out { O.has_failed console.old.out ≡ false }
-    requires err { E.has_failed console.old.err ≡ false }
-    ensures status { result ≤ MEMORY }
-    ensures words { EndsByWords (map (λ word. word.now) words.entry.now) result }
-    ensures answers { AnswersWords (F.holds folder.now) (map (λ word. word.now) words.entry.now)
-        (writing O.Sink console.old.out console.new.out) result }
-{
-    match read_line(alloc, words, console.is_terminal) {
-        Ok(asked) => {
-            console.explains |= asked.explain;
-            serve_files(rt, alloc, folder, &asked.line, console)
-        }
-        Err(error) => refusal_status(alloc, &error, console),
-    }
-}
-
-/// Prints what `read_line` answers in place of a line, and answers its status: help and the version
-/// on the output, all else on standard error.
-fn refusal_status<O: Sink, E: Sink>(
-    alloc: Global,
-    error: &clap::Error,
-    console: &mut Console<O, E>,
-) -> u8
-    requires out { O.has_failed console.old.out ≡ false }
-    requires err { E.has_failed console.old.err ≡ false }
-    ensures status { result ≤ MEMORY }
-    ensures memory { kind_of error.now ≡ ErrorKind.OutOfMemory → result ≡ MEMORY }
-    ensures wrong { kind_of error.now ≢ ErrorKind.OutOfMemory
-        → kind_of error.now ≢ ErrorKind.DisplayHelp
-        → kind_of error.now ≢ ErrorKind.DisplayVersion → (result ≡ FAILED) ⊎ (result ≡ MEMORY) }
-    ensures shown { (result ≡ DONE) ⊎ (FAILED ≤ result) }
-{
-    if error.kind() == ErrorKind::OutOfMemory {
-        return tell(alloc, Refusal::Memory, &mut console.err);
-    }
-    let Ok(text) = format!(in alloc; "{error}") else {
-        return tell(alloc, Refusal::Memory, &mut console.err);
-    };
-    if error.use_stderr() {
-        let _ = put(&mut console.err, text.as_bytes());
-        return FAILED;
-    }
-    match put(&mut console.out, text.as_bytes()) {
-        Ok(()) => DONE,
-        Err(_) => tell(alloc, Refusal::Output, &mut console.err),
-    }
 }

@@ -14,16 +14,62 @@ const NAMES: &str = "procs i < 4\nshared A[3] = 5, ...\nshared found\ncode\n";
 /// The same of their jobs.
 const CELLS: &str = "array A 0 3\narray found 3 1\ninit 0 5 5 5 0\ncode\n";
 
-// What is printed of a program: its rule and code, and the steps and code of its job, with the
-// lines that its instructions come from.
-fn told(
-    alloc: Global,
-    rule: &str,
-    program: &str,
+/// A program by its rule and its code, the steps and the code of its job, and the lines that the
+/// job's instructions come from.
+#[derive(Clone, Copy)]
+struct Case {
+    rule: &'static str,
+    program: &'static str,
     steps: u32,
-    job: &str,
-    numbers: &[u64],
-) -> Result<Vec<u8>, Fail> {
+    job: &'static str,
+    numbers: &'static [u64],
+}
+
+/// Each with what is printed of it.
+const CASES: [(Case, &str); 3] = [
+    // arrays by name, and who left
+    (
+        Case {
+            rule: "priority",
+            program: "A[i] := 2 * i\nfound := 9\n",
+            steps: 5,
+            job: "pid r3\nmul r0 r3 2\nst A r3 r0\nst found 0 9\nhalt\n",
+            numbers: &[0, 7, 7, 8, 8],
+        },
+        "done steps=5\nA = 0 2 4\nfound = 9\ngone processor=3 line=7\n",
+    ),
+    // a conflict by line and place
+    (
+        Case {
+            rule: "common",
+            program: "A[0] := 1\nA[1 + (i >> 1)] := i\n",
+            steps: 5,
+            job: "pid r3\nst A 0 1\nshr r0 r3 1\nadd r0 r0 1\nst A r0 r3\nhalt\n",
+            numbers: &[0, 7, 8, 8, 8, 8],
+        },
+        "conflict line=8 place=A[1] processors=0,1\n",
+    ),
+    // a scalar by its name alone
+    (
+        Case {
+            rule: "crew",
+            program: "found := 1\n",
+            steps: 2,
+            job: "pid r3\nst found 0 1\nhalt\n",
+            numbers: &[0, 7, 7],
+        },
+        "conflict line=7 place=found processors=0,1\n",
+    ),
+];
+
+fn told(alloc: Global, case: Case) -> Result<Vec<u8>, Fail> {
+    let Case {
+        rule,
+        program,
+        steps,
+        job,
+        numbers,
+    } = case;
     let program = format!(in alloc; "pardo 1\nrule {rule}\n{NAMES}{program}")?;
     let job = format!(in alloc;
         "pram 3\ncells 4\nprocs 4\nsteps {steps}\nrule {rule}\n{CELLS}{job}"
@@ -42,53 +88,11 @@ fn told(
 }
 
 #[test]
-fn arrays_by_name_and_who_left(rt: HostRuntime) -> Result<(), Fail> {
-    let told = told(
-        rt.alloc(),
-        "priority",
-        "A[i] := 2 * i\nfound := 9\n",
-        5,
-        "pid r3\nmul r0 r3 2\nst A r3 r0\nst found 0 9\nhalt\n",
-        &[0, 7, 7, 8, 8],
-    )?;
-    assert_eq!(rt;
-        told.as_slice(),
-        b"done steps=5\nA = 0 2 4\nfound = 9\ngone processor=3 line=7\n".as_slice()
-    );
-    Ok(())
-}
-
-#[test]
-fn a_conflict_by_line_and_place(rt: HostRuntime) -> Result<(), Fail> {
-    let told = told(
-        rt.alloc(),
-        "common",
-        "A[0] := 1\nA[1 + (i >> 1)] := i\n",
-        5,
-        "pid r3\nst A 0 1\nshr r0 r3 1\nadd r0 r0 1\nst A r0 r3\nhalt\n",
-        &[0, 7, 8, 8, 8, 8],
-    )?;
-    assert_eq!(rt;
-        told.as_slice(),
-        b"conflict line=8 place=A[1] processors=0,1\n".as_slice()
-    );
-    Ok(())
-}
-
-#[test]
-fn a_scalar_by_its_name_alone(rt: HostRuntime) -> Result<(), Fail> {
-    let told = told(
-        rt.alloc(),
-        "crew",
-        "found := 1\n",
-        2,
-        "pid r3\nst found 0 1\nhalt\n",
-        &[0, 7, 7],
-    )?;
-    assert_eq!(rt;
-        told.as_slice(),
-        b"conflict line=7 place=found processors=0,1\n".as_slice()
-    );
+fn answers_by_names(rt: HostRuntime) -> Result<(), Fail> {
+    for (case, printed) in CASES {
+        let told = told(rt.alloc(), case)?;
+        assert!(rt; told.as_slice() == printed.as_bytes(), "{printed}");
+    }
     Ok(())
 }
 

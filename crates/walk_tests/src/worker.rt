@@ -201,7 +201,7 @@ fn one_processor_is_done_after_33_steps(rt: HostRuntime) -> Result<(), Fail> {
     let text = b"pram 1\ncells 1\nprocs 1\nsteps 1\ncode\nset r0 7\n";
     let (bench, mut words) = fresh(rt.alloc(), text)?;
     let mut worker = Worker::start(0);
-    assert_eq!(rt; worker.number(), 0);
+    assert!(rt; worker.number() == 0);
     let compute = phase(1, Kind::Compute);
     let apply = phase(1, Kind::Apply);
     let verify = phase(1, Kind::Verify);
@@ -246,11 +246,8 @@ fn one_processor_is_done_after_33_steps(rt: HostRuntime) -> Result<(), Fail> {
         (Op::Load(0), 0),
     ];
     follow(&rt, &bench, &mut worker, &mut words, &verifying);
-    assert_eq!(rt; worker.ended(), Some(Ended::Done));
-    assert_eq!(rt;
-        worker.ask(&bench.job, &bench.layout),
-        Op::Over(Ended::Done)
-    );
+    assert!(rt; worker.ended() == Some(Ended::Done));
+    assert!(rt; worker.ask(&bench.job, &bench.layout) == Op::Over(Ended::Done));
     Ok(())
 }
 
@@ -258,8 +255,8 @@ fn one_processor_is_done_after_33_steps(rt: HostRuntime) -> Result<(), Fail> {
 fn two_processors_are_done_after_101_steps(rt: HostRuntime) -> Result<(), Fail> {
     let (bench, mut words) = fresh(rt.alloc(), TWO)?;
     let mut worker = Worker::start(0);
-    assert_eq!(rt; run(&rt, &bench, &mut worker, &mut words, NEVER), 101);
-    assert_eq!(rt; worker.ended(), Some(Ended::Done));
+    assert!(rt; run(&rt, &bench, &mut worker, &mut words, NEVER) == 101);
+    assert!(rt; worker.ended() == Some(Ended::Done));
     Ok(())
 }
 
@@ -272,7 +269,7 @@ fn a_worker_comes_back_where_it_stood(rt: HostRuntime) -> Result<(), Fail> {
     follow(&rt, &bench, &mut worker, &mut words, &stored);
     let mut worker = Worker::back(0);
     follow(&rt, &bench, &mut worker, &mut words, &[(Op::Load(10), 3)]);
-    assert_eq!(rt; run(&rt, &bench, &mut worker, &mut words, NEVER), 88);
+    assert!(rt; run(&rt, &bench, &mut worker, &mut words, NEVER) == 88);
     Ok(())
 }
 
@@ -306,7 +303,7 @@ fn a_block_is_worked_in_order(rt: HostRuntime) -> Result<(), Fail> {
     let mark = [(Op::Max(16, phase(1, Kind::Compute)), 0)];
     follow(&rt, &bench, &mut worker, &mut words, &mark);
     make(&rt, &bench, &mut worker, &mut words, 50);
-    assert_eq!(rt; worker.ended(), Some(Ended::Done));
+    assert!(rt; worker.ended() == Some(Ended::Done));
     Ok(())
 }
 
@@ -315,10 +312,7 @@ fn one_that_comes_back_begins_its_block_again(rt: HostRuntime) -> Result<(), Fai
     let mut worker = Worker::start(0);
     let (bench, mut words) = fresh_block(rt.alloc(), THREE)?;
     make(&rt, &bench, &mut worker, &mut words, 10);
-    assert_eq!(rt;
-        worker.activity(),
-        Activity::Part(phase(1, Kind::Compute), 1)
-    );
+    assert!(rt; worker.activity() == Activity::Part(phase(1, Kind::Compute), 1));
     let mut worker = Worker::back(0);
     follow(&rt, &bench, &mut worker, &mut words, &[(Op::Load(8), 1)]);
     make(&rt, &bench, &mut worker, &mut words, 3);
@@ -339,7 +333,7 @@ fn claims(
     let mut worker = Worker::start(0);
     make(rt, &bench, &mut worker, &mut words, before);
     follow(rt, &bench, &mut worker, &mut words, steps);
-    assert_eq!(rt; run(rt, &bench, &mut worker, &mut words, NEVER), left);
+    assert!(rt; run(rt, &bench, &mut worker, &mut words, NEVER) == left);
     Ok(())
 }
 
@@ -365,7 +359,7 @@ pub(crate) fn sees_the_older_value(rt: &impl Abort, bench: &Bench, words: &[u64]
     let looks = [(1, phase(2, Kind::Compute)), (6, stamped(2, 7)), (7, 4)];
     look(rt, bench, &mut reader, words, &looks);
     let found = Reading::At { step: 1, value: 4 };
-    assert_eq!(rt; reader.ask(&bench.layout), ReadOp::Over(found));
+    assert!(rt; reader.ask(&bench.layout) == ReadOp::Over(found));
 }
 
 #[test]
@@ -390,7 +384,7 @@ fn a_read_looks_again(rt: HostRuntime) -> Result<(), Fail> {
     let looks = [(7, stamped(8, 80)), (6, stamped(7, 70))];
     look(&rt, &bench, &mut reader, words.as_slice(), &looks);
     let found = Reading::At { step: 7, value: 70 };
-    assert_eq!(rt; reader.ask(&bench.layout), ReadOp::Over(found));
+    assert!(rt; reader.ask(&bench.layout) == ReadOp::Over(found));
     Ok(())
 }
 
@@ -398,23 +392,17 @@ fn a_read_looks_again(rt: HostRuntime) -> Result<(), Fail> {
 fn steps_are_seen_after_a_conflict_or_none(rt: HostRuntime) {
     for (root, conflict, step) in [(0, 0, 0), (4, 0, 1), (5, 0, 1), (6, 0, 2), (6, 2, 1)] {
         assert!(rt; root <= LAST_PHASE);
-        assert_eq!(rt; seen_step(root, conflict), step);
+        assert!(rt; seen_step(root, conflict) == step);
     }
 }
 
 #[test]
 fn a_request_is_heard(rt: HostRuntime) {
     let none = Request { put: None, next: 4 };
-    assert_eq!(rt;
-        request_of(stamped(1, 0), stamped(1, 0), stamped(1, 4)),
-        none
-    );
+    assert!(rt; request_of(stamped(1, 0), stamped(1, 0), stamped(1, 4)) == none);
     let some = Request {
         put: Some((0, 9)),
         next: 1,
     };
-    assert_eq!(rt;
-        request_of(stamped(1, 1), stamped(1, 9), stamped(1, 1)),
-        some
-    );
+    assert!(rt; request_of(stamped(1, 1), stamped(1, 9), stamped(1, 1)) == some);
 }

@@ -92,11 +92,11 @@ fn survives_a_loss(rt: &(impl AllocGlobal + Abort), row: &Row) -> Result<(), Fai
             return Ok(());
         }
         lost.event(Event::Stop(0));
-        assert_eq!(rt; lost.finish(0), None);
-        assert_eq!(rt; lost.finish(1), Some(end), "{steps} steps");
+        assert!(rt; lost.finish(0).is_none());
+        assert!(rt; lost.finish(1) == Some(end), "{steps} steps");
         assert!(rt; is_answer(&lost, row)?, "{steps} steps");
         lost.event(Event::Back(0));
-        assert_eq!(rt; lost.finish(0), Some(end), "{steps} steps");
+        assert!(rt; lost.finish(0) == Some(end), "{steps} steps");
     }
     panic!(rt; "not over")
 }
@@ -115,7 +115,7 @@ fn survives_beside_a_twin(rt: &(impl AllocGlobal + Abort), row: &Row) -> Result<
             return Ok(());
         }
         twins.event(Event::Stop(0));
-        assert_eq!(rt; twins.finish(twin), Some(end), "{steps} steps");
+        assert!(rt; twins.finish(twin) == Some(end), "{steps} steps");
         assert!(rt; is_answer(&twins, row)?, "{steps} steps");
     }
     panic!(rt; "not over")
@@ -151,7 +151,7 @@ fn a_lost_worker_leaves_the_second_writer(rt: HostRuntime) -> Result<(), Fail> {
 #[test]
 fn twins_take_turns(rt: HostRuntime) -> Result<(), Fail> {
     let mut world = world(&rt, SWAP)?;
-    assert_eq!(rt; world.twin(0)?, 2);
+    assert!(rt; world.twin(0)? == 2);
     for _ in 0..2000 {
         world.run_events(&[Event::Go(0), Event::Go(2)]);
     }
@@ -175,18 +175,18 @@ fn events_and_effects(rt: HostRuntime) -> Result<(), Fail> {
         before: 0,
         after: 0,
     };
-    assert_eq!(rt; world.event(Event::Go(2)), nothing);
-    assert_eq!(rt; world.event(Event::Go(0)), load);
-    assert_eq!(rt; world.event(Event::Stop(0)), nothing);
-    assert_eq!(rt; world.event(Event::Go(0)), nothing);
-    assert_eq!(rt; world.finish(7), None);
-    assert_eq!(rt; world.load(layout.node_word(1)), 0);
+    assert!(rt; world.event(Event::Go(2)) == nothing);
+    assert!(rt; world.event(Event::Go(0)) == load);
+    assert!(rt; world.event(Event::Stop(0)) == nothing);
+    assert!(rt; world.event(Event::Go(0)) == nothing);
+    assert!(rt; world.finish(7).is_none());
+    assert!(rt; world.load(layout.node_word(1)) == 0);
     match world.outcome()? {
-        RunAnswer::Unfinished { step } => assert_eq!(rt; step, 0),
+        RunAnswer::Unfinished { step } => assert!(rt; step == 0),
         _ => panic!(rt; "finished"),
     }
     world.layout().limits_hold();
-    assert_eq!(rt; world.place_words(1), (9, 9));
+    assert!(rt; world.place_words(1) == (9, 9));
     world.facts();
     laws::every_interleaving();
     laws::every_read_is_lawful();
@@ -238,7 +238,7 @@ fn refused_growths_change_nothing(rt: HostRuntime) -> Result<(), Fail> {
             world.twin(1)?
         }
     };
-    assert_eq!(rt; world.finish(twin), Some(Ended::Conflict(5)));
+    assert!(rt; world.finish(twin) == Some(Ended::Conflict(5)));
     let answer = match world.outcome() {
         Ok(answer) => answer,
         Err(_) => {
@@ -247,7 +247,7 @@ fn refused_growths_change_nothing(rt: HostRuntime) -> Result<(), Fail> {
         }
     };
     match answer {
-        RunAnswer::Conflict(found) => assert_eq!(rt; Some(found), AT_STEP_FIVE),
+        RunAnswer::Conflict(found) => assert!(rt; Some(found) == AT_STEP_FIVE),
         _ => panic!(rt; "no conflict"),
     }
     println!(rt; "refused={refused}")?;

@@ -1,0 +1,118 @@
+use Rattle.std.proofs.Common.{◌≡◌, ◌≢◌, ◌∙◌, ◌&&◌, ◌⊎◌, ℕ, map, Bool, true, false, Result}
+use Rattle.std.proofs.Common.{Ok, Err, IsErrAnd, IfErr, List, [], inl, inr, refl, subst, sym}
+use Rattle.clap.proofs.OnLiterals.{clap_on_literals}
+use Rattle.clap.specs.Words.{App, FailsBy, HasKind, HasMatchesOf, IsAmong, Kinds}
+use Rattle.clap.specs.Words.{Text, fault_of, is_simple, is_simple_and_free}
+use Rattle.clap.specs.Words.{kind_of, subcommand_of, subcommand_rows_of, takes}
+use Rattle.clap.specs.declared.ArgMatches.{ArgMatches}
+use Rattle.clap.specs.declared.error.Error.{Error}
+use Rattle.clap.specs.declared.error.kind.ErrorKind.{ErrorKind}
+use Rattle.clap.specs.declared.error.kind.ErrorKind.TheVariants.{OutOfMemory}
+use Rattle.std.specs.Borrow.{Bor}
+use Rattle.command_line.specs.CommandLine.{AreRefused, HasBadValue, IsAsked, pramx}
+use Rattle.command_line.proofs.line.read_line.Goals as goal
+
+err_from : {T E : Type 0} (r : Result T E) (P Q : E → Type 0) → IsErrAnd r P →
+    ((e : E) → P e → Q e) → IfErr r Q
+err_from (Ok v) P Q has from = absurd has
+err_from (Err e) P Q has from = from e has
+
+false_from : (b : Bool) → (b ≡ true → ⊥) → b ≡ false
+false_from true never = absurd (never refl)
+false_from false never = refl
+
+-- where a taken line would bring K, and K is not so, the line is not taken
+not_taken : (a b : App) (words : List Text) (K : Type 0) → a ≡ b → (takes a words ≡ true → K) →
+    (K → ⊥) → takes b words ≡ false
+not_taken a b words K same passes other =
+    false_from (takes b words)
+    (λ taken. other (passes (subst (λ (x : App). takes x words ≡ true) (sym same) taken)))
+
+pub returns-in_err-matches-clause-refused : goal.returns-in_err-matches-clause-refused
+returns-in_err-matches-clause-refused c =
+    err_from c.from_residual-in_err-matches.result _ _ c.from_residual-in_err-matches.ensures.1
+    (λ e same other. inl (not_taken _ pramx _ _ c.in_ok-command.ensures
+    c.in_err-matches.ensures.passes (λ kind. other (rw same kind))))
+
+is_simple_pramx : is_simple_and_free pramx ≡ true
+unfolding clap_on_literals
+is_simple_pramx = refl
+
+-- what a simple command's matches show of its faults
+no_fault : (a b : App) (words : List Text) → a ≡ b → is_simple_and_free b ≡ true →
+    (is_simple_and_free a ≡ true → fault_of a words ≡ []) → fault_of b words ≡ []
+no_fault a b words same simple none =
+    subst (λ (x : App). fault_of x words ≡ []) same
+    (none (subst (λ (x : App). is_simple_and_free x ≡ true) (sym same) simple))
+
+first_true : (a b : Bool) → (a && b) ≡ true → a ≡ true
+first_true true b both = refl
+first_true false b both = both
+
+-- the subcommand that a simple command met is the one of the words
+same_subcommand : (a b : App) (words : List Text) (m : ArgMatches) → a ≡ b →
+    is_simple_and_free b ≡ true → HasMatchesOf a words m →
+    subcommand_rows_of m ≡ subcommand_of b words
+same_subcommand a b words m same simple matches =
+    (subst (λ (x : App). HasMatchesOf x words m) same matches (first_true _ _ simple)).1
+
+bad_in_words : (a b : App) (words : List Text) (m : ArgMatches) → a ≡ b →
+    is_simple_and_free b ≡ true → HasMatchesOf a words m → HasBadValue (subcommand_rows_of m) →
+    HasBadValue (subcommand_of b words)
+bad_in_words a b words m same simple matches bad =
+    subst (λ met. HasBadValue met) (same_subcommand a b words m same simple matches) bad
+
+-- the kind of a parse's error is one of the command's
+kinds_at : (a b : App) (words : List Text) (k : ErrorKind) → a ≡ b → is_simple_and_free b ≡ true →
+    (is_simple_and_free a ≡ true → (k ≡ OutOfMemory) ⊎ IsAmong k (fault_of a words)) →
+    (k ≡ OutOfMemory) ⊎ IsAmong k (fault_of b words)
+kinds_at a b words k same simple kinds =
+    subst (λ (x : App). (k ≡ OutOfMemory) ⊎ IsAmong k (fault_of x words)) same
+    (kinds (subst (λ (x : App). is_simple_and_free x ≡ true) (sym same) simple))
+
+fails_by : {T : Type 0} (kinds : Kinds) (r : Result T Error) (P : Error → Type 0) → IsErrAnd r P →
+    ((e : Error) → P e → HasKind kinds e) → FailsBy kinds r
+fails_by kinds (Ok v) P has from = absurd has
+fails_by kinds (Err e) P has from = from e has
+
+err_any : {T E : Type 0} (r : Result T E) (P : E → Type 0) → ((e : E) → P e) → IfErr r P
+err_any (Ok v) P from = tt
+err_any (Err e) P from = from e
+
+pub returns-in_err-matches-clause-kinds : goal.returns-in_err-matches-clause-kinds
+returns-in_err-matches-clause-kinds c =
+    inl (fails_by _ c.from_residual-in_err-matches.result _ c.from_residual-in_err-matches.ensures.1
+    (λ e same. rw same
+    (kinds_at _ pramx _ _ c.in_ok-command.ensures is_simple_pramx c.in_err-matches.ensures.kinds)))
+
+pub returns-in_err-value_error-clause-refused : goal.returns-in_err-value_error-clause-refused
+returns-in_err-value_error-clause-refused c =
+    let bad = bad_in_words _ pramx _
+    _ c.in_ok-command.ensures is_simple_pramx c.in_ok-matches.ensures.matches
+    c.in-Some.ensures in
+    err_any c.from_residual-in_err-value_error.result (λ (e : Error).
+    kind_of e ≢ OutOfMemory → AreRefused (map (λ (word : Bor (List ℕ)). word.now) c.args.words.now))
+    (λ e other. inr bad)
+
+pub returns-in-Some-clause-refused : goal.returns-in-Some-clause-refused
+returns-in-Some-clause-refused c = λ other.
+    inr (bad_in_words _ pramx _ _ c.in_ok-command.ensures is_simple_pramx
+    c.in_ok-matches.ensures.matches c.in-Some.ensures)
+
+pub returns-in-Some-clause-kinds : goal.returns-in-Some-clause-kinds
+returns-in-Some-clause-kinds c =
+    inr (
+      bad_in_words _ pramx _ _ c.in_ok-command.ensures is_simple_pramx
+          c.in_ok-matches.ensures.matches c.in-Some.ensures,
+      inr c.in_ok-value_error.ensures,
+    )
+
+pub returns-in-Some-asked_of-clause-met : goal.returns-in-Some-asked_of-clause-met
+returns-in-Some-asked_of-clause-met c =
+    subst (λ met. IsAsked met c.in-Some-asked_of.asked)
+    (same_subcommand _ pramx _ _ c.in_ok-command.ensures is_simple_pramx
+    c.in_ok-matches.ensures.matches) c.in-Some-asked_of.ensures
+
+pub returns-in-Some-asked_of-clause-kinds : goal.returns-in-Some-asked_of-clause-kinds
+returns-in-Some-asked_of-clause-kinds c =
+    inl (no_fault _ pramx _ c.in_ok-command.ensures is_simple_pramx c.in_ok-matches.ensures.kinds)

@@ -1,0 +1,255 @@
+-- The program's command, and what a line holds of the matches of its words.
+use Rattle.std.specs.Prelude.{◌≡◌, ◌≢◌, ◌<◌, ◌≤◌, ◌⊎◌, ◌-◌, ◌^◌, MatchOption, ℕ, Bool, true, false}
+use Rattle.std.specs.Prelude.{[], List, Option, Some, None, Result, IsErrAnd, IsSomeAnd, codes, pos}
+use Rattle.std.specs.Prelude.{IfSome, option_map}
+use Rattle.std.specs.Str.Parse.{digits_value, without_leading_plus}
+use Rattle.clap.specs.Words.{App, FailsBy, IsAmong, Row, Rule, Text}
+use Rattle.clap.specs.Words.{fault_of, first_of, kind_of, new_app, new_rule}
+use Rattle.clap.specs.Words.{one_of, subcommand_of, takes, with_rule, with_subcommand}
+use Rattle.clap.specs.declared.builder.action.ArgAction.TheVariants.{Set, SetTrue}
+use Rattle.clap.specs.declared.error.Error.{Error}
+use Rattle.clap.specs.declared.error.kind.ErrorKind.TheVariants.{DisplayHelp, DisplayVersion}
+use Rattle.clap.specs.declared.error.kind.ErrorKind.TheVariants.{OutOfMemory, ValueValidation}
+use Rattle.clap.specs.declared.builder.value_parser.ValueParser.TheVariants.{Signed}
+use Rattle.pram_commands.specs.CellLists.{SpellsCells}
+use Rattle.pram_commands.specs.Line.{text_of}
+use Rattle.pram_commands.specs.Progress.{is_told}
+use Rattle.pram_commands.specs.declared.block.Block.{Block}
+use Rattle.pram_commands.specs.declared.threads.Manner.{Manner}
+use Rattle.pram_commands.specs.Threads.{IsGrain, size_of}
+use Rattle.pram_commands.specs.declared.refusal.TheConstants.{DONE, FAILED, MEMORY}
+use Rattle.pram_commands.specs.declared.line.Line.{Line}
+use Rattle.command_line.specs.declared.line.Asked.{Asked}
+use Rattle.pram_commands.specs.declared.line.Line.TheVariants.{Check, Plain, Cost, Steps}
+use Rattle.pram_commands.specs.declared.line.Line.TheVariants.{Run, Watch, Replay}
+
+-- an option with a value
+abbrev pub option_rule : Text → Rule
+option_rule name =
+    record (new_rule name) { long = Some name; value_names = 1; action = Some Set }
+
+-- one whose value is a number from one to another
+abbrev pub number_rule : Text → (least most : ℕ) → Rule
+number_rule name least most =
+    record (option_rule name) { parser = Some (Signed (pos least) (pos most)) }
+
+-- the same argument, which has to stand
+abbrev pub needed : Rule → Rule
+needed rule = record rule { required = true }
+
+-- an option that stands or does not
+abbrev pub flag_rule : Text → Rule
+flag_rule name = record (new_rule name) { long = Some name; action = Some SetTrue }
+
+-- NAME FILE [--explain]
+abbrev pub on_file : Text → App
+on_file name = with_rule (with_rule (new_app name)
+    (needed (record (new_rule (codes "file")) { value_names = 1; action = Some Set })))
+    (flag_rule (codes "explain"))
+
+-- plain FILE [--why]
+abbrev pub on_plain : App
+on_plain = with_rule (on_file (codes "plain")) (flag_rule (codes "why"))
+
+-- steps FILE [--from A] [--to B] [--csv]
+abbrev pub on_steps : App
+on_steps = with_rule (with_rule (with_rule (on_file (codes "steps"))
+    (number_rule (codes "from") 1 4294967295)) (number_rule (codes "to") 1 4294967295))
+    (flag_rule (codes "csv"))
+
+-- NAME FILE --workers W [--plan P]
+abbrev pub with_workers : Text → App
+with_workers name =
+    with_rule (with_rule (on_file name) (needed (number_rule (codes "workers") 1 64)))
+    (option_rule (codes "plan"))
+
+-- [--progress] [--pace MICROSECONDS]
+abbrev pub with_progress : App → App
+with_progress app = with_rule (with_rule app (flag_rule (codes "progress")))
+    (number_rule (codes "pace") 0 1000000)
+
+-- what a run and a watch take last: these, and [--block G]
+abbrev pub with_manner : App → App
+with_manner app = with_rule (with_progress app) (number_rule (codes "block") 1 64)
+
+-- run FILE --workers W [--plan P], these, and [--why]
+abbrev pub on_run : App
+on_run = with_rule (with_manner (with_workers (codes "run"))) (flag_rule (codes "why"))
+
+-- watch FILE --workers W --cells C,C,.. --rounds R [--plan P], and these
+abbrev pub on_watch : App
+on_watch = with_manner (with_rule (with_rule (with_workers (codes "watch"))
+    (needed (option_rule (codes "cells")))) (needed (number_rule (codes "rounds") 1 1000000)))
+
+-- replay FILE --workers W [--plan P] [--csv]
+abbrev pub on_replay : App
+on_replay = with_rule (with_workers (codes "replay")) (flag_rule (codes "csv"))
+
+-- the program without its subcommands, of which one must stand
+abbrev pub bare : App
+bare =
+    let app = new_app (codes "pramx") in
+    record app { top = record app.top { has_version = true; subcommand_required = true } }
+
+-- with those of the plain machine alone
+abbrev pub on_machine : App
+on_machine =
+    with_subcommand (with_subcommand (with_subcommand (with_subcommand bare
+    (on_file (codes "check")).top)
+    on_plain.top)
+    (on_file (codes "cost")).top)
+    on_steps.top
+
+-- the program's command
+abbrev pub pramx : App
+pramx =
+    with_subcommand (with_subcommand (with_subcommand on_machine
+    on_run.top)
+    on_watch.top)
+    on_replay.top
+
+-- The subcommand of this name was met, with this file.
+pub record HasFile (matches : Option (Text × List Row)) (name file : Text) : Type 0 where
+  pub rows : List Row
+  pub met : matches ≡ Some (name, rows)
+  pub has_file : first_of (codes "file") rows ≡ Some file
+
+-- The flag is set where the option stands.
+pub record IsFlag (found : Option Text) (flag : Bool) : Type 0 where
+  pub set : found ≡ Some (codes "true") → flag ≡ true
+  pub unset : found ≡ Some (codes "false") → flag ≡ false
+  pub none : found ≡ None → flag ≡ false
+
+-- What was met has this flag.
+abbrev pub HasFlag : Text → Option (Text × List Row) → Bool → Type 0
+HasFlag option matches flag = IfSome matches (λ met. IsFlag (one_of option met.1) flag)
+
+-- The number is that of the option's value.
+abbrev pub IsNumberOf : Text → List Row → ℕ → Type 0
+IsNumberOf option rows number = IsSomeAnd (one_of option rows)
+    (λ text. number ≡ digits_value 10 (without_leading_plus text))
+
+-- The subcommand of this name was met, with this file, these workers, this plan if it has one, and
+-- a flag for rows alone.
+pub record HasWorkers (matches : Option (Text × List Row)) (name file : Text) (workers : ℕ)
+    (plan : Option Text) (alone : Bool) : Type 0 where
+  pub of_file : HasFile matches name file
+  pub has_workers : IsNumberOf (codes "workers") of_file.rows workers
+  pub some : 1 ≤ workers
+  pub few : workers ≤ 64
+  pub has_plan : first_of (codes "plan") of_file.rows ≡ plan
+  pub has_csv : IsFlag (one_of (codes "csv") of_file.rows) alone
+
+-- The same, or this number where the option is left out.
+abbrev pub IsNumberOr : Text → List Row → ℕ → ℕ → Type 0
+IsNumberOr option rows other number =
+    MatchOption (first_of option rows) (number ≡ other) (λ _. IsNumberOf option rows number)
+
+-- The number is that of the option's value; there is none where the option is left out.
+abbrev pub IsNumberIfSet : Text → List Row → Option ℕ → Type 0
+IsNumberIfSet option rows number = MatchOption (first_of option rows) (number ≡ None)
+    (λ _. IsSomeAnd number (IsNumberOf option rows))
+
+-- The subcommand of this name was met, with this file, these steps, and a flag for rows alone.
+pub record HasSteps (matches : Option (Text × List Row)) (name file : Text) (from to : ℕ)
+    (alone : Bool) : Type 0 where
+  pub of_file : HasFile matches name file
+  pub has_from : IsNumberOr (codes "from") of_file.rows 1 from
+  pub has_to : IsNumberOr (codes "to") of_file.rows (2 ^ 32 - 1) to
+  pub has_csv : IsFlag (one_of (codes "csv") of_file.rows) alone
+
+-- The size of the block is the number of its option; there is none where that is left out.
+abbrev pub IsBlockIfSet : List Row → Option Block → Type 0
+IsBlockIfSet rows block =
+    IsNumberIfSet (codes "block") rows (option_map size_of block)
+
+-- What was met is of this manner: its workers, a flag for its progress, and its pace and its block
+-- if it has one.
+pub record HasManner (rows : List Row) (manner : Manner) : Type 0 where
+  pub has_workers : IsNumberOf (codes "workers") rows manner.workers.count
+  pub has_progress : IsFlag (one_of (codes "progress") rows) (is_told manner.progress)
+  pub has_pace : IsNumberIfSet (codes "pace") rows manner.pace
+  pub has_block : IsBlockIfSet rows manner.block
+
+-- The subcommand of this name was met, with this file, this plan if it has one, and this manner.
+pub record HasRun (matches : Option (Text × List Row)) (name file : Text) (plan : Option Text)
+    (manner : Manner) : Type 0 where
+  pub of_file : HasFile matches name file
+  pub has_plan : first_of (codes "plan") of_file.rows ≡ plan
+  pub has_manner : HasManner of_file.rows manner
+
+-- The same, with this text for its cells and these rounds.
+pub record HasWatch (matches : Option (Text × List Row)) (name file : Text) (plan : Option Text)
+    (manner : Manner) (cells : Text) (rounds : ℕ) : Type 0 where
+  pub has_run : HasRun matches name file plan manner
+  pub has_cells : first_of (codes "cells") has_run.of_file.rows ≡ Some cells
+  pub has_rounds : IsNumberOf (codes "rounds") has_run.of_file.rows rounds
+
+-- the line is what was met
+abbrev pub IsMet : Option (Text × List Row) → Line → Type 0
+IsMet matches (Check file) = HasFile matches (codes "check") file.now
+IsMet matches (Plain file why) =
+    HasFile matches (codes "plain") file.now × HasFlag (codes "why") matches why
+IsMet matches (Cost file) = HasFile matches (codes "cost") file.now
+IsMet matches (Steps file from to alone) =
+    HasSteps matches (codes "steps") file.now from to alone
+IsMet matches (Run file plan manner why) =
+    HasRun matches (codes "run") file.now (text_of plan) manner
+    × HasFlag (codes "why") matches why
+IsMet matches (Watch file plan manner cells rounds) =
+    HasWatch matches (codes "watch") file.now (text_of plan) manner cells.text.now rounds
+IsMet matches (Replay file workers plan alone) =
+    HasWorkers matches (codes "replay") file.now workers.count (text_of plan) alone
+
+-- The line is what was met, and so is whether a refusal is to be explained.
+pub record IsAsked (matches : Option (Text × List Row)) (asked : Asked) : Type 0 where
+  pub line : IsMet matches asked.line
+  pub explain : HasFlag (codes "explain") matches asked.explain
+
+-- What stands for cells names none.
+pub record HasBadCells (rows : List Row) : Type 0 where
+  pub cells : Text
+  pub has_cells : first_of (codes "cells") rows ≡ Some cells
+  pub bad : ¬ SpellsCells cells
+
+-- The number of a block is no size of one.
+pub record HasBadBlock (rows : List Row) : Type 0 where
+  pub size : ℕ
+  pub has_block : IsNumberOf (codes "block") rows size
+  pub bad : ¬ IsGrain size
+
+-- The window of steps ends before it begins.
+pub record HasBadWindow (rows : List Row) : Type 0 where
+  pub from : ℕ
+  pub to : ℕ
+  pub has_from : IsNumberOr (codes "from") rows 1 from
+  pub has_to : IsNumberOr (codes "to") rows (2 ^ 32 - 1) to
+  pub empty : to < from
+
+-- A value of the subcommand of this name is bad.
+abbrev pub IsBadIn : Text → List Row → Type 0
+IsBadIn name rows = ((name ≡ codes "watch") × HasBadCells rows)
+    ⊎ (HasBadBlock rows ⊎ ((name ≡ codes "steps") × HasBadWindow rows))
+
+-- A subcommand was met with a bad value.
+abbrev pub HasBadValue : Option (Text × List Row) → Type 0
+HasBadValue matches = IsSomeAnd matches (λ met. IsBadIn met.0 met.1)
+
+-- The command does not take the words, or one of their values is bad.
+abbrev pub AreRefused : List Text → Type 0
+AreRefused words = (takes pramx words ≡ false) ⊎ HasBadValue (subcommand_of pramx words)
+
+-- An error is of the kind that the command gives at the words, or of a bad value; or memory ran
+-- out.
+abbrev pub FailsByWords : {T : Type 0} → List Text → Result T Error → Type 0
+FailsByWords words result = FailsBy (fault_of pramx words) result
+    ⊎ (HasBadValue (subcommand_of pramx words)
+    × IsErrAnd result (λ error. (kind_of error ≡ OutOfMemory) ⊎ (kind_of error ≡ ValueValidation)))
+
+-- Where the words are wrong, or ask for help or the version, the status is that of a failure, or
+-- help or the version was shown; or memory ran out.
+abbrev pub EndsByWords : List Text → ℕ → Type 0
+EndsByWords words status =
+    fault_of pramx words ≢ [] → (status ≡ MEMORY) ⊎ ((status ≡ FAILED)
+    ⊎ ((status ≡ DONE) × (IsAmong DisplayHelp (fault_of pramx words)
+    ⊎ IsAmong DisplayVersion (fault_of pramx words))))

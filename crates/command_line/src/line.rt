@@ -1,0 +1,564 @@
+//! The command line.
+ghost use Rattle.std.specs.Prelude.{◌≡◌, ◌≢◌, ◌-◌, ◌^◌, Some, codes};
+ghost use Rattle.std.specs.Prelude.{false, map, IfOk, IfErr, IfSome};
+ghost use Rattle.clap.specs.Words.{app_of, first_of, found_of, kind_of};
+ghost use Rattle.clap.specs.Words.{rows_of, rule_of, subcommand_of, subcommand_rows_of};
+ghost use Rattle.pram_commands.specs.Progress.{is_told};
+ghost use Rattle.command_line.specs.CommandLine.{AreRefused, FailsByWords, HasBadBlock, HasBadCells};
+ghost use Rattle.command_line.specs.CommandLine.{HasBadValue, HasBadWindow, IsAsked};
+ghost use Rattle.command_line.specs.CommandLine.{HasManner, IsBlockIfSet, IsMet, IsNumberIfSet};
+ghost use Rattle.command_line.specs.CommandLine.{IsNumberOf, IsNumberOr, flag_rule, pramx};
+ghost use Rattle.command_line.specs.CommandLine.{needed, on_file, on_machine, on_plain, on_replay, on_run};
+ghost use Rattle.command_line.specs.CommandLine.{on_steps, on_watch};
+ghost use Rattle.command_line.specs.CommandLine.{option_rule, with_manner, with_progress, with_workers};
+
+use clap::builder::ValueParser;
+use clap::error::ErrorKind;
+use clap::{Arg, ArgAction, ArgMatches, Command, Error, value_parser};
+use pram_commands::{Block, CellList, Line, Manner, Telling, Workers};
+use std::alloc::{AllocError, Global};
+
+const EXAMPLES: &str = "\
+Examples:
+  pramx check examples/prefix.pram
+  pramx plain examples/prefix.pram
+  pramx plain examples/sum.pram --why
+  pramx cost examples/prefix.pram
+  pramx steps examples/prefix.pram --from 1 --to 5
+  pramx run examples/prefix.pram --workers 4
+  pramx run examples/prefix.pram --workers 4 --progress --pace 1000
+  pramx watch examples/prefix.pram --workers 4 --cells 0,11 --rounds 3
+  pramx replay examples/prefix.pram --workers 4";
+
+/// The most steps of a job.
+const MOST_STEPS: i64 = 4_294_967_295;
+
+/// The most rounds of a watch.
+const MOST_ROUNDS: i64 = 1_000_000;
+
+/// The longest pause of a pace, in microseconds.
+const MOST_PACE: i64 = 1_000_000;
+
+// What the help says of the words of a line.
+
+const FILE: &str = "The text of the job; - is standard input";
+
+const EXPLAIN: &str = "Explain a refusal in a sentence, as on a terminal";
+
+const WHY: &str = "Say after the answer what became of the processors";
+
+const FROM: &str = "The first step to print, which the job must have; 1 if it is left out";
+
+const TO: &str = "The last step to print, from 1; the job's last if it is left out";
+
+const CSV: &str = "Print the rows alone, without the answer";
+
+const WORKERS: &str = "How many workers there are, from 1 to 64";
+
+const PLAN: &str = "The plan that the workers follow, as CSV; - is standard input";
+
+const CELLS: &str = "The cells that are read, by their numbers";
+
+const ROUNDS: &str = "How often they are read, from 1 to 1000000";
+
+const PROGRESS: &str = "Tell on standard error how far the workers are";
+
+const PACE: &str = "The pause before each atomic step, from 0 to 1000000; none if it is left out";
+
+const BLOCK: &str =
+    "How many processors a leaf of the board stands for, a power of two from 1 to 64";
+
+/// What the words ask: a line, and whether a refusal is to be explained.
+#[derive(Clone, Copy, Debug, PartialEq, Eq)]
+pub struct Asked<'a> {
+    pub line: Line<'a>,
+    pub explain: bool,
+}
+
+/// What the words ask, of which the first is the program's name, where standard error is a terminal
+/// or not. A call for help or for the version is an error too, as `clap` has it.
+pub fn read_line<'a>(
+    alloc: Global,
+    words: &'a [&'a str],
+    on_terminal: bool,
+) -> Result<Asked<'a>, Error>
+    ensures met { IfOk result
+        (IsAsked (subcommand_of pramx (map (λ word. word.now) words.entry.now))) }
+    ensures refused { IfErr result (λ error. kind_of error ≢ ErrorKind.OutOfMemory
+        → AreRefused (map (λ word. word.now) words.entry.now)) }
+    ensures kinds { FailsByWords (map (λ word. word.now) words.entry.now) result }
+{
+    let matches = command(alloc)?.try_get_matches_from(words)?;
+    if let Some(bad) = bad_value(&matches) {
+        return Err(value_error(alloc, bad)?);
+    }
+    match asked_of(&matches, on_terminal) {
+        Some(asked) => Ok(asked),
+        None => Err(Error::from(AllocError)),
+    }
+}
+
+/// A value that the command takes, and that makes no line.
+#[derive(Clone, Copy, Debug, PartialEq, Eq)]
+enum BadValue<'a> {
+    /// This stands for the cells of a watch, and names none.
+    Cells(&'a str),
+    /// This stands for the block of a run or of a watch, and is no size of one.
+    Block { watches: bool, text: &'a str },
+    /// The window of steps ends before it begins.
+    Window { from: u32, to: u32 },
+}
+
+// The first value that makes no line, if there is one.
+fn bad_value<'a>(matches: &ArgMatches<'a>) -> Option<BadValue<'a>>
+    ensures { IfSome result (λ bad. HasBadValue (subcommand_rows_of matches.now)) }
+{
+    let (name, inner) = matches.subcommand()?;
+    match name {
+        "steps" => bad_window(inner),
+        "run" => bad_block(inner, false),
+        "watch" => match bad_cells(inner) {
+            Some(text) => Some(BadValue::Cells(text)),
+            None => bad_block(inner, true),
+        },
+        _ => None,
+    }
+}
+
+fn bad_cells<'a>(inner: &ArgMatches<'a>) -> Option<&'a str>
+    ensures { IfSome result (λ text. HasBadCells (rows_of (found_of inner.now))) }
+{
+    let text = inner.get_str("cells")?;
+    match CellList::read(text) {
+        Some(_) => None,
+        None => Some(text),
+    }
+}
+
+fn bad_block<'a>(inner: &ArgMatches<'a>, watches: bool) -> Option<BadValue<'a>>
+    ensures { IfSome result (λ bad. HasBadBlock (rows_of (found_of inner.now))) }
+{
+    let text = inner.get_str("block")?;
+    let size = inner.get_one::<u32>("block")?;
+    match Block::of(size) {
+        Some(_) => None,
+        None => Some(BadValue::Block { watches, text }),
+    }
+}
+
+fn bad_window(inner: &ArgMatches<'_>) -> Option<BadValue<'static>>
+    ensures { IfSome result (λ bad. HasBadWindow (rows_of (found_of inner.now))) }
+{
+    let (from, to) = window_of(inner)?;
+    if to < from {
+        Some(BadValue::Window { from, to })
+    } else {
+        None
+    }
+}
+
+// What is told of such a value.
+fn value_error(alloc: Global, bad: BadValue<'_>) -> Result<Error, AllocError>
+    ensures { IfOk result (λ error. kind_of error ≡ ErrorKind.ValueValidation) }
+{
+    match bad {
+        BadValue::Cells(text) => cells_error(alloc, text),
+        BadValue::Block { watches, text } => block_error(alloc, watches, text),
+        BadValue::Window { from, to } => window_error(alloc, from, to),
+    }
+}
+
+fn cells_error(alloc: Global, text: &str) -> Result<Error, AllocError>
+    ensures { IfOk result (λ error. kind_of error ≡ ErrorKind.ValueValidation) }
+{
+    let message = format!(in alloc;
+        "invalid value '{text}' for '--cells <C,C,..>': cells are numbers with commas between"
+    )?;
+    let command = watch_command(alloc)?.bin_name("pramx watch")?;
+    refused(command, message.as_str())
+}
+
+fn block_error(alloc: Global, watches: bool, text: &str) -> Result<Error, AllocError>
+    ensures { IfOk result (λ error. kind_of error ≡ ErrorKind.ValueValidation) }
+{
+    let message = format!(in alloc;
+        "invalid value '{text}' for '--block <G>': {text} is not a power of two"
+    )?;
+    let command = if watches {
+        watch_command(alloc)?.bin_name("pramx watch")?
+    } else {
+        run_command(alloc)?.bin_name("pramx run")?
+    };
+    refused(command, message.as_str())
+}
+
+fn window_error(alloc: Global, from: u32, to: u32) -> Result<Error, AllocError>
+    ensures { IfOk result (λ error. kind_of error ≡ ErrorKind.ValueValidation) }
+{
+    let message = format!(in alloc;
+        "invalid value '{to}' for '--to <B>': there is no step from {from} to {to}"
+    )?;
+    let command = steps_command(alloc)?.bin_name("pramx steps")?;
+    refused(command, message.as_str())
+}
+
+// The error of a command with this message.
+fn refused(mut command: Command<'_>, message: &str) -> Result<Error, AllocError>
+    ensures { IfOk result (λ error. kind_of error ≡ ErrorKind.ValueValidation) }
+{
+    command.error(ErrorKind::ValueValidation, message)
+}
+
+fn command<'a>(alloc: Global) -> Result<Command<'a>, AllocError>
+    ensures { IfOk result (λ command. app_of command ≡ pramx) }
+{
+    let machine = machine_command(alloc)?;
+    let run = run_command(alloc)?;
+    let watch = watch_command(alloc)?;
+    let replay = replay_command(alloc)?;
+    machine
+        .subcommand(run)?
+        .subcommand(watch)?
+        .subcommand(replay)
+}
+
+// The program with the subcommands of the plain machine alone.
+fn machine_command<'a>(alloc: Global) -> Result<Command<'a>, AllocError>
+    ensures { IfOk result (λ command. app_of command ≡ on_machine) }
+{
+    let check = file_command(
+        alloc,
+        "check",
+        "Say whether a text spells a job, and how large it is",
+    )?;
+    let plain = plain_command(alloc)?;
+    let cost = file_command(
+        alloc,
+        "cost",
+        "Say what the run of a job costs, and which model of the PRAM it needs",
+    )?;
+    let steps = steps_command(alloc)?;
+    Command::new(alloc, "pramx")
+        .version("0.2.0")
+        .about("Runs programs of a synchronous parallel machine with shared memory.")
+        .after_help(EXAMPLES)
+        .subcommand_required(true)
+        .subcommand(check)?
+        .subcommand(plain)?
+        .subcommand(cost)?
+        .subcommand(steps)
+}
+
+fn plain_command<'a>(alloc: Global) -> Result<Command<'a>, AllocError>
+    ensures { IfOk result (λ command. app_of command ≡ on_plain) }
+{
+    let why = flag(alloc, "why", WHY);
+    file_command(alloc, "plain", "Run a job on the plain machine")?.arg(why)
+}
+
+fn steps_command<'a>(alloc: Global) -> Result<Command<'a>, AllocError>
+    ensures { IfOk result (λ command. app_of command ≡ on_steps) }
+{
+    let from = option(alloc, "from", "A", FROM);
+    let to = option(alloc, "to", "B", TO);
+    file_command(
+        alloc,
+        "steps",
+        "Run a job on the plain machine, and print what each processor asks for in each step",
+    )?
+    .arg(numbered(from, value_parser!(u32).range(1..=MOST_STEPS)))?
+    .arg(numbered(to, value_parser!(u32).range(1..=MOST_STEPS)))?
+    .arg(flag(alloc, "csv", CSV))
+}
+
+fn replay_command<'a>(alloc: Global) -> Result<Command<'a>, AllocError>
+    ensures { IfOk result (λ command. app_of command ≡ on_replay) }
+{
+    workers_command(
+        alloc,
+        "replay",
+        "Run a job on one thread, and print each step",
+    )?
+    .arg(flag(alloc, "csv", CSV))
+}
+
+fn run_command<'a>(alloc: Global) -> Result<Command<'a>, AllocError>
+    ensures { IfOk result (λ command. app_of command ≡ on_run) }
+{
+    let command = workers_command(alloc, "run", "Run a job on threads")?;
+    with_manner(alloc, command)?.arg(flag(alloc, "why", WHY))
+}
+
+fn watch_command<'a>(alloc: Global) -> Result<Command<'a>, AllocError>
+    ensures { IfOk result (λ command. app_of command ≡ on_watch) }
+{
+    let cells = option(alloc, "cells", "C,C,..", CELLS);
+    let rounds = option(alloc, "rounds", "R", ROUNDS);
+    let command = workers_command(
+        alloc,
+        "watch",
+        "Run a job on threads, and read cells while they run",
+    )?
+    .arg(needed(cells))?
+    .arg(needed(numbered(rounds, value_parser!(u32).range(1..=MOST_ROUNDS))))?;
+    with_manner(alloc, command)
+}
+
+// The command with what a run and a watch take last.
+fn with_manner<'a>(alloc: Global, command: Command<'a>) -> Result<Command<'a>, AllocError>
+    ensures { IfOk result (λ made. app_of made ≡ with_manner (app_of command.entry)) }
+{
+    let block = option(alloc, "block", "G", BLOCK);
+    with_progress(alloc, command)?.arg(numbered(block, value_parser!(u32).range(1..=64)))
+}
+
+fn with_progress<'a>(alloc: Global, command: Command<'a>) -> Result<Command<'a>, AllocError>
+    ensures { IfOk result (λ made. app_of made ≡ with_progress (app_of command.entry)) }
+{
+    let progress = flag(alloc, "progress", PROGRESS);
+    let pace = option(alloc, "pace", "MICROSECONDS", PACE);
+    command
+        .arg(progress)?
+        .arg(numbered(pace, value_parser!(u32).range(0..=MOST_PACE)))
+}
+
+fn workers_command<'a>(
+    alloc: Global,
+    name: &'a str,
+    about: &'a str,
+) -> Result<Command<'a>, AllocError>
+    ensures { IfOk result (λ command. app_of command ≡ with_workers name.entry.now) }
+{
+    let workers = option(alloc, "workers", "W", WORKERS);
+    let plan = option(alloc, "plan", "P", PLAN);
+    file_command(alloc, name, about)?
+        .arg(needed(numbered(workers, value_parser!(u32).range(1..=64))))?
+        .arg(plan)
+}
+
+fn file_command<'a>(alloc: Global, name: &'a str, about: &'a str) -> Result<Command<'a>, AllocError>
+    ensures { IfOk result (λ command. app_of command ≡ on_file name.entry.now) }
+{
+    let file = Arg::new(alloc, "file")
+        .value_name("FILE")
+        .help(FILE)
+        .action(ArgAction::Set);
+    let explain = flag(alloc, "explain", EXPLAIN);
+    Command::new(alloc, name)
+        .about(about)
+        .arg(needed(file))?
+        .arg(explain)
+}
+
+// An option with a value.
+fn option<'a>(alloc: Global, name: &'a str, value: &'a str, help: &'a str) -> Arg<'a>
+    ensures rule { rule_of result ≡ option_rule name.entry.now }
+    ensures local { result.global ≡ false }
+{
+    Arg::new(alloc, name)
+        .long(name)
+        .value_name(value)
+        .help(help)
+        .action(ArgAction::Set)
+}
+
+// An option without a value, that stands or does not.
+fn flag<'a>(alloc: Global, name: &'a str, help: &'a str) -> Arg<'a>
+    ensures rule { rule_of result ≡ flag_rule name.entry.now }
+    ensures local { result.global ≡ false }
+{
+    Arg::new(alloc, name)
+        .long(name)
+        .help(help)
+        .action(ArgAction::SetTrue)
+}
+
+// The same argument, whose value is a number within the bounds.
+fn numbered<'a>(arg: Arg<'a>, bounds: ValueParser<'a>) -> Arg<'a>
+    ensures rule { rule_of result ≡ record (rule_of arg.entry) { parser = Some bounds.entry } }
+    ensures local { result.global ≡ arg.entry.global }
+{
+    arg.value_parser(bounds)
+}
+
+// The same argument, which has to stand.
+fn needed<'a>(arg: Arg<'a>) -> Arg<'a>
+    ensures rule { rule_of result ≡ needed (rule_of arg.entry) }
+    ensures local { result.global ≡ arg.entry.global }
+{
+    arg.required(true)
+}
+
+fn asked_of<'a>(matches: &ArgMatches<'a>, on_terminal: bool) -> Option<Asked<'a>>
+    ensures { IfSome result (IsAsked (subcommand_rows_of matches.now)) }
+{
+    let line = line_of(matches, on_terminal)?;
+    let (_, inner) = matches.subcommand()?;
+    Some(Asked {
+        line,
+        explain: inner.get_flag("explain"),
+    })
+}
+
+fn line_of<'a>(matches: &ArgMatches<'a>, on_terminal: bool) -> Option<Line<'a>>
+    ensures { IfSome result (IsMet (subcommand_rows_of matches.now)) }
+{
+    let (name, inner) = matches.subcommand()?;
+    let file = inner.get_str("file")?;
+    match name {
+        "check" => Some(Line::Check { file }),
+        "plain" => {
+            let why = inner.get_flag("why");
+            Some(Line::Plain { file, why })
+        }
+        "cost" => Some(Line::Cost { file }),
+        "steps" => {
+            let (from, to) = window_of(inner)?;
+            Some(Line::Steps {
+                file,
+                from,
+                to,
+                alone: inner.get_flag("csv"),
+            })
+        }
+        _ => workers_line_of(matches, on_terminal),
+    }
+}
+
+// The same of the lines that have workers.
+fn workers_line_of<'a>(matches: &ArgMatches<'a>, on_terminal: bool) -> Option<Line<'a>>
+    ensures { IfSome result (IsMet (subcommand_rows_of matches.now)) }
+{
+    let (name, inner) = matches.subcommand()?;
+    let file = inner.get_str("file")?;
+    let plan = inner.get_str("plan");
+    match name {
+        "run" => {
+            let manner = manner_of(inner, on_terminal)?;
+            Some(Line::Run {
+                file,
+                plan,
+                manner,
+                why: inner.get_flag("why"),
+            })
+        }
+        "watch" => {
+            let manner = manner_of(inner, on_terminal)?;
+            let (cells, rounds) = reads_of(inner)?;
+            Some(Line::Watch {
+                file,
+                plan,
+                manner,
+                cells,
+                rounds,
+            })
+        }
+        "replay" => {
+            let workers = workers_of(inner)?;
+            Some(Line::Replay {
+                file,
+                workers,
+                plan,
+                alone: inner.get_flag("csv"),
+            })
+        }
+        _ => None,
+    }
+}
+
+// How many workers there are.
+fn workers_of(inner: &ArgMatches<'_>) -> Option<Workers>
+    ensures { IfSome result (λ workers. IsNumberOf (codes "workers")
+        (rows_of (found_of inner.now)) workers.count) }
+{
+    let count = inner.get_one::<u32>("workers")?;
+    if count == 0 || count > 64 {
+        return None;
+    }
+    Some(Workers { count })
+}
+
+// How a run or a watch goes on threads.
+fn manner_of(inner: &ArgMatches<'_>, on_terminal: bool) -> Option<Manner>
+    ensures { IfSome result (HasManner (rows_of (found_of inner.now))) }
+{
+    let workers = workers_of(inner)?;
+    let wanted = inner.get_flag("progress");
+    let progress = telling(wanted, on_terminal);
+    let pace = number_if_set(inner, "pace")?;
+    let block = block_if_set(inner)?;
+    Some(Manner {
+        workers,
+        progress,
+        pace,
+        block,
+    })
+}
+
+// How standard error is told how far a run or a watch is, where that is wanted.
+fn telling(wanted: bool, on_terminal: bool) -> Telling
+    ensures { is_told result ≡ wanted }
+{
+    match (wanted, on_terminal) {
+        (false, _) => Telling::Silent,
+        (true, false) => Telling::Lines,
+        (true, true) => Telling::OneLine,
+    }
+}
+
+// The steps of a window.
+fn window_of(inner: &ArgMatches<'_>) -> Option<(u32, u32)>
+    ensures from { IfSome result (λ window. IsNumberOr (codes "from")
+        (rows_of (found_of inner.now)) 1 window.0) }
+    ensures to { IfSome result (λ window. IsNumberOr (codes "to")
+        (rows_of (found_of inner.now)) (2 ^ 32 - 1) window.1) }
+{
+    let from = number_or(inner, "from", 1)?;
+    let to = number_or(inner, "to", u32::MAX)?;
+    Some((from, to))
+}
+
+// The number of an option, or another one where the option is left out.
+fn number_or(inner: &ArgMatches<'_>, option: &str, other: u32) -> Option<u32>
+    ensures { IfSome result (IsNumberOr option.now (rows_of (found_of inner.now)) other) }
+{
+    let number = number_if_set(inner, option)?;
+    Some(number.unwrap_or(other))
+}
+
+// The number of an option, if it stands.
+fn number_if_set(inner: &ArgMatches<'_>, option: &str) -> Option<Option<u32>>
+    ensures { IfSome result (IsNumberIfSet option.now (rows_of (found_of inner.now))) }
+{
+    match inner.get_str(option) {
+        Some(_) => {
+            let number = inner.get_one::<u32>(option)?;
+            Some(Some(number))
+        }
+        None => Some(None),
+    }
+}
+
+// The block of a run or a watch, if it stands.
+fn block_if_set(inner: &ArgMatches<'_>) -> Option<Option<Block>>
+    ensures { IfSome result (IsBlockIfSet (rows_of (found_of inner.now))) }
+{
+    let Some(size) = number_if_set(inner, "block")? else {
+        return Some(None);
+    };
+    let block = Block::of(size)?;
+    Some(Some(block))
+}
+
+// The cells and the rounds of a watch.
+fn reads_of<'a>(inner: &ArgMatches<'a>) -> Option<(CellList<'a>, u32)>
+    ensures cells { IfSome result (λ reads.
+        first_of (codes "cells") (rows_of (found_of inner.now)) ≡ Some reads.0.text.now) }
+    ensures rounds { IfSome result (λ reads. IsNumberOf (codes "rounds")
+        (rows_of (found_of inner.now)) reads.1) }
+{
+    let text = inner.get_str("cells")?;
+    let cells = CellList::read(text)?;
+    let rounds = inner.get_one::<u32>("rounds")?;
+    Some((cells, rounds))
+}

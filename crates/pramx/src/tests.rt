@@ -1,4 +1,0 @@
-//! Tests of what no clause says.
-mod answers;
-mod files;
-mod lines;
