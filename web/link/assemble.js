@@ -39,17 +39,20 @@ function instructionsOf(file) {
   return [...rows].map(([, name, operands]) => [name, operands]);
 }
 
-// The sentences on a text, in the order of its faults.
-function sentencesOf(file) {
-  const rows = readFileSync(file, 'utf8').matchAll(/TextKind::\w+ => "([^"]*)"/g);
-  return [...rows].map(([, sentence]) => sentence);
+// The sentences on texts of these kinds, in the order of their faults. Out of memory is none.
+function sentencesOf(file, kinds) {
+  const rows = new RegExp(`(?:${kinds})::(\\w+) =>\\s*"([^"]*)"`, 'g');
+  return [...readFileSync(file, 'utf8').matchAll(rows)]
+    .filter(([, kind]) => kind !== 'Memory').map(([, , sentence]) => sentence);
 }
 
 const bundleOf = (name) => `\n${[...modulesOf(name)].map(enclosed).join('\n')}`;
 
 const bundle = (table, sentences) => bundleOf('main')
   .replace('/*INSTRUCTIONS*/[]', JSON.stringify(instructionsOf(table)))
-  .replace('/*SENTENCES*/[]', JSON.stringify(sentencesOf(sentences)));
+  .replace('/*SENTENCES*/[]', JSON.stringify(sentencesOf(sentences, 'TextKind')))
+  .replace('/*PROGRAM_SENTENCES*/[]',
+    JSON.stringify(sentencesOf(sentences, 'PardoKind|JobKind')));
 
 // Programs of `pardo`, and then texts of the machine, which have their names without an end.
 function examplesOf(folder) {

@@ -2,27 +2,9 @@
 import { foreignCharacter } from './faults.js';
 import { shortened } from './numbers.js';
 
-// The sentences on programs, of the faults from 1 on, as the program says them.
-const PROGRAM_SENTENCES = [
-  'a character here is neither printable ASCII nor a tab',
-  'a character here has no meaning',
-  'a line of the header is wrong, missing or repeated',
-  'something is missing here, left over, or in the wrong place',
-  'a name here is not known',
-  'the name that is declared here is known already',
-  'a name here stands for something that has no place here',
-  'what a division divides by must be known before the program runs',
-  'a number is outside its limits, or something is divided by 0',
-  'the array gets too many values, or too few without ...',
-  'a program has at most 65,536 cells',
-  'this else or end belongs to nothing',
-  'more than 32 brackets are open',
-  'the text ends here, and a block is not closed',
-  'no line of code follows the line code',
-  'three registers are too few for an expression: use a private variable',
-  'a program has at most 4,096 instructions',
-  'the program is still here after 1,048,576 steps',
-];
+// The program's sentences on programs, of the faults from 1 on, which the page's maker reads from
+// its source.
+export const PROGRAM_SENTENCES = /*PROGRAM_SENTENCES*/[];
 
 const HEADER =
   'The lines before “code” are: pardo 1, then rule common, rule priority or rule crew; and then, ' +

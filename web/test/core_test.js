@@ -12,7 +12,7 @@ import { FAULT, INSTRUCTIONS, SENTENCES, wordsOfFault } from '../src/faults.js';
 import { planOf } from '../src/plan.js';
 import { counterPlace } from '../src/places.js';
 import { STATUS, statusOf } from '../src/processors.js';
-import { wordsOfProgramFault } from '../src/program_faults.js';
+import { PROGRAM_SENTENCES, wordsOfProgramFault } from '../src/program_faults.js';
 import { ACT, actOf, readActs, writeActs } from '../src/acts.js';
 import { readAddress, writeAddress } from '../src/address.js';
 import { Schedule } from '../src/schedule.js';
@@ -37,8 +37,8 @@ function tableOfPage() {
 }
 
 // The sentences that it put there.
-function sentencesOfPage() {
-  return JSON.parse(/const SENTENCES = (\[".*?"\]);/.exec(page)[1]);
+function sentencesOfPage(list) {
+  return JSON.parse(new RegExp(`const ${list} = (\\[".*?"\\]);`).exec(page)[1]);
 }
 
 function printed(answer) {
@@ -371,7 +371,8 @@ function testSpeed(core) {
 }
 
 INSTRUCTIONS.push(...tableOfPage());
-SENTENCES.push(...sentencesOfPage());
+SENTENCES.push(...sentencesOfPage('SENTENCES'));
+PROGRAM_SENTENCES.push(...sentencesOfPage('PROGRAM_SENTENCES'));
 const core = await coreOfPage();
 const names = readdirSync(folder).filter((name) => name.endsWith('.pram')).sort();
 for (const name of names) testProgram(core, name.replace(/\.pram$/, ''));
