@@ -8,15 +8,15 @@ use Rattle.std.specs.Result.{IsErr, IsErrAnd}
 use Rattle.pram_text.specs.Job.{JobData}
 use Rattle.pram_step.specs.declared.answer.RunAnswer.{RunAnswer}
 use Rattle.pram_streams.proofs.Beginnings.{beginning-after, beginning-longer}
-use Rattle.pram_streams.specs.Printed.{printed}
 use Rattle.pram_streams.specs.Transfer.{AppendsBeginning, GivesSome}
 use Rattle.pram_streams.specs.declared.print.PrintFault.{PrintFault}
 use Rattle.pram_streams.specs.declared.print.PrintFault.TheVariants as print
 use Rattle.stop_plan.specs.Plan.{PlanData}
-use Rattle.pram_commands.specs.Did.{Answering, Command, Did, Given, Showing, Writing}
+use Rattle.pram_commands.specs.Did.{Command, Did, Given, Showing, Writing}
 use Rattle.pram_commands.specs.Did.{ending, ends_with, tells, tells_status}
 use Rattle.pram_commands.specs.Inner.Puts.{PutBeginning, Puts, printed_as, status_result}
 use Rattle.pram_commands.specs.Inputs.{Taking}
+use Rattle.pram_commands.specs.Names.{AreNames, NamingData}
 use Rattle.pram_commands.specs.declared.fault.CommandFault.{CommandFault}
 use Rattle.pram_commands.specs.declared.fault.CommandFault.TheVariants.{JobDevice, PlanDevice}
 use Rattle.pram_commands.specs.declared.fault.CommandFault.TheVariants.{OutDevice, Memory}
@@ -230,49 +230,58 @@ module _ (command : Command) (taken : Taking) (w : Writing) where
         plan_reads = did.plan_reads;
       })
 
--- what was printed before an ending, or the ending after it
-pub begins_front : (alone : Bool) (Ends : RunAnswer → List ℕ → Type 0) (job : JobData)
-    (w : Writing) (ended : RunAnswer) (front : List ℕ) → Ends ended front →
-    AppendsBeginning w.out w.out' front → PutBeginning (Showing alone Ends job) w
-begins_front alone Ends job w ended front ends takes = record {
-  text = front ++ ending alone ended job.steps;
-  answer = Some ended;
-  comes = record { ended = ended; front = front; ends = ends; prints = refl; gives = refl };
-  takes = beginning-longer _ _ front (ending alone ended job.steps) takes;
-}
+-- what was printed before an ending, or the ending after it, or all of it
+module _ (alone : Bool) (Ends : RunAnswer → List ℕ → Type 0) (job_text : List ℕ) (job : JobData)
+    (w : Writing) (ended : RunAnswer) (front : List ℕ) (ends : Ends ended front)
+    (names : Option NamingData) (are_names : AreNames job_text job names) where
+  shows : Showing alone Ends job_text job (front ++ ending alone names ended job.steps) (Some ended)
+  shows = record {
+    ended = ended;
+    front = front;
+    names = names;
+    ends = ends;
+    are_names = are_names;
+    prints = refl;
+    gives = refl;
+  }
 
-pub begins_after : (alone : Bool) (Ends : RunAnswer → List ℕ → Type 0) (job : JobData)
-    (w : Writing) (ended : RunAnswer) (steps : ℕ) (front : List ℕ) (between : Option (List ℕ)) →
-    Ends ended front → steps ≡ job.steps → Appends w.out between front →
-    AppendsBeginning between w.out' (ending alone ended steps) →
-    PutBeginning (Showing alone Ends job) w
-begins_after alone Ends job w ended steps front between ends same put takes = record {
-  text = front ++ ending alone ended job.steps;
-  answer = Some ended;
-  comes = record { ended = ended; front = front; ends = ends; prints = refl; gives = refl };
-  takes = beginning-after _ _ _ front (ending alone ended job.steps) put
-      (subst (λ (n : ℕ). AppendsBeginning between w.out' (ending alone ended n)) same takes);
-}
-
--- all of it
-pub put_both : (alone : Bool) (Ends : RunAnswer → List ℕ → Type 0) (InPieces : Type 0)
-    (job : JobData) (w : Writing) (ended : RunAnswer) (steps : ℕ) (front : List ℕ)
-    (between : Option (List ℕ)) → Ends ended front → steps ≡ job.steps →
-    Appends w.out between front → Appends between w.out' (ending alone ended steps) →
-    (IsTrue w.failed ↔ IsErrOf {T = Unit {0}} (Ok tt) print.Device) →
-    Puts (Showing alone Ends job) InPieces w tells (Ok ended)
-put_both alone Ends InPieces job w ended steps front between ends same put takes failed = record {
-  done = record {
-    text = front ++ ending alone ended job.steps;
+  pub begins_front : AppendsBeginning w.out w.out' front →
+      PutBeginning (Showing alone Ends job_text job) w
+  begins_front takes = record {
+    text = front ++ ending alone names ended job.steps;
     answer = Some ended;
-    comes = record { ended = ended; front = front; ends = ends; prints = refl; gives = refl };
-    takes = Appends-trans _ _ _ front (ending alone ended job.steps) put
-        (subst (λ (n : ℕ). Appends between w.out' (ending alone ended n)) same takes);
-    is = refl;
-  };
-  wrote = tt;
-  failed = (
-    (λ f. absurd (ok_not_err tt print.Device (failed.0 f))),
-    (λ e. absurd (ok_not_err ended print.Device e)),
-  );
-}
+    comes = shows;
+    takes = beginning-longer _ _ front (ending alone names ended job.steps) takes;
+  }
+
+  pub begins_after : (steps : ℕ) (between : Option (List ℕ)) → steps ≡ job.steps →
+      Appends w.out between front →
+      AppendsBeginning between w.out' (ending alone names ended steps) →
+      PutBeginning (Showing alone Ends job_text job) w
+  begins_after steps between same put takes = record {
+    text = front ++ ending alone names ended job.steps;
+    answer = Some ended;
+    comes = shows;
+    takes = beginning-after _ _ _ front (ending alone names ended job.steps) put
+        (subst (λ (n : ℕ). AppendsBeginning between w.out' (ending alone names ended n)) same takes);
+  }
+
+  pub put_both : (InPieces : Type 0) (steps : ℕ) (between : Option (List ℕ)) → steps ≡ job.steps →
+      Appends w.out between front → Appends between w.out' (ending alone names ended steps) →
+      (IsTrue w.failed ↔ IsErrOf {T = Unit {0}} (Ok tt) print.Device) →
+      Puts (Showing alone Ends job_text job) InPieces w tells (Ok ended)
+  put_both InPieces steps between same put takes failed = record {
+    done = record {
+      text = front ++ ending alone names ended job.steps;
+      answer = Some ended;
+      comes = shows;
+      takes = Appends-trans _ _ _ front (ending alone names ended job.steps) put
+          (subst (λ (n : ℕ). Appends between w.out' (ending alone names ended n)) same takes);
+      is = refl;
+    };
+    wrote = tt;
+    failed = (
+      (λ f. absurd (ok_not_err tt print.Device (failed.0 f))),
+      (λ e. absurd (ok_not_err ended print.Device e)),
+    );
+  }

@@ -2,6 +2,7 @@ pub mod Blocks
 pub mod Cells
 pub mod Doing
 pub mod Ends
+pub mod Reading
 pub mod Statuses
 pub mod Told
 pub mod Hearing

@@ -17,7 +17,7 @@ use Rattle.pram_commands.specs.Inputs.{Reading, Taking}
 use Rattle.pram_commands.specs.Line.{command_of}
 use Rattle.pram_commands.specs.Served.{Served}
 use Rattle.pram_commands.specs.declared.fault.CommandFault.{CommandFault}
-use Rattle.pram_commands.specs.declared.fault.CommandFault.TheVariants.{Text, Plan, OutsideCell}
+use Rattle.pram_commands.specs.declared.fault.CommandFault.TheVariants.{Text, Program, Plan, OutsideCell}
 use Rattle.pram_commands.specs.declared.fault.CommandFault.TheVariants.{OutsideStep}
 use Rattle.pram_commands.specs.declared.fault.CommandFault.TheVariants.{JobDevice, PlanDevice}
 use Rattle.pram_commands.specs.declared.fault.CommandFault.TheVariants.{OutDevice, JobTooLarge}
@@ -39,6 +39,8 @@ record IsFaultStatus (n : ℕ) : Type 0 where
 
 fault-status : (f : CommandFault) → IsFaultStatus (fault_status f)
 fault-status (Text line kind) =
+    record { least = omega arith; most = omega arith; other = λ e. omega (arith, e) }
+fault-status (Program refusal) =
     record { least = omega arith; most = omega arith; other = λ e. omega (arith, e) }
 fault-status (Plan row kind) =
     record { least = omega arith; most = omega arith; other = λ e. omega (arith, e) }
@@ -111,6 +113,7 @@ wrote-none : (command : Command) (r : Reading) (w : Writing) (fault : CommandFau
 wrote-none command r w OutDevice two wrote = absurd (omega (arith, two))
 wrote-none command r w Memory two wrote = absurd (omega (arith, two))
 wrote-none command r w (Text number kind) two wrote = wrote
+wrote-none command r w (Program refusal) two wrote = wrote
 wrote-none command r w (Plan row kind) two wrote = wrote
 wrote-none command r w (OutsideCell cell) two wrote = wrote
 wrote-none command r w (OutsideStep step) two wrote = wrote
@@ -124,6 +127,7 @@ wrote-some : (command : Command) (r : Reading) (w : Writing) (fault : CommandFau
 wrote-some command r w OutDevice wrote = inr wrote
 wrote-some command r w Memory wrote = elim wrote [ inl none ↦ inl none | inr some ↦ inr some.1 ]
 wrote-some command r w (Text number kind) wrote = inl wrote
+wrote-some command r w (Program refusal) wrote = inl wrote
 wrote-some command r w (Plan row kind) wrote = inl wrote
 wrote-some command r w (OutsideCell cell) wrote = inl wrote
 wrote-some command r w (OutsideStep step) wrote = inl wrote

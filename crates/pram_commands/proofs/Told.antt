@@ -1,14 +1,13 @@
 -- An answer that was told with what follows it.
 use Rattle.std.proofs.Common.{◌≡◌, ℕ, Bool, List, ◌++◌, Option, Some, Result, Ok, Err}
 use Rattle.std.proofs.Common.{refl, sym, ap₂, subst, inl, inr}
-use Rattle.std.specs.Prelude.{IsErrOf}
 use Rattle.pram_text.specs.Job.{JobData}
 use Rattle.pram_step.specs.declared.answer.RunAnswer.{RunAnswer}
-use Rattle.pram_streams.specs.Printed.{printed}
 use Rattle.pram_streams.specs.declared.print.PrintFault.{PrintFault}
 use Rattle.pram_streams.specs.declared.print.PrintFault.TheVariants.{Device, Memory}
 use Rattle.pram_commands.specs.Did.{Writing, tells}
 use Rattle.pram_commands.specs.Inner.Puts.{HasTold, PutBeginning, Puts, outcome}
+use Rattle.pram_commands.specs.Names.{AreNames, NamingData, line_at, told}
 use Rattle.pram_commands.specs.Why.{Explaining, Follows}
 use Rattle.pram_commands.proofs.Doing.{ok_not_err, other_fault}
 
@@ -16,16 +15,18 @@ use Rattle.pram_commands.proofs.Doing.{ok_not_err, other_fault}
 abbrev pub Told : Bool → List ℕ → JobData → RunAnswer → List ℕ → Option RunAnswer → Type 0
 Told why job_text job answer = Explaining why (λ ended. ended ≡ answer) job_text job
 
-pub tells_all : (why : Bool) (job_text : List ℕ) (job : JobData) (answer : RunAnswer) (steps : ℕ)
-    (back bytes : List ℕ) → steps ≡ job.steps → bytes ≡ back →
-    Follows why job_text job answer back →
-    Told why job_text job answer (printed answer steps ++ bytes) (Some answer)
-tells_all why job_text job answer steps back bytes same is follows = record {
+pub tells_all : (why : Bool) (job_text : List ℕ) (job : JobData) (names : Option NamingData)
+    (answer : RunAnswer) (steps : ℕ) (back bytes : List ℕ) → AreNames job_text job names →
+    steps ≡ job.steps → bytes ≡ back → Follows why (line_at job_text names) job answer back →
+    Told why job_text job answer (told names answer steps ++ bytes) (Some answer)
+tells_all why job_text job names answer steps back bytes are_names same is follows = record {
   ended = answer;
   back = back;
+  names = names;
   ends = refl;
+  are_names = are_names;
   follows = follows;
-  prints = ap₂ (λ (n : ℕ) (b : List ℕ). printed answer n ++ b) same is;
+  prints = ap₂ (λ (n : ℕ) (b : List ℕ). told names answer n ++ b) same is;
   gives = refl;
 }
 
@@ -37,13 +38,15 @@ module _ (why : Bool) (Ends : RunAnswer → Type 0) (job_text : List ℕ) (job :
   -- it is what a command comes to that ends so
   comes_so : (text : List ℕ) (given : Option RunAnswer) → Told why job_text job answer text given →
       Comes text given
-  comes_so text given told = record {
-    ended = told.ended;
-    back = told.back;
-    ends = subst Ends (sym told.ends) ends;
-    follows = told.follows;
-    prints = told.prints;
-    gives = told.gives;
+  comes_so text given so = record {
+    ended = so.ended;
+    back = so.back;
+    names = so.names;
+    ends = subst Ends (sym so.ends) ends;
+    are_names = so.are_names;
+    follows = so.follows;
+    prints = so.prints;
+    gives = so.gives;
   }
 
   begins_so : PutBeginning (Told why job_text job answer) w → PutBeginning Comes w

@@ -3,7 +3,6 @@ use Rattle.std.proofs.Common.{◌≡◌, ℕ, List, Option, Result, Ok, Err, IsT
 use Rattle.std.proofs.Common.{refl, sym, ap, subst, inl, inr, ◌∙◌}
 use Rattle.std.specs.Io.KnownBytes.{Appends}
 use Rattle.std.specs.Prelude.{◌↔◌, IfOk, IsErrOf, OnOk, ⊤}
-use Rattle.pram_text.specs.Job.{JobData}
 use Rattle.pram_step.specs.declared.answer.RunAnswer.{RunAnswer}
 use Rattle.pram_streams.specs.Transfer.{AppendsBeginning}
 use Rattle.pram_streams.specs.declared.device.Sink as a_sink
@@ -16,12 +15,12 @@ use Rattle.pram_run.specs.Heard.{Ended}
 use Rattle.pram_run.specs.Printed.{sights_text}
 use Rattle.pram_run.specs.PutReads.{Printing, PutWatch}
 use Rattle.pram_run.specs.Watching.{HasWatchedWith, ReadsAndHears}
-use Rattle.pram_run.specs.declared.sight.Sight.{Sight}
 use Rattle.pram_commands.specs.Did.{Answering, tells, writing}
 use Rattle.pram_commands.specs.Inner.Hearing.{HasPrinted}
 use Rattle.pram_commands.specs.Inner.Puts.{Puts, outcome}
 use Rattle.pram_commands.specs.Inner.Watching.{Hearing, HasPrintedAfter, IsWatchedBy}
 use Rattle.pram_commands.specs.Inner.Watching.{Reading}
+use Rattle.pram_commands.specs.Names.{AreNames, NamingData}
 use Rattle.pram_commands.specs.Threads.{TellsSights}
 use Rattle.pram_commands.specs.declared.sources.Inputs.{Inputs}
 use Rattle.pram_commands.proofs.Doing.{begins_after, begins_front, ok_not_err, put_both, put_failed}
@@ -96,17 +95,18 @@ no_answer : IsErrOf {T = RunAnswer} (Err Memory) Device → ⊥
 no_answer is = cc is
 
 module _ {O : Type 0} (of_out : a_sink.Ghosts O) (inputs : Inputs) (cells : List ℕ) (rounds : ℕ)
-    (before mid last : O) where
+    (before mid last : O) (names : Option NamingData)
+    (are_names : AreNames inputs.text.items inputs.job names) where
   abbrev Tells : RunAnswer → List ℕ → Type 0
   Tells = TellsSights inputs.job inputs.plan cells rounds
 
   abbrev Watches : Result RunAnswer PrintFault → Type 0
-  Watches = Puts (Answering Tells inputs.job) ⊤ (writing of_out before last) tells
+  Watches = Puts (Answering Tells inputs.text.items inputs.job) ⊤ (writing of_out before last) tells
 
   -- nothing was read
   pub puts_alone : (steps : ℕ) (ended : Ended) (put : Printing)
       (result : Result RunAnswer PrintFault) → OnOk ended ⊥ →
-      HasPrinted (writing of_out before last) steps ended put → of_out.has_failed before ≡ false →
+      HasPrinted (writing of_out before last) names steps ended put → of_out.has_failed before ≡ false →
       result ≡ outcome put ended → Watches result
   puts_alone steps (Ok answer) put result never h well_before is = absurd never
   puts_alone steps (Err refused) put result never h well_before is =
@@ -126,8 +126,10 @@ module _ {O : Type 0} (of_out : a_sink.Ghosts O) (inputs : Inputs) (cells : List
       (IsTrue (of_out.has_failed last) ↔ IsErrOf {T = Unit {0}} (Err fault) Device) →
       result ≡ Err fault → Watches result
   stopped answer front fault result told begins unwritten failed is =
-      put_failed (Answering Tells inputs.job) ⊤ (writing of_out before last) tells result fault is
-      (begins_front false Tells inputs.job (writing of_out before last) answer front told
+      put_failed (Answering Tells inputs.text.items inputs.job) ⊤ (writing of_out before last) tells
+      result fault is
+      (begins_front false Tells inputs.text.items inputs.job (writing of_out before last) answer
+      front told names are_names
       (subst (λ (o : O). AppendsBeginning (of_out.taken before) (of_out.taken o) front)
       (sym unwritten) begins)) (λ e. inr tt) failed
 
@@ -138,7 +140,7 @@ module _ {O : Type 0} (of_out : a_sink.Ghosts O) (inputs : Inputs) (cells : List
       OnOk printed (Appends (of_out.taken before) (of_out.taken mid) front) →
       AppendsBeginning (of_out.taken before) (of_out.taken mid) front →
       (IsTrue (of_out.has_failed mid) ↔ IsErrOf printed Device) → steps ≡ inputs.job.steps →
-      HasPrintedAfter printed (writing of_out mid last) steps ended put →
+      HasPrintedAfter printed (writing of_out mid last) names steps ended put →
       result ≡ outcome put ended → Watches result
   puts_read answer front steps (Err fault) ended put result told same all begins failed count h is =
       stopped answer front fault result told begins h.1
@@ -154,12 +156,13 @@ module _ {O : Type 0} (of_out : a_sink.Ghosts O) (inputs : Inputs) (cells : List
   puts_read answer front steps (Ok done) (Ok found) (Ok ended) result
       told same all begins failed count h is =
       subst Watches (sym is)
-      (put_both false Tells ⊤ inputs.job (writing of_out before last) found steps front
-      (of_out.taken mid) (subst (λ (a : RunAnswer). Tells a front) (sym same) told) count all h.ok
-      h.failed)
+      (put_both false Tells inputs.text.items inputs.job (writing of_out before last) found front
+      (subst (λ (a : RunAnswer). Tells a front) (sym same) told) names are_names ⊤ steps
+      (of_out.taken mid) count all h.ok h.failed)
   puts_read answer front steps (Ok done) (Ok found) (Err fault) result
       told same all begins failed count h is =
-      put_failed (Answering Tells inputs.job) ⊤ (writing of_out before last) tells result fault is
-      (begins_after false Tells inputs.job (writing of_out before last) found steps front
-      (of_out.taken mid) (subst (λ (a : RunAnswer). Tells a front) (sym same) told) count all
-      h.beginning) (λ e. inr tt) h.failed
+      put_failed (Answering Tells inputs.text.items inputs.job) ⊤ (writing of_out before last) tells
+      result fault is
+      (begins_after false Tells inputs.text.items inputs.job (writing of_out before last) found
+      front (subst (λ (a : RunAnswer). Tells a front) (sym same) told) names are_names steps
+      (of_out.taken mid) count all h.beginning) (λ e. inr tt) h.failed

@@ -6,7 +6,6 @@ use Rattle.std.specs.Io.KnownBytes.{Appends}
 use Rattle.pram_text.specs.Job.{JobData}
 use Rattle.pram_step.specs.declared.answer.RunAnswer.{RunAnswer}
 use Rattle.pram_step.specs.declared.answer.RunAnswer.TheVariants.{Final, Conflict, Unfinished}
-use Rattle.pram_streams.specs.Printed.{printed}
 use Rattle.pram_streams.specs.Transfer.{AppendsBeginning, GivesMoreThan, GivesSome}
 use Rattle.pram_streams.specs.declared.device.Sink as a_sink
 use Rattle.pram_streams.specs.declared.transfer.TheConstants.{MOST}
@@ -14,8 +13,9 @@ use Rattle.stop_plan.specs.Plan.{PlanData}
 use Rattle.pram_commands.specs.Inputs.{GivesFault, GivesPlan, GivesPlanFault, GivesText}
 use Rattle.pram_commands.specs.Inputs.{GivesSomeJob, IsOfJob, Reading, Taking, first_outside}
 use Rattle.pram_commands.specs.Inputs.{missing_step}
+use Rattle.pram_commands.specs.Names.{AreNames, NamingData, told}
 use Rattle.pram_commands.specs.declared.fault.CommandFault.{CommandFault}
-use Rattle.pram_commands.specs.declared.fault.CommandFault.TheVariants.{Text, Plan}
+use Rattle.pram_commands.specs.declared.fault.CommandFault.TheVariants.{Text, Program, Plan}
 use Rattle.pram_commands.specs.declared.fault.CommandFault.TheVariants.{OutsideCell, JobDevice}
 use Rattle.pram_commands.specs.declared.fault.CommandFault.TheVariants.{OutsideStep}
 use Rattle.pram_commands.specs.declared.fault.CommandFault.TheVariants.{PlanDevice, OutDevice}
@@ -41,7 +41,7 @@ writing of_out before after = record {
 -- What a command is: the workers of the plan that it follows, if it follows one; the cells that the
 -- job has to have; the first step that it shows, which the job has to have, or 1; whether it prints
 -- in pieces, so that a beginning may stand printed where memory runs out; and what it comes to: on
--- this text, the job that it spells and this plan it prints these bytes, and this is the answer, if
+-- this text, its job and this plan it prints these bytes, and this is the answer, if
 -- it gives one.
 pub record Command : Type 1 where
   pub workers : Option ℕ
@@ -51,20 +51,23 @@ pub record Command : Type 1 where
   pub Comes : List ℕ → JobData → PlanData → List ℕ → Option RunAnswer → Type 0
 
 -- what follows the rows of a command: the printed answer, unless they are to stand alone
-abbrev pub ending : Bool → RunAnswer → ℕ → List ℕ
-ending true answer steps = []
-ending false answer steps = printed answer steps
+abbrev pub ending : Bool → Option NamingData → RunAnswer → ℕ → List ℕ
+ending true names answer steps = []
+ending false names answer steps = told names answer steps
 
 -- What a command comes to that gives an answer: these bytes, and then the ending.
-pub record Showing (alone : Bool) (Ends : RunAnswer → List ℕ → Type 0) (job : JobData)
-    (text : List ℕ) (answer : Option RunAnswer) : Type 0 where
+pub record Showing (alone : Bool) (Ends : RunAnswer → List ℕ → Type 0) (job_text : List ℕ)
+    (job : JobData) (text : List ℕ) (answer : Option RunAnswer) : Type 0 where
   pub ended : RunAnswer
   pub front : List ℕ
+  pub names : Option NamingData
   pub ends : Ends ended front
-  pub prints : text ≡ front ++ ending alone ended job.steps
+  pub are_names : AreNames job_text job names
+  pub prints : text ≡ front ++ ending alone names ended job.steps
   pub gives : answer ≡ Some ended
 
-abbrev pub Answering : (RunAnswer → List ℕ → Type 0) → JobData → List ℕ → Option RunAnswer → Type 0
+abbrev pub Answering : (RunAnswer → List ℕ → Type 0) → List ℕ → JobData → List ℕ →
+    Option RunAnswer → Type 0
 Answering = Showing false
 
 -- The sources gave the job, by its text, and where the command follows one, its plan.
@@ -138,7 +141,8 @@ pub record GivesNoStep (command : Command) (reads : Reading) (step : ℕ) : Type
 
 -- What a fault says.
 abbrev pub Explains : Command → Reading → Writing → CommandFault → Type 0
-Explains command reads writes (Text line kind) = GivesFault reads.job reads.job' line kind
+Explains command reads writes (Text line kind) = GivesFault reads.job reads.job' (Text line kind)
+Explains command reads writes (Program refusal) = GivesFault reads.job reads.job' (Program refusal)
 Explains command reads writes (Plan row kind) =
     AfterJob command.workers reads
     (λ workers. GivesPlanFault reads.plan reads.plan' workers row kind)

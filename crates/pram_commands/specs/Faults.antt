@@ -5,7 +5,7 @@ use Rattle.pram_streams.specs.declared.print.PrintFault.TheVariants as print
 use Rattle.pram_streams.specs.declared.transfer.TakeFault.{TakeFault}
 use Rattle.pram_streams.specs.declared.transfer.TakeFault.TheVariants as take
 use Rattle.pram_commands.specs.declared.fault.CommandFault.{CommandFault}
-use Rattle.pram_commands.specs.declared.fault.CommandFault.TheVariants.{Text, Plan}
+use Rattle.pram_commands.specs.declared.fault.CommandFault.TheVariants.{Text, Program, Plan}
 use Rattle.pram_commands.specs.declared.fault.CommandFault.TheVariants.{OutsideCell, JobDevice}
 use Rattle.pram_commands.specs.declared.fault.CommandFault.TheVariants.{OutsideStep}
 use Rattle.pram_commands.specs.declared.fault.CommandFault.TheVariants.{PlanDevice, OutDevice}
@@ -33,6 +33,7 @@ fault_of_plan_source take.TooLarge = PlanTooLarge
 -- the status of a command that was not done
 abbrev pub fault_status : CommandFault → ℕ
 fault_status (Text line kind) = REFUSED
+fault_status (Program refusal) = REFUSED
 fault_status (Plan row kind) = REFUSED
 fault_status (OutsideCell cell) = REFUSED
 fault_status (OutsideStep step) = REFUSED

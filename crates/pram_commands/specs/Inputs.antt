@@ -1,11 +1,16 @@
 -- What reading a job and a plan says of their sources, by their bytes before and after.
-use Rattle.std.specs.Prelude.{◌≡◌, ◌≢◌, ◌↔◌, ℕ, Bool, false, List, Option, Result, ⊤}
+use Rattle.std.specs.Prelude.{◌≡◌, ◌≢◌, ◌↔◌, ℕ, Bool, true, false, List, Option, Result, ⊤}
 use Rattle.std.specs.Prelude.{IfOk, IfErr, IsErrOf, IsTrue, find, nat_le, nat_lt, ◌&&◌}
 use Rattle.std.specs.Prelude.{if◌then◌else◌, None, Some}
 use Rattle.pram_text.specs.Job.{JobData}
-use Rattle.pram_text.specs.Text.{Bears, Spells}
-use Rattle.pram_text.specs.declared.fault.TextKind.{TextKind}
+use Rattle.pram_text.specs.Text.{Bears}
 use Rattle.pram_text.specs.declared.fault.TextKind.TheVariants as text_kind
+use Rattle.pardo_text.specs.declared.fault.PardoKind.TheVariants as pardo_kind
+use Rattle.pardo_job.specs.Refusals.{IsRefusal}
+use Rattle.pardo_job.specs.declared.fault.JobKind.TheVariants as job_kind
+use Rattle.pardo_job.specs.declared.fault.Refusal.{Refusal}
+use Rattle.pardo_job.specs.declared.fault.Refusal.TheVariants as program
+use Rattle.pardo_answers.specs.Language.{is_program}
 use Rattle.pram_streams.specs.Transfer.{Gives, GivesMoreThan, GivesSome}
 use Rattle.pram_streams.specs.declared.device.Sink as a_sink
 use Rattle.pram_streams.specs.declared.device.Source as a_source
@@ -14,7 +19,9 @@ use Rattle.stop_plan.specs.Plan.{PlanData}
 use Rattle.stop_plan.specs.Records.{FirstFault, SpellsPlan, records_of}
 use Rattle.stop_plan.specs.declared.plan.PlanKind.{PlanKind}
 use Rattle.pram_commands.specs.declared.fault.CommandFault.{CommandFault}
-use Rattle.pram_commands.specs.declared.fault.CommandFault.TheVariants.{Text, Plan, JobDevice}
+use Rattle.pram_commands.specs.Names.{AreNames, Means}
+use Rattle.pram_commands.specs.declared.fault.CommandFault.TheVariants.{Text, Program, Plan}
+use Rattle.pram_commands.specs.declared.fault.CommandFault.TheVariants.{JobDevice}
 use Rattle.pram_commands.specs.declared.fault.CommandFault.TheVariants.{PlanDevice, JobTooLarge}
 use Rattle.pram_commands.specs.declared.fault.CommandFault.TheVariants.{PlanTooLarge, Memory}
 use Rattle.pram_commands.specs.declared.sources.Inputs.{Inputs}
@@ -60,24 +67,36 @@ pub record AreReady {J P O : Type 0} (of_job : a_source.Ghosts J) (of_plan : a_s
   pub plan : of_plan.has_failed sources.plan ≡ false
   pub output : of_out.has_failed out ≡ false
 
--- The source gave this text, which spells the job.
+-- The source gave this text, whose job is this.
 pub record GivesText (source source' : Option (List ℕ)) (text : List ℕ) (job : JobData)
     : Type 0 where
   pub gives : Gives source source' text
-  pub spells : Spells text job
+  pub means : Means text job
 
--- The source gave a text that spells the job.
+-- The source gave a text of this job.
 abbrev pub GivesJob : Option (List ℕ) → Option (List ℕ) → JobData → Type 0
 GivesJob source source' job = (text : List ℕ) × GivesText source source' text job
 
--- The source gave a text that bears the fault.
-pub record GivesFault (source source' : Option (List ℕ)) (line : ℕ) (kind : TextKind) : Type 0 where
+-- What is wrong with a program is wrong with its text.
+abbrev pub IsOfText : Refusal → Type 0
+IsOfText (program.Text fault) = fault.kind ≢ pardo_kind.Memory
+IsOfText (program.Job fault) = fault.kind ≢ job_kind.Memory
+
+-- The text has this fault: as one of the machine, or as a program.
+abbrev pub IsBad : List ℕ → CommandFault → Type 0
+IsBad text (Text line kind) =
+    (is_program text ≡ false) × Bears text line kind × (kind ≢ text_kind.Memory)
+IsBad text (Program refusal) =
+    (is_program text ≡ true) × IsRefusal text refusal × IsOfText refusal
+IsBad text _ = ⊥
+
+-- The source gave a text with this fault.
+pub record GivesFault (source source' : Option (List ℕ)) (fault : CommandFault) : Type 0 where
   pub text : List ℕ
   pub gives : Gives source source' text
-  pub bears : Bears text line kind
-  pub of_the_text : kind ≢ text_kind.Memory
+  pub bad : IsBad text fault
 
--- The source gave a text that spells a job.
+-- The source gave a text of a job.
 abbrev pub GivesSomeJob : Option (List ℕ) → Option (List ℕ) → Type 0
 GivesSomeJob source source' = (job : JobData) × GivesJob source source' job
 
@@ -112,7 +131,8 @@ ExplainsPlan source source' workers _ = ⊥
 
 -- What a fault says of the source of a job. Those of a plan and of an output are never answered.
 abbrev pub ExplainsJob : Option (List ℕ) → Option (List ℕ) → CommandFault → Type 0
-ExplainsJob source source' (Text line kind) = GivesFault source source' line kind
+ExplainsJob source source' (Text line kind) = GivesFault source source' (Text line kind)
+ExplainsJob source source' (Program refusal) = GivesFault source source' (Program refusal)
 ExplainsJob source source' JobTooLarge = GivesMoreThan MOST source source'
 ExplainsJob source source' JobDevice = ⊤
 ExplainsJob source source' Memory = ⊤
@@ -121,13 +141,15 @@ ExplainsJob source source' _ = ⊥
 -- The job's source or its text is at fault.
 abbrev pub IsOfJob : CommandFault → Type 0
 IsOfJob (Text line kind) = ⊤
+IsOfJob (Program refusal) = ⊤
 IsOfJob JobDevice = ⊤
 IsOfJob JobTooLarge = ⊤
 IsOfJob _ = ⊥
 
 -- What a fault says where a job is read, and then its plan.
 abbrev pub ExplainsBoth : ℕ → Reading → CommandFault → Type 0
-ExplainsBoth workers reads (Text line kind) = GivesFault reads.job reads.job' line kind
+ExplainsBoth workers reads (Text line kind) = GivesFault reads.job reads.job' (Text line kind)
+ExplainsBoth workers reads (Program refusal) = GivesFault reads.job reads.job' (Program refusal)
 ExplainsBoth workers reads JobTooLarge = GivesMoreThan MOST reads.job reads.job'
 ExplainsBoth workers reads JobDevice = ⊤
 ExplainsBoth workers reads (Plan row kind) =
@@ -144,6 +166,7 @@ pub record Took (workers : ℕ) (taken : Taking) (result : Result Inputs Command
     : Type 0 where
   pub both : IfOk result
       (λ inputs. GivesBoth taken.reads workers inputs.text.items inputs.job inputs.plan)
+  pub names : IfOk result (λ inputs. AreNames inputs.text.items inputs.job inputs.names)
   pub explains : IfErr result (ExplainsBoth workers taken.reads)
   pub job_first : IfErr result (λ fault. IsOfJob fault → taken.Unread)
   pub job_failed : IsTrue taken.reads.job_failed ↔ IsErrOf result JobDevice

@@ -6,6 +6,7 @@ pub mod Files
 pub mod Inner
 pub mod Inputs
 pub mod Line
+pub mod Names
 pub mod Plain
 pub mod Progress
 pub mod Replayed

@@ -14,5 +14,5 @@ replaying alone workers = record {
   first = 1;
   InPieces = ⊤;
   Comes = λ job_text job plan. Showing alone (λ answer front. (trace : List TraceRow)
-      × IsReplay job plan answer trace × (front ≡ trace_text trace)) job;
+      × IsReplay job plan answer trace × (front ≡ trace_text trace)) job_text job;
 }

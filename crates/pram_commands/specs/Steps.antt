@@ -15,5 +15,5 @@ stepping alone window = record {
   first = window.from;
   InPieces = ⊤;
   Comes = λ job_text job plan. Showing alone (λ answer front. IsAnswer job answer
-      × (front ≡ rows_text job window.from window.to (last_step job answer))) job;
+      × (front ≡ rows_text job window.from window.to (last_step job answer))) job_text job;
 }

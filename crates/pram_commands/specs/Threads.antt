@@ -99,5 +99,5 @@ watching workers cells rounds = record {
   cells = cells;
   first = 1;
   InPieces = ⊤;
-  Comes = λ job_text job plan. Answering (TellsSights job plan cells rounds) job;
+  Comes = λ job_text job plan. Answering (TellsSights job plan cells rounds) job_text job;
 }

@@ -6,7 +6,7 @@ use Rattle.pram_step.specs.declared.answer.RunAnswer.TheVariants.{Final, Conflic
 use Rattle.pram_fates.specs.Fates.{AreFates}
 use Rattle.pram_fates.specs.Told.{fates_text}
 use Rattle.pram_fates.specs.declared.fates.Fates.{Fates}
-use Rattle.pram_streams.specs.Printed.{printed}
+use Rattle.pram_commands.specs.Names.{AreNames, NamingData, line_at, told}
 
 -- the steps that an answer speaks of: all of the job's, or those that an unfinished run made
 abbrev pub told_steps : JobData → RunAnswer → ℕ
@@ -15,18 +15,20 @@ told_steps job (Conflict fault) = job.steps
 told_steps job (Unfinished step) = step
 
 -- what follows an answer: nothing, or if it is asked for, what became of the processors in these
--- steps
-abbrev pub Follows : Bool → List ℕ → JobData → RunAnswer → List ℕ → Type 0
-Follows false job_text job ended back = back ≡ []
-Follows true job_text job ended back = (fates : Fates)
-    × AreFates job (told_steps job ended) fates × (back ≡ fates_text job_text fates)
+-- steps, by the lines that instructions came from
+abbrev pub Follows : Bool → (ℕ → ℕ) → JobData → RunAnswer → List ℕ → Type 0
+Follows false line_of job ended back = back ≡ []
+Follows true line_of job ended back = (fates : Fates)
+    × AreFates job (told_steps job ended) fates × (back ≡ fates_text line_of fates)
 
 -- What a command comes to that may explain its answer: the printed answer, and what follows it.
 pub record Explaining (why : Bool) (Ends : RunAnswer → Type 0) (job_text : List ℕ) (job : JobData)
     (text : List ℕ) (answer : Option RunAnswer) : Type 0 where
   pub ended : RunAnswer
   pub back : List ℕ
+  pub names : Option NamingData
   pub ends : Ends ended
-  pub follows : Follows why job_text job ended back
-  pub prints : text ≡ printed ended job.steps ++ back
+  pub are_names : AreNames job_text job names
+  pub follows : Follows why (line_at job_text names) job ended back
+  pub prints : text ≡ told names ended job.steps ++ back
   pub gives : answer ≡ Some ended

@@ -18,6 +18,7 @@ mod watches;
 
 use crate::fault::CommandFault;
 use crate::line::Line;
+use crate::names::{Words, print_told};
 use crate::refusal::{CONFLICT, DONE, UNFINISHED};
 use crate::sources::Sources;
 pub use checks::check;
@@ -26,7 +27,7 @@ pub use plain_runs::plain;
 use pram_cost::Cost;
 use pram_rows::Window;
 use pram_step::RunAnswer;
-use pram_streams::{PrintFault, Sink, Source, print_answer};
+use pram_streams::{PrintFault, Sink, Source};
 pub use replays::replay;
 pub use runs::{Wanted, run};
 use std::alloc::Global;
@@ -141,21 +142,21 @@ fn cost_status(cost: &Cost) -> u8
 fn print_ending<O: Sink>(
     alloc: Global,
     out: &mut O,
+    words: &Words<'_>,
     answer: &RunAnswer,
-    steps: u32,
     alone: bool,
 ) -> Result<(), PrintFault>
     requires { O.has_failed out.old ≡ false }
     ensures ok { OnOk result (Appends (O.taken out.old) (O.taken out.new)
-        (ending alone answer.now steps)) }
+        (ending alone words.now.names.now answer.now words.now.steps)) }
     ensures beginning { AppendsBeginning (O.taken out.old) (O.taken out.new)
-        (ending alone answer.now steps) }
+        (ending alone words.now.names.now answer.now words.now.steps) }
     ensures failed { IsTrue (O.has_failed out.new) ↔ IsErrOf result PrintFault.Device }
 {
     if alone {
         return Ok(());
     }
-    print_answer(alloc, out, answer, steps)
+    print_told(alloc, out, words, answer)
 }
 
 // What a command answers that prints as its last act.

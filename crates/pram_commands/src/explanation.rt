@@ -32,6 +32,10 @@ impl fmt::Display for Explanation<'_> {
             CommandFault::Text { line, kind } => {
                 writeln!(f, "{job}, line {line}: {}", sentences::of_text(kind))
             }
+            CommandFault::Program(refusal) => {
+                let (line, sentence) = sentences::of_program(refusal);
+                writeln!(f, "{job}, line {line}: {sentence}")
+            }
             CommandFault::Plan { row, kind } => {
                 writeln!(f, "{plan}, row {row}: {}", sentences::of_plan(row, kind))
             }

@@ -2,6 +2,7 @@
 ghost use Rattle.std.specs.Prelude.{◌≡◌};
 ghost use Rattle.pram_commands.specs.declared.fault.CommandFault.TheVariants.{Memory};
 
+use pardo_job::Refusal;
 use pram_text::TextKind;
 use std::alloc::AllocError;
 use stop_plan::PlanKind;
@@ -11,6 +12,8 @@ use stop_plan::PlanKind;
 pub enum CommandFault {
     /// The job's text spells no job. The kind is never `Memory`.
     Text { line: u64, kind: TextKind },
+    /// The job's text is a program that is refused. The kind is never `Memory`.
+    Program(Refusal),
     /// The plan's text spells no plan. The kind is never `Memory`.
     Plan { row: u64, kind: PlanKind },
     /// The job has no such cell, which is the first of its kind that a watch names.

@@ -4,24 +4,27 @@ ghost use Rattle.pram_streams.specs.Transfer.{GivesSome};
 ghost use Rattle.pram_commands.specs.Faults.{fault_of_job_source, fault_of_plan_source};
 ghost use Rattle.pram_commands.specs.Inputs.{ExplainsJob, ExplainsPlan, GivesJob, GivesPlan};
 ghost use Rattle.pram_commands.specs.Inputs.{GivesText, Took, taking};
+ghost use Rattle.pram_commands.specs.Names.{AreNames};
 
 use crate::fault::CommandFault;
+use crate::names::{Naming, read_text};
 use crate::sources::{Inputs, Sources};
 use crate::workers::Workers;
 use pram_streams::{Source, TakeFault, take};
-use pram_text::{Job, TextFault, TextKind, read_job};
+use pram_text::Job;
 use std::alloc::Global;
 use stop_plan::{Plan, PlanFault, PlanKind, read_plan};
 
-/// A text, and the job that it spells.
+/// A text, its job, and what its answers are told by if it is a program.
 #[derive(Drop)]
 pub(crate) struct Spelled {
     pub text: Vec<u8>,
     pub job: Job,
+    pub names: Option<Naming>,
 }
 
-/// The job that the bytes of a source spell, and then the plan that those of another spell. Where
-/// the job is refused, nothing is read of the plan.
+/// The job of the text that a source gives, and then the plan that the bytes of another spell.
+/// Where the job is refused, nothing is read of the plan.
 pub fn take_inputs<J: Source, P: Source>(
     alloc: Global,
     workers: Workers,
@@ -31,12 +34,17 @@ pub fn take_inputs<J: Source, P: Source>(
     requires plan { P.has_failed sources.old.plan ≡ false }
     ensures { Took workers.count (taking J.Source P.Source sources.old sources.new) result }
 {
-    let Spelled { text, job } = take_text(alloc, &mut sources.job)?;
+    let Spelled { text, job, names } = take_text(alloc, &mut sources.job)?;
     let plan = take_plan(alloc, &mut sources.plan, workers)?;
-    Ok(Inputs { text, job, plan })
+    Ok(Inputs {
+        text,
+        job,
+        names,
+        plan,
+    })
 }
 
-/// The job that the bytes of a source spell.
+/// The job of the text that a source gives.
 pub fn take_job<J: Source>(alloc: Global, source: &mut J) -> Result<Job, CommandFault>
     requires { J.has_failed source.old ≡ false }
     ensures ok { IfOk result (GivesJob (J.remaining source.old) (J.remaining source.new)) }
@@ -49,9 +57,11 @@ pub fn take_job<J: Source>(alloc: Global, source: &mut J) -> Result<Job, Command
     Ok(take_text(alloc, source)?.job)
 }
 
-/// The same, with the text.
+/// The same, with the text, and what its answers are told by.
 pub(crate) fn take_text<J: Source>(alloc: Global, source: &mut J) -> Result<Spelled, CommandFault>
     requires { J.has_failed source.old ≡ false }
+    ensures names { IfOk result (λ spelled.
+        AreNames spelled.text.items spelled.job spelled.names) }
     ensures ok { IfOk result (λ spelled. GivesText (J.remaining source.old)
         (J.remaining source.new) spelled.text.items spelled.job) }
     ensures explains { IfErr result (ExplainsJob (J.remaining source.old)
@@ -61,16 +71,8 @@ pub(crate) fn take_text<J: Source>(alloc: Global, source: &mut J) -> Result<Spel
     ensures reads { GivesSome (J.remaining source.old) (J.remaining source.new) }
 {
     let text = take(alloc, source).map_err(job_fault)?;
-    match read_job(alloc, text.as_slice()) {
-        Ok(job) => Ok(Spelled { text, job }),
-        Err(
-            TextFault {
-                kind: TextKind::Memory,
-                ..
-            },
-        ) => Err(CommandFault::Memory),
-        Err(TextFault { line, kind }) => Err(CommandFault::Text { line, kind }),
-    }
+    let (job, names) = read_text(alloc, text.as_slice())?;
+    Ok(Spelled { text, job, names })
 }
 
 /// The plan for so many workers that the bytes of a source spell.

@@ -6,12 +6,14 @@ ghost use Rattle.pram_commands.specs.Did.{writing};
 ghost use Rattle.pram_commands.specs.Inner.Hearing.{HasPrinted, HasToldEnd};
 ghost use Rattle.pram_commands.specs.Inner.Puts.{outcome};
 ghost use Rattle.pram_commands.specs.Inner.Watching.{HasPrintedAfter};
+ghost use Rattle.pram_commands.specs.Names.{AreNames};
 
+use crate::names::{Words, print_told};
 use crate::why::{Question, put_told};
 use pram_board::Seat;
 use pram_run::{Listener, Observation, Reads, Sight, print_reads};
 use pram_step::RunAnswer;
-use pram_streams::{PrintFault, Sink, print_answer};
+use pram_streams::{PrintFault, Sink};
 use std::alloc::{AllocError, Global};
 use stop_plan::Gate;
 
@@ -26,7 +28,8 @@ pub(crate) struct Printing<'a, O> {
 impl<'a, O: Sink> Listener for Printing<'a, O> {
     type Heard = (&'a mut O, Result<(), PrintFault>);
 
-    ghost can_hear = { λ p. O.has_failed p.out.now ≡ false };
+    ghost can_hear = { λ p. (O.has_failed p.out.now ≡ false)
+        × AreNames p.question.text.now p.question.job.now p.question.names.now };
 
     ghost hears = { λ p ended heard. (heard.0.ghost_name ≡ p.out.ghost_name)
         × HasToldEnd p.question.why p.question.text.now p.question.job.now
@@ -46,12 +49,12 @@ impl<'a, O: Sink> Listener for Printing<'a, O> {
     }
 }
 
-/// Prints what a reader reads, and then the answer of a job of so many steps, unless printing has
+/// Prints what a reader reads, and then the answer of a job in these words, unless printing has
 /// failed.
 #[derive(Drop)]
 pub(crate) struct PrintingReads<'a, O> {
     pub alloc: Global,
-    pub steps: u32,
+    pub words: Words<'a>,
     pub out: &'a mut O,
     pub printed: Result<(), PrintFault>,
 }
@@ -62,17 +65,18 @@ impl<'a, O: Sink> Listener for PrintingReads<'a, O> {
     ghost can_hear = { λ p. IsTrue (O.has_failed p.out.now) ↔ IsErrOf p.printed Device };
 
     ghost hears = { λ p ended heard. (heard.0.ghost_name ≡ p.out.ghost_name)
-        × HasPrintedAfter p.printed (writing O.Sink p.out.now heard.0.now) p.steps ended heard.1 };
+        × HasPrintedAfter p.printed (writing O.Sink p.out.now heard.0.now) p.words.names.now
+        p.words.steps ended heard.1 };
 
     fn hear(self, ended: &Result<RunAnswer, AllocError>) -> (&'a mut O, Result<(), PrintFault>) {
         let PrintingReads {
             alloc,
-            steps,
+            words,
             out,
             printed,
         } = self;
         let printed = match printed {
-            Ok(()) => print_end(alloc, out, ended, steps),
+            Ok(()) => print_end(alloc, out, &words, ended),
             Err(fault) => Err(fault),
         };
         (out, printed)
@@ -83,7 +87,7 @@ impl<O: Sink> Reads for PrintingReads<'_, O> {
     ghost can_read = { λ p. O.has_failed p.out.now ≡ false };
 
     ghost reads = { λ p task cells rounds given later after.
-        (after.out.ghost_name ≡ p.out.ghost_name) × (after.steps ≡ p.steps)
+        (after.out.ghost_name ≡ p.out.ghost_name) × (after.words ≡ p.words)
         × PutWatch task cells rounds given later (O.taken p.out.now) (O.taken after.out.now)
         after.printed × (IsTrue (O.has_failed after.out.now) ↔ IsErrOf after.printed Device) };
 
@@ -95,32 +99,33 @@ impl<O: Sink> Reads for PrintingReads<'_, O> {
     ) -> Self {
         let PrintingReads {
             alloc,
-            steps,
+            words,
             out,
             ..
         } = self;
         let printed = print_reads(observation, seat, sights, out);
         PrintingReads {
             alloc,
-            steps,
+            words,
             out,
             printed,
         }
     }
 }
 
-// Prints the answer of a job of so many steps.
+// Prints the answer of a job in these words.
 fn print_end<O: Sink>(
     alloc: Global,
     out: &mut O,
+    words: &Words<'_>,
     ended: &Result<RunAnswer, AllocError>,
-    steps: u32,
 ) -> Result<(), PrintFault>
     requires { O.has_failed out.old ≡ false }
-    ensures { HasPrinted (writing O.Sink out.old out.new) steps ended.now result }
+    ensures { HasPrinted (writing O.Sink out.old out.new) words.now.names.now words.now.steps
+        ended.now result }
 {
     match ended {
-        Ok(answer) => print_answer(alloc, out, answer, steps),
+        Ok(answer) => print_told(alloc, out, words, answer),
         Err(AllocError) => Err(PrintFault::Memory),
     }
 }

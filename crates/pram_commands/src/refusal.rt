@@ -3,6 +3,8 @@ ghost use Rattle.std.specs.Prelude.{◌≡◌, ◌≢◌, ◌⊎◌, codes, fals
 ghost use Rattle.std.specs.Io.KnownBytes.{Appends};
 ghost use Rattle.pram_commands.specs.Inner.Refusals.{TakesTold, refusal_status, refusal_text};
 
+use pardo_job::{JobFault, Refusal as ProgramRefusal};
+use pardo_text::PardoFault;
 use pram_streams::{Sink, put};
 use pram_text::TextKind;
 use std::alloc::{AllocError, Global};
@@ -35,6 +37,8 @@ const MEMORY_LINE: &str = "memory\n";
 pub enum Refusal<'a> {
     /// A line of the text is bad.
     Text { line: u64, kind: TextKind },
+    /// A program is refused.
+    Program(ProgramRefusal),
     /// A record of the plan is bad.
     Plan { row: u64, kind: PlanKind },
     /// The job has no such cell.
@@ -58,7 +62,7 @@ impl Refusal<'_> {
         ensures { result ≡ refusal_status self.entry }
     {
         match self {
-            Refusal::Text { .. } | Refusal::Plan { .. } => REFUSED,
+            Refusal::Text { .. } | Refusal::Program(_) | Refusal::Plan { .. } => REFUSED,
             Refusal::Cell(_) | Refusal::Step(_) => REFUSED,
             Refusal::Memory => MEMORY,
             Refusal::File(_) | Refusal::Output | Refusal::Size(_) | Refusal::Word => FAILED,
@@ -72,6 +76,12 @@ impl fmt::Display for Refusal<'_> {
     fn fmt<W: fmt::Write>(&self, f: &mut fmt::Formatter<W>) -> fmt::Result {
         match self {
             Refusal::Text { line, kind } => writeln!(f, "text line={line} kind={kind:?}"),
+            Refusal::Program(ProgramRefusal::Text(PardoFault { line, kind })) => {
+                writeln!(f, "text line={line} kind={kind:?}")
+            }
+            Refusal::Program(ProgramRefusal::Job(JobFault { line, kind })) => {
+                writeln!(f, "text line={line} kind={kind:?}")
+            }
             Refusal::Plan { row, kind } => writeln!(f, "plan row={row} kind={kind:?}"),
             Refusal::Cell(cell) => writeln!(f, "watch cell={cell}"),
             Refusal::Step(step) => writeln!(f, "steps step={step}"),

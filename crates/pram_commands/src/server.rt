@@ -103,6 +103,7 @@ fn refusal_of<'a>(line: &Line<'a>, fault: CommandFault) -> Refusal<'a>
 {
     match fault {
         CommandFault::Text { line, kind } => Refusal::Text { line, kind },
+        CommandFault::Program(refusal) => Refusal::Program(refusal),
         CommandFault::Plan { row, kind } => Refusal::Plan { row, kind },
         CommandFault::OutsideCell { cell } => Refusal::Cell(cell),
         CommandFault::OutsideStep { step } => Refusal::Step(step),

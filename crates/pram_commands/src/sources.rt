@@ -1,6 +1,7 @@
 //! What a line reads, what that gives, and what it writes to.
 ghost use Rattle.std.specs.Prelude.{◌≤◌};
 
+use crate::names::Naming;
 use pram_text::Job;
 use stop_plan::Plan;
 
@@ -11,11 +12,13 @@ pub struct Sources<J, P> {
     pub plan: P,
 }
 
-/// A job with its text, and a plan for its workers.
+/// A job with its text, what its answers are told by where that is a program, and a plan for its
+/// workers.
 #[derive(Drop)]
 pub struct Inputs {
     pub text: Vec<u8>,
     pub job: Job,
+    pub names: Option<Naming>,
     pub plan: Plan,
     pub ghost some: { 1 ≤ plan.workers },
     pub ghost most: { plan.workers ≤ 64 },

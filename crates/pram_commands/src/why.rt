@@ -2,20 +2,24 @@
 ghost use Rattle.std.specs.Prelude.{◌≡◌, false, string_bytes, IfOk};
 ghost use Rattle.pram_commands.specs.Did.{writing};
 ghost use Rattle.pram_commands.specs.Inner.Puts.{HasTold};
+ghost use Rattle.pram_commands.specs.Names.{AreNames, line_at};
 ghost use Rattle.pram_commands.specs.Why.{Follows, told_steps};
 
+use crate::names::{Naming, Words, origin_of, print_told};
 use pram_fates::{fates_after, fates_text};
 use pram_step::RunAnswer;
-use pram_streams::{PrintFault, Sink, print_answer, put};
+use pram_streams::{PrintFault, Sink, put};
 use pram_text::Job;
 use std::alloc::{AllocError, Global};
 
-/// A job with its text, and whether what became of the processors is to follow its answer.
+/// A job with its text and what its answers are told by, and whether what became of the processors
+/// is to follow its answer.
 #[derive(Clone, Copy)]
 pub(crate) struct Question<'a> {
     pub why: bool,
     pub text: &'a [u8],
     pub job: &'a Job,
+    pub names: &'a Option<Naming>,
 }
 
 /// Prints an answer and what follows it. Nothing is printed before memory for both was found.
@@ -25,12 +29,17 @@ pub(crate) fn put_told<O: Sink>(
     question: &Question<'_>,
     answer: &RunAnswer,
 ) -> Result<(), PrintFault>
-    requires { O.has_failed out.old ≡ false }
+    requires output { O.has_failed out.old ≡ false }
+    requires names { AreNames question.now.text.now question.now.job.now question.now.names.now }
     ensures { HasTold question.now.why question.now.text.now question.now.job.now
         (writing O.Sink out.old out.new) answer.now result }
 {
     let back = following(alloc, question, answer)?;
-    print_answer(alloc, out, answer, question.job.steps())?;
+    let words = Words {
+        names: question.names,
+        steps: question.job.steps(),
+    };
+    print_told(alloc, out, &words, answer)?;
     put(out, back.as_bytes())?;
     Ok(())
 }
@@ -41,7 +50,8 @@ fn following(
     question: &Question<'_>,
     answer: &RunAnswer,
 ) -> Result<String, AllocError>
-    ensures { IfOk result (λ back. Follows question.now.why question.now.text.now
+    ensures { IfOk result (λ back. Follows question.now.why
+        (line_at question.now.text.now question.now.names.now)
         question.now.job.now answer.now (string_bytes back)) }
 {
     if !question.why {
@@ -49,7 +59,7 @@ fn following(
     }
     let steps = told_steps(question.job, answer);
     let fates = fates_after(alloc, question.job, steps)?;
-    fates_text(alloc, question.text, &fates)
+    fates_text(alloc, origin_of(question.text, question.names), &fates)
 }
 
 // The steps that an answer speaks of.

@@ -7,4 +7,4 @@ mod looks;
 mod told;
 
 pub use fates::{End, Fates, Lost, fates_after};
-pub use told::fates_text;
+pub use told::{Origin, fates_text};

@@ -1,24 +1,46 @@
 //! What became of the processors, as text.
 ghost use Rattle.std.specs.Prelude.{◌≡◌, ◌++◌, string_bytes, IfOk};
-ghost use Rattle.pram_fates.specs.Told.{end_line, fates_text, lost_line};
+ghost use Rattle.pram_fates.specs.Told.{end_line, fates_text, line_in, lost_line};
 
 use crate::fates::{End, Fates, Lost};
 use pram_text::instruction_line;
 use std::alloc::{AllocError, Global};
 
-/// The lines that say what became of the processors, by the text of their job. The time is linear
-/// in the text.
-pub fn fates_text(alloc: Global, text: &[u8], fates: &Fates) -> Result<String, AllocError>
-    ensures { IfOk result (λ told. string_bytes told ≡ fates_text text.now fates.now) }
+/// What the instructions of a job came from.
+#[derive(Clone, Copy, Debug)]
+pub enum Origin<'a> {
+    /// The text that spells the job.
+    Text(&'a [u8]),
+    /// The lines of these numbers, of each instruction its own.
+    Lines(&'a [u64]),
+}
+
+impl Origin<'_> {
+    // The number of the line of an instruction.
+    fn line(self, index: u32) -> u64
+        ensures { result ≡ line_in self.entry index }
+    {
+        match self {
+            Origin::Text(text) => instruction_line(text, index),
+            Origin::Lines(numbers) => numbers.get(index as usize).copied().unwrap_or(0),
+        }
+    }
+}
+
+/// The lines that say what became of the processors, by the lines that their instructions came
+/// from. The time is linear in the text.
+pub fn fates_text(alloc: Global, origin: Origin<'_>, fates: &Fates) -> Result<String, AllocError>
+    ensures { IfOk result (λ told.
+        string_bytes told ≡ fates_text (line_in origin.entry) fates.now) }
 {
-    let mut told = end_line(alloc, text, fates.end)?;
-    let lost = lost_line(alloc, text, fates.lost)?;
+    let mut told = end_line(alloc, origin, fates.end)?;
+    let lost = lost_line(alloc, origin, fates.lost)?;
     told.push_str(lost.as_str())?;
     Ok(told)
 }
 
-fn end_line(alloc: Global, text: &[u8], end: Option<End>) -> Result<String, AllocError>
-    ensures { IfOk result (λ told. string_bytes told ≡ end_line text.now end) }
+fn end_line(alloc: Global, origin: Origin<'_>, end: Option<End>) -> Result<String, AllocError>
+    ensures { IfOk result (λ told. string_bytes told ≡ end_line (line_in origin.entry) end) }
 {
     let Some(end) = end else {
         return Ok(String::new(alloc));
@@ -29,15 +51,15 @@ fn end_line(alloc: Global, text: &[u8], end: Option<End>) -> Result<String, Allo
             first,
             index,
         } => {
-            let line = instruction_line(text, index);
+            let line = origin.line(index);
             format!(in alloc; "running count={count} first={first} line={line}\n")
         }
         End::Stopped { step } => format!(in alloc; "stopped step={step}\n"),
     }
 }
 
-fn lost_line(alloc: Global, text: &[u8], lost: Option<Lost>) -> Result<String, AllocError>
-    ensures { IfOk result (λ told. string_bytes told ≡ lost_line text.now lost) }
+fn lost_line(alloc: Global, origin: Origin<'_>, lost: Option<Lost>) -> Result<String, AllocError>
+    ensures { IfOk result (λ told. string_bytes told ≡ lost_line (line_in origin.entry) lost) }
 {
     let Some(
         Lost {
@@ -49,6 +71,6 @@ fn lost_line(alloc: Global, text: &[u8], lost: Option<Lost>) -> Result<String, A
     else {
         return Ok(String::new(alloc));
     };
-    let line = instruction_line(text, index);
+    let line = origin.line(index);
     format!(in alloc; "lost processor={processor} step={step} line={line}\n")
 }

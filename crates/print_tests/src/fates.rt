@@ -1,4 +1,4 @@
-use pram_fates::{fates_after, fates_text};
+use pram_fates::{Origin, fates_after, fates_text};
 use pram_text::{instruction_line, read_job};
 use std::process::Abort;
 use std::test::Fail;
@@ -7,7 +7,7 @@ use std::test::Fail;
 fn told<R: AllocGlobal>(rt: &R, text: &str, steps: u32) -> Result<String, Fail> {
     let job = read_job(rt.alloc(), text.as_bytes())?;
     let fates = fates_after(rt.alloc(), &job, steps)?;
-    Ok(fates_text(rt.alloc(), text.as_bytes(), &fates)?)
+    Ok(fates_text(rt.alloc(), Origin::Text(text.as_bytes()), &fates)?)
 }
 
 const ODD_ONES_GO_ROUND: &str = "pram 1\ncells 1\nprocs 4\nsteps 9\ncode\n\

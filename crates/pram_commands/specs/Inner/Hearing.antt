@@ -1,15 +1,15 @@
 -- What comes of an answer that is printed as it is heard.
-use Rattle.std.specs.Prelude.{◌≡◌, ◌↔◌, ℕ, Bool, List, Result, Ok, Err, OnOk, IsErrOf, IsTrue}
+use Rattle.std.specs.Prelude.{◌≡◌, ◌↔◌, ℕ, Bool, List, Option, Result, Ok, Err, OnOk, IsErrOf}
+use Rattle.std.specs.Prelude.{IsTrue}
 use Rattle.std.specs.Io.KnownBytes.{Appends}
 use Rattle.pram_text.specs.Job.{JobData}
-use Rattle.pram_step.specs.declared.answer.RunAnswer.{RunAnswer}
-use Rattle.pram_streams.specs.Printed.{printed}
 use Rattle.pram_streams.specs.Transfer.{AppendsBeginning}
 use Rattle.pram_streams.specs.declared.print.PrintFault.{PrintFault}
 use Rattle.pram_streams.specs.declared.print.PrintFault.TheVariants.{Device, Memory}
 use Rattle.pram_run.specs.Heard.{Ended}
 use Rattle.pram_commands.specs.Did.{Writing}
 use Rattle.pram_commands.specs.Inner.Puts.{HasTold}
+use Rattle.pram_commands.specs.Names.{NamingData, told}
 
 -- The output took the text, or a beginning of it; nothing where memory ran out.
 pub record PutText (writes : Writing) (text : List ℕ) (put : Result (Unit {0}) PrintFault)
@@ -20,9 +20,10 @@ pub record PutText (writes : Writing) (text : List ℕ) (put : Result (Unit {0})
   pub failed : IsTrue writes.failed ↔ IsErrOf put Device
 
 -- The answer of a job of so many steps was printed, or nothing where the run was out of memory.
-abbrev pub HasPrinted : Writing → ℕ → Ended → Result (Unit {0}) PrintFault → Type 0
-HasPrinted writes steps (Ok answer) put = PutText writes (printed answer steps) put
-HasPrinted writes steps (Err refused) put = (put ≡ Err Memory) × writes.Unwritten
+abbrev pub HasPrinted : Writing → Option NamingData → ℕ → Ended → Result (Unit {0}) PrintFault →
+    Type 0
+HasPrinted writes names steps (Ok answer) put = PutText writes (told names answer steps) put
+HasPrinted writes names steps (Err refused) put = (put ≡ Err Memory) × writes.Unwritten
 
 -- The same of an answer with what follows it.
 abbrev pub HasToldEnd : Bool → List ℕ → JobData → Writing → Ended → Result (Unit {0}) PrintFault

@@ -1,8 +1,5 @@
 -- What comes of a watch whose reads are printed as they are made.
-use Rattle.std.specs.Prelude.{◌≡◌, ◌⊎◌, ℕ, List, Result, Ok, Err, OnOk}
-use Rattle.pram_step.specs.declared.answer.RunAnswer.{RunAnswer}
-use Rattle.pram_streams.specs.declared.print.PrintFault.{PrintFault}
-use Rattle.pram_streams.specs.declared.print.PrintFault.TheVariants.{Memory}
+use Rattle.std.specs.Prelude.{◌≡◌, ℕ, List, Option, Ok, Err, OnOk}
 use Rattle.stop_plan.specs.Plan.{PlanData}
 use Rattle.pram_board.specs.declared.task.Task.{Task}
 use Rattle.pram_board.specs.Seats.{Desk, SeatData}
@@ -11,6 +8,7 @@ use Rattle.pram_run.specs.PutReads.{Printing}
 use Rattle.pram_run.specs.Watching.{HasWatchedWith, ReadsAndHears}
 use Rattle.pram_commands.specs.Did.{Writing}
 use Rattle.pram_commands.specs.Inner.Hearing.{HasPrinted}
+use Rattle.pram_commands.specs.Names.{NamingData}
 use Rattle.pram_commands.specs.Threads.{IsNewBoard}
 use Rattle.pram_commands.specs.declared.sources.Inputs.{Inputs}
 
@@ -42,6 +40,6 @@ pub record IsWatchedBy {P H : Type 0} (Reads : Reading P) (Hears : Hearing P H) 
   pub on : HasWatchedOn Reads Hears made.0 inputs.plan cells rounds made.1 ended
 
 -- what printing comes to after reads that were printed so
-abbrev pub HasPrintedAfter : Printing → Writing → ℕ → Ended → Printing → Type 0
-HasPrintedAfter (Ok done) writes steps ended put = HasPrinted writes steps ended put
-HasPrintedAfter (Err fault) writes steps ended put = (put ≡ Err fault) × writes.Unwritten
+abbrev pub HasPrintedAfter : Printing → Writing → Option NamingData → ℕ → Ended → Printing → Type 0
+HasPrintedAfter (Ok done) writes names steps ended put = HasPrinted writes names steps ended put
+HasPrintedAfter (Err fault) writes names steps ended put = (put ≡ Err fault) × writes.Unwritten

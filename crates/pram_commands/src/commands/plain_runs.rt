@@ -3,6 +3,7 @@ ghost use Rattle.std.specs.Prelude.{◌≡◌, false};
 ghost use Rattle.pram_commands.specs.Did.{Did, tells, writing};
 ghost use Rattle.pram_commands.specs.Inner.Puts.{Puts};
 ghost use Rattle.pram_commands.specs.Inputs.{AreReady, taking};
+ghost use Rattle.pram_commands.specs.Names.{AreNames};
 ghost use Rattle.pram_commands.specs.Plain.{no_plan, plainly};
 
 use crate::commands::printed;
@@ -31,6 +32,7 @@ pub fn plain<J: Source, P: Source, O: Sink>(
         why,
         text: spelled.text.as_slice(),
         job: &spelled.job,
+        names: &spelled.names,
     };
     printed(put_plain(alloc, &question, out))
 }
@@ -40,7 +42,8 @@ fn put_plain<O: Sink>(
     question: &Question<'_>,
     out: &mut O,
 ) -> Result<RunAnswer, PrintFault>
-    requires { O.has_failed out.old ≡ false }
+    requires output { O.has_failed out.old ≡ false }
+    requires names { AreNames question.now.text.now question.now.job.now question.now.names.now }
     ensures { Puts ((plainly question.now.why).Comes question.now.text.now question.now.job.now
         no_plan) (plainly false).InPieces (writing O.Sink out.old out.new) tells result }
 {

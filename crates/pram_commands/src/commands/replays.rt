@@ -1,13 +1,15 @@
 //! Replays of a plan on one thread.
-ghost use Rattle.std.specs.Prelude.{◌≡◌, [], false};
+ghost use Rattle.std.specs.Prelude.{◌≡◌, false};
 ghost use Rattle.pram_commands.specs.Did.{Did, tells, writing};
 ghost use Rattle.pram_commands.specs.Inner.Puts.{Puts};
 ghost use Rattle.pram_commands.specs.Inputs.{AreReady, taking};
+ghost use Rattle.pram_commands.specs.Names.{AreNames};
 ghost use Rattle.pram_commands.specs.Replayed.{replaying};
 
 use crate::commands::{print_ending, printed};
 use crate::fault::CommandFault;
 use crate::inputs::take_inputs;
+use crate::names::Words;
 use crate::sources::{Inputs, Sources};
 use crate::workers::Workers;
 use pram_run::replay_to;
@@ -40,13 +42,18 @@ fn put_replay<O: Sink>(
     alone: bool,
     out: &mut O,
 ) -> Result<RunAnswer, PrintFault>
-    requires { O.has_failed out.old ≡ false }
-    ensures { Puts ((replaying alone 0).Comes [] inputs.now.job inputs.now.plan)
+    requires output { O.has_failed out.old ≡ false }
+    requires names { AreNames inputs.now.text.items inputs.now.job inputs.now.names }
+    ensures { Puts ((replaying alone 0).Comes inputs.now.text.items inputs.now.job inputs.now.plan)
         (replaying alone 0).InPieces
         (writing O.Sink out.old out.new) tells result }
 {
     let (job, plan) = (&inputs.job, &inputs.plan);
     let answer = replay_to(alloc, out, job, plan.workers(), plan)?;
-    print_ending(alloc, out, &answer, job.steps(), alone)?;
+    let words = Words {
+        names: &inputs.names,
+        steps: job.steps(),
+    };
+    print_ending(alloc, out, &words, &answer, alone)?;
     Ok(answer)
 }

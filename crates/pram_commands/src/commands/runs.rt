@@ -3,6 +3,7 @@ ghost use Rattle.std.specs.Prelude.{◌≡◌, false};
 ghost use Rattle.pram_commands.specs.Did.{Did, tells, writing};
 ghost use Rattle.pram_commands.specs.Inner.Puts.{Puts};
 ghost use Rattle.pram_commands.specs.Inputs.{AreReady, taking};
+ghost use Rattle.pram_commands.specs.Names.{AreNames};
 ghost use Rattle.pram_commands.specs.Threads.{running};
 
 use crate::commands::printed;
@@ -57,7 +58,8 @@ fn put_run<R: Threads + Wait + Clock + Eprint + Sync, O: Sink>(
     wanted: Wanted,
     out: &mut O,
 ) -> Result<RunAnswer, PrintFault>
-    requires { O.has_failed out.old ≡ false }
+    requires output { O.has_failed out.old ≡ false }
+    requires names { AreNames inputs.now.text.items inputs.now.job inputs.now.names }
     ensures { Puts ((running wanted.why 0).Comes inputs.now.text.items inputs.now.job
         inputs.now.plan) (running false 0).InPieces (writing O.Sink out.old out.new) tells result }
 {
@@ -65,6 +67,7 @@ fn put_run<R: Threads + Wait + Clock + Eprint + Sync, O: Sink>(
         why: wanted.why,
         text: inputs.text.as_slice(),
         job: &inputs.job,
+        names: &inputs.names,
     };
     let printing = Printing {
         alloc,

@@ -1,14 +1,16 @@
 //! What each processor of a job asks for, step by step.
-ghost use Rattle.std.specs.Prelude.{◌≡◌, [], false};
+ghost use Rattle.std.specs.Prelude.{◌≡◌, false};
 ghost use Rattle.pram_commands.specs.Did.{Did, tells, writing};
 ghost use Rattle.pram_commands.specs.Inner.Puts.{Puts};
 ghost use Rattle.pram_commands.specs.Inputs.{AreReady, missing_step, taking};
+ghost use Rattle.pram_commands.specs.Names.{AreNames};
 ghost use Rattle.pram_commands.specs.Plain.{no_plan};
 ghost use Rattle.pram_commands.specs.Steps.{stepping};
 
 use crate::commands::{print_ending, printed};
 use crate::fault::CommandFault;
-use crate::inputs::take_job;
+use crate::inputs::{Spelled, take_text};
+use crate::names::Words;
 use crate::sources::Sources;
 use pram_rows::{Window, print_steps};
 use pram_step::RunAnswer;
@@ -30,26 +32,31 @@ pub fn steps<J: Source, P: Source, O: Sink>(
     ensures { Did (stepping alone window) (taking J.Source P.Source sources.old sources.new)
         (writing O.Sink out.old out.new) tells result }
 {
-    let job = take_job(alloc, &mut sources.job)?;
-    if let Some(step) = missing_step(&job, window.from) {
+    let spelled = take_text(alloc, &mut sources.job)?;
+    if let Some(step) = missing_step(&spelled.job, window.from) {
         return Err(CommandFault::OutsideStep { step });
     }
-    printed(put_steps(alloc, &job, window, alone, out))
+    printed(put_steps(alloc, &spelled, window, alone, out))
 }
 
 fn put_steps<O: Sink>(
     alloc: Global,
-    job: &Job,
+    spelled: &Spelled,
     window: Window,
     alone: bool,
     out: &mut O,
 ) -> Result<RunAnswer, PrintFault>
-    requires { O.has_failed out.old ≡ false }
-    ensures { Puts ((stepping alone window).Comes [] job.now no_plan)
+    requires output { O.has_failed out.old ≡ false }
+    requires names { AreNames spelled.now.text.items spelled.now.job spelled.now.names }
+    ensures { Puts ((stepping alone window).Comes spelled.now.text.items spelled.now.job no_plan)
         (stepping alone window).InPieces (writing O.Sink out.old out.new) tells result }
 {
-    let answer = print_steps(alloc, out, job, window)?;
-    print_ending(alloc, out, &answer, job.steps(), alone)?;
+    let answer = print_steps(alloc, out, &spelled.job, window)?;
+    let words = Words {
+        names: &spelled.names,
+        steps: spelled.job.steps(),
+    };
+    print_ending(alloc, out, &words, &answer, alone)?;
     Ok(answer)
 }
 

@@ -4,12 +4,14 @@ ghost use Rattle.pram_commands.specs.CellLists.{cells_of};
 ghost use Rattle.pram_commands.specs.Did.{Did, tells, writing};
 ghost use Rattle.pram_commands.specs.Inner.Puts.{Puts};
 ghost use Rattle.pram_commands.specs.Inputs.{AreReady, first_outside, taking};
+ghost use Rattle.pram_commands.specs.Names.{AreNames};
 ghost use Rattle.pram_commands.specs.Threads.{watching};
 
 use crate::cell_list::CellList;
 use crate::commands::printed;
 use crate::fault::CommandFault;
 use crate::inputs::take_inputs;
+use crate::names::Words;
 use crate::printing::{PrintingReads, outcome, take_back};
 use crate::sources::Sources;
 use crate::threads::{Manner, Watched, watch_job};
@@ -74,14 +76,21 @@ fn put_watch<R: Threads + Wait + Clock + Eprint + Sync, O: Sink>(
     manner: Manner,
     out: &mut O,
 ) -> Result<RunAnswer, PrintFault>
-    requires { O.has_failed out.old ≡ false }
-    ensures { Puts ((watching 0 watched.now.cells.now watched.now.rounds).Comes []
-        watched.now.inputs.now.job watched.now.inputs.now.plan) (watching 0 [] 0).InPieces
+    requires output { O.has_failed out.old ≡ false }
+    requires names { AreNames watched.now.inputs.now.text.items watched.now.inputs.now.job
+        watched.now.inputs.now.names }
+    ensures { Puts ((watching 0 watched.now.cells.now watched.now.rounds).Comes
+        watched.now.inputs.now.text.items watched.now.inputs.now.job
+        watched.now.inputs.now.plan) (watching 0 [] 0).InPieces
         (writing O.Sink out.old out.new) tells result }
 {
+    let words = Words {
+        names: &watched.inputs.names,
+        steps: watched.inputs.job.steps(),
+    };
     let reader = PrintingReads {
         alloc,
-        steps: watched.inputs.job.steps(),
+        words,
         out,
         printed: Ok(()),
     };

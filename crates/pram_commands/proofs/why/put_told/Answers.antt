@@ -9,18 +9,19 @@ use Rattle.pram_commands.proofs.why.put_told.Goals as goal
 device_memory : Device ≡ Memory → ⊥
 device_memory is = cc is
 
-pub returns-in_err-print_answer : goal.returns-in_err-print_answer
-returns-in_err-print_answer g c =
-    put_failed _ _ _ _ _ c.in_err-print_answer.field-0.0
-    (err_is _ _ c.from_residual-in_err-print_answer.ensures)
+pub returns-in_err-print_told : goal.returns-in_err-print_told
+returns-in_err-print_told g c =
+    put_failed _ _ _ _ _ c.in_err-print_told.field-0.0
+    (err_is _ _ c.from_residual-in_err-print_told.ensures)
     (record {
       text = _;
       answer = Some _;
-      comes = tells_all _ _ _ _ _ _ _ c.steps.ensures.value refl c.in_ok-back.ensures;
-      takes = beginning-longer _ _ _ _ c.in_err-print_answer.ensures.beginning;
+      comes = tells_all _ _ _ _ _ _ _ _ c.requires.names c.steps.ensures.value refl
+          c.in_ok-back.ensures;
+      takes = beginning-longer _ _ _ _ c.in_err-print_told.ensures.beginning;
     })
-    (λ e. inl (c.in_err-print_answer.ensures.memory (ap (λ x. Err x) e)))
-    c.in_err-print_answer.ensures.failed
+    (λ e. inl (c.in_err-print_told.ensures.memory (ap (λ x. Err x) e)))
+    c.in_err-print_told.ensures.failed
 
 pub returns-in_err-put : goal.returns-in_err-put
 returns-in_err-put g c =
@@ -28,9 +29,9 @@ returns-in_err-put g c =
     (record {
       text = _;
       answer = Some _;
-      comes = tells_all _ _ _ _ _ _ _ c.steps.ensures.value c.as_bytes.ensures.value
+      comes = tells_all _ _ _ _ _ _ _ _ c.requires.names c.steps.ensures.value c.as_bytes.ensures.value
           c.in_ok-back.ensures;
-      takes = beginning-after _ _ _ _ _ c.in_ok-print_answer.ensures.ok
+      takes = beginning-after _ _ _ _ _ c.in_ok-print_told.ensures.ok
           c.in_err-put.ensures.beginning;
     })
     (λ e. absurd (device_memory e))
@@ -41,9 +42,9 @@ returns g c = record {
   done = record {
     text = _;
     answer = Some _;
-    comes = tells_all _ _ _ _ _ _ _ c.steps.ensures.value c.as_bytes.ensures.value
+    comes = tells_all _ _ _ _ _ _ _ _ c.requires.names c.steps.ensures.value c.as_bytes.ensures.value
         c.in_ok-back.ensures;
-    takes = Appends-trans _ _ _ _ _ c.in_ok-print_answer.ensures.ok c.in_ok-put.ensures.ok;
+    takes = Appends-trans _ _ _ _ _ c.in_ok-print_told.ensures.ok c.in_ok-put.ensures.ok;
     is = refl;
   };
   wrote = tt;

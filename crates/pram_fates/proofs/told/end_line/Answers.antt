@@ -5,5 +5,5 @@ use Rattle.pram_fates.proofs.told.end_line.Goals as goal
 pub returns-in-Running : goal.returns-in-Running
 returns-in-Running c = IfOk-weaker c.format.result _ _
     (λ text written. written
-    ∙ rw (c.instruction_line-line.ensures, c.in-Some.is, c.in-Running.is) (simp append_assoc))
+    ∙ rw (c.line-line.ensures, c.in-Some.is, c.in-Running.is) (simp append_assoc))
     c.format.ensures.ok

@@ -5,5 +5,5 @@ use Rattle.pram_fates.proofs.told.lost_line.Goals as goal
 pub returns : goal.returns
 returns c = IfOk-weaker c.format.result _ _
     (λ text written. written
-    ∙ rw (c.instruction_line-line.ensures, c.in-Some.is) (simp append_assoc))
+    ∙ rw (c.line-line.ensures, c.in-Some.is) (simp append_assoc))
     c.format.ensures.ok

@@ -18,7 +18,7 @@ returns g c =
     puts_heard why c.as_slice.result.now job plan w c.run_job-ended.result.0
     c.run_job-ended.result.1.1 c.outcome.result
     c.run_job-ended.ensures.ended c.run_job-ended.ensures.heard.1
-    (λ un f. well _ (ap g.O.Sink.has_failed un ∙ c.requires) f) c.outcome.ensures in
+    (λ un f. well _ (ap g.O.Sink.has_failed un ∙ c.requires.output) f) c.outcome.ensures in
     rw (c.out-1.given.1 (sym c.run_job-ended.ensures.heard.0) ∙ c.take_back.ensures)
     (subst (λ (text : List ℕ).
     Puts (Explaining why (IsEnd job plan) text job) ⊥ w tells c.outcome.result)

@@ -19,29 +19,29 @@ pub returns-in-Some : goal.returns-in-Some
 returns-in-Some g c = record {
   done = tt;
   explains = record {
-    job = c.in_ok-job.job;
+    job = c.in_ok-spelled.spelled.job;
     plan = no_plan;
-    given = record { job_text = _; a_job = c.in_ok-job.ensures.ok.1; a_plan = tt };
+    given = record { job_text = _; a_job = c.in_ok-spelled.ensures.ok; a_plan = tt };
     missing = sym c.in-Some.ensures;
   };
   wrote = refl;
   job_first = λ never. absurd never;
   alone = refl;
   job_failed = (
-    (λ f. absurd (ok_not_err _ _ (c.in_ok-job.ensures.failed.0 f))),
+    (λ f. absurd (ok_not_err _ _ (c.in_ok-spelled.ensures.failed.0 f))),
     (λ e. absurd (no_job _ e)),
   );
   plan_failed =
       ((λ f. absurd (well _ c.requires.plan f)), (λ e. absurd (no_plan_device _ e)));
   out_failed = ((λ f. absurd (well _ c.requires.output f)), (λ e. absurd (no_out _ e)));
-  job_reads = c.in_ok-job.ensures.reads;
+  job_reads = c.in_ok-spelled.ensures.reads;
   plan_reads = gives_none _;
 }
 
 pub returns : goal.returns
 returns g c =
-    printed_did _ _ _ _ c.in_ok-job.job no_plan
-    (record { job_text = _; a_job = c.in_ok-job.ensures.ok.1; a_plan = tt }) refl
-    (λ f. ok_not_err _ _ (c.in_ok-job.ensures.failed.0 f))
-    (well _ c.requires.plan) c.in_ok-job.ensures.reads (gives_none _)
+    printed_did _ _ _ _ c.in_ok-spelled.spelled.job no_plan
+    (record { job_text = _; a_job = c.in_ok-spelled.ensures.ok; a_plan = tt }) refl
+    (λ f. ok_not_err _ _ (c.in_ok-spelled.ensures.failed.0 f))
+    (well _ c.requires.plan) c.in_ok-spelled.ensures.reads (gives_none _)
     _ c.put_steps.ensures _ c.printed.ensures

@@ -1,4 +1,4 @@
-use Rattle.std.proofs.Common.{◌∙◌, ℕ, List, [], subst, sym}
+use Rattle.std.proofs.Common.{◌∙◌, ℕ, List, subst, sym}
 use Rattle.std.specs.Prelude.{⊤}
 use Rattle.pram_commands.proofs.Cells.{inside}
 use Rattle.pram_commands.proofs.Doing.{ok_not_err, printed_did}
@@ -21,7 +21,7 @@ returns g c =
     let plan = c.in_ok-inputs.inputs.plan in
     let puts =
     subst (λ (cells : List ℕ).
-    Puts ((watching 0 cells c.args.reads.rounds).Comes [] job plan) ⊤
+    Puts ((watching 0 cells c.args.reads.rounds).Comes c.in_ok-inputs.inputs.text.items job plan) ⊤
     (writing g.O.Sink c.args.out.now c.put_watch.new.out)
     tells c.put_watch.result)
     (c.as_slice-cells.ensures.value ∙ c.in_ok-cells.ensures) c.put_watch.ensures in

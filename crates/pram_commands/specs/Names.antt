@@ -1,0 +1,52 @@
+-- What a text is: one of the machine, or a program; and how answers are told by it.
+use Rattle.std.specs.Prelude.{◌≡◌, ℕ, true, false, List, Option, Some, None, Ok, slice_index}
+use Rattle.pram_text.specs.InstructionLines.{line_of}
+use Rattle.pram_text.specs.Job.{JobData}
+use Rattle.pram_text.specs.Text.{Spells}
+use Rattle.pram_step.specs.declared.answer.RunAnswer.{RunAnswer}
+use Rattle.pram_streams.specs.Printed.{printed}
+use Rattle.pardo_text.specs.Program.{ProgramData}
+use Rattle.pardo_text.specs.Reading.{program_of}
+use Rattle.pardo_job.specs.Compiled.{IsCompiled}
+use Rattle.pardo_answers.specs.Ends.{EndsIn}
+use Rattle.pardo_answers.specs.Language.{is_program}
+use Rattle.pardo_answers.specs.Named.{named}
+use Rattle.pardo_answers.specs.declared.ended.Lines.{Lines}
+
+-- What the answers of a program are told by: the program, the numbers of the lines that its job's
+-- instructions came from, and the lines in which the job ends.
+pub record NamingData : Type 0 where
+  pub program : ProgramData
+  pub numbers : List ℕ
+  pub lines : Lines
+
+-- the text is one of the machine, and spells the job
+pub record IsMachines (text : List ℕ) (job : JobData) : Type 0 where
+  pub is_none : is_program text ≡ false
+  pub spells : Spells text job
+
+-- the text is a program, the job is the program's, and its answers are told by this
+pub record IsNaming (text : List ℕ) (job : JobData) (naming : NamingData) : Type 0 where
+  pub is_one : is_program text ≡ true
+  pub reads : program_of text ≡ Ok naming.program
+  pub makes : IsCompiled naming.program job (slice_index naming.numbers)
+  pub ends_in : EndsIn job (slice_index naming.numbers) naming.lines
+
+-- what the answers of the job of a text are told by: nothing more where it is the machine's
+abbrev pub AreNames : List ℕ → JobData → Option NamingData → Type 0
+AreNames text job None = IsMachines text job
+AreNames text job (Some naming) = IsNaming text job naming
+
+-- the job of a text
+abbrev pub Means : List ℕ → JobData → Type 0
+Means text job = (names : Option NamingData) × AreNames text job names
+
+-- the printed answer of a job of so many steps
+abbrev pub told : Option NamingData → RunAnswer → ℕ → List ℕ
+told None answer steps = printed answer steps
+told (Some naming) answer steps = named naming.program steps naming.lines answer
+
+-- the number of the line that an instruction came from
+abbrev pub line_at : List ℕ → Option NamingData → ℕ → ℕ
+line_at text None index = line_of text index
+line_at text (Some naming) index = slice_index naming.numbers index
