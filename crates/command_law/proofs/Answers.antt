@@ -1,0 +1,89 @@
+-- What is printed of a program's text is the answer of the program.
+use Rattle.std.proofs.Common.{◌≡◌, ◌∙◌, ◌⊎◌, ℕ, List, [], ◌++◌, Option, Some, None, Result}
+use Rattle.std.proofs.Common.{true, ap, sym, subst, inl, inr, refl}
+use Rattle.std.specs.Prelude.{IfOk, slice_index}
+use Rattle.std.proofs.lemmas.Bool.{false≢true}
+use Rattle.std.proofs.lemmas.List.{append-nil}
+use Rattle.pram_text.specs.Job.{JobData}
+use Rattle.pram_step.specs.declared.answer.RunAnswer.{RunAnswer}
+use Rattle.pram_step.specs.declared.answer.RunAnswer.TheVariants.{Final, Conflict, Unfinished}
+use Rattle.pram_step.specs.Runs.{IsAnswer}
+use Rattle.stop_plan.specs.Plan.{PlanData}
+use Rattle.pram_board.specs.Seats.{SeatData}
+use Rattle.pardo_text.specs.declared.fault.PardoFault.{PardoFault}
+use Rattle.pardo_text.specs.Lawful.{IsProgram}
+use Rattle.pardo_text.specs.Nested.{IsNested}
+use Rattle.pardo_text.specs.Program.{ProgramData}
+use Rattle.pardo_text.proofs.LawLawful.{programs_are_lawful}
+use Rattle.pardo_text.proofs.LawNesting.{programs_are_nested}
+use Rattle.pardo_law.proofs.Theorem.{jobs_carry_programs}
+use Rattle.pardo_answers.specs.Language.{is_program}
+use Rattle.pardo_answers.proofs.LawAnswers.{printed_answers_are_the_programs}
+use Rattle.command_law.specs.Laws.{IsCutOff, IsProgramsAnswer}
+use Rattle.command_law.specs.Laws.{PlainPrintsTheProgramsAnswer, RunsPrintTheProgramsAnswer}
+use Rattle.pram_commands.specs.Names.{AreNames, IsNaming, NamingData, told}
+use Rattle.pram_commands.specs.Threads.{EndsAt}
+
+-- by the names of a program
+by_names : (text : List ℕ) (job : JobData) (naming : NamingData) (answer : RunAnswer) →
+    IsNaming text job naming → IsAnswer job answer →
+    IsProgramsAnswer text job (told (Some naming) answer job.steps)
+by_names text job naming answer is answers =
+    let lawful : IsProgram naming.program =
+    subst (λ (r : Result ProgramData PardoFault). IfOk r IsProgram) is.reads
+    (programs_are_lawful text) in
+    let nested : IsNested naming.program.lines =
+    subst (λ (r : Result ProgramData PardoFault). IfOk r (λ program. IsNested program.lines)) is.reads
+    (programs_are_nested text) in
+    record {
+      program = naming.program;
+      reads = is.reads;
+      answers = printed_answers_are_the_programs naming.program job (slice_index naming.numbers)
+          answer naming.lines
+          (record {
+            lawful = lawful;
+            made = is.makes.made;
+            carries = jobs_carry_programs naming.program job (slice_index naming.numbers) lawful
+                nested is.makes;
+          })
+          answers is.ends_in;
+    }
+
+-- the text of a program is no text of the machine
+told_answer : (text : List ℕ) (job : JobData) (names : Option NamingData) (answer : RunAnswer) →
+    is_program text ≡ true → AreNames text job names → IsAnswer job answer →
+    IsProgramsAnswer text job (told names answer job.steps)
+told_answer text job None answer one is answers = absurd (false≢true (sym is.is_none ∙ one))
+told_answer text job (Some naming) answer one is answers = by_names text job naming answer is answers
+
+-- nothing follows the answer
+alone : (text : List ℕ) (job : JobData) (bytes told back : List ℕ) → bytes ≡ told ++ back →
+    back ≡ [] → IsProgramsAnswer text job told → IsProgramsAnswer text job bytes
+alone text job bytes told back prints follows is =
+    subst (λ (b : List ℕ). IsProgramsAnswer text job b)
+    (sym (prints ∙ ap (λ (b : List ℕ). told ++ b) follows ∙ append-nil told)) is
+
+pub plain_prints : PlainPrintsTheProgramsAnswer
+plain_prints text job bytes answer one comes =
+    alone text job bytes (told comes.names comes.ended job.steps) comes.back comes.prints
+    comes.follows (told_answer text job comes.names comes.ended one comes.are_names comes.ends)
+
+-- how a run ended
+ended_so : (job : JobData) (plan : PlanData) (later : SeatData) (answer : RunAnswer) →
+    EndsAt job plan later answer → IsAnswer job answer ⊎ IsCutOff plan (Some answer)
+ended_so job plan later (Final cells) at =
+    inl (subst (λ (j : JobData). IsAnswer j (Final cells)) at.opened.1.0 at.told.tells.0)
+ended_so job plan later (Conflict fault) at =
+    inl (subst (λ (j : JobData). IsAnswer j (Conflict fault)) at.opened.1.0 at.told.tells.0)
+ended_so job plan later (Unfinished step) at =
+    inr (record { stops = at.told.stops tt; step = step; is = refl })
+
+pub runs_print : RunsPrintTheProgramsAnswer
+runs_print text job plan workers bytes answer one comes =
+    elim (ended_so job plan comes.ends.0 comes.ended comes.ends.1) [
+      | inl answers ↦ inl
+          (alone text job bytes (told comes.names comes.ended job.steps) comes.back comes.prints
+          comes.follows (told_answer text job comes.names comes.ended one comes.are_names answers))
+      | inr cut ↦ inr
+          (subst (λ (a : Option RunAnswer). IsCutOff plan a) (sym comes.gives) cut)
+    ]

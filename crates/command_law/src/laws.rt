@@ -1,0 +1,13 @@
+//! Laws of what is printed: each function does nothing, and says to a proof that its law holds.
+ghost use Rattle.command_law.specs.Laws.{PlainPrintsTheProgramsAnswer, RunsPrintTheProgramsAnswer};
+
+/// What `plain` prints of a program is the program's answer, by its meaning.
+pub fn plain_prints_the_programs_answer()
+    ensures { PlainPrintsTheProgramsAnswer }
+{}
+
+/// What a run on threads prints of a program is the program's answer, by its meaning, unless its
+/// plan stops every worker.
+pub fn runs_print_the_programs_answer()
+    ensures { RunsPrintTheProgramsAnswer }
+{}
