@@ -10,14 +10,14 @@ use std::fmt;
 
 /// Why the sources of a line failed, where they did.
 #[derive(Clone, Copy, Debug, PartialEq, Eq)]
-pub(crate) struct Reasons {
+pub struct Reasons {
     pub job: Reason,
     pub plan: Reason,
 }
 
 /// Why a line was not done, for people.
 #[derive(Clone, Copy, Debug, PartialEq, Eq)]
-pub(crate) struct Explanation<'a> {
+pub struct Explanation<'a> {
     pub line: Line<'a>,
     pub fault: CommandFault,
     pub reasons: Reasons,

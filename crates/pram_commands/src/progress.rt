@@ -61,7 +61,7 @@ const WIPE: &str = "\r\x1b[K";
 
 /// Who tells how far a board of a job of so many steps is.
 #[derive(Drop)]
-pub(crate) struct Teller {
+pub struct Teller {
     pub telling: Telling,
     pub steps: u32,
     done: AtomicBool,
@@ -130,8 +130,9 @@ pub(crate) fn start_teller<'s, E, R: Clock + Eprint + Sync>(
     seat
 }
 
-// Tells the line whenever it has changed. Where standard error fails, that is all.
-pub(crate) fn tell_steps<R: Clock + Eprint>(rt: &R, board: &Board, mut seat: Seat, teller: &Teller)
+/// Tells the line whenever it has changed, until the work is done. Where standard error fails, that
+/// is all.
+pub fn tell_steps<R: Clock + Eprint>(rt: &R, board: &Board, mut seat: Seat, teller: &Teller)
     requires seat { seat.desk ≡ board.now }
     requires steps { teller.now.steps ≡ board.now.task.job.steps }
 {

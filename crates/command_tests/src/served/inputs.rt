@@ -1,9 +1,10 @@
 //! Jobs and plans taken from their sources.
 ghost use Rattle.std.specs.Prelude.{◌≡◌, false};
 
-use crate::{
-    CellList, CommandFault, Manner, Reads, Sources, Telling, Wanted, Workers, replay, run,
-    take_inputs, take_plan, watch,
+use crate::served::TWO;
+use pram_commands::{
+    CellList, CommandFault, Reads, Sources, Wanted, Workers, cost, replay, run, take_inputs,
+    take_plan, watch,
 };
 use pram_step::RunAnswer;
 use pram_streams::{Empty, FromRead, IntoWrite, Source};
@@ -12,15 +13,6 @@ use std::test::Fail;
 const JOB: &[u8] = b"pram 1\ncells 1\nprocs 1\nsteps 0\ninit 0 5\ncode\nhalt\n";
 
 const PLAN: &[u8] = b"worker,act,ticks\n1,go,2\n";
-
-const TWO: Workers = Workers { count: 2 };
-
-const SILENT: Manner = Manner {
-    workers: TWO,
-    progress: Telling::Silent,
-    pace: None,
-    block: None,
-};
 
 fn sources() -> Sources<FromRead<&'static [u8]>, FromRead<&'static [u8]>>
     ensures job { ⟦<FromRead<&'static [u8]> as Source>⟧.has_failed result.job ≡ false }
@@ -35,11 +27,11 @@ fn sources() -> Sources<FromRead<&'static [u8]>, FromRead<&'static [u8]>>
 #[test]
 fn takes_a_job_and_its_plan(rt: HostRuntime) -> Result<(), Fail> {
     let alloc = rt.alloc();
-    let plan = take_plan(alloc, &mut FromRead::new(PLAN), TWO);
+    let plan = take_plan(alloc, &mut FromRead::new(PLAN), TWO.workers);
     assert!(rt; plan.is_ok_and(|plan| plan.rows().len() == 1));
-    let both = take_inputs(alloc, TWO, &mut sources());
+    let both = take_inputs(alloc, TWO.workers, &mut sources());
     assert!(rt; both.is_ok_and(|both| both.job.cells() == 1 && both.plan.rows().len() == 1));
-    let none = take_plan(alloc, &mut Empty, TWO);
+    let none = take_plan(alloc, &mut Empty, TWO.workers);
     assert!(rt; none.is_ok_and(|plan| plan.rows().is_empty()));
     let few = Workers { count: 1 };
     let refused = take_inputs(alloc, few, &mut sources());
@@ -51,15 +43,29 @@ fn takes_a_job_and_its_plan(rt: HostRuntime) -> Result<(), Fail> {
 fn replays_between_devices(rt: HostRuntime) -> Result<(), Fail> {
     let alloc = rt.alloc();
     let mut out = IntoWrite::new(Vec::new(alloc));
-    let answer = replay(alloc, TWO, false, &mut sources(), &mut out);
+    let answer = replay(alloc, TWO.workers, false, &mut sources(), &mut out);
     match answer {
-        Ok(RunAnswer::Final(cells)) => assert_eq!(rt; cells.as_slice(), [5].as_slice()),
+        Ok(RunAnswer::Final(cells)) => assert!(rt; cells.as_slice() == [5].as_slice()),
         _ => panic!(rt; "no answer"),
     }
     let text = "tick,worker,op,word,before,after\n\
                 1,1,load,1,0,0\n2,1,load,0,0,0\n3,0,load,1,0,0\n4,0,load,0,0,0\n\
                 done steps=0\n0: 5\n";
-    assert_eq!(rt; out.into_inner().as_slice(), text.as_bytes());
+    assert!(rt; out.into_inner().as_slice() == text.as_bytes());
+    Ok(())
+}
+
+#[test]
+fn costs_between_devices(rt: HostRuntime) -> Result<(), Fail> {
+    let alloc = rt.alloc();
+    let mut out = IntoWrite::new(Vec::new(alloc));
+    let cost = cost(alloc, &mut sources(), &mut out)?;
+    assert!(rt; (cost.steps, cost.procs) == (0, 1));
+    assert!(rt;
+        out.into_inner()
+            .as_slice()
+            .ends_with("done steps=0\n".as_bytes())
+    );
     Ok(())
 }
 
@@ -68,14 +74,14 @@ fn runs_between_devices(rt: HostRuntime) -> Result<(), Fail> {
     let alloc = rt.alloc();
     let mut out = IntoWrite::new(Vec::new(alloc));
     let wanted = Wanted {
-        manner: SILENT,
+        manner: TWO,
         why: true,
     };
     let answer = run(&rt, alloc, wanted, &mut sources(), &mut out);
     assert!(rt; matches!(answer, Ok(RunAnswer::Final(_))));
-    assert_eq!(rt;
-        out.into_inner().as_slice(),
-        "done steps=0\n0: 5\nrunning count=1 first=0 line=7\n".as_bytes()
+    assert!(rt;
+        out.into_inner().as_slice()
+            == "done steps=0\n0: 5\nrunning count=1 first=0 line=7\n".as_bytes()
     );
     Ok(())
 }
@@ -88,14 +94,14 @@ fn watches_between_devices(rt: HostRuntime) -> Result<(), Fail> {
         panic!(rt; "no list");
     };
     let reads = Reads {
-        manner: SILENT,
+        manner: TWO,
         cells,
         rounds: 2,
     };
     let answer = watch(&rt, alloc, reads, &mut sources(), &mut out);
     assert!(rt; matches!(answer, Ok(RunAnswer::Final(_))));
     let text = "step,cell,value\n0,0,5\n0,0,5\n0,0,5\n0,0,5\ndone steps=0\n0: 5\n";
-    assert_eq!(rt; out.into_inner().as_slice(), text.as_bytes());
+    assert!(rt; out.into_inner().as_slice() == text.as_bytes());
     Ok(())
 }
 
@@ -119,9 +125,6 @@ fn lists_of_cells(rt: HostRuntime) -> Result<(), Fail> {
     let Some(list) = CellList::read("3,0,4294967295,3") else {
         panic!(rt; "no list");
     };
-    assert_eq!(rt;
-        list.numbers(alloc)?.as_slice(),
-        [3, 0, 4294967295, 3].as_slice()
-    );
+    assert!(rt; list.numbers(alloc)?.as_slice() == [3, 0, 4294967295, 3].as_slice());
     Ok(())
 }

@@ -1,8 +1,8 @@
 //! Lines of progress.
 ghost use Rattle.std.specs.Prelude.{◌≡◌};
 
-use crate::progress::{Teller, Telling, tell_steps};
 use pram_board::{Board, Seat};
+use pram_commands::{Teller, Telling, tell_steps};
 use pram_run::run;
 use pram_text::read_job;
 use std::alloc::Global;
@@ -71,11 +71,11 @@ fn the_finished_step_is_told(rt: HostRuntime) -> Result<(), Fail> {
     let (seat, early) = board.split(seat);
     let (seat, late) = board.split(seat);
     let before = told(alloc, Telling::Lines, &board, early, job.steps());
-    assert_eq!(rt; before.as_str(), "step 0 of 2\n");
+    assert!(rt; before.as_str() == "step 0 of 2\n");
     let plan = Plan::empty(alloc, 1);
     let (_seat, answer) = run(&rt, alloc, &job, &board, seat, &plan, &Open);
     assert!(rt; answer.is_ok());
     let after = told(alloc, Telling::OneLine, &board, late, job.steps());
-    assert_eq!(rt; after.as_str(), "\rstep 2 of 2\r\x1b[K");
+    assert!(rt; after.as_str() == "\rstep 2 of 2\r\x1b[K");
     Ok(())
 }

@@ -1,8 +1,9 @@
 //! Devices that fail at each place in turn.
 ghost use Rattle.std.specs.Prelude.{◌≡◌, false};
 
-use crate::tests::served::{Drip, of_text};
-use crate::{CommandFault, Sources, check, plain};
+use crate::served::of_text;
+use failing_devices::Drip;
+use pram_commands::{CommandFault, Sources, check, plain};
 use pram_streams::{Empty, IntoWrite, MOST, Source};
 use pram_text::TextKind;
 use std::test::Fail;
@@ -51,17 +52,17 @@ fn nothing_is_printed_where_a_pull_fails(rt: HostRuntime) -> Result<(), Fail> {
     for pulls in 0..=TEXT.len() {
         let mut sink = IntoWrite::new(Vec::new(alloc));
         let answer = plain(alloc, false, &mut dripped(pulls), &mut sink);
-        assert_eq!(rt; answer.err(), Some(CommandFault::JobDevice), "at {pulls}");
+        assert!(rt; answer.err() == Some(CommandFault::JobDevice), "at {pulls}");
         assert!(rt; sink.into_inner().is_empty());
         let mut sink = IntoWrite::new(Vec::new(alloc));
         let checked = check(alloc, &mut dripped(pulls), &mut sink);
-        assert_eq!(rt; checked, Err(CommandFault::JobDevice), "at {pulls}");
+        assert!(rt; checked == Err(CommandFault::JobDevice), "at {pulls}");
         assert!(rt; sink.into_inner().is_empty());
     }
     // one pull more finds the end
     let mut sink = IntoWrite::new(Vec::new(alloc));
     plain(alloc, false, &mut dripped(TEXT.len() + 1), &mut sink)?;
-    assert_eq!(rt; sink.into_inner().as_slice(), ANSWER);
+    assert!(rt; sink.into_inner().as_slice() == ANSWER);
     Ok(())
 }
 
@@ -72,7 +73,10 @@ fn a_beginning_is_printed_where_a_push_fails(rt: HostRuntime) {
         let mut room = [0u8; 256];
         let mut sink = IntoWrite::new(&mut room[..pushes.min(256)]);
         let answer = plain(alloc, false, &mut of_text(TEXT), &mut sink);
-        assert_eq!(rt; answer.err(), Some(CommandFault::OutDevice), "at {pushes}");
+        assert!(rt;
+            answer.err() == Some(CommandFault::OutDevice),
+            "at {pushes}"
+        );
         assert!(rt; sink.into_inner().is_empty());
         assert!(rt; ANSWER.starts_with(&room[..pushes.min(256)]));
     }
@@ -80,7 +84,7 @@ fn a_beginning_is_printed_where_a_push_fails(rt: HostRuntime) {
         let mut room = [0u8; 256];
         let mut sink = IntoWrite::new(&mut room[..pushes.min(256)]);
         let checked = check(alloc, &mut of_text(TEXT), &mut sink);
-        assert_eq!(rt; checked, Err(CommandFault::OutDevice), "at {pushes}");
+        assert!(rt; checked == Err(CommandFault::OutDevice), "at {pushes}");
         assert!(rt; sink.into_inner().is_empty());
         assert!(rt; SUMMARY.starts_with(&room[..pushes.min(256)]));
     }
@@ -96,6 +100,6 @@ fn a_text_of_the_greatest_size_is_judged(rt: HostRuntime) -> Result<(), Fail> {
         line: 1,
         kind: TextKind::BadHeader,
     };
-    assert_eq!(rt; checked, Err(fault));
+    assert!(rt; checked == Err(fault));
     Ok(())
 }

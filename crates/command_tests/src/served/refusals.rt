@@ -1,8 +1,9 @@
 //! Files and outputs that fail.
-use crate::tests::served::{
-    CHECK, Drip, FILE, PLAIN, Served, serve_source, serve_sources, serve_text,
+use crate::served::{
+    CHECK, FILE, PLAIN, Served, TWO, run_line, serve_source, serve_sources, serve_text,
 };
-use crate::{Console, Line, Manner, Sources, Telling, Workers, serve};
+use failing_devices::Drip;
+use pram_commands::{Console, Line, Sources, Workers, serve};
 use pram_streams::{Empty, FromRead, IntoWrite, MOST};
 use std::test::Fail;
 
@@ -11,18 +12,6 @@ const REPLAY: Line<'static> = Line::Replay {
     workers: Workers { count: 2 },
     plan: Some("plan.csv"),
     alone: false,
-};
-
-const RUN: Line<'static> = Line::Run {
-    file: FILE,
-    plan: Some("plan.csv"),
-    manner: Manner {
-        workers: Workers { count: 2 },
-        progress: Telling::Silent,
-        pace: None,
-        block: None,
-    },
-    why: false,
 };
 
 const JOB: &[u8] = b"pram 1\ncells 1\nprocs 1\nsteps 0\ncode\nhalt\n";
@@ -35,7 +24,7 @@ fn is_refused(served: &Served, told: &str) -> bool {
 #[test]
 fn a_closed_file_is_named(rt: HostRuntime) {
     let alloc = rt.alloc();
-    for line in [CHECK, PLAIN, RUN, REPLAY] {
+    for line in [CHECK, PLAIN, run_line(TWO), REPLAY] {
         let served = serve_source(&rt, alloc, &line, Drip::new(&[], 0));
         assert!(rt; is_refused(&served, "file job.txt\n"));
     }
@@ -48,7 +37,7 @@ fn a_closed_file_is_named(rt: HostRuntime) {
 fn a_large_file_is_named(rt: HostRuntime) -> Result<(), Fail> {
     let alloc = rt.alloc();
     let text = vec![in alloc; b';'; MOST + 1]?;
-    for line in [CHECK, PLAIN, RUN, REPLAY] {
+    for line in [CHECK, PLAIN, run_line(TWO), REPLAY] {
         let served = serve_text(&rt, alloc, &line, text.as_slice());
         assert!(rt; is_refused(&served, "size job.txt\n"));
     }
@@ -62,7 +51,7 @@ fn a_large_file_is_named(rt: HostRuntime) -> Result<(), Fail> {
 #[test]
 fn a_failing_output_took_a_beginning(rt: HostRuntime) {
     let alloc = rt.alloc();
-    for line in [CHECK, PLAIN, RUN, REPLAY] {
+    for line in [CHECK, PLAIN, run_line(TWO), REPLAY] {
         let whole = serve_text(&rt, alloc, &line, JOB).out;
         for count in 0..whole.len() {
             let mut room = [0u8; 256];
@@ -78,8 +67,8 @@ fn a_failing_output_took_a_beginning(rt: HostRuntime) {
             };
             let status = serve(&rt, alloc, &line, &mut sources, &mut console);
             let Console { out, err, .. } = console;
-            assert_eq!(rt; status, 4);
-            assert_eq!(rt; err.into_inner().as_slice(), "file -\n".as_bytes());
+            assert!(rt; status == 4);
+            assert!(rt; err.into_inner().as_slice() == "file -\n".as_bytes());
             assert!(rt; out.into_inner().is_empty());
             assert!(rt; whole.as_slice().starts_with(&room[..count.min(256)]));
         }
@@ -100,6 +89,6 @@ fn the_status_stays_where_standard_error_fails(rt: HostRuntime) {
         job: FromRead::new(&JOB[..6]),
         plan: Empty,
     };
-    assert_eq!(rt; serve(&rt, alloc, &PLAIN, &mut sources, &mut console), 2);
+    assert!(rt; serve(&rt, alloc, &PLAIN, &mut sources, &mut console) == 2);
     assert!(rt; console.out.into_inner().is_empty());
 }
