@@ -10,6 +10,7 @@ import { deflateRawSync } from 'node:zlib';
 const source = join(dirname(fileURLToPath(import.meta.url)), '..', 'src');
 const read = (name) => readFileSync(join(source, name), 'utf8');
 const IMPORT = /^import \{([^}]*)\} from '\.\/([a-z_]+)\.js';\n/gm;
+const COMMENT = /^ *\/\/.*\n/gm;
 const EXPORT = /^export (?:async )?(?:function|const|let|class) (\w+)/gm;
 
 // A module and those that it imports, each after its own imports.
@@ -20,11 +21,13 @@ function modulesOf(name, found = new Set()) {
   return found.add(name);
 }
 
-// A module as a function of its own, which gives what it exports.
+// A module as a function of its own, which gives what it exports; without its comments, which stand
+// in lines of their own.
 function enclosed(name) {
   const text = read(`${name}.js`);
   const exported = [...text.matchAll(EXPORT)].map(([, word]) => word);
   const body = text
+    .replace(COMMENT, '')
     .replace(IMPORT, (_, words, module) => `const {${words}} = ${module}_module;\n`)
     .replace(/^export /gm, '');
   return `const ${name}_module = (() => {\n${body}return { ${exported.join(', ')} };\n})();\n`;
@@ -36,24 +39,29 @@ function instructionsOf(file) {
   return [...rows].map(([, name, operands]) => [name, operands]);
 }
 
-// The sentences on a text, in the order of its faults.
-function sentencesOf(file) {
-  const rows = readFileSync(file, 'utf8').matchAll(/TextKind::\w+ => "([^"]*)"/g);
-  return [...rows].map(([, sentence]) => sentence);
+// The sentences on texts of these kinds, in the order of their faults. Out of memory is none.
+function sentencesOf(file, kinds) {
+  const rows = new RegExp(`(?:${kinds})::(\\w+) =>\\s*"([^"]*)"`, 'g');
+  return [...readFileSync(file, 'utf8').matchAll(rows)]
+    .filter(([, kind]) => kind !== 'Memory').map(([, , sentence]) => sentence);
 }
 
 const bundleOf = (name) => `\n${[...modulesOf(name)].map(enclosed).join('\n')}`;
 
 const bundle = (table, sentences) => bundleOf('main')
   .replace('/*INSTRUCTIONS*/[]', JSON.stringify(instructionsOf(table)))
-  .replace('/*SENTENCES*/[]', JSON.stringify(sentencesOf(sentences)));
+  .replace('/*SENTENCES*/[]', JSON.stringify(sentencesOf(sentences, 'TextKind')))
+  .replace('/*PROGRAM_SENTENCES*/[]',
+    JSON.stringify(sentencesOf(sentences, 'PardoKind|JobKind')));
 
+// Programs of `pardo`, and then texts of the machine, which have their names without an end.
 function examplesOf(folder) {
-  const names = readdirSync(folder).filter((name) => name.endsWith('.pram')).sort();
-  return names.map((name) => ({
-    name: name.replace(/\.pram$/, ''),
-    text: readFileSync(join(folder, name), 'utf8'),
-  }));
+  const names = readdirSync(folder).sort();
+  return ['.pardo', '.pram'].flatMap((end) => names.filter((name) => name.endsWith(end)))
+    .map((name) => ({
+      name: name.replace(/\.pram$/, ''),
+      text: readFileSync(join(folder, name), 'utf8'),
+    }));
 }
 
 const hash = (text) => `'sha256-${createHash('sha256').update(text).digest('base64')}'`;

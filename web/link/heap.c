@@ -104,3 +104,21 @@ int memcmp(const void *some, const void *others, size n) {
 }
 
 int bcmp(const void *some, const void *others, size n) { return memcmp(some, others, n); }
+
+// A product of numbers of 128 bits, by pieces of 32.
+typedef unsigned __int128 wide;
+
+static wide both(size high, size low) { return (wide)high << 64 | low; }
+
+static wide product(size a, size b) {
+  size half = 0xffffffffu;
+  size low = (a & half) * (b & half);
+  size middle = (a >> 32) * (b & half) + (low >> 32);
+  size other = (a & half) * (b >> 32) + (middle & half);
+  return both((a >> 32) * (b >> 32) + (middle >> 32) + (other >> 32), other << 32 | (low & half));
+}
+
+wide __multi3(wide a, wide b) {
+  size high = (size)a * (size)(b >> 64) + (size)(a >> 64) * (size)b;
+  return product((size)a, (size)b) + both(high, 0);
+}

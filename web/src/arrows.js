@@ -1,4 +1,5 @@
 // Arrows between processors and cells: who reads and who writes which cell in the next step.
+import { STATE } from './activity.js';
 import { byId, fit, make, makeSvg, setAttribute, setText } from './dom.js';
 import { STATUS, TARGET } from './processors.js';
 
@@ -24,8 +25,10 @@ function marker(kind) {
 const clashes = (processor, fault) =>
   fault !== undefined && (processor === fault.first || processor === fault.second);
 
-function kindOfChip(processor, request, fault) {
+// `states` says of a program who is active.
+function kindOfChip(processor, request, fault, states) {
   if (clashes(processor, fault)) return 'clash';
+  if (states) return states[processor] === STATE.ACTIVE ? 'is-active' : 'stopped';
   return request?.status > STATUS.RUNS ? 'stopped' : '';
 }
 
@@ -52,8 +55,9 @@ export function openArrows(onResize) {
     onResize();
   }).observe(strip.parentElement);
   return {
-    // `range` is the window on the cells, which stand in `list`.
-    show(job, requests, list, range, fault) {
+    // `asked` has the requests of each step that is shown; `range` is the window on the cells,
+    // which stand in `list`.
+    show(job, asked, { list, range, fault, states }) {
       const isShown = job.procs <= MOST;
       strip.hidden = !isShown;
       drawing.replaceChildren();
@@ -61,13 +65,14 @@ export function openArrows(onResize) {
       const chips = fit(strip, job.procs, () => make('li'));
       chips.forEach((chip, processor) => {
         setText(chip, `P${processor}`);
-        setAttribute(chip, 'class', kindOfChip(processor, requests[processor], fault));
+        setAttribute(chip, 'class', kindOfChip(processor, asked[0]?.[processor], fault, states));
       });
       const frame = drawing.getBoundingClientRect();
       const boxOf = (cell) => list.children[cell - range.first];
       drawing.append(makeSvg('defs', {}, marker('read'), marker('write'), marker('clash')));
-      const drawn = requests.flatMap((request, processor) =>
-        arrowsOf(chips[processor], request, boxOf, frame, clashes(processor, fault)));
+      const drawn = asked.flatMap((requests, k) => requests.flatMap((request, processor) =>
+        arrowsOf(chips[processor], request, boxOf, frame,
+          k === asked.length - 1 && clashes(processor, fault))));
       const isClash = (path) => path.classList.contains('clash');
       drawing.append(...drawn.filter((path) => !isClash(path)), ...drawn.filter(isClash));
     },

@@ -61,15 +61,15 @@ export class Board {
 
   // The scene after these events, with the effects of those from `from` on, and all cells or none.
   ask(events, from, cells = this.app.job.cells) {
-    const { core, text, job } = this.app;
+    const { core, job } = this.app;
     const wanted = { from, places: job.places, place: this.place, cells };
-    return core.scene(text, this.schedule.workers, events, wanted);
+    return core.scene(job.text, this.schedule.workers, events, wanted);
   }
 
   // What is told of a moment depends on this; the words of a place on the place, too.
   get moment() {
     const { schedule } = this;
-    return [this.app.text, schedule, schedule.revision, schedule.at];
+    return [this.app.job.text, schedule, schedule.revision, schedule.at];
   }
 
   isShown() {
@@ -107,8 +107,8 @@ export class Board {
   outcome() {
     const { moment } = this;
     if (this.end === undefined || !isSame(this.end.moment, moment)) {
-      const { core, text, job } = this.app;
-      const told = core.outcome(text, job, this.schedule.workers, this.events);
+      const { core, job } = this.app;
+      const told = core.outcome(job.text, job, this.schedule.workers, this.events);
       this.end = { moment, told };
     }
     return this.end.told;

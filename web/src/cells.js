@@ -11,11 +11,19 @@ function makeBox() {
     make('span', { class: 'cell-note' }));
 }
 
+// What stands on the box of a cell: its number, or its name. An array begins a row.
+export function labelOf({ source }, cell) {
+  return source
+    ? { label: source.nameOfCell(cell), isFirst: source.isFirst(cell) }
+    : { label: String(cell), isFirst: false };
+}
+
 // A note is cut where the box ends; it is whole in the box's title.
-function showBox(box, cell, { value, note, kind }) {
-  setAttribute(box, 'class', `cell ${kind}`);
+function showBox(box, cell, { label, isFirst, value, note, kind = '' }) {
+  setAttribute(box, 'class', `cell ${kind}${isFirst ? ' is-first' : ''}`);
+  setAttribute(box, 'data-cell', cell);
   const [number, held, notes] = box.children;
-  setText(number, String(cell));
+  setText(number, label);
   setText(held, String(value));
   setText(notes, note);
   setAttribute(notes, 'title', note);

@@ -14,6 +14,7 @@ export const CODE = {
   TOO_FAR: 8,
   BAD_WORKERS: 9,
   BAD_EVENT: 10,
+  OTHER_LANGUAGE: 11,
 };
 
 // Structs: name and width of each field in bytes, in order.
@@ -47,8 +48,12 @@ const COST = {
   needs: 4,
 };
 const MEETING = { step: 4, cell: 4, first: 4, second: 4 };
-const STEP = { running: 4, reading: 4, writing: 4 };
+const STEP = { running: 4, reading: 4, writing: 4, at: 4 };
 const LAST = { step: 4, index: 4 };
+const PROGRAM = { code: 4, fault: 4, line: 8, bytes: 8, rows: 8 };
+const NUMBER = { value: 8 };
+const LINE = { number: 8, depth: 8 };
+const CELLS = { base: 8, len: 8, name: 8, kind: 8 };
 
 const sizeOf = (struct) => Object.values(struct).reduce((sum, width) => sum + width, 0);
 
@@ -59,6 +64,7 @@ const MODELS = 3;
 const WORD_WORDS = wordsOf(WORD);
 const ROW_WORDS = wordsOf(EFFECT) + wordsOf(BODY);
 const TWIN = 3;
+const STEP_AT = 3;
 
 // The names of a struct's fields with their offsets, and which take two words.
 function fieldsOf(struct) {
@@ -70,8 +76,9 @@ function fieldsOf(struct) {
   });
 }
 
-const FIELDS = new Map([JUDGEMENT, TOLD, REQUEST, BODY, EFFECT, WORD, SCENE, READ, VALUE, FATES,
-  COST, MEETING, STEP, LAST].map((struct) => [struct, fieldsOf(struct)]));
+const STRUCTS = [JUDGEMENT, TOLD, REQUEST, BODY, EFFECT, WORD, SCENE, READ, VALUE, FATES,
+  COST, MEETING, STEP, LAST, PROGRAM, NUMBER, LINE, CELLS];
+const FIELDS = new Map(STRUCTS.map((struct) => [struct, fieldsOf(struct)]));
 
 const wide = (memory, at) => memory[at] + memory[at + 1] * 2 ** 32;
 
@@ -130,12 +137,17 @@ function atDesk(exports, work) {
 }
 
 const encoder = new TextEncoder();
+const decoder = new TextDecoder();
 let encoded = { text: '', bytes: new Uint8Array(0) };
 
 // The bytes of the text that was asked for last are kept.
 function putText(desk, text) {
   if (encoded.text !== text) encoded = { text, bytes: encoder.encode(text) };
   return [desk.put(encoded.bytes), BigInt(encoded.bytes.length)];
+}
+
+function readText(desk, at, length) {
+  return decoder.decode(new Uint8Array(desk.exports.memory.buffer, Number(at), length));
 }
 
 // Events as a Uint32Array of pairs: kind, body.
@@ -175,7 +187,66 @@ const readNumbers = (memory, at, count) => memory.slice(at, at + count);
 const readRequests = (memory, at, count) => readStructs(memory, at, REQUEST, count);
 const readSteps = (memory, at, count) => readStructs(memory, at, STEP, count);
 const readLast = (memory, at, count) => readStructs(memory, at, LAST, count);
+
+// After how many steps the first processor that runs stands at one of these instructions, and at
+// which: one pair after the other.
+function readStarts(memory, rows, count, instructions) {
+  const found = [];
+  for (let k = 0; k < count; k += 1) {
+    const at = memory[rows + k * wordsOf(STEP) + STEP_AT];
+    if (instructions.has(at)) found.push(k, at);
+  }
+  return Uint32Array.from(found);
+}
+
 const readPairs = (memory, at, count) => memory.slice(at, at + 2 * count);
+
+// Room that most programs have enough of.
+const ROOM = { bytes: 65536, rows: 4096 };
+
+// A call that fills bytes and rows: it is made again where there was too little room.
+function tellProgram(exports, text, element, call, { bytes: most, rows: count } = ROOM) {
+  const told = atDesk(exports, (desk) => {
+    const input = putText(desk, text);
+    const [bytes, rows] = [desk.room(most), desk.room(count * sizeOf(element))];
+    const found = tell(desk, PROGRAM, (at) => call(input, [bytes, BigInt(most)],
+      [rows, BigInt(count)], at));
+    const isTold = found.code === CODE.DONE;
+    return {
+      ...found,
+      text: isTold ? readText(desk, bytes, found.bytes) : '',
+      list: isTold ? readStructs(desk.memory(), wordAt(rows), element, found.rows) : [],
+    };
+  });
+  return told.code === CODE.NO_ROOM ? tellProgram(exports, text, element, call, told) : told;
+}
+
+// Programs of `pardo`, of which the core tells the job as a text of the machine.
+function programCalls(exports) {
+  const linesOf = (text) => tellProgram(exports, text, LINE, (input, bytes, rows, told) =>
+    exports.pram_page_lines(...input, ...rows, told));
+  return {
+    // The lines of code of a program, with their depths; or why the text is none.
+    lines: linesOf,
+
+    // The job of a program, as a text, and the line that each of its instructions came from; and
+    // what its cells are for, with their names one after the other.
+    compile: (text) => {
+      const made = tellProgram(exports, text, NUMBER, (input, bytes, rows, told) =>
+        exports.pram_page_compile(...input, ...bytes, ...rows, told));
+      if (made.code !== CODE.DONE) return made;
+      const names = tellProgram(exports, text, CELLS, (input, bytes, rows, told) =>
+        exports.pram_page_names(...input, ...bytes, ...rows, told));
+      return {
+        ...made,
+        code: names.code,
+        lineOf: made.list.map(({ value }) => value),
+        cells: names.list,
+        names: names.text,
+      };
+    },
+  };
+}
 
 // `sizes` is what the text was judged to be.
 function plainCalls(exports) {
@@ -226,6 +297,15 @@ function runCalls(exports) {
       const input = putText(desk, text);
       return tellList(desk, STEP, count, (...room) =>
         exports.pram_page_steps(...input, from, most, ...room), readSteps);
+    }),
+
+    // After which of so many steps one of these instructions is next.
+    starts: (text, count, most, instructions) => atDesk(exports, (desk) => {
+      const input = putText(desk, text);
+      const wanted = new Set(instructions);
+      return tellList(desk, STEP, count, (...room) =>
+        exports.pram_page_steps(...input, 0, most, ...room), (memory, at, told) =>
+        readStarts(memory, at, told, wanted));
     }),
 
     // What each processor executed last in the steps up to this one.
@@ -356,5 +436,8 @@ function boardCalls(exports) {
 export async function openCore(bytes) {
   const { instance } = await WebAssembly.instantiate(bytes, {});
   const { exports } = instance;
-  return { ...plainCalls(exports), ...runCalls(exports), ...boardCalls(exports) };
+  return {
+    ...programCalls(exports), ...plainCalls(exports), ...runCalls(exports),
+    ...boardCalls(exports),
+  };
 }

@@ -1,6 +1,7 @@
 // What the run costs, and the model that it needs.
 import { byId, fit, make, setText } from './dom.js';
 import { grouped } from './numbers.js';
+import { nameOfPlace } from './places.js';
 
 export const MODELS = ['EREW', 'CREW', 'CRCW common', 'CRCW priority'];
 const MEETS = ['read', 'write', 'write different values to'];
@@ -17,9 +18,16 @@ const NUMBERS = [
 
 const makeNumber = (k) => make('div', {}, make('dt', {}, NUMBERS[k][0]), make('dd'));
 
-function meetingInWords({ step, cell, first, second }, model) {
-  return `Not ${MODELS[model]}: in step ${grouped(step)} processors ${first} and ${second} ` +
-    `${MEETS[model]} cell ${cell}.`;
+// A step, and of a program the line that it belongs to.
+function stepInWords(step, lines) {
+  const line = lines?.lineAt(lines.numberAt(step - 1));
+  return line === undefined ? `step ${grouped(step)}` : `line ${grouped(line)}, step ${
+    grouped(step)},`;
+}
+
+function meetingInWords(job, { step, cell, first, second }, model, lines) {
+  return `Not ${MODELS[model]}: in ${stepInWords(step, lines)} processors ${first} and ${second} ` +
+    `${MEETS[model]} ${nameOfPlace(job, cell)}.`;
 }
 
 // `onStep` hears the step to go to.
@@ -31,7 +39,7 @@ export function openCosts(onStep) {
   }));
 
   return {
-    show(cost) {
+    show(job, cost, lines) {
       byId('costs').hidden = cost === undefined;
       if (!cost) return;
       fit(list, NUMBERS.length, makeNumber).forEach((part, k) =>
@@ -42,7 +50,7 @@ export function openCosts(onStep) {
       fit(reasons, ruling.length, makeReason).forEach((item, k) => {
         const { meeting, model } = ruling[k];
         item.firstChild.value = meeting.step - 1;
-        setText(item.firstChild, meetingInWords(meeting, model));
+        setText(item.firstChild, meetingInWords(job, meeting, model, lines));
       });
     },
   };

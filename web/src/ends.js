@@ -3,22 +3,26 @@ import { counted, grouped } from './numbers.js';
 
 const END = { NONE: 0, RUNNING: 1, STOPPED: 2 };
 
-function endOf({ end, running, first, endLine, stopped }) {
+// The line of the text: of a program that is another than the line of its job's text.
+const lineIn = ({ source, program }, line) =>
+  grouped(source ? program.find(({ at }) => at === line)?.line ?? line : line);
+
+function endOf(job, { end, running, first, endLine, stopped }) {
   switch (end) {
     case END.RUNNING:
       return `It ended with ${counted(running, 'processor')} still running ` +
-        `(P${first} in line ${grouped(endLine)}).`;
+        `(P${first} in line ${lineIn(job, endLine)}).`;
     case END.STOPPED: return `All had stopped after step ${grouped(stopped)}.`;
     default: return '';
   }
 }
 
-function lostOf({ lost, lostStep, lostLine }) {
+function lostOf(job, { lost, lostStep, lostLine }) {
   if (lostStep === 0) return '';
-  return `Processor ${lost} stopped in step ${grouped(lostStep)} at line ${grouped(lostLine)}: ` +
-    'no such cell.';
+  return `Processor ${lost} stopped in step ${grouped(lostStep)} at line ${
+    lineIn(job, lostLine)}: ${job.source ? 'its array has no such place' : 'no such cell'}.`;
 }
 
-export function endInWords(fates) {
-  return fates ? [endOf(fates), lostOf(fates)].filter(Boolean).join(' ') : '';
+export function endInWords(job, fates) {
+  return fates ? [endOf(job, fates), lostOf(job, fates)].filter(Boolean).join(' ') : '';
 }

@@ -67,7 +67,7 @@ function instructionOf(line) {
   return words[0]?.endsWith(':') ? words.slice(1) : words;
 }
 
-function foreignCharacter(line) {
+export function foreignCharacter(line) {
   const at = [...line].findIndex((character) => !/[\t\r\x20-\x7e]/.test(character));
   if (at < 0) return '';
   const character = [...line][at];

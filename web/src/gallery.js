@@ -5,14 +5,13 @@ import { shortened } from './numbers.js';
 const NEW = 'new';
 const LINKED = 'linked';
 const SAMPLE = `; my program
-pram 1
-cells 4
-procs 4
-steps 10
+pardo 1
+rule common
+const n = 4
+procs i < n
+shared A[n]
 code
-        pid r0          ; each processor writes its number
-        st r0 r0        ; into the cell of this number
-        halt
+A[i] := i               ; each processor writes its number
 `;
 
 // What its first line that is a comment says.
@@ -20,9 +19,12 @@ function sayingOf(text) {
   return /^[ \t]*;\s*(.*)/.exec(text.slice(0, 400))?.[1] ?? '';
 }
 
+const isProgram = ({ name }) => name.endsWith('.pardo');
+
 function titleOf(example) {
   const says = sayingOf(example.text);
-  return says === '' ? example.name : `${example.name}: ${shortened(says, 80)}`;
+  const name = example.name.replace('.pardo', '');
+  return says === '' ? name : `${name}: ${shortened(says, 80)}`;
 }
 
 function titleOfDraft(draft) {
@@ -37,8 +39,10 @@ const optionOf = (value, title) => make('option', { value }, title);
 export function openGallery(examples, drafts, choose) {
   const menu = byId('example');
   const own = make('optgroup', { label: 'Your own' });
-  const all = examples.map((example) => optionOf(example.name, titleOf(example)));
-  menu.replaceChildren(own, make('optgroup', { label: 'Gallery' }, ...all));
+  const groupOf = (label, isOf) => make('optgroup', { label },
+    ...examples.filter(isOf).map((example) => optionOf(example.name, titleOf(example))));
+  menu.replaceChildren(own, groupOf('Gallery, in pardo', isProgram),
+    groupOf('Gallery, for the machine itself', (example) => !isProgram(example)));
   menu.addEventListener('change', () => {
     const example = examples.find((candidate) => candidate.name === menu.value);
     const draft = drafts.list.find((candidate) => valueOf(candidate) === menu.value);

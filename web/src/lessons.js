@@ -104,9 +104,9 @@ class Lessons {
 
   // What the board answers after all acts.
   outcome() {
-    const { core, text, job, schedule } = this.app;
+    const { core, job, schedule } = this.app;
     const events = schedule.events.upTo(schedule.length);
-    return core.outcome(text, job, schedule.workers, events);
+    return core.outcome(job.text, job, schedule.workers, events);
   }
 
   say({ isRight, said, given }) {

@@ -1,26 +1,34 @@
-// The plain machine in lockstep: its state after a step, and what each processor asks for next.
+// The plain machine in lockstep: its state after a step, and what each processor asks for next. A
+// program goes on by its lines, or by the steps of the machine where one wants them.
 import { openArrows } from './arrows.js';
 import { openCells } from './cells.js';
 import { CODE } from './core.js';
 import { openCosts } from './costs.js';
-import { byId, onClick, setDisabled, setText } from './dom.js';
+import { byId, onClick, setDisabled, setHidden, setText } from './dom.js';
 import { Errands } from './errands.js';
 import { momentInWords } from './lockstep_words.js';
 import { boxesOf, marksOf } from './memory_boxes.js';
 import { saveMemory } from './memory_svg.js';
 import { Moments } from './moments.js';
 import { grouped, numberWithin } from './numbers.js';
+import { LinePace, MachinePace } from './paces.js';
 import { openPlayer } from './player.js';
 import { openPlot } from './plot.js';
 import { openProcessors } from './processors.js';
+import { ProgramView } from './program_view.js';
 import { Search, hasAccess, isAtLine } from './seek.js';
+
+// A line shows what all of its steps ask for, where that is quickly made.
+const MOST_ASKED = 400000;
 
 export class LockstepView {
   constructor(app) {
     const show = () => this.show();
     this.app = app;
     this.moments = new Moments(app, () => this.hearFar());
+    this.machinePace = new MachinePace(this.moments);
     this.processors = openProcessors(show);
+    this.program = new ProgramView(app, show);
     this.cells = openCells('plain-cells', 'Cells after this step', show);
     this.arrows = openArrows(show);
     this.plot = openPlot((step) => this.jump(step));
@@ -32,31 +40,41 @@ export class LockstepView {
   }
 
   listen() {
-    const { app } = this;
     const chosen = byId('step');
-    onClick('step-start', () => this.goTo(0));
-    onClick('step-back', () => this.goTo(app.step - 1));
-    onClick('step-on', () => this.goTo(app.step + 1));
-    onClick('step-end', () => this.goTo(this.moments.last));
+    onClick('step-start', () => this.goToNumber(0));
+    onClick('step-back', () => this.moveBy(-1));
+    onClick('step-on', () => this.moveBy(1));
+    onClick('step-end', () => this.goToNumber(this.pace.last));
     onClick('access-back', () => this.seekAccess(0));
     onClick('access-on', () => this.seekAccess(this.moments.last));
     onClick('to-stop', () => this.seekStop());
     onClick('save-memory', () => saveMemory(byId('plain-said').textContent));
+    byId('by-machine').addEventListener('change', () => this.show());
     chosen.addEventListener('change', () =>
-      this.goTo(numberWithin(chosen.value, 0, this.moments.last, app.step)));
+      this.goToNumber(numberWithin(chosen.value, 0, this.pace.last, this.number)));
   }
 
   get keys() {
     return {
-      ArrowLeft: () => this.goTo(this.app.step - 1),
-      ArrowRight: () => this.goTo(this.app.step + 1),
-      Home: () => this.goTo(0),
-      End: () => this.goTo(this.moments.last),
+      ArrowLeft: () => this.moveBy(-1),
+      ArrowRight: () => this.moveBy(1),
+      Home: () => this.goToNumber(0),
+      End: () => this.goToNumber(this.pace.last),
       n: () => this.seekAccess(this.moments.last),
       p: () => this.seekAccess(0),
       s: () => this.seekStop(),
       ' ': () => this.player.toggle(),
     };
+  }
+
+  // By the lines of a program, as soon as they are told; else by the steps of the machine.
+  get pace() {
+    const isByLine = this.app.job?.source && !byId('by-machine').checked;
+    return (isByLine && this.app.whole.lines()) || this.machinePace;
+  }
+
+  get number() {
+    return this.pace.numberAt(this.app.step);
   }
 
   pause() {
@@ -67,6 +85,15 @@ export class LockstepView {
   jump(step) {
     this.pause();
     this.goTo(step);
+  }
+
+  moveBy(count) {
+    this.goToNumber(this.number + count);
+  }
+
+  goToNumber(number, note = '') {
+    const { pace } = this;
+    this.goTo(pace.stepAt(Math.max(0, Math.min(number, pace.last))), note);
   }
 
   goTo(step, note = '') {
@@ -99,28 +126,49 @@ export class LockstepView {
     return new Search(this.moments, this.app.step, to, isWanted);
   }
 
+  // Of a program each line is about its accesses.
   seekAccess(to) {
-    const where = to < this.app.step ? 'earlier' : 'later';
+    const isBack = to < this.app.step;
+    if (this.pace instanceof LinePace) {
+      this.moveBy(isBack ? -1 : 1);
+      return;
+    }
+    const where = isBack ? 'earlier' : 'later';
     this.seek([this.searchTo(to, hasAccess)], `No ${where} memory access. `);
   }
 
   seekStop() {
     const { job, stops } = this.app;
-    const isStop = isAtLine(job.program, stops);
-    this.seek([this.searchTo(this.moments.last, isStop)], 'No stop is reached any more. ');
+    const none = 'No stop is reached any more. ';
+    if (this.seekLines((line) => stops.has(line), [this.number], none)) return;
+    this.seek([this.searchTo(this.moments.last, isAtLine(job.program, stops))], none);
   }
 
   // To the next step in which a processor comes to the line; from the start where there is none.
   seekLine(line) {
     const { moments, app } = this;
+    const none = `No processor ever comes to line ${grouped(line)}. `;
+    if (this.seekLines((one) => one === line, [this.number, -1], none)) return;
     const isThere = isAtLine(app.job.program, new Set([line]));
     this.seek([this.searchTo(moments.last, isThere), new Search(moments, -1, app.step, isThere)],
-      `No processor ever comes to line ${grouped(line)}. `);
+      none);
+  }
+
+  // Where it goes on by lines: to the first line that is wanted after one of these numbers.
+  seekLines(isWanted, numbers, none) {
+    const { pace, number } = this;
+    if (!(pace instanceof LinePace)) return false;
+    this.pause();
+    const [found] = numbers.map((from) => pace.find(from, isWanted))
+      .filter((one) => one !== undefined);
+    this.goToNumber(found ?? number, found === undefined ? none : '');
+    return true;
   }
 
   // Plays on, up to a stop, which is searched for where steps are far.
   play(beats) {
-    const { app, moments } = this;
+    const { app, moments, pace } = this;
+    if (pace instanceof LinePace) return this.playLines(pace, beats);
     const to = Math.min(app.step + beats, moments.last);
     if (app.stops.size > 0 && !moments.isNear(to)) {
       this.seekStop();
@@ -132,73 +180,122 @@ export class LockstepView {
     return !found.isFound && app.step < moments.last;
   }
 
+  playLines(pace, beats) {
+    const { stops } = this.app;
+    const to = Math.min(this.number + beats, pace.last);
+    const stop = pace.find(this.number, (line) => stops.has(line), to);
+    this.goToNumber(stop ?? to);
+    return stop === undefined && to < pace.last;
+  }
+
   // Something far was told: it is shown, or it stands beside what is shown.
   hearFar() {
     const { app, moments } = this;
-    if (this.shown !== app.step) this.show();
+    const isOther = this.shown !== app.step || this.shownPace !== this.pace;
+    if (isOther) this.show();
     else if (moments.isThere(app.step)) this.showRun();
   }
 
   show() {
     const { app, moments } = this;
     if (!app.job || app.view !== 'lockstep') return;
+    const { pace } = this;
     this.shown = undefined;
+    this.shownPace = pace;
     const isAhead = app.isAnswering && app.step > moments.last;
-    if (!isAhead) app.step = Math.min(app.step, moments.last);
-    this.showButtons();
+    if (!isAhead) app.step = pace.stepAt(pace.numberAt(app.step));
+    this.showButtons(pace);
     if (isAhead || !moments.isThere(app.step)) {
       setText(byId('plain-said'), `Making ${grouped(app.step)} steps.`);
       return;
     }
-    this.shown = app.step;
     const state = moments.state(app.step);
     if (state.code !== CODE.DONE) return;
-    const next = moments.requests(app.step);
-    const fault = next.code === CODE.CONFLICT ? next : undefined;
-    this.now = { places: state.places, requests: next.list, fault };
-    this.showInText(next.list, fault);
-    this.showCells(state.places, next.list, fault);
+    this.shown = app.step;
+    this.now = this.momentOf(pace, state.places);
+    this.showInText(pace);
+    this.showCells(pace);
     this.showRun();
+  }
+
+  // What the processors ask for in these steps; where that takes long, in those that are kept.
+  askedIn(steps) {
+    const { moments, app: { job } } = this;
+    const cost = steps.reduce((sum, step) => sum + step * job.procs, 0);
+    return steps.filter((step) => cost <= MOST_ASKED || moments.hasKept(step))
+      .map((step) => moments.requests(step));
+  }
+
+  momentOf(pace, places) {
+    const number = pace.numberAt(this.app.step);
+    const asked = this.askedIn(pace.spanAt(number));
+    const last = asked.at(-1);
+    return {
+      number,
+      places,
+      asked: asked.map(({ list }) => list),
+      before: this.askedIn(pace.spanAt(number - 1)).map(({ list }) => list),
+      fault: last?.code === CODE.CONFLICT ? last : undefined,
+    };
   }
 
   // What the core tells of the whole run stands beside the moment as soon as it is there.
   showRun() {
-    const { app, now } = this;
+    const { app, now, pace } = this;
     const { whole, job, step } = app;
     if (this.shown !== step || !now) return;
-    this.say(now.requests, now.fault);
-    this.processors.show(job, now.places, now.requests, () => whole.lastAt(step));
-    this.plot.show(step, this.moments.last, job.procs, whole.stepsAbout(step));
-    this.costs.show(whole.cost());
+    const isByLine = pace instanceof LinePace;
+    setHidden(byId('program-processors'), !isByLine);
+    setHidden(byId('processors'), isByLine);
+    if (isByLine) {
+      this.say(this.program.wordsOf(now, pace), now.fault);
+      this.program.show(now, pace);
+    } else {
+      this.say(momentInWords(app, now.asked[0], now.fault), now.fault);
+      this.processors.show(job, now.places, now.asked[0], () => whole.lastAt(step));
+    }
+    const steps = Math.max(pace.spanAt(now.number).length, 1);
+    const last = this.moments.last;
+    this.plot.show({ step, steps, last, procs: job.procs }, whole.stepsAbout(step));
+    this.costs.show(job, whole.cost(), whole.lines());
   }
 
-  showButtons() {
-    const { step, stops } = this.app;
-    const { last } = this.moments;
-    byId('step').value = step;
+  showButtons(pace) {
+    const { number, app: { job, stops } } = this;
+    const { last } = pace;
+    const isByLine = pace instanceof LinePace;
+    byId('step').value = number;
     byId('step').max = last;
-    for (const id of ['step-start', 'step-back', 'access-back']) setDisabled(byId(id), step === 0);
-    for (const id of ['step-on', 'step-end', 'access-on']) setDisabled(byId(id), step >= last);
-    setDisabled(byId('plain-play'), step >= last);
-    setDisabled(byId('to-stop'), stops.size === 0 || step >= last);
+    setText(byId('step-name'), isByLine ? 'lines done' : 'after step');
+    setHidden(byId('machine-choice'), !job.source);
+    for (const id of ['access-back', 'access-on']) setHidden(byId(id), isByLine);
+    for (const id of ['step-start', 'step-back', 'access-back']) {
+      setDisabled(byId(id), number === 0);
+    }
+    for (const id of ['step-on', 'step-end', 'access-on']) setDisabled(byId(id), number >= last);
+    setDisabled(byId('plain-play'), number >= last);
+    setDisabled(byId('to-stop'), stops.size === 0 || number >= last);
   }
 
-  say(requests, fault) {
-    setText(byId('plain-said'), this.note + momentInWords(this.app, requests, fault));
+  say(words, fault) {
+    setText(byId('plain-said'), this.note + words);
     byId('plain-said').className = fault ? 'said bad' : 'said';
   }
 
-  showCells(places, requests, fault) {
-    const { job, step } = this.app;
-    const before = this.moments.requests(step - 1).list;
-    const boxOf = boxesOf(places, requests, before, fault?.cell);
-    const range = this.cells.show(job.cells, boxOf);
-    this.arrows.show(job, requests, this.cells.list, range, fault);
+  showCells(pace) {
+    const { app: { job }, now } = this;
+    const isByLine = pace instanceof LinePace;
+    const boxOf = boxesOf(job, now.places, now.asked, now.before, now.fault?.cell);
+    const count = isByLine ? job.source.shared : job.cells;
+    const range = this.cells.show(count, boxOf);
+    const states = isByLine ? this.program.statesOf(now, pace) : undefined;
+    this.arrows.show(job, now.asked, { list: this.cells.list, range, fault: now.fault, states });
   }
 
-  showInText(requests, fault) {
-    const { app } = this;
-    const marks = marksOf(app.job.program, requests, fault);
+  showInText(pace) {
+    const { app, now } = this;
+    const marks = pace instanceof LinePace
+      ? this.program.marksOf(now, pace) : marksOf(app.job.program, now.asked[0], now.fault);
     app.editor.mark(marks);
     if (marks.size > 0) app.editor.reveal(Math.min(...marks.keys()));
   }

@@ -1,5 +1,5 @@
 // The page: what it shows, and who is told when that changes.
-import { openCore } from './core.js';
+import { CODE, openCore } from './core.js';
 import { byId, ignoreDisabled, onClick, setDisabled, setText } from './dom.js';
 import { Drafts } from './drafts.js';
 import { Editor } from './editor.js';
@@ -12,17 +12,19 @@ import { Link } from './link.js';
 import { LockstepView } from './lockstep.js';
 import { unpack } from './packing.js';
 import { listenToPrinting } from './print.js';
-import { answerFar, judge, showJudgement } from './program.js';
+import { answerFar, judge, refused, showCompiling, showJudgement } from './program.js';
 import { Schedule } from './schedule.js';
+import { Source } from './source.js';
 import { openStops } from './stops.js';
 import { openTabs } from './tabs.js';
 import { Whole } from './whole.js';
 import { WorkersView } from './workers.js';
 import { Works, makeWork } from './works.js';
 
-const FIRST_EXAMPLE = 'maximum';
+const FIRST_EXAMPLE = 'prefix.pardo';
 const WORKERS = 4;
 const PAUSE = 1000;
+const PATIENCE = 200;
 const MOST_CORE = 16777216;
 
 // What is shown: a work, which is a text with its schedule and its step, the text's job and answer,
@@ -30,6 +32,7 @@ const MOST_CORE = 16777216;
 class Playground {
   constructor(core, far, examples) {
     Object.assign(this, { core, far, examples, view: 'lockstep', written: 0 });
+    this.firstShown = new Promise((done) => { this.onShown = done; });
     this.works = new Works(makeWork('', new Schedule(WORKERS)));
     this.drafts = new Drafts();
     this.whole = new Whole(this, () => this.showRun());
@@ -101,11 +104,12 @@ class Playground {
     this.tabs.show(this.view);
     this.views[this.view].show();
     this.showEnds();
+    this.onShown();
   }
 
   // What became of the processors, as soon as it is told.
   showEnds() {
-    setText(byId('ends'), this.job ? endInWords(this.whole.fates()) : '');
+    setText(byId('ends'), this.job ? endInWords(this.job, this.whole.fates()) : '');
   }
 
   showRun() {
@@ -113,30 +117,45 @@ class Playground {
     this.views.lockstep.hearFar();
   }
 
-  // Shows the work of now, whose text stands in the editor.
+  // Shows the work of now, whose text stands in the editor: a program, or a text of the machine.
   showNow() {
     this.pause();
-    const { work, works } = this;
+    const { work, works, core } = this;
     this.far.forget();
-    const found = judge(this.core, work.text);
-    this.hear(found);
-    if (found.isAnswering) {
-      answerFar(this.far, work.text, found, (told) => {
-        this.hear(told);
-        this.show();
-      });
-    }
+    clearTimeout(this.late);
+    const read = core.lines(work.text);
+    this.isProgram = read.code !== CODE.OTHER_LANGUAGE;
+    if (read.code === CODE.DONE) this.compile(read.list);
+    else this.hear(this.isProgram ? refused(read) : judge(core, work.text));
     this.gallery.show(work);
     setDisabled(byId('undo-text'), !works.canUndo);
     setDisabled(byId('redo-text'), !works.canRedo);
-    this.show();
+  }
+
+  // A program is compiled in the other thread, since it is run for that. What was shown stays for
+  // a moment.
+  compile(lines) {
+    const { text } = this;
+    this.isCompiling = true;
+    this.late = setTimeout(() => {
+      this.job = undefined;
+      showCompiling();
+      this.show();
+    }, PATIENCE);
+    this.far.ask('compile', [text], (made) => {
+      clearTimeout(this.late);
+      this.hear(made.code === CODE.DONE
+        ? judge(this.core, made.text, new Source(lines, made)) : refused(made));
+    });
   }
 
   // What the core says of the text.
   hear(found) {
     const { job, answer, most, isAnswering } = found;
-    Object.assign(this, { job, answer, most, isAnswering });
-    showJudgement(found, this.text, this.editor);
+    Object.assign(this, { job, answer, most, isAnswering, isCompiling: false });
+    showJudgement(found, this, job && !isAnswering ? this.whole.lines() : undefined);
+    if (isAnswering) answerFar(this.far, found, (told) => this.hear(told));
+    this.show();
   }
 
   // What is written without a pause is one change, unless a schedule would go with it.
@@ -223,6 +242,7 @@ const isEmbedded = () => [location.search, location.hash].some((part) =>
 // Each call once, of the least job: a browser compiles a function of the core when it is first
 // called.
 function warm(core) {
+  core.lines('pardo 1\nrule crew\nprocs i < 1\nshared s\ncode\ns := i\n');
   const text = 'pram 1\ncells 1\nprocs 1\nsteps 1\ncode\nhalt\n';
   const job = core.judge(text);
   const events = new Uint32Array(2);
@@ -233,6 +253,7 @@ function warm(core) {
   core.cost(text);
   core.steps(text, 0, 1, 1);
   core.last(text, job, 1, 1);
+  core.starts(text, 1, 1, [0]);
 }
 
 async function start() {
@@ -242,6 +263,7 @@ async function start() {
   const app = new Playground(core, new Far(bytes), JSON.parse(byId('examples').textContent));
   app.isEmbedded = isEmbedded();
   await app.link.read();
+  await app.firstShown;
   document.documentElement.setAttribute('data-ready', '');
   setTimeout(() => warm(core), 100);
 }

@@ -31,7 +31,7 @@ function nameOfWord(job, row) {
     case FORM.POSITION: return `the position of worker ${row.which}`;
     case FORM.STORED:
       return `the ${row.older ? 'older' : 'newer'} word of ${nameOfPlace(job, row.which)}`;
-    case FORM.CLAIM: return `the claim on cell ${row.which}`;
+    case FORM.CLAIM: return `the claim on ${nameOfPlace(job, row.which)}`;
     default: return 'a spare word';
   }
 }

@@ -1,4 +1,6 @@
-// What the boxes of the memory and the lines of the text show of a step of the plain machine.
+// What the boxes of the memory and the lines of the text show of a step of the plain machine, or of
+// the steps that a line of a program takes.
+import { labelOf } from './cells.js';
 import { ranges, shortened } from './numbers.js';
 import { STATUS, TARGET } from './processors.js';
 
@@ -16,13 +18,27 @@ function byNumber(requests, numberOf) {
 const cellRead = (request) => request.reads - 1;
 const cellWritten = (request) => (request.target === TARGET.CELL ? request.number : -1);
 
-const named = (processors, most) => `P${shortened(ranges(processors), most)}`;
+// By cell those that go to it in one of these steps.
+function goersOf(lists, numberOf) {
+  const found = new Map();
+  for (const list of lists) {
+    for (const [cell, processors] of byNumber(list, numberOf)) {
+      found.set(cell, [...new Set([...(found.get(cell) ?? []), ...processors])]);
+    }
+  }
+  return found;
+}
 
-// Who reads and who writes each cell in the next step, and which were written in the last one.
-export function boxesOf(places, requests, before, disputed) {
-  const readers = byNumber(requests, cellRead);
-  const writers = byNumber(requests, cellWritten);
-  const written = byNumber(before, cellWritten);
+const inOrder = (processors) => [...processors].sort((one, other) => one - other);
+
+export const named = (processors, most) => `P${shortened(ranges(inOrder(processors)), most)}`;
+
+// Who reads and who writes each cell next, and which were written just before: of each step the
+// requests of all processors.
+export function boxesOf(job, places, asked, before, disputed) {
+  const readers = goersOf(asked, cellRead);
+  const writers = goersOf(asked, cellWritten);
+  const written = goersOf(before, cellWritten);
   return (cell) => {
     const read = readers.get(cell);
     const wrote = writers.get(cell);
@@ -30,6 +46,7 @@ export function boxesOf(places, requests, before, disputed) {
       cell === disputed && 'is-disputed'];
     const notes = [read && `read by ${named(read, 40)}`, wrote && `written by ${named(wrote, 40)}`];
     return {
+      ...labelOf(job, cell),
       value: places[cell],
       note: notes.filter(Boolean).join(', '),
       kind: kinds.filter(Boolean).join(' '),

@@ -3,8 +3,12 @@
 // asked for again. Far ones are asked for in another thread.
 import { CODE } from './core.js';
 
-const MOST = 16;
+const MOST = 96;
 const NEAR = 500000;
+const NOTHING = { list: [], code: CODE.DONE };
+
+// What the core is told of a job's sizes.
+const sizesOf = ({ cells, procs, places }) => ({ cells, procs, places });
 
 export class Moments {
   // `onTold` is called when something far was told.
@@ -14,12 +18,12 @@ export class Moments {
   }
 
   forget() {
-    this.text = this.app.text;
+    this.text = this.app.job?.text;
     this.kept = new Map();
   }
 
   check() {
-    if (this.text !== this.app.text) this.forget();
+    if (this.text !== this.app.job.text) this.forget();
   }
 
   keep(step, told) {
@@ -30,8 +34,8 @@ export class Moments {
   }
 
   wantedFor(step) {
-    const { text, job, most } = this.app;
-    return [text, job, step, most];
+    const { job, most } = this.app;
+    return [job.text, sizesOf(job), step, most];
   }
 
   moment(step) {
@@ -61,12 +65,12 @@ export class Moments {
 
   // What the processors ask for after so many steps; nothing after the last one.
   requests(step) {
-    return this.hasRequests(step) ? this.moment(step).requests : { list: [], code: CODE.DONE };
+    return this.hasRequests(step) ? this.moment(step).requests : NOTHING;
   }
 
   // The same of a far step, as a promise; what is asked for meanwhile is forgotten.
   farRequests(step) {
-    if (!this.hasRequests(step)) return Promise.resolve(this.requests(step));
+    if (!this.hasRequests(step) || this.app.isCompiling) return Promise.resolve(NOTHING);
     this.app.far.forget();
     return new Promise((done) => {
       this.app.far.ask('moment', this.wantedFor(step), (told) =>

@@ -1,6 +1,7 @@
 // What a board answers, beside the plain machine, in words.
 import { CODE } from './core.js';
 import { grouped } from './numbers.js';
+import { nameOfPlace } from './places.js';
 
 const sameCells = (some, others) =>
   some.length === others.length && some.every((value, cell) => value === others[cell]);
@@ -14,12 +15,12 @@ function areAlike(outcome, answer) {
     ? sameCells(outcome.cells, answer.cells) : sameConflict(outcome, answer);
 }
 
-export function outcomeInWords(outcome, answer) {
+export function outcomeInWords(job, outcome, answer) {
   if (outcome.code === CODE.UNFINISHED) {
     return `Unfinished: the last finished step is ${grouped(outcome.step)}.`;
   }
   const told = outcome.code === CODE.DONE
-    ? 'Done' : `Conflict in step ${grouped(outcome.step)} at cell ${outcome.cell}`;
+    ? 'Done' : `Conflict in step ${grouped(outcome.step)} at ${nameOfPlace(job, outcome.cell)}`;
   if (answer.code === CODE.TOO_FAR) return `${told}.`;
   const alike = areAlike(outcome, answer) ? 'the same answer as' : 'ANOTHER ANSWER THAN';
   return `${told}: ${alike} the plain machine’s.`;

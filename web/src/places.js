@@ -1,9 +1,10 @@
 // Places of the machine: the cells, four registers of each processor, the counters.
 const REGISTERS = 4;
 
+// Of a program's job a cell has the name that it has there.
 export function nameOfPlace(sizes, place) {
   const register = place - sizes.cells;
-  if (register < 0) return `cell ${place}`;
+  if (register < 0) return sizes.source?.nameOfCell(place) ?? `cell ${place}`;
   if (register < REGISTERS * sizes.procs) {
     return `r${register % REGISTERS} of processor ${Math.floor(register / REGISTERS)}`;
   }

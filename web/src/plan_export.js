@@ -6,17 +6,21 @@ import { save } from './styled_svg.js';
 
 const ROWS = 200;
 
+// What a file with the program is called.
+const fileOf = ({ job, isProgram }) =>
+  (job?.source || isProgram ? 'program.pardo' : 'program.pram');
+
 const actsOf = ({ schedule }) => schedule.acts.slice(0, schedule.at);
 
 export function openPlan(app) {
   onClick('save-plan', () => save('plan.csv', 'text/plain', textOfPlan(rowsOfPlan(actsOf(app)))));
-  onClick('save-text', () => save('program.pram', 'text/plain', app.text));
+  onClick('save-text', () => save(fileOf(app), 'text/plain', app.text));
 }
 
 function commandOf(app, rows) {
   const shown = rows.length > ROWS ? ` Its first ${grouped(ROWS)} rows are shown.` : '';
   return 'The same steps up to this moment, and then each worker in turn to the end: ' +
-    `pramx replay program.pram --workers ${app.schedule.workers} --plan plan.csv.${shown}`;
+    `pramx replay ${fileOf(app)} --workers ${app.schedule.workers} --plan plan.csv.${shown}`;
 }
 
 export function showPlan(app) {

@@ -40,8 +40,8 @@ export function openPlot(onStep) {
   slider.addEventListener('input', () => onStep(Number(slider.value)));
 
   return {
-    // The steps about the one that is shown, if they are told.
-    show(step, last, procs, told) {
+    // The steps about those that are shown, if they are told.
+    show({ step, steps, last, procs }, told) {
       slider.max = last;
       slider.value = step;
       setAttribute(slider, 'aria-valuetext', `after step ${step} of ${last}`);
@@ -53,6 +53,7 @@ export function openPlot(onStep) {
       }
       shown = told;
       setAttribute(now, 'x', step - first);
+      setAttribute(now, 'width', steps);
       setText(byId('plot-said'), stepInWords(step, list[step - first]));
       setText(byId('plot-range'), list.length === 0 ? '' :
         `steps ${grouped(first + 1)} to ${grouped(first + list.length)}`);

@@ -1,7 +1,7 @@
 // The processors as a table: counter, registers, and what each asks for in the next step.
 import { byId, fit, make, setAttribute, setText } from './dom.js';
 import { grouped } from './numbers.js';
-import { counterPlace, registersOf } from './places.js';
+import { counterPlace, nameOfPlace, registersOf } from './places.js';
 import { openWindow } from './window.js';
 
 const IN_SIGHT = 32;
@@ -32,19 +32,19 @@ function stopInWords(instructions, status, last) {
 }
 
 // A counter is the index of an instruction, or one or two after the last one.
-function statusOf(job, counter) {
+export function statusOf(job, counter) {
   if (counter < job.instructions) return STATUS.RUNS;
   return counter === job.instructions ? STATUS.HALTED : STATUS.OUT_OF_RANGE;
 }
 
-function readsInWords(request) {
-  return request.reads === 0 ? '' : `cell ${request.reads - 1} (${request.held})`;
+function readsInWords(job, { reads, held }) {
+  return reads === 0 ? '' : `${nameOfPlace(job, reads - 1)} (${held})`;
 }
 
-function writesInWords(request) {
-  if (request.target === TARGET.NOTHING) return '';
-  const place = request.target === TARGET.CELL ? `cell ${request.number}` : `r${request.number}`;
-  return `${place} ← ${request.value}`;
+function writesInWords(job, { target, number, value }) {
+  if (target === TARGET.NOTHING) return '';
+  const place = target === TARGET.CELL ? nameOfPlace(job, number) : `r${number}`;
+  return `${place} ← ${value}`;
 }
 
 function nextInWords(instructions, request) {
@@ -56,7 +56,8 @@ function nextInWords(instructions, request) {
 // After the last step nothing is asked for any more.
 function asksInWords(job, { isLast, status, ...request }) {
   if (isLast || status !== STATUS.RUNS) return ['', '', ''];
-  return [readsInWords(request), writesInWords(request), nextInWords(job.program, request)];
+  return [readsInWords(job, request), writesInWords(job, request),
+    nextInWords(job.program, request)];
 }
 
 function cellsOfRow(job, places, row, lastOf) {

@@ -2,41 +2,64 @@
 import { CODE } from './core.js';
 import { byId, setText } from './dom.js';
 import { wordsOfFault } from './faults.js';
-import { counted, grouped } from './numbers.js';
+import { counted, grouped, shortened } from './numbers.js';
+import { nameOfPlace } from './places.js';
+import { wordsOfProgramFault } from './program_faults.js';
 import { instructionsOf, lineOf } from './text_lines.js';
 
 // The page makes so many steps of processors at most, and so many while one waits.
 const MOST_STEPS = 20000000;
 const NEAR_STEPS = 500000;
+const MOST_CHARACTERS = 600;
+const MOST_ARRAYS = 100;
 export const RULES = ['common', 'priority', 'crew'];
 
-export function judge(core, text) {
+// What the core says of a text of the machine; of one that it made of a program, with its source.
+export function judge(core, text, source) {
   const judged = core.judge(text);
   if (judged.code !== CODE.DONE) return { judged };
   const most = Math.floor(NEAR_STEPS / judged.procs);
   const answer = core.answer(text, judged, most);
+  const program = source ? source.program : instructionsOf(text);
   return {
     judged,
     most,
-    job: { ...judged, program: instructionsOf(text), leaves: 1 },
+    job: { ...judged, text, source, program, leaves: 1 },
     answer,
     isAnswering: answer.code === CODE.TOO_FAR,
   };
 }
 
+// Why a text is no program.
+export const refused = (judged) => ({ judged: { ...judged, isProgram: true } });
+
 // Makes a far answer in the other thread; `onTold` hears it.
-export function answerFar(far, text, found, onTold) {
+export function answerFar(far, found, onTold) {
   const most = Math.floor(MOST_STEPS / found.judged.procs);
-  far.ask('answer', [text, found.judged, most], (answer) =>
+  far.ask('answer', [found.job.text, found.judged, most], (answer) =>
     onTold({ ...found, most, answer, isAnswering: false }));
 }
 
-function answerInWords(job, answer, most) {
+// What the arrays of a program hold, as `pramx plain` prints it.
+function arraysInWords({ source }, cells) {
+  const lines = (source?.arrays ?? []).slice(0, MOST_ARRAYS).map(({ name, base, len }) =>
+    ` ${name} = ${cells.slice(base, base + len).join(' ')}.`);
+  return shortened(lines.join(''), MOST_CHARACTERS);
+}
+
+// Where the conflict is: in the line of a program, where it is known.
+function conflictInWords(job, { step, cell, first, second }, line) {
+  const where = line === undefined ? `step ${grouped(step)}` : `line ${grouped(line)}`;
+  return `a conflict in ${where} at ${nameOfPlace(job, cell)}, between processors ${first} and ${
+    second}`;
+}
+
+function answerInWords({ job, answer, most }, line) {
   switch (answer.code) {
-    case CODE.DONE: return `Its answer: done after ${counted(answer.step, 'step')}.`;
-    case CODE.CONFLICT:
-      return `Its answer: a conflict in step ${grouped(answer.step)} at cell ${answer.cell}, ` +
-        `between processors ${answer.first} and ${answer.second}.`;
+    case CODE.DONE:
+      return `Its answer: done after ${counted(answer.step, 'step')}.${
+        arraysInWords(job, answer.cells)}`;
+    case CODE.CONFLICT: return `Its answer: ${conflictInWords(job, answer, line)}.`;
     case CODE.TOO_FAR:
       return `Its answer is more than ${grouped(most)} steps away, too far for this page: ` +
         '“pramx plain” goes on.';
@@ -44,32 +67,41 @@ function answerInWords(job, answer, most) {
   }
 }
 
-function jobInWords({ job, answer, most, isAnswering }) {
+function jobInWords(found, line) {
+  const { job, most, isAnswering } = found;
   const told = isAnswering
     ? `Its answer is more than ${grouped(most)} steps away, and is being made.`
-    : answerInWords(job, answer, most);
+    : answerInWords(found, line);
   return `${counted(job.cells, 'cell')}, ${counted(job.procs, 'processor')}, ` +
     `${counted(job.steps, 'step')}, rule ${RULES[job.rule]}. ${told}`;
 }
 
-function refusalInWords(judged, text) {
-  switch (judged.code) {
-    case CODE.NO_JOB:
-      return `Line ${grouped(judged.line)}: ${
-        wordsOfFault(judged.fault, lineOf(text, judged.line))}`;
+function refusalInWords({ code, fault, line, isProgram }, text) {
+  switch (code) {
+    case CODE.NO_JOB: {
+      const words = isProgram ? wordsOfProgramFault : wordsOfFault;
+      return `Line ${grouped(line)}: ${words(fault, lineOf(text, line))}`;
+    }
     case CODE.TEXT_TOO_LONG: return 'A text has at most 16,777,216 bytes.';
     default: return 'The page is out of memory.';
   }
 }
 
-// Says it, and marks the line of a fault.
-export function showJudgement(found, text, editor) {
+// Says it, and marks the line of a fault. `pace` is that of a program by its lines, where it is
+// told: a conflict comes in the last one.
+export function showJudgement(found, { text, editor }, pace) {
   const isRefused = found.job === undefined;
   setText(byId('fault'), isRefused ? refusalInWords(found.judged, text) : '');
-  setText(byId('answer'), isRefused ? '' : jobInWords(found));
+  setText(byId('answer'), isRefused ? '' : jobInWords(found, pace?.lines.at(-1)));
   editor.setFault(isRefused);
   if (!isRefused) return;
   const { line } = found.judged;
   editor.mark(new Map([[line, { kind: 'fault', badge: '' }]]));
   if (line > 0) editor.reveal(line);
+}
+
+// Says that the text is being compiled.
+export function showCompiling() {
+  setText(byId('fault'), '');
+  setText(byId('answer'), 'It is being compiled, and run once.');
 }

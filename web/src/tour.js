@@ -1,26 +1,27 @@
 // A tour of some fifteen minutes, from one program in lockstep to a worker that is lost.
-const WORKERS = 'example=sum&view=workers&workers=3';
+const WORKERS = 'example=sum.pardo&view=workers&workers=3';
 
 export const TOUR = [
   {
     title: 'one program, four processors',
-    address: 'example=sum&view=lockstep&step=0',
-    task: 'Four processors run the same program on common memory, step by step together. It ' +
-      'sums eight values. Click “Step” some times, then “Access”: arrows show who reads and ' +
-      'who writes.',
+    address: 'example=sum.pardo&view=lockstep&step=0',
+    task: 'Four processors run the same program on common memory, line by line together. It ' +
+      'sums eight values. Click “Step” some times: the arrow in the text shows where all are, ' +
+      'those that are lit take part in the line, and arrows show who reads and who writes.',
   },
   {
     title: 'reads before writes',
-    address: 'example=sum&view=lockstep&step=10',
-    task: 'In each step all reads come before all writes. So the result depends on nobody’s ' +
-      'speed. Below, the plot shows how many processors are at work; a click goes there. Under ' +
-      'it stands what the run costs, and the model that it needs.',
+    address: 'example=sum.pardo&view=lockstep&step=12',
+    task: 'In each line all reads come before all writes. So the result depends on nobody’s ' +
+      'speed. A line is some steps of the machine: “the machine’s steps” shows them. Below, ' +
+      'the plot has all of them; a click goes there. Under it stands what the run costs.',
   },
   {
     title: 'nobody has such a machine',
     address: `${WORKERS}`,
     task: 'Real threads stop, sleep and die at any moment. Here three workers do the work of ' +
-      'the four processors, by atomic steps on common words. Click “Step all” some times: each ' +
+      'the four processors, by atomic steps on common words: each step of the machine, and so ' +
+      'each line. Click “Step all” some times: each ' +
       'walks through the tree, from leaf to leaf.',
   },
   {
@@ -47,7 +48,7 @@ export const TOUR = [
   },
   {
     title: 'asleep, and late',
-    address: `${WORKERS}&acts=0.1.2*60~s2~0.1*120~w2`,
+    address: `${WORKERS}&acts=0.1.2*60~s2~0.1*100~w2`,
     task: 'A lost worker does nothing more. One that slept does: worker 2 wakes, as if no time ' +
       'had passed, and goes on with what it meant to do then. Step it six times and more: it ' +
       'finds its words written and its leaf raised already, changes nothing, and walks on.',

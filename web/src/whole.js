@@ -1,6 +1,8 @@
 // What the core tells of a whole run: what became of the processors, what it costs, what its steps
-// do, and what each processor did last. It is kept; what takes long is made in the other thread.
+// do, when the lines of a program begin, and what each processor did last. It is kept; what takes
+// long is made in the other thread.
 import { CODE } from './core.js';
+import { LinePace } from './paces.js';
 
 // A byte of a text takes as long as a step of a processor.
 const NEAR = 50000;
@@ -14,13 +16,14 @@ export class Whole {
   }
 
   forget() {
-    this.text = this.app.text;
+    this.text = this.app.job?.text;
     this.kept = new Map();
   }
 
   // What was told; nothing yet where it is made in the other thread, or waits for it.
   ask(name, wanted, steps) {
-    const { core, far, job, text } = this.app;
+    const { core, far, job } = this.app;
+    const { text } = job;
     if (this.text !== text) this.forget();
     const key = `${name} ${steps}`;
     if (this.kept.has(key)) return this.kept.get(key);
@@ -63,6 +66,19 @@ export class Whole {
   // What each processor did last, up to this step.
   lastAt(step) {
     const { job, most } = this.app;
-    return this.ask('last', [job, step, most], step)?.list;
+    return this.ask('last', [{ procs: job.procs }, step, most], step)?.list;
+  }
+
+  // The run of a program line by line.
+  lines() {
+    const { length, app: { job, most, answer } } = this;
+    if (length === undefined || !job.source) return undefined;
+    const told = this.ask('starts', [length, most, job.source.starts], length);
+    if (told && !told.pace) {
+      const isConflict = answer.code === CODE.CONFLICT;
+      const end = isConflict ? length - 1 : length;
+      told.pace = new LinePace(told.list, job.program, end, isConflict);
+    }
+    return told?.pace;
   }
 }

@@ -1,7 +1,7 @@
 // The job by workers: an adversary's schedule, one atomic step at a time.
 import { ACT, MOST_WORKERS, actOf } from './acts.js';
 import { Board } from './board.js';
-import { openCells } from './cells.js';
+import { labelOf, openCells } from './cells.js';
 import { CODE } from './core.js';
 import { byId, onClick, setDisabled, setHidden, setText } from './dom.js';
 import { isChange } from './effects.js';
@@ -232,7 +232,7 @@ export class WorkersView {
   choosePlace(target) {
     const box = target.closest('li');
     if (!box) return;
-    this.placeWords.choose(Number(box.firstElementChild.textContent));
+    this.placeWords.choose(Number(box.dataset.cell));
     this.show();
   }
 
@@ -246,7 +246,16 @@ export class WorkersView {
     this.showBodies();
     this.showCells();
     this.showControls();
-    app.editor.mark(new Map());
+    app.editor.mark(this.marks);
+  }
+
+  // The line of a program in which the machine is after the last finished step.
+  get marks() {
+    const { app: { whole }, scene: { finished } } = this;
+    const pace = whole.lines();
+    const line = pace?.lineAt(pace.numberAt(finished));
+    const mark = { kind: 'current next', badge: `step ${grouped(finished)}` };
+    return new Map(line === undefined ? [] : [[line, mark]]);
   }
 
   showBodies() {
@@ -263,9 +272,10 @@ export class WorkersView {
   }
 
   showCells() {
-    const { pairs } = this.scene;
-    this.cells.show(this.app.job.cells, (cell) => (
-      { value: pairs[2 * cell + 1], note: `step ${grouped(pairs[2 * cell])}`, kind: '' }));
+    const { app: { job }, scene: { pairs } } = this;
+    this.cells.show(job.cells, (cell) => ({
+      ...labelOf(job, cell), value: pairs[2 * cell + 1], note: `step ${grouped(pairs[2 * cell])}`,
+    }));
   }
 
   showControls() {
@@ -297,7 +307,7 @@ export class WorkersView {
     const { app, board, scene, whatIf } = this;
     const isAnswered = isOver || scene.conflict > 0 || scene.finished === app.job.steps;
     const told = isAnswered
-      ? outcomeInWords(board.outcome(), app.answer)
+      ? outcomeInWords(app.job, board.outcome(), app.answer)
       : `Finished: ${grouped(scene.finished)} of ${counted(app.job.steps, 'step')}.`;
     setText(byId('outcome'), (whatIf?.told ?? '') + told);
     byId('outcome').className = scene.conflict > 0 ? 'said bad' : 'said';

@@ -12,6 +12,7 @@ import { clicks, count, drive, end, has, is, isShown, open, page, picture, saved
 import * as layout from './layout_tests.js';
 import * as lessons from './lesson_tests.js';
 import * as links from './link_tests.js';
+import * as programs from './program_tests.js';
 import * as speed from './speed_tests.js';
 import * as steps from './steps_tests.js';
 import * as works from './works_tests.js';
@@ -19,8 +20,8 @@ import * as works from './works_tests.js';
 const [pagePath, examples, pictures] = process.argv.slice(2);
 
 async function testLockstep() {
-  await open();
-  await has('the first example', '#answer', 'done after 20 steps');
+  await open('#example=maximum');
+  await has('a text of the machine', '#answer', 'done after 20 steps');
   await clicks('#step-on', 3);
   is('three steps', await valueOf('#step'), '3');
   await page.click('#step-back');
@@ -71,16 +72,21 @@ async function testConflict() {
   await picture('conflict');
 }
 
+// Where the answer of a program of the gallery stands.
+const outOf = (file) => (file.endsWith('.pardo') ? `${file}.out` : file.replace('.pram', '.out'));
+
 async function testGallery() {
-  const files = readdirSync(examples).filter((name) => name.endsWith('.pram'));
+  const files = readdirSync(examples).filter((name) => /\.(pram|pardo)$/.test(name));
   is('programs in the menu', await count('#example option'), files.length + 1);
   for (const file of files) {
-    await page.choose('#example', file.replace('.pram', ''));
-    const out = readFileSync(join(examples, file.replace('.pram', '.out')), 'utf8');
+    await page.choose('#example', file.replace(/\.pram$/, ''));
+    const out = readFileSync(join(examples, outOf(file)), 'utf8');
     const [, steps] = /^done steps=(\d+)/.exec(out) ?? [];
-    await has(file, '#answer', steps ? `done after ${steps} steps` : 'a conflict in step');
+    await has(file, '#answer', steps ? `done after ${steps} steps` : 'a conflict in ');
     await page.click('#tab-workers');
+    await page.choose('#worker-count', '2');
     await page.click('#to-end');
+    await page.until('/^(Done|Conflict)/.test(document.getElementById("outcome").textContent)');
     await has(`${file} by workers`, '#outcome', 'the same answer as the plain machine');
     await page.click('#tab-lockstep');
   }
@@ -285,7 +291,7 @@ async function testLink() {
   is('a link carries a text', await valueOf('#text'), 'pram 1 ; “own”\n');
   for (const bad of HOSTILE_ADDRESSES) {
     await open(bad);
-    await has(`a hostile address ${bad}`, '#answer', 'done after 20 steps');
+    await has(`a hostile address ${bad}`, '#answer', 'done after 72 steps');
   }
 }
 
@@ -339,14 +345,16 @@ async function testWidths() {
 const OWN = [testLockstep, testLockstepKeys, testConflict, testGallery, testFaults, testHostile,
   testLongTexts, testWorkers, testPlan, testTwinsAndTime, testEnds, testWorkersKeys, testLink,
   testReading, testWidths];
-const MODULES = [works, layout, steps, lessons, links, speed];
+const MODULES = [works, programs, layout, steps, lessons, links, speed];
 const TESTS = [...OWN, ...MODULES.flatMap((module) => Object.values(module))];
 
 // With names after the folders only the tests of these names are made.
 const names = process.argv.slice(5);
 
 await withPage(async (opened, scratch) => {
-  drive(opened, { address: `file://${resolve(pagePath)}`, pictures, downloads: scratch });
+  drive(opened, {
+    address: `file://${resolve(pagePath)}`, pictures, downloads: scratch, examples,
+  });
   page.pictures = pictures;
   await page.resize(1280, 900);
   await page.call('Browser.setDownloadBehavior', { behavior: 'allow', downloadPath: scratch });

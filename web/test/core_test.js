@@ -10,9 +10,13 @@ import { CODE, openCore } from '../src/core.js';
 import { effectOf } from '../src/effects.js';
 import { FAULT, INSTRUCTIONS, SENTENCES, wordsOfFault } from '../src/faults.js';
 import { planOf } from '../src/plan.js';
+import { counterPlace } from '../src/places.js';
+import { STATUS, statusOf } from '../src/processors.js';
+import { PROGRAM_SENTENCES, wordsOfProgramFault } from '../src/program_faults.js';
 import { ACT, actOf, readActs, writeActs } from '../src/acts.js';
 import { readAddress, writeAddress } from '../src/address.js';
 import { Schedule } from '../src/schedule.js';
+import { Source } from '../src/source.js';
 import { report } from './report.js';
 
 const MOST = 4294967295;
@@ -33,8 +37,8 @@ function tableOfPage() {
 }
 
 // The sentences that it put there.
-function sentencesOfPage() {
-  return JSON.parse(/const SENTENCES = (\[".*?"\]);/.exec(page)[1]);
+function sentencesOfPage(list) {
+  return JSON.parse(new RegExp(`const ${list} = (\\[".*?"\\]);`).exec(page)[1]);
 }
 
 function printed(answer) {
@@ -56,6 +60,23 @@ function plainOf(path) {
   } catch (failure) {
     return failure.stdout;
   }
+}
+
+// The answer of a program by its names and lines, as the program prints it.
+function printedByNames(core, source, job, answer) {
+  if (answer.code === CODE.CONFLICT) {
+    const { requests: { list } } = core.moment(source.text, job, answer.step - 1, MOST);
+    return `conflict line=${source.lineOf[list[answer.first].counter]} ` +
+      `place=${source.nameOfCell(answer.cell)} processors=${answer.first},${answer.second}\n`;
+  }
+  const arrays = source.arrays.map(({ name, base, len }) =>
+    `${name} = ${answer.cells.slice(base, base + len).join(' ')}\n`);
+  const last = core.last(source.text, job, answer.step, MOST).list;
+  const { places } = core.moment(source.text, job, answer.step, MOST).state;
+  const gone = last.flatMap(({ index }, processor) => (
+    statusOf(job, places[counterPlace(job, processor)]) === STATUS.OUT_OF_RANGE
+      ? [`gone processor=${processor} line=${source.lineOf[index]}\n`] : []));
+  return `done steps=${answer.step}\n${arrays.join('')}${gone.join('')}`;
 }
 
 // The state after each step is the one before it with the writes of the requests.
@@ -136,6 +157,84 @@ function testProgram(core, name) {
   if (walked.code !== CODE.DONE) return;
   is(`${name}: its outcome`, printed(core.outcome(text, job, 3, walked.events)), wanted);
   is(`${name}: its reads`, readsAgree(core, text, job, walked.events), 'agree');
+}
+
+// At the beginning of a line all processors that run stand at it.
+function linesAgree(core, source, job, answer) {
+  const { list } = core.starts(source.text, answer.step, MOST, source.starts);
+  for (let k = 0; k < list.length; k += 2) {
+    const { requests } = core.moment(source.text, job, list[k], MOST);
+    const running = requests.list.filter(({ status }) => status === STATUS.RUNS);
+    if (running.some(({ counter }) => counter !== list[k + 1])) return `step ${list[k]}`;
+  }
+  return list.length > 0 ? 'agree' : 'none';
+}
+
+// A program that a text of the machine was made of.
+function sourceOf(core, text) {
+  const [{ list }, made] = [core.lines(text), core.compile(text)];
+  return new Source(list, made);
+}
+
+function testPardo(core, name) {
+  const path = join(folder, `${name}.pardo`);
+  const text = readFileSync(path, 'utf8');
+  const wanted = readFileSync(join(folder, `${name}.pardo.out`), 'utf8');
+  const source = sourceOf(core, text);
+  const job = core.judge(source.text);
+  const answer = core.answer(source.text, job, MOST);
+  is(`${name}.pardo: answer`, printedByNames(core, source, job, answer), wanted);
+  if (pramx) is(`${name}.pardo: pramx plain`, plainOf(path), wanted);
+  is(`${name}.pardo: lines`, linesAgree(core, source, job, answer), 'agree');
+  const walked = walk(core, source.text, job);
+  is(`${name}.pardo: a walk ends`, walked.code, CODE.DONE);
+  if (walked.code !== CODE.DONE) return;
+  is(`${name}.pardo: its outcome`,
+    printed(core.outcome(source.text, job, 3, walked.events)), printed(answer));
+}
+
+const DEEP = 'pardo 1\nrule common\nprocs i < 4\nshared x\nshared y[2]\nprivate z\ncode\n' +
+  'if i < 2\n   for k = 0 to 1\n      z := k\n   end\nelse\n   x := 1\nend\n';
+
+// What the core tells of cells and lines.
+function testNames(core) {
+  const source = sourceOf(core, DEEP);
+  const names = [0, 1, 2, 3, 6, 7, 11].map((cell) => source.nameOfCell(cell));
+  is('names of cells', names.join(),
+    'x,y[0],y[1],z of P0,z of P3,loop 1 of P0,mask 1 of P0');
+  is('depths of lines', [...source.depths].join(' '), '8,0 9,1 10,1 11,1 12,0 13,1 14,0');
+  is('a program of the machine', core.lines('pram 3\n').code, CODE.OTHER_LANGUAGE);
+  is('it has no job of a program', core.compile('; pardo\npram 3\n').code, CODE.OTHER_LANGUAGE);
+}
+
+const PARDO_HEAD = 'pardo 1\nrule crew\nprocs i < 4\nshared s\nshared A[4]\n';
+
+// Texts that are no program: the kind, and the line.
+const PARDO_REFUSED = [
+  ['pardo 1\n\x01', 1, 2], ['pardo 1\n#', 2, 2], ['pardo 1', 3, 1],
+  [`${PARDO_HEAD}code\ns = 1`, 4, 7], [`${PARDO_HEAD}code\nt := 1`, 5, 7],
+  [`${PARDO_HEAD}shared s`, 6, 6], [`${PARDO_HEAD}code\nA := 1`, 7, 7],
+  [`${PARDO_HEAD}code\ns := s / 2`, 8, 7], ['pardo 1\nrule crew\nprocs i < 1025', 9, 3],
+  [`${PARDO_HEAD}shared B[2] = 1`, 10, 6], [`${PARDO_HEAD}shared B[65536]`, 11, 6],
+  [`${PARDO_HEAD}code\nend`, 12, 7],
+  [`${PARDO_HEAD}code\ns := ${'('.repeat(33)}1${')'.repeat(33)}`, 13, 7],
+  [`${PARDO_HEAD}code\nif i`, 14, 7], [`${PARDO_HEAD}code`, 15, 6],
+  [`${PARDO_HEAD}code\ns := (i + s) * ((i + s) * ((i + s) * ((i + s) * (i + s))))`, 16, 7],
+  [`${PARDO_HEAD}code\n${'s := i\n'.repeat(4096)}`, 17, undefined],
+  ['pardo 1\nrule crew\nprocs i < 1\nshared s\ncode\nwhile 1\ns := 1\nend', 18, undefined],
+];
+
+function testPardoRefusals(core) {
+  for (const [text, fault, line] of PARDO_REFUSED) {
+    const told = core.compile(text);
+    const name = JSON.stringify(text.slice(-24));
+    is(`${name}: kind`, [told.code, told.fault].join(), [CODE.NO_JOB, fault].join());
+    if (line !== undefined) is(`${name}: line`, told.line, line);
+    const said = wordsOfProgramFault(told.fault, text.split('\n')[told.line - 1] ?? '');
+    is(`${name}: words`, !said.startsWith('this line is refused') || said, true);
+    const isOfText = fault < 16;
+    is(`${name}: as a text`, core.lines(text).code, isOfText ? CODE.NO_JOB : CODE.DONE);
+  }
 }
 
 function testPlan(core) {
@@ -272,10 +371,15 @@ function testSpeed(core) {
 }
 
 INSTRUCTIONS.push(...tableOfPage());
-SENTENCES.push(...sentencesOfPage());
+SENTENCES.push(...sentencesOfPage('SENTENCES'));
+PROGRAM_SENTENCES.push(...sentencesOfPage('PROGRAM_SENTENCES'));
 const core = await coreOfPage();
 const names = readdirSync(folder).filter((name) => name.endsWith('.pram')).sort();
 for (const name of names) testProgram(core, name.replace(/\.pram$/, ''));
+const programs = readdirSync(folder).filter((name) => name.endsWith('.pardo')).sort();
+for (const name of programs) testPardo(core, name.replace(/\.pardo$/, ''));
+testNames(core);
+testPardoRefusals(core);
 testActs();
 testPlan(core);
 await testAddress();

@@ -26,6 +26,11 @@ export async function testLectures() {
     const memory = await bottomOf('#lockstep .picture');
     is(`the memory within ${width} x ${height}`, memory <= height || memory, true);
     await page.sightPicture(`lecture-${width}x${height}-lockstep`);
+    await open('#example=prefix.pardo&step=12');
+    await has('a program', '#plain-said', 'are active with h = 0');
+    const program = await bottomOf('#lockstep .picture');
+    is(`a program within ${width} x ${height}`, program <= height || program, true);
+    await page.sightPicture(`lecture-${width}x${height}-program`);
   }
   await page.resize(1280, 900);
 }
@@ -106,10 +111,13 @@ const SMALL = `[...document.querySelectorAll('button, select, summary, input')]
 export async function testPhone() {
   await page.resize(390, 844);
   for (const view of ['lockstep', 'workers']) {
-    await open(`#example=maximum&view=${view}&workers=4${SHOWN}`);
-    is(`${view}: controls of 44 pixels`, await page.evaluate(SMALL), '');
-    const wide = await page.evaluate('document.documentElement.scrollWidth');
-    is(`${view} fits a phone`, wide <= 390 || wide, true);
+    for (const example of ['maximum', 'prefix.pardo']) {
+      await open(`#example=${example}&view=${view}&workers=4${SHOWN}`);
+      await has(example, '#answer', 'done after');
+      is(`${view}: controls of 44 pixels`, await page.evaluate(SMALL), '');
+      const wide = await page.evaluate('document.documentElement.scrollWidth');
+      is(`${example}: ${view} fits a phone`, wide <= 390 || wide, true);
+    }
   }
   await page.resize(1280, 900);
 }

@@ -61,7 +61,7 @@ async function judged(what, wanted) {
 
 export async function testExercises() {
   await open();
-  is('a program that stays', await valueOf('#example'), 'maximum');
+  is('a program that stays', await valueOf('#example'), 'prefix.pardo');
   for (const [k, solution] of SOLUTIONS.entries()) {
     await page.choose('#lesson', `exercise ${k + 1}`);
     await has(`exercise ${k + 1}`, '#lesson-title', `Exercise ${k + 1} of 10`);
@@ -141,9 +141,9 @@ export async function testPuzzleByClicks() {
 }
 
 const STOPS = [
-  ['#plain-said', 'After step 0 of 40'], ['#plain-said', 'After step 10 of 40'],
+  ['#plain-said', 'for round = 1 to lg(n)'], ['#plain-said', 'A[i] := A[2 * i] + A[2 * i + 1]'],
   ['#moment-said', '0 of 0'], ['#moment-said', '180 of 180'],
-  ['#cards li:nth-child(3) h4', 'worker 2, lost'], ['#outcome', 'Finished: 1 of 40 steps.'],
+  ['#cards li:nth-child(3) h4', 'worker 2, lost'], ['#outcome', 'Finished: 1 of '],
   ['#steps li', 'worker 2 wakes, as if no time had passed'],
   ['#steps li', 'worker 2 comes back, knowing nothing'],
   ['#cards li:nth-child(2) h4', 'worker 1, lost'],
@@ -179,7 +179,7 @@ export async function testTourTellsTheTruth() {
   await page.choose('#lesson', 'tour 1');
   for (let k = 1; k < 5; k += 1) await page.click('#lesson-on');
   await has('written', '#steps li:nth-child(2)',
-    'worker 2 swaps the older word of r0 of processor 3');
+    'worker 2 swaps the older word of r3 of processor 3');
   for (let k = 0; k < 10; k += 1) await page.click('#all-1');
   await has('the others are there', '#steps', 'walks to the leaf of processor 3');
   for (let k = 0; k < 2; k += 1) await page.click('#lesson-on');

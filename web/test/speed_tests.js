@@ -108,6 +108,33 @@ export async function testSpeedOfLessons() {
   }
 }
 
+export async function testSpeedOfPrograms() {
+  await openQuietly('#example=bitonic.pardo');
+  await page.until('document.getElementById("step-name").textContent === "lines done"', 5);
+  await clicksOn('bitonic.pardo', ['#step-on', '#step-on', '#step-on', '#step-back', '#step-end',
+    '#step-back', '#by-machine', '#step-on', '#by-machine', '#tab-workers', '#all-100',
+    '#tab-lockstep']);
+  for (const example of ['components.pardo', 'matrix.pardo', 'maximum', 'prefix.pardo']) {
+    await isQuick(example, choiceOf('#example', example));
+    await page.until('false', 0.3);
+  }
+  await isQuick('a written program', `(() => {
+    const area = document.getElementById('text');
+    area.value = area.value.replace('n = 8', 'n = 16').replace('6\\n', '6, ...\\n');
+    area.dispatchEvent(new InputEvent('input', { bubbles: true }));
+  })()`);
+}
+
+export async function testSpeedOfManyInAProgram() {
+  const lines = 'A[i] := A[i] + i\nif i >= 1 << h\nA[i] := A[i - 1 << h]\nend\n';
+  const text = 'pardo 1\nrule common\nprocs i < 1024\nshared A[1024]\ncode\n' +
+    `for h = 0 to 9\n${lines}end\n`;
+  await openQuietly(await linkTo(text, 'lockstep'));
+  await page.until('document.getElementById("step-name").textContent === "lines done"', 20);
+  await clicksOn('a program of 1,024 processors',
+    ['#step-on', '#step-on', '#step-on', '#step-end', '#step-back', '#step-start']);
+}
+
 export async function testSpeedOfMany() {
   await openQuietly(await linkTo(loop(65536, 1024, 200), 'lockstep'));
   await clicksOn('1,024 processors', ['#step-on', '#access-on', '#step-end', '#step-back']);

@@ -7,4 +7,4 @@ pub mod laws;
 mod print;
 mod runs;
 
-pub use print::print_text;
+pub use print::{print_text, spell};

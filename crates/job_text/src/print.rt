@@ -24,12 +24,13 @@ pub fn print_text<W: Sink>(alloc: Global, sink: &mut W, job: &Job) -> Result<(),
     ensures memory { IsErrOf result PrintFault.Memory → sink.new ≡ sink.old }
     ensures failed { IsTrue (W.has_failed sink.new) ↔ IsErrOf result PrintFault.Device }
 {
-    let text = job_text(alloc, job)?;
+    let text = spell(alloc, job)?;
     put(sink, text.as_bytes())?;
     Ok(())
 }
 
-fn job_text(alloc: Global, job: &Job) -> Result<String, AllocError>
+/// A job as a text of version 3.
+pub fn spell(alloc: Global, job: &Job) -> Result<String, AllocError>
     ensures { IfOk result (λ text. string_bytes text ≡ text_of job.now) }
 {
     let mut text = String::new(alloc);

@@ -5,6 +5,4 @@
 #[cfg(test)]
 mod compiled;
 #[cfg(test)]
-mod programs;
-#[cfg(test)]
 mod text;

@@ -6,3 +6,5 @@ mod Counting
 mod Lasts
 mod Moments
 mod ReadCells
+mod Landing
+mod Telling

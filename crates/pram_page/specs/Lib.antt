@@ -9,3 +9,4 @@ pub mod Fates
 pub mod Costs
 pub mod Steps
 pub mod Last
+pub mod Programs

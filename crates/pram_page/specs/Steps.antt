@@ -1,11 +1,11 @@
 -- What is told of what steps do.
 use Rattle.std.specs.Prelude.{◌≡◌, ◌⊎◌, ℕ, ◌+◌, ◌<◌, ◌≤◌, List, length, slice_get, Some}
-use Rattle.std.specs.Prelude.{count_by, is_some}
+use Rattle.std.specs.Prelude.{count_by, find, is_some, None}
 use Rattle.std.specs.List.{range_with_len}
 use Rattle.pram_text.specs.Job.{JobData}
-use Rattle.pram_step.specs.Machine.{State}
+use Rattle.pram_step.specs.Machine.{State, counter, halted}
 use Rattle.pram_step.specs.Runs.{IsReached, IsFirstConflict, state_after}
-use Rattle.pram_cost.specs.Accesses.{read_by, write_by}
+use Rattle.pram_cost.specs.Accesses.{is_running, read_by, write_by}
 use Rattle.pram_cost.specs.Costs.{at_work}
 use Rattle.pram_page.specs.declared.finding.Finding.{Finding}
 use Rattle.pram_page.specs.declared.finding.Finding.TheVariants.{Done, Conflict, NoStep, TooFar}
@@ -23,12 +23,20 @@ abbrev pub count_writing : JobData → State → ℕ
 count_writing job state =
     count_by (λ i. is_some (write_by job state i)) (range_with_len 0 job.procs)
 
+-- where the first processor stands that runs; after the last instruction where none does
+abbrev pub first_counter : JobData → State → ℕ
+first_counter job state = elim (find (is_running job state) (range_with_len 0 job.procs)) [
+  | None ↦ halted job
+  | Some i ↦ counter job state i
+]
+
 -- what that step does
 abbrev pub step_row : JobData → State → StepRow
 step_row job state = record {
   running = at_work job state;
   reading = count_reading job state;
   writing = count_writing job state;
+  at = first_counter job state;
 }
 
 -- the front of the buffer holds what so many steps after t steps do

@@ -33,8 +33,28 @@ pub const BAD_WORKERS: u32 = 9;
 /// An event is unknown.
 pub const BAD_EVENT: u32 = 10;
 
+/// The text is none of the language that was asked for.
+pub const OTHER_LANGUAGE: u32 = 11;
+
 /// How many bytes a text has at most.
 pub const TEXT_MOST: usize = 16_777_216;
 
 /// How many workers a board has at most.
 pub const WORKERS_MOST: u32 = 64;
+
+// What cells are for.
+
+/// A shared variable.
+pub const SCALAR: u64 = 0;
+
+/// A shared array.
+pub const ARRAY: u64 = 1;
+
+/// A private variable.
+pub const PRIVATE: u64 = 2;
+
+/// The variable of a loop.
+pub const LOOP: u64 = 3;
+
+/// Which processors are in an `if`.
+pub const MASK: u64 = 4;

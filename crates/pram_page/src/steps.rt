@@ -3,22 +3,24 @@ ghost use Rattle.std.specs.Prelude.{◌≡◌, ◌≢◌, ℕ, ◌≤◌, if◌t
 ghost use Rattle.pram_step.specs.Runs.{IsStateAfter};
 ghost use Rattle.pram_page.specs.declared.codes.TheConstants.{MEMORY};
 ghost use Rattle.pram_page.specs.Findings.{IsKeptAsFound, IsKeptBehind, IsToldOf, told_written};
-ghost use Rattle.pram_page.specs.Steps.{AreStepsAfter, AreStepsFound, step_row};
+ghost use Rattle.pram_page.specs.Steps.{AreStepsAfter, AreStepsFound, first_counter, step_row};
 
 use crate::finding::{Finding, Told, tell};
 use crate::text::{Refusal, take_job};
 use pram_cost::{is_running, read_of, write_of};
-use pram_step::{Arrival, State, go_to, laws, make_step};
+use pram_step::{Arrival, State, counter, go_to, laws, make_step};
 use pram_text::Job;
 use std::alloc::Global;
 
-/// How many processors run in a step, how many of them read a cell, and how many write one.
+/// How many processors run in a step, how many of them read a cell, and how many write one. `at` is
+/// the index of the instruction of the first that runs; where none does, the number of all.
 #[repr(C)]
 #[derive(Clone, Copy, Debug, PartialEq, Eq)]
 pub struct StepRow {
     pub running: u32,
     pub reading: u32,
     pub writing: u32,
+    pub at: u32,
 }
 
 /// Tells what the steps after these do, a row each: as many as there is room for, up to the last
@@ -103,15 +105,32 @@ fn row(job: &Job, state: &State) -> StepRow
         running: 0,
         reading: 0,
         writing: 0,
+        at: first_counter(job, state),
     };
     for processor in 0..job.procs() {
         row = StepRow {
             running: row.running + one_if(is_running(job, state, processor)),
             reading: row.reading + one_if(read_of(job, state, processor).is_some()),
             writing: row.writing + one_if(write_of(job, state, processor).is_some()),
+            ..row
         };
     }
     row
+}
+
+// Where the first processor stands that runs; after the last instruction where none does.
+fn first_counter(job: &Job, state: &State) -> u32
+    requires { (t : ℕ) × IsStateAfter job.now t state.now }
+    ensures { result ≡ first_counter job.now state.now }
+{
+    job.limits_hold();
+    laws::states_have_all_places();
+    for processor in 0..job.procs() {
+        if is_running(job, state, processor) {
+            return counter(job, state, processor);
+        }
+    }
+    job.code().len() as u32
 }
 
 // 1 where it holds.

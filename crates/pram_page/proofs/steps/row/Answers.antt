@@ -3,7 +3,7 @@ use Rattle.std.specs.Prelude.{count_by, is_some}
 use Rattle.std.specs.List.{range_with_len}
 use Rattle.pram_cost.specs.Accesses.{is_running, read_by, write_by}
 use Rattle.pram_cost.specs.Costs.{at_work}
-use Rattle.pram_page.specs.Steps.{count_reading, count_writing}
+use Rattle.pram_page.specs.Steps.{count_reading, count_writing, first_counter}
 use Rattle.pram_page.proofs.Counting.{count_few, count_more, count_passing, one_few, row_is}
 use Rattle.pram_page.proofs.steps.row.Goals as goal
 
@@ -57,6 +57,7 @@ loop-processor-preserved c =
       running = omega (arith, count_more (is_running job state) n, old.running, running);
       reading = omega (arith, count_more reads n, old.reading, reading);
       writing = omega (arith, count_more writes n, old.writing, writing);
+      at = old.at;
     }
 
 pub returns : goal.returns
@@ -76,4 +77,4 @@ returns c =
     subst (λ (n : ℕ). row.writing
     ≡ count_by (λ i. is_some (write_by job state i)) (range_with_len 0 n)) end old.writing in
     row_is row (at_work job state) (count_reading job state) (count_writing job state)
-    running reading writing
+    (first_counter job state) running reading writing old.at

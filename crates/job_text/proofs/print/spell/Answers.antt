@@ -2,7 +2,7 @@ use Rattle.std.proofs.Common.{◌++◌, ◌∙◌, ap, map, string_bytes}
 use Rattle.job_text.specs.Printed.{array_line, arrays_in, init_lines, instruction_lines, is_aim}
 use Rattle.job_text.specs.Printed.{lines_text, once}
 use Rattle.job_text.proofs.Streaming.{whole}
-use Rattle.job_text.proofs.print.job_text.Goals as goal
+use Rattle.job_text.proofs.print.spell.Goals as goal
 
 pub returns : goal.returns
 returns c =

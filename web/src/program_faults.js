@@ -1,0 +1,58 @@
+// What is wrong with a line of a program: the program's sentence, and words that help.
+import { foreignCharacter } from './faults.js';
+import { shortened } from './numbers.js';
+
+// The program's sentences on programs, of the faults from 1 on, which the page's maker reads from
+// its source.
+export const PROGRAM_SENTENCES = /*PROGRAM_SENTENCES*/[];
+
+const HEADER =
+  'The lines before “code” are: pardo 1, then rule common, rule priority or rule crew; and then, ' +
+  'in any order, const NAME = VALUE, just one procs NAME < COUNT, shared NAME or ' +
+  'shared NAME[COUNT] with “= values” or without, private NAME after procs.';
+
+const FORMS =
+  'A line of code is NAME := VALUE, NAME[INDEX] := VALUE, if CONDITION, else, end, ' +
+  'while CONDITION, for NAME = FIRST to LAST, or the same with downto.';
+
+const saidIn = (line) => line.split(';', 1)[0];
+
+const wordsOf = (line) => saidIn(line).split(/[^A-Za-z0-9_]+/).filter((word) => word !== '');
+
+// The first character that begins no token.
+function badSymbol(line) {
+  const rest = saidIn(line).replace(/:=|!=|[A-Za-z0-9_ \t\r+*/%&|^<>=()[\],-]|\.\.\./g, '');
+  return rest === '' ? '' : `It is “${shortened(rest, 1)}”.`;
+}
+
+function badLine(line) {
+  const assigns = /^\s*[A-Za-z_]\w*\s*(\[.*\]\s*)?=[^=]/.test(saidIn(line));
+  return assigns ? `“:=” assigns, “=” compares. ${FORMS}` : FORMS;
+}
+
+function duplicateName(line) {
+  const name = wordsOf(line)[1];
+  return name === undefined ? '' : `It is “${shortened(name, 40)}”.`;
+}
+
+const HELP = {
+  1: foreignCharacter,
+  2: badSymbol,
+  3: () => HEADER,
+  4: badLine,
+  6: duplicateName,
+  7: () => 'An array needs an index and a scalar has none; no value goes to a constant, to the ' +
+    'own number or to a loop’s variable; loops go by what is the same for all processors.',
+  8: () => 'Work it out in a const or a private line.',
+  9: () => 'Numbers go up to 4,294,967,295, processors to 1,024, places of an array to 65,536.',
+  11: () => 'A private variable, a depth of loops and a depth of ifs each take one for each ' +
+    'processor.',
+  14: () => 'Each if, while and for needs an end.',
+  18: () => 'Does what its loop goes by ever change? A processor that is not in an if changes ' +
+    'nothing there.',
+};
+
+export function wordsOfProgramFault(fault, line) {
+  const help = HELP[fault]?.(line) ?? '';
+  return `${PROGRAM_SENTENCES[fault - 1] ?? 'this line is refused'}.${help && ` ${help}`}`;
+}

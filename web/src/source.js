@@ -1,0 +1,115 @@
+// A program of `pardo`, as the core tells it: its lines of code, and the names of the cells of its
+// job.
+import { shortened } from './numbers.js';
+import { instructionsOf } from './text_lines.js';
+
+export const KIND = { SCALAR: 0, ARRAY: 1, PRIVATE: 2, LOOP: 3, MASK: 4 };
+
+const MOST_LETTERS = 60;
+
+const encoder = new TextEncoder();
+const decoder = new TextDecoder();
+
+// The rows of cells, each with its own name. Names are told one after the other, by bytes.
+function namedRows({ cells, names }) {
+  const bytes = encoder.encode(names);
+  let at = 0;
+  return cells.map(({ base, len, name, kind }) => {
+    at += name;
+    const word = decoder.decode(bytes.subarray(at - name, at));
+    return { base, len, kind, name: shortened(word, MOST_LETTERS) };
+  });
+}
+
+// The words of an instruction, with the names of the program's cells in place of those that the
+// job's text has, which say where cells lie.
+function withNames(words, source) {
+  return words.replace(/\.a(\d+)_(\d+)/g, (given, base, len) => {
+    const row = source.rowOf(Number(base));
+    return row?.base === Number(base) && row.len === Number(len)
+      ? source.nameOf(row).replace(' ', '') : given;
+  });
+}
+
+export class Source {
+  // `lines` are the lines of code, `made` is what the core made of the program.
+  constructor(lines, made) {
+    this.text = made.text;
+    this.rows = namedRows(made);
+    this.lineOf = made.lineOf;
+    this.depths = new Map(lines.map(({ number, depth }) => [number, depth]));
+    this.masks = this.rows.filter(({ kind }) => kind === KIND.MASK);
+    this.loops = this.rows.filter(({ kind }) => kind === KIND.LOOP);
+    this.privates = this.rows.filter(({ kind }) => kind === KIND.PRIVATE);
+    this.arrays = this.rows.filter(({ kind }) => kind <= KIND.ARRAY);
+  }
+
+  // The instructions of the job, each by the line that it came from.
+  get program() {
+    return instructionsOf(this.text).map(({ line, words }, index) => (
+      { line: this.lineOf[index], words: withNames(words, this), at: line }));
+  }
+
+  // The instructions at which a line begins. The last one is no line's.
+  get starts() {
+    const { lineOf } = this;
+    return lineOf.flatMap((line, index) => (index > 0 && index < lineOf.length - 1 &&
+      line !== lineOf[index - 1] ? [index] : []));
+  }
+
+  // How many cells the shared arrays have: they are the first ones.
+  get shared() {
+    const last = this.arrays.at(-1);
+    return last ? last.base + last.len : 0;
+  }
+
+  // Rows follow one another: the number of the last one that begins at this cell or before it.
+  numberOfRow(cell) {
+    let [low, high] = [0, this.rows.length - 1];
+    while (low < high) {
+      const middle = Math.ceil((low + high) / 2);
+      if (this.rows[middle].base <= cell) low = middle;
+      else high = middle - 1;
+    }
+    return low;
+  }
+
+  rowOf(cell) {
+    const row = this.rows[this.numberOfRow(cell)];
+    return row && cell < row.base + row.len ? row : undefined;
+  }
+
+  // Whether a cell is the first of an array, or of scalars that follow one another.
+  isFirst(cell) {
+    const at = this.numberOfRow(cell);
+    const row = this.rows[at];
+    if (row?.base !== cell) return false;
+    return row.kind !== KIND.SCALAR || this.rows[at - 1]?.kind !== KIND.SCALAR;
+  }
+
+  // Loops and masks have no name in the text: they are counted by their depth.
+  nameOf(row) {
+    switch (row.kind) {
+      case KIND.LOOP: return `loop ${this.loops.indexOf(row) + 1}`;
+      case KIND.MASK: return `mask ${this.masks.indexOf(row) + 1}`;
+      default: return row.name;
+    }
+  }
+
+  nameOfCell(cell) {
+    const row = this.rowOf(cell);
+    if (!row) return `cell ${cell}`;
+    const index = cell - row.base;
+    switch (row.kind) {
+      case KIND.SCALAR: return row.name;
+      case KIND.ARRAY: return `${row.name}[${index}]`;
+      default: return `${this.nameOf(row)} of P${index}`;
+    }
+  }
+
+  // Whether a processor is active in a line: it is in all the `if`s that are open before it.
+  isActive(places, processor, line) {
+    const mask = this.masks[(this.depths.get(line) ?? 0) - 1];
+    return mask === undefined || places[mask.base + processor] !== 0;
+  }
+}
