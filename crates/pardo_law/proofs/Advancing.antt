@@ -1,8 +1,7 @@
 -- A line of the program, and the steps of the job for it.
-use Rattle.std.proofs.Common.{◌≡◌, ℕ, suc, ◌+◌, ◌-◌, ◌*◌, ◌^◌, ◌<◌, ◌≤◌, ◌==◌, ◌⊎◌, Bool, true}
-use Rattle.std.proofs.Common.{false, not, ◌&&◌, List, [], ◌∷◌, ◌++◌, Option, Some, None}
-use Rattle.std.proofs.Common.{refl, sym, ap, ◌∙◌, subst, inl, inr, ⊎_elim, arith, if◌then◌else◌}
-use Rattle.std.proofs.Common.{length}
+use Rattle.std.proofs.Common.{◌≡◌, ℕ, suc, ◌+◌, ◌-◌, ◌*◌, ◌^◌, ◌<◌, ◌≤◌, ◌==◌, ◌⊎◌, Bool, true, not}
+use Rattle.std.proofs.Common.{false, ◌&&◌, List, [], ◌∷◌, ◌++◌, Option, Some, None, refl, sym, ap}
+use Rattle.std.proofs.Common.{◌∙◌, subst, inl, inr, ⊎_elim, arith, if◌then◌else◌, length}
 use Rattle.std.specs.Prelude.{is_some, unwrap_or, sum_by}
 use Rattle.std.proofs.lemmas.List.Sums.{sum_by-take-le}
 use Rattle.std.proofs.Math.Seq.{take-length}
@@ -17,8 +16,8 @@ use Rattle.pram_text.specs.Job.{JobData}
 use Rattle.pram_step.specs.Machine.{counter, out_of_range}
 use Rattle.pram_step.specs.Runs.{state_after}
 use Rattle.pardo_text.specs.declared.statement.Statement.{Statement}
-use Rattle.pardo_text.specs.declared.statement.Statement.TheVariants.{Assign, If, Else, EndIf}
-use Rattle.pardo_text.specs.declared.statement.Statement.TheVariants.{While, EndWhile, For, EndFor}
+use Rattle.pardo_text.specs.declared.statement.Statement.TheVariants.{Assign, If, Else, EndIf, For}
+use Rattle.pardo_text.specs.declared.statement.Statement.TheVariants.{While, EndWhile, EndFor}
 use Rattle.pardo_text.specs.declared.statement.Target.TheVariants.{Private, Array as Shared}
 use Rattle.pardo_text.specs.Expression.{Tree}
 use Rattle.pardo_text.specs.Lawful.{IsTree, IsCommonTree, bounds_of}
@@ -27,13 +26,12 @@ use Rattle.pardo_text.specs.Program.{ProgramData}
 use Rattle.pardo_job.specs.Layouts.{LayoutData, layout_of, private_cells, loop_cells, mask_cells}
 use Rattle.pardo_job.specs.Layouts.{array_cells}
 use Rattle.pardo_job.specs.Lines.{idle, masked, choosing, others, own_store, place_of, length_of}
-use Rattle.pardo_job.specs.Lines.{next_value}
-use Rattle.pardo_job.specs.Lines.{condition_code, while_code, none_code, first_code, turn_code}
+use Rattle.pardo_job.specs.Lines.{next_value, condition_code, while_code, none_code, first_code}
+use Rattle.pardo_job.specs.Lines.{turn_code}
 use Rattle.pardo_job.specs.Meaning.{Source, value, common_value, is_active, is_true, losing, on_to}
-use Rattle.pardo_job.specs.Meaning.{asked_in, write_of}
-use Rattle.pardo_job.specs.Meaning.{private_assigned, shared_assigned, chosen, otherwise, turned}
-use Rattle.pardo_job.specs.Meaning.{has_none, next_turn}
-use Rattle.pardo_job.specs.Meaning.{cell_of, given_to, first_below, statement_at}
+use Rattle.pardo_job.specs.Meaning.{asked_in, write_of, private_assigned, shared_assigned, chosen}
+use Rattle.pardo_job.specs.Meaning.{otherwise, turned, has_none, next_turn, cell_of, given_to}
+use Rattle.pardo_job.specs.Meaning.{first_below, statement_at}
 use Rattle.pardo_job.specs.Operations.{is_shallow, register_of}
 use Rattle.pardo_job.specs.Values.{value_code, operand_of, takes, own_place, own_load}
 use Rattle.pardo_job.proofs.Assigning.{both_code}
@@ -51,8 +49,7 @@ use Rattle.pardo_law.proofs.Making.{Makes, Goes, IsMade, Went}
 use Rattle.pardo_law.proofs.Masks.{quiet, quiet_choice, masked_makes, choosing_makes, others_makes}
 use Rattle.pardo_law.proofs.Masks.{active_is}
 use Rattle.pardo_law.proofs.Picturing.{IsOf, IsHere, Pictured, memory_fits, procs_are, procs_same}
-use Rattle.pardo_law.proofs.Picturing.{layout_procs, shared_low, sees, code_is}
-use Rattle.pardo_law.proofs.Picturing.{row_low}
+use Rattle.pardo_law.proofs.Picturing.{layout_procs, shared_low, sees, code_is, row_low}
 use Rattle.pardo_law.proofs.Rows.{own_stores, own_agree, after_apart, place_is, own_of}
 use Rattle.pardo_law.proofs.Straightness.{value_straight}
 use Rattle.pardo_law.proofs.Values.{decided, value_to, shared_to}
