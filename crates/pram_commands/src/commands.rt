@@ -8,34 +8,24 @@ ghost use Rattle.pram_commands.specs.Inner.Puts.{printed_as, status_result};
 ghost use Rattle.pram_commands.specs.Inputs.{AreReady, taking};
 ghost use Rattle.pram_commands.specs.Line.{StartsNoThread, command_of};
 
-mod checks;
-mod costs;
-mod plain_runs;
-mod replays;
-mod runs;
-mod step_rows;
-mod watches;
+mod alone;
+mod on_threads;
 
 use crate::fault::CommandFault;
 use crate::line::Line;
 use crate::names::{Words, print_told};
 use crate::refusal::{CONFLICT, DONE, UNFINISHED};
 use crate::sources::Sources;
-pub use checks::check;
-pub use costs::cost;
-pub use plain_runs::plain;
+pub use alone::{check, cost, plain, replay, steps};
+pub use on_threads::{Reads, Wanted, run, watch};
 use pram_cost::Cost;
 use pram_rows::Window;
 use pram_step::RunAnswer;
 use pram_streams::{PrintFault, Sink, Source};
-pub use replays::replay;
-pub use runs::{Wanted, run};
 use std::alloc::Global;
 use std::rt::Clock;
 use std::sync::Wait;
 use std::thread::Threads;
-pub use step_rows::steps;
-pub use watches::{Reads, watch};
 
 /// Does what a line that starts no thread asks, and answers the status of its answer.
 pub(crate) fn do_alone<J: Source, P: Source, O: Sink>(

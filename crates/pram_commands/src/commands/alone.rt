@@ -1,0 +1,213 @@
+//! The commands that start no thread: `check`, `plain`, `cost`, `steps` and `replay`.
+ghost use Rattle.std.specs.Prelude.{◌≡◌, [], false, IfOk};
+ghost use Rattle.pram_commands.specs.Did.{Did, tells_none, writing, tells};
+ghost use Rattle.pram_commands.specs.Inner.Puts.{Puts};
+ghost use Rattle.pram_commands.specs.Inputs.{AreReady, taking, missing_step};
+ghost use Rattle.pram_commands.specs.Plain.{checking, no_plan, plainly};
+ghost use Rattle.pram_step.specs.Runs.{IsAnswer};
+ghost use Rattle.pram_commands.specs.Names.{AreNames};
+ghost use Rattle.pram_commands.specs.Costs.{costing, tells_conflict};
+ghost use Rattle.pram_commands.specs.Steps.{stepping};
+ghost use Rattle.pram_commands.specs.Replayed.{replaying};
+
+use crate::commands::{print_ending, printed};
+use crate::fault::CommandFault;
+use crate::inputs::{Spelled, take_inputs, take_job, take_text};
+use crate::names::Words;
+use crate::sources::{Inputs, Sources};
+use crate::why::{Question, put_told};
+use crate::workers::Workers;
+use pram_cost::{Cost, cost_of, print_cost};
+use pram_rows::{Window, print_steps};
+use pram_run::replay_to;
+use pram_step::{RunAnswer, plain_answer};
+use pram_streams::{PrintFault, Sink, Source, print_summary};
+use pram_text::Job;
+use std::alloc::{AllocError, Global};
+
+/// Reads a job, and prints its summary.
+pub fn check<J: Source, P: Source, O: Sink>(
+    alloc: Global,
+    sources: &mut Sources<J, P>,
+    out: &mut O,
+) -> Result<(), CommandFault>
+    requires { AreReady J.Source P.Source O.Sink sources.old out.old }
+    ensures { Did checking (taking J.Source P.Source sources.old sources.new)
+        (writing O.Sink out.old out.new) tells_none result }
+{
+    let job = take_job(alloc, &mut sources.job)?;
+    printed(put_summary(alloc, &job, out))
+}
+
+fn put_summary<O: Sink>(alloc: Global, job: &Job, out: &mut O) -> Result<(), PrintFault>
+    requires { O.has_failed out.old ≡ false }
+    ensures { Puts (checking.Comes [] job.now no_plan) checking.InPieces
+        (writing O.Sink out.old out.new) tells_none result }
+{
+    print_summary(alloc, out, job)?;
+    Ok(())
+}
+
+/// Reads a job, and prints its answer, and if it is asked for what became of the processors. The
+/// time is that of reading the text and running the job, or of running it twice.
+pub fn plain<J: Source, P: Source, O: Sink>(
+    alloc: Global,
+    why: bool,
+    sources: &mut Sources<J, P>,
+    out: &mut O,
+) -> Result<RunAnswer, CommandFault>
+    requires { AreReady J.Source P.Source O.Sink sources.old out.old }
+    ensures { Did (plainly why) (taking J.Source P.Source sources.old sources.new)
+        (writing O.Sink out.old out.new) tells result }
+{
+    let spelled = take_text(alloc, &mut sources.job)?;
+    let question = Question {
+        why,
+        text: spelled.text.as_slice(),
+        job: &spelled.job,
+        names: &spelled.names,
+    };
+    printed(put_plain(alloc, &question, out))
+}
+
+fn put_plain<O: Sink>(
+    alloc: Global,
+    question: &Question<'_>,
+    out: &mut O,
+) -> Result<RunAnswer, PrintFault>
+    requires output { O.has_failed out.old ≡ false }
+    requires names { AreNames question.now.text.now question.now.job.now question.now.names.now }
+    ensures { Puts ((plainly question.now.why).Comes question.now.text.now question.now.job.now
+        no_plan) (plainly false).InPieces (writing O.Sink out.old out.new) tells result }
+{
+    let answer = answer_of(alloc, question)?;
+    put_told(alloc, out, question, &answer)?;
+    Ok(answer)
+}
+
+// The answer of the job. That of a program's is known already.
+fn answer_of(alloc: Global, question: &Question<'_>) -> Result<RunAnswer, AllocError>
+    requires { AreNames question.now.text.now question.now.job.now question.now.names.now }
+    ensures { IfOk result (IsAnswer question.now.job.now) }
+{
+    match question.names {
+        None => plain_answer(alloc, question.job),
+        Some(naming) => naming.answer(alloc),
+    }
+}
+
+/// Reads a job, and prints what its run costs and which model of the PRAM it needs. The time is
+/// that of reading the text and of `cost_of`.
+pub fn cost<J: Source, P: Source, O: Sink>(
+    alloc: Global,
+    sources: &mut Sources<J, P>,
+    out: &mut O,
+) -> Result<Cost, CommandFault>
+    requires { AreReady J.Source P.Source O.Sink sources.old out.old }
+    ensures { Did costing (taking J.Source P.Source sources.old sources.new)
+        (writing O.Sink out.old out.new) tells_conflict result }
+{
+    let job = take_job(alloc, &mut sources.job)?;
+    printed(put_cost(alloc, &job, out))
+}
+
+fn put_cost<O: Sink>(alloc: Global, job: &Job, out: &mut O) -> Result<Cost, PrintFault>
+    requires { O.has_failed out.old ≡ false }
+    ensures { Puts (costing.Comes [] job.now no_plan) costing.InPieces
+        (writing O.Sink out.old out.new) tells_conflict result }
+{
+    let cost = cost_of(alloc, job)?;
+    let pram = cost.needs();
+    print_cost(alloc, out, &cost, pram)?;
+    Ok(cost)
+}
+
+/// Reads a job, and prints the steps of the window, and the answer unless they are to stand alone.
+/// A window that begins after the job's last step is refused, but for one that begins with step 1.
+/// Where memory runs out, a beginning of it may stand printed. It costs what `print_steps` does.
+pub fn steps<J: Source, P: Source, O: Sink>(
+    alloc: Global,
+    window: Window,
+    alone: bool,
+    sources: &mut Sources<J, P>,
+    out: &mut O,
+) -> Result<RunAnswer, CommandFault>
+    requires { AreReady J.Source P.Source O.Sink sources.old out.old }
+    ensures { Did (stepping alone window) (taking J.Source P.Source sources.old sources.new)
+        (writing O.Sink out.old out.new) tells result }
+{
+    let spelled = take_text(alloc, &mut sources.job)?;
+    if let Some(step) = missing_step(&spelled.job, window.from) {
+        return Err(CommandFault::OutsideStep { step });
+    }
+    printed(put_steps(alloc, &spelled, window, alone, out))
+}
+
+fn put_steps<O: Sink>(
+    alloc: Global,
+    spelled: &Spelled,
+    window: Window,
+    alone: bool,
+    out: &mut O,
+) -> Result<RunAnswer, PrintFault>
+    requires output { O.has_failed out.old ≡ false }
+    requires names { AreNames spelled.now.text.items spelled.now.job spelled.now.names }
+    ensures { Puts ((stepping alone window).Comes spelled.now.text.items spelled.now.job no_plan)
+        (stepping alone window).InPieces (writing O.Sink out.old out.new) tells result }
+{
+    let answer = print_steps(alloc, out, &spelled.job, window)?;
+    let words = Words {
+        names: &spelled.names,
+        steps: spelled.job.steps(),
+    };
+    print_ending(alloc, out, &words, &answer, alone)?;
+    Ok(answer)
+}
+
+// The step, if the job does not have it.
+fn missing_step(job: &Job, step: u32) -> Option<u32>
+    ensures { result ≡ missing_step job.now step }
+{
+    (step > 1 && step > job.steps()).then_some(step)
+}
+
+/// Reads a job, then its plan, and prints the trace of their replay, as its steps are made, and its
+/// answer unless the trace is to stand alone. Where memory runs out, a beginning of it may stand
+/// printed.
+pub fn replay<J: Source, P: Source, O: Sink>(
+    alloc: Global,
+    workers: Workers,
+    alone: bool,
+    sources: &mut Sources<J, P>,
+    out: &mut O,
+) -> Result<RunAnswer, CommandFault>
+    requires { AreReady J.Source P.Source O.Sink sources.old out.old }
+    ensures { Did (replaying alone workers.count) (taking J.Source P.Source sources.old sources.new)
+        (writing O.Sink out.old out.new) tells result }
+{
+    let inputs = take_inputs(alloc, workers, sources)?;
+    printed(put_replay(alloc, &inputs, alone, out))
+}
+
+// Prints the trace of a replay, then its answer, unless the trace is to stand alone.
+fn put_replay<O: Sink>(
+    alloc: Global,
+    inputs: &Inputs,
+    alone: bool,
+    out: &mut O,
+) -> Result<RunAnswer, PrintFault>
+    requires output { O.has_failed out.old ≡ false }
+    requires names { AreNames inputs.now.text.items inputs.now.job inputs.now.names }
+    ensures { Puts ((replaying alone 0).Comes inputs.now.text.items inputs.now.job inputs.now.plan)
+        (replaying alone 0).InPieces
+        (writing O.Sink out.old out.new) tells result }
+{
+    let (job, plan) = (&inputs.job, &inputs.plan);
+    let answer = replay_to(alloc, out, job, plan.workers(), plan)?;
+    let words = Words {
+        names: &inputs.names,
+        steps: job.steps(),
+    };
+    print_ending(alloc, out, &words, &answer, alone)?;
+    Ok(answer)
+}

@@ -1,0 +1,168 @@
+//! The commands that start threads: `run` and `watch`.
+ghost use Rattle.std.specs.Prelude.{◌≡◌, false, []};
+ghost use Rattle.pram_commands.specs.Did.{Did, tells, writing};
+ghost use Rattle.pram_commands.specs.Inner.Puts.{Puts};
+ghost use Rattle.pram_commands.specs.Inputs.{AreReady, taking, first_outside};
+ghost use Rattle.pram_commands.specs.Names.{AreNames};
+ghost use Rattle.pram_commands.specs.Threads.{running, watching};
+ghost use Rattle.pram_commands.specs.CellLists.{cells_of};
+
+use crate::cell_list::CellList;
+use crate::commands::printed;
+use crate::fault::CommandFault;
+use crate::inputs::take_inputs;
+use crate::names::Words;
+use crate::printing::{Printing, PrintingReads, outcome, take_back};
+use crate::sources::{Inputs, Sources};
+use crate::threads::{Manner, Watched, run_job, watch_job};
+use crate::why::Question;
+use pram_step::RunAnswer;
+use pram_streams::{PrintFault, Sink, Source};
+use pram_text::Job;
+use std::alloc::Global;
+use std::rt::Clock;
+use std::sync::Wait;
+use std::thread::Threads;
+
+/// What is wanted of a run: its manner, and whether what became of the processors follows the
+/// answer.
+#[derive(Clone, Copy, Debug, PartialEq, Eq)]
+pub struct Wanted {
+    pub manner: Manner,
+    pub why: bool,
+}
+
+/// Reads a job, then its plan, runs the plan's workers on threads in this manner, and prints the
+/// job's answer as soon as a worker knows it: threads that are kept from going on hold back the
+/// return of the call, and not what is printed. Where it is asked for, what became of the
+/// processors is found before that, on the plain machine. Where progress is asked for, that is one
+/// thread more. Workers whose threads are refused take no part; where the others do not come to the
+/// end, that is out of memory.
+pub fn run<R: Threads + Wait + Clock + Eprint + Sync, J: Source, P: Source, O: Sink>(
+    rt: &R,
+    alloc: Global,
+    wanted: Wanted,
+    sources: &mut Sources<J, P>,
+    out: &mut O,
+) -> Result<RunAnswer, CommandFault>
+    requires { AreReady J.Source P.Source O.Sink sources.old out.old }
+    ensures { Did (running wanted.why wanted.manner.workers.count)
+        (taking J.Source P.Source sources.old sources.new)
+        (writing O.Sink out.old out.new) tells result }
+{
+    let inputs = take_inputs(alloc, wanted.manner.workers, sources)?;
+    printed(put_run(rt, alloc, &inputs, wanted, out))
+}
+
+// Prints the answer of a run as soon as it is known.
+fn put_run<R: Threads + Wait + Clock + Eprint + Sync, O: Sink>(
+    rt: &R,
+    alloc: Global,
+    inputs: &Inputs,
+    wanted: Wanted,
+    out: &mut O,
+) -> Result<RunAnswer, PrintFault>
+    requires output { O.has_failed out.old ≡ false }
+    requires names { AreNames inputs.now.text.items inputs.now.job inputs.now.names }
+    ensures { Puts ((running wanted.why 0).Comes inputs.now.text.items inputs.now.job
+        inputs.now.plan) (running false 0).InPieces (writing O.Sink out.old out.new) tells result }
+{
+    let question = Question {
+        why: wanted.why,
+        text: inputs.text.as_slice(),
+        job: &inputs.job,
+        names: &inputs.names,
+    };
+    let printing = Printing {
+        alloc,
+        question,
+        out,
+    };
+    let (ended, (out, put)) = run_job(rt, alloc, inputs, wanted.manner, printing);
+    take_back(out);
+    outcome(put, ended)
+}
+
+/// A run in this manner, with a reader beside its workers that goes so many rounds through cells.
+#[derive(Clone, Copy, Debug, PartialEq, Eq)]
+pub struct Reads<'a> {
+    pub manner: Manner,
+    pub cells: CellList<'a>,
+    pub rounds: u32,
+}
+
+/// Does what `run` does, with a reader beside the workers; what each read told is printed before
+/// the answer, in order, while the reader goes on: each round as it is read where there is a pace,
+/// and else 2,048 reads at once. The cells are judged after the job and its plan, and the reader
+/// keeps the workers' pace. Where a thread is refused, that is out of memory, and nothing is
+/// printed.
+pub fn watch<R: Threads + Wait + Clock + Eprint + Sync, J: Source, P: Source, O: Sink>(
+    rt: &R,
+    alloc: Global,
+    reads: Reads<'_>,
+    sources: &mut Sources<J, P>,
+    out: &mut O,
+) -> Result<RunAnswer, CommandFault>
+    requires { AreReady J.Source P.Source O.Sink sources.old out.old }
+    ensures { Did (watching reads.entry.manner.workers.count
+        (cells_of reads.entry.cells.text.now) reads.entry.rounds)
+        (taking J.Source P.Source sources.old sources.new)
+        (writing O.Sink out.old out.new) tells result }
+{
+    let Reads {
+        manner,
+        cells,
+        rounds,
+    } = reads;
+    let inputs = take_inputs(alloc, manner.workers, sources)?;
+    let cells = cells.numbers(alloc)?;
+    let cells = cells.as_slice();
+    if let Some(cell) = first_outside(&inputs.job, cells) {
+        return Err(CommandFault::OutsideCell { cell });
+    }
+    let watched = Watched {
+        inputs: &inputs,
+        cells,
+        rounds,
+    };
+    printed(put_watch(rt, alloc, &watched, manner, out))
+}
+
+// Prints the reads of a watch as they are made, and its answer as soon as it is known.
+fn put_watch<R: Threads + Wait + Clock + Eprint + Sync, O: Sink>(
+    rt: &R,
+    alloc: Global,
+    watched: &Watched<'_>,
+    manner: Manner,
+    out: &mut O,
+) -> Result<RunAnswer, PrintFault>
+    requires output { O.has_failed out.old ≡ false }
+    requires names { AreNames watched.now.inputs.now.text.items watched.now.inputs.now.job
+        watched.now.inputs.now.names }
+    ensures { Puts ((watching 0 watched.now.cells.now watched.now.rounds).Comes
+        watched.now.inputs.now.text.items watched.now.inputs.now.job
+        watched.now.inputs.now.plan) (watching 0 [] 0).InPieces
+        (writing O.Sink out.old out.new) tells result }
+{
+    let words = Words {
+        names: &watched.inputs.names,
+        steps: watched.inputs.job.steps(),
+    };
+    let reader = PrintingReads {
+        alloc,
+        words,
+        out,
+        printed: Ok(()),
+    };
+    let (ended, (out, put)) = watch_job(rt, alloc, watched, manner, reader);
+    take_back(out);
+    outcome(put, ended)
+}
+
+// The first of the cells that the job does not have.
+fn first_outside(job: &Job, cells: &[u32]) -> Option<u32>
+    ensures { result ≡ first_outside job.now cells.now }
+{
+    let count = job.cells();
+    cells.iter().find(|cell| **cell >= count).copied()
+}
