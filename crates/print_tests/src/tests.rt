@@ -1,0 +1,9 @@
+//! Each module calls what one crate makes public.
+mod cost;
+mod fates;
+mod named;
+mod plan;
+mod printed;
+mod rows;
+mod texts;
+mod transfer;
