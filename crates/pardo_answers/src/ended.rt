@@ -1,12 +1,13 @@
 //! How the job of a program ends, and in which lines of the program's text.
-ghost use Rattle.std.specs.Prelude.{◌≡◌, ◌+◌, ◌<◌, ◌↔◌, slice_index, IfOk, OnOk, IsTrue};
+ghost use Rattle.std.specs.Prelude.{◌≡◌, ◌+◌, ◌<◌, ◌↔◌, slice_index, IfOk, IsTrue};
 ghost use Rattle.pram_step.specs.Machine.{counter as counter_of, out_of_range};
-ghost use Rattle.pram_step.specs.Runs.{IsFirstConflict, IsReached, IsStateAfter, state_after};
+ghost use Rattle.pram_step.specs.Runs.{IsFirstConflict, IsStateAfter, state_after};
 ghost use Rattle.pardo_answers.specs.Ends.{HasEnded, IsDisputedIn};
 ghost use Rattle.pardo_answers.specs.Inner.Leaving.{AreNoted, IsLeaving, SomeIsGone};
 
 use pram_step::{
-    Arrival, Fault, Moment, RunAnswer, State, counter, go_to, laws, make_step, request_after,
+    Arrival, Fault, Moment, RunAnswer, State, counter, go_on, go_to, laws, request_after,
+    state_after,
 };
 use pram_text::Job;
 use std::alloc::{AllocError, Global};
@@ -164,35 +165,4 @@ fn out_of_range(job: &Job) -> u32
 {
     job.limits_hold();
     job.code().len() as u32 + 1
-}
-
-// The state after so many steps, which are made.
-fn state_after(alloc: Global, job: &Job, made: u32) -> Result<State, AllocError>
-    requires { IsReached job.now made }
-    ensures { IfOk result (IsStateAfter job.now made) }
-{
-    match go_to(alloc, job, made, made)? {
-        Arrival::Reached(state) => Ok(state),
-        Arrival::Disputed(_) => unreachable!(),
-        Arrival::TooFar => unreachable!(),
-    }
-}
-
-// Makes the step after so many, of more that are made.
-fn go_on(
-    alloc: Global,
-    job: &Job,
-    state: &mut State,
-    made: u32,
-    last: u32,
-) -> Result<(), AllocError>
-    requires after { IsStateAfter job.now made state.old }
-    requires reached { IsReached job.now last }
-    requires within { made < last }
-    ensures { OnOk result (IsStateAfter job.now (made + 1) state.new) }
-{
-    match make_step(alloc, job, state, made)? {
-        None => Ok(()),
-        Some(_) => unreachable!(),
-    }
 }

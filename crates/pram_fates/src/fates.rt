@@ -1,12 +1,12 @@
 //! What becomes of the processors of a job.
-ghost use Rattle.std.specs.Prelude.{◌≡◌, ◌+◌, ◌<◌, IfOk, OnOk};
+ghost use Rattle.std.specs.Prelude.{IfOk};
 ghost use Rattle.pram_fates.specs.Fates.{AreFates, HaveStopped, IsEnd, IsFirstLostOrNone};
 ghost use Rattle.pram_fates.specs.Fates.{NoneRuns};
 ghost use Rattle.pram_step.specs.Machine.{start};
-ghost use Rattle.pram_step.specs.Runs.{IsReached, IsStateAfter, state_after};
+ghost use Rattle.pram_step.specs.Runs.{state_after};
 
 use crate::looks::{count_running, counter_in, first_naming_none, first_running, some_is_lost};
-use pram_step::{Arrival, Moment, State, go_to, laws, make_step};
+use pram_step::{Arrival, Moment, State, go_on, go_to, laws, state_after};
 use pram_text::Job;
 use std::alloc::{AllocError, Global};
 
@@ -62,18 +62,6 @@ pub fn fates_after(alloc: Global, job: &Job, steps: u32) -> Result<Fates, AllocE
             let lost = first_lost(alloc, &moment)?;
             Ok(Fates { end: None, lost })
         }
-        Arrival::TooFar => unreachable!(),
-    }
-}
-
-// The state after so many steps, which are made.
-fn state_after(alloc: Global, job: &Job, made: u32) -> Result<State, AllocError>
-    requires { IsReached job.now made }
-    ensures { IfOk result (IsStateAfter job.now made) }
-{
-    match go_to(alloc, job, made, made)? {
-        Arrival::Reached(state) => Ok(state),
-        Arrival::Disputed(_) => unreachable!(),
         Arrival::TooFar => unreachable!(),
     }
 }
@@ -136,23 +124,4 @@ fn first_lost(alloc: Global, last: &Moment<'_>) -> Result<Option<Lost>, AllocErr
         go_on(alloc, job, &mut state, made, last.made)?;
     }
     Ok(None)
-}
-
-// Makes the step after so many, of more that are made.
-fn go_on(
-    alloc: Global,
-    job: &Job,
-    state: &mut State,
-    made: u32,
-    last: u32,
-) -> Result<(), AllocError>
-    requires after { IsStateAfter job.now made state.old }
-    requires reached { IsReached job.now last }
-    requires within { made < last }
-    ensures { OnOk result (IsStateAfter job.now (made + 1) state.new) }
-{
-    match make_step(alloc, job, state, made)? {
-        None => Ok(()),
-        Some(_) => unreachable!(),
-    }
 }

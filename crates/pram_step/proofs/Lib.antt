@@ -11,6 +11,7 @@ pub mod LawPlaces
 pub mod LawNext
 pub mod LawStopped
 pub mod LawAnswer
+pub mod Arriving
 pub mod LawRules
 pub mod LawAnswers
 pub mod LawOrders

@@ -1,7 +1,7 @@
 //! What is there after so many steps.
-ghost use Rattle.std.specs.Prelude.{◌+◌, ◌<◌, ◌^◌, IfOk};
+ghost use Rattle.std.specs.Prelude.{◌+◌, ◌<◌, ◌^◌, IfOk, OnOk};
 ghost use Rattle.pram_step.specs.Arrivals.{IsArrival, IsStepMade};
-ghost use Rattle.pram_step.specs.Runs.{IsStateAfter};
+ghost use Rattle.pram_step.specs.Runs.{IsReached, IsStateAfter};
 
 use crate::answer::Fault;
 use crate::laws;
@@ -40,6 +40,18 @@ pub fn go_to(alloc: Global, job: &Job, steps: u32, most: u32) -> Result<Arrival,
     }
 }
 
+/// The state after so many steps, none of which is against the rule.
+pub fn state_after(alloc: Global, job: &Job, made: u32) -> Result<State, AllocError>
+    requires { IsReached job.now made }
+    ensures { IfOk result (IsStateAfter job.now made) }
+{
+    match go_to(alloc, job, made, made)? {
+        Arrival::Reached(state) => Ok(state),
+        Arrival::Disputed(_) => unreachable!(),
+        Arrival::TooFar => unreachable!(),
+    }
+}
+
 /// Makes the step after so many. Where it is against the rule, the state stays, and the fault is
 /// answered.
 pub fn make_step(
@@ -70,5 +82,24 @@ pub fn make_step(
             first,
             second,
         })),
+    }
+}
+
+/// Makes the step after so many. It agrees with the rule, as all up to the last one do.
+pub fn go_on(
+    alloc: Global,
+    job: &Job,
+    state: &mut State,
+    made: u32,
+    last: u32,
+) -> Result<(), AllocError>
+    requires after { IsStateAfter job.now made state.old }
+    requires reached { IsReached job.now last }
+    requires within { made < last }
+    ensures { OnOk result (IsStateAfter job.now (made + 1) state.new) }
+{
+    match make_step(alloc, job, state, made)? {
+        None => Ok(()),
+        Some(_) => unreachable!(),
     }
 }

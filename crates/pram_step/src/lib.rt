@@ -17,7 +17,7 @@ mod stores;
 mod turn;
 
 pub use answer::{Cells, Dispute, Fault, RunAnswer};
-pub use arrival::{Arrival, go_to, make_step};
+pub use arrival::{Arrival, go_on, go_to, make_step, state_after};
 pub use asking::{counter, request_after};
 pub use conflict::{dispute, fault_of};
 pub use instructions::{Found, Sources, cell_read, decided, goes_to, sources_of};

@@ -25,4 +25,4 @@ pub use lines::instruction_line;
 pub use numbers::value_of;
 pub use reader::read_job;
 pub use text_lines::TextLines;
-pub use words::{is_blank, is_lawful, is_word};
+pub use words::{is_blank, is_lawful, is_word, next_word};

@@ -36,7 +36,7 @@ fn word_end(line: &[u8]) -> Option<usize>
 }
 
 /// The first word of a line, and the rest of the line after it.
-pub(crate) fn next_word(line: &[u8]) -> Option<(&[u8], &[u8])>
+pub fn next_word(line: &[u8]) -> Option<(&[u8], &[u8])>
     ensures { MatchOption result (words_of line.now ≡ [])
         (λ x. words_of line.now ≡ x.0.now ∷ words_of x.1.now) }
 {

@@ -1,4 +1,4 @@
-use Rattle.pardo_answers.proofs.Ending.{before_conflict}
+use Rattle.pram_step.proofs.Arriving.{before_conflict}
 use Rattle.pardo_answers.proofs.Leaving.{first_within}
 use Rattle.pardo_answers.proofs.ended.disputed_line.Goals as goal
 

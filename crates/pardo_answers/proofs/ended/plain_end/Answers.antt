@@ -1,7 +1,8 @@
 use Rattle.std.proofs.Common.{ℕ, subst, arith}
 use Rattle.std.specs.Prelude.{slice_index}
 use Rattle.pram_step.specs.Runs.{IsFault, IsStateAfter}
-use Rattle.pardo_answers.proofs.Ending.{arrived_disputed, arrived_reached, disputed_lines}
+use Rattle.pram_step.proofs.Arriving.{arrived_disputed}
+use Rattle.pardo_answers.proofs.Ending.{arrived_reached, disputed_lines}
 use Rattle.pardo_answers.proofs.Ending.{reached_lines}
 use Rattle.pardo_answers.proofs.ended.plain_end.Goals as goal
 

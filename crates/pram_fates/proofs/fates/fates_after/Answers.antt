@@ -1,5 +1,6 @@
 use Rattle.std.proofs.Common.{refl}
-use Rattle.pram_fates.proofs.Ending.{arrived_disputed, before_conflict, fates_disputed}
+use Rattle.pram_step.proofs.Arriving.{arrived_disputed, before_conflict}
+use Rattle.pram_fates.proofs.Ending.{fates_disputed}
 use Rattle.pram_fates.proofs.fates.fates_after.Goals as goal
 
 pub state_after-requires : goal.state_after-requires

@@ -1,7 +1,7 @@
 use Rattle.std.proofs.Common.{arith}
 use Rattle.pram_step.proofs.LawAnswer.{conflict_ends}
-use Rattle.pardo_answers.proofs.Ending.{step_disputed}
-use Rattle.pardo_answers.proofs.ended.go_on.Goals as goal
+use Rattle.pram_step.proofs.Arriving.{step_disputed}
+use Rattle.pram_step.proofs.arrival.go_on.Goals as goal
 
 pub unreachable-requires : goal.unreachable-requires
 unreachable-requires c =

@@ -1,6 +1,6 @@
 use Rattle.pram_step.proofs.LawAnswer.{conflict_ends}
-use Rattle.pardo_answers.proofs.Ending.{arrived_disputed}
-use Rattle.pardo_answers.proofs.ended.state_after.Goals as goal
+use Rattle.pram_step.proofs.Arriving.{arrived_disputed}
+use Rattle.pram_step.proofs.arrival.state_after.Goals as goal
 
 pub unreachable-requires : goal.unreachable-requires
 unreachable-requires c =
