@@ -1,5 +1,5 @@
 //! Single tokens of a line.
-ghost use Rattle.std.specs.Prelude.{◌≡◌, Ok, is_some, unwrap_or};
+ghost use Rattle.std.specs.Prelude.{◌≡◌, if◌then◌else◌, Ok, drop, is_some, unwrap_or};
 ghost use Rattle.pardo_text.specs.Expressions.{rest_after, indexed, ended, new_name};
 ghost use Rattle.pardo_text.specs.Values.{after_dots};
 ghost use Rattle.pardo_text.specs.Inner.Tokens.{Gives};
@@ -45,13 +45,8 @@ pub(crate) fn indexed(tokens: &mut Cursor<'_, '_>) -> bool
     ensures found { result ≡ is_some (indexed tokens.old) }
     ensures rest { tokens.new ≡ unwrap_or (indexed tokens.old) tokens.old }
 {
-    match tokens.peek() {
-        Some(Token::Symbol(Symbol::OpenIndex)) => {
-            tokens.next();
-            true
-        }
-        _ => false,
-    }
+    let found = matches!(tokens.peek(), Some(Token::Symbol(Symbol::OpenIndex)));
+    pass_if(found, tokens)
 }
 
 /// Reads the `...` that ends values, if it follows.
@@ -59,13 +54,19 @@ pub(crate) fn dots(tokens: &mut Cursor<'_, '_>) -> bool
     ensures found { result ≡ is_some (after_dots tokens.old) }
     ensures rest { tokens.new ≡ unwrap_or (after_dots tokens.old) tokens.old }
 {
-    match tokens.peek() {
-        Some(Token::Symbol(Symbol::Dots)) => {
-            tokens.next();
-            true
-        }
-        _ => false,
+    let found = matches!(tokens.peek(), Some(Token::Symbol(Symbol::Dots)));
+    pass_if(found, tokens)
+}
+
+// Reads the next token, if it is the one that was looked for.
+fn pass_if(found: bool, tokens: &mut Cursor<'_, '_>) -> bool
+    ensures found { result ≡ found }
+    ensures rest { tokens.new ≡ (if found then drop 1 tokens.old else tokens.old) }
+{
+    if found {
+        tokens.next();
     }
+    found
 }
 
 /// Nothing is left over.
