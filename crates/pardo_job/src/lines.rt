@@ -49,19 +49,22 @@ impl Listing<'_> {
             (length code.old.items) line.now.depth line.now.statement) }
     {
         let layout = &self.layout;
-        let depth = line.depth;
+        let site = Site {
+            layout,
+            depth: line.depth,
+        };
         match &line.statement {
             Statement::Assign(target, value) => {
                 let mut body = Vec::new(alloc);
                 put_assignment(&mut body, alloc, layout, target, value)?;
-                put_masked(code, layout, depth, &body)
+                site.put_masked(code, &body)
             }
             Statement::If(expr) => {
                 let mut body = Vec::new(alloc);
                 put_condition(&mut body, alloc, layout, expr)?;
-                put_if(code, layout, depth, &body)
+                site.put_if(code, &body)
             }
-            Statement::Else => put_else(code, layout, depth),
+            Statement::Else => site.put_else(code),
             Statement::EndIf => Ok(()),
             Statement::While(expr, end) => {
                 let register = put_while_test(code, alloc, layout, expr)?;
@@ -124,119 +127,108 @@ impl Listing<'_> {
     }
 }
 
-// What an active processor does, which takes the others as many steps.
-fn put_masked(
-    code: &mut Vec<Instr>,
-    layout: &Layout,
+// A place in the code of a line, so many `if`s being open there.
+#[derive(Drop)]
+struct Site<'l> {
+    layout: &'l Layout,
     depth: usize,
-    body: &[Instr],
-) -> Result<(), JobKind>
-    requires room { vec_len code.old ≤ MOST }
-    requires depth { depth ≤ layout.now.choices }
-    requires shallow { is_shallow body.now ≡ true }
-    ensures { PutsLine code.old.items code.new.items result
-        (masked layout.now (length code.old.items) depth body.now) }
-{
-    if depth == 0 {
-        return put_all(code, body);
-    }
-    if body.len() > MAX_CODE {
-        return Err(JobKind::TooLong);
-    }
-    put_under(code, layout, depth, body)
+    ghost within: { depth ≤ layout.now.choices },
 }
 
-// The same where an `if` is open.
-fn put_under(
-    code: &mut Vec<Instr>,
-    layout: &Layout,
-    depth: usize,
-    body: &[Instr],
-) -> Result<(), JobKind>
-    requires room { vec_len code.old + length body.now ≤ MOST + MOST }
-    requires depth { 0 < depth }
-    requires choices { depth ≤ layout.now.choices }
-    requires shallow { is_shallow body.now ≡ true }
-    ensures { Puts code.old.items code.new.items result
-        (under layout.now (length code.old.items) depth body.now) }
-{
-    let at = code.len() as u32;
-    let len = body.len() as u32;
-    put_load(code, 0, layout.mask(depth))?;
-    put(code, Instr::Jz(0, at + 3))?;
-    put(code, Instr::Jmp(at + 4 + len))?;
-    put_idle(code, len)?;
-    put(code, Instr::Jmp(at + 4 + 2 * len))?;
-    put_all(code, body)
-}
-
-// The mask after an `if`, whose condition comes into register 0.
-fn put_if(
-    code: &mut Vec<Instr>,
-    layout: &Layout,
-    depth: usize,
-    body: &[Instr],
-) -> Result<(), JobKind>
-    requires room { vec_len code.old ≤ MOST }
-    requires depth { depth < layout.now.choices }
-    requires shallow { is_shallow body.now ≡ true }
-    ensures { PutsLine code.old.items code.new.items result
-        (choosing layout.now (length code.old.items) depth body.now) }
-{
-    if body.len() > MAX_CODE {
-        return Err(JobKind::TooLong);
+impl Site<'_> {
+    // What an active processor does, which takes the others as many steps.
+    fn put_masked(&self, code: &mut Vec<Instr>, body: &[Instr]) -> Result<(), JobKind>
+        requires room { vec_len code.old ≤ MOST }
+        requires shallow { is_shallow body.now ≡ true }
+        ensures { PutsLine code.old.items code.new.items result
+            (masked self.now.layout.now (length code.old.items) self.now.depth body.now) }
+    {
+        if self.depth == 0 {
+            return put_all(code, body);
+        }
+        if body.len() > MAX_CODE {
+            return Err(JobKind::TooLong);
+        }
+        self.put_under(code, body)
     }
-    put_choice(code, layout, depth, body)?;
-    put_store(code, layout.inner_mask(depth))
-}
 
-// The condition of active processors, and 0 of the others.
-fn put_choice(
-    code: &mut Vec<Instr>,
-    layout: &Layout,
-    depth: usize,
-    body: &[Instr],
-) -> Result<(), JobKind>
-    requires room { vec_len code.old + length body.now ≤ MOST + MOST }
-    requires depth { depth ≤ layout.now.choices }
-    requires shallow { is_shallow body.now ≡ true }
-    ensures { Puts code.old.items code.new.items result
-        (choice_code layout.now (length code.old.items) depth body.now) }
-{
-    if depth == 0 {
-        return put_all(code, body);
+    // The same where an `if` is open.
+    fn put_under(&self, code: &mut Vec<Instr>, body: &[Instr]) -> Result<(), JobKind>
+        requires room { vec_len code.old + length body.now ≤ MOST + MOST }
+        requires depth { 0 < self.now.depth }
+        requires shallow { is_shallow body.now ≡ true }
+        ensures { Puts code.old.items code.new.items result
+            (under self.now.layout.now (length code.old.items) self.now.depth body.now) }
+    {
+        let at = code.len() as u32;
+        let len = body.len() as u32;
+        put_load(code, 0, self.layout.mask(self.depth))?;
+        put(code, Instr::Jz(0, at + 3))?;
+        put(code, Instr::Jmp(at + 4 + len))?;
+        put_idle(code, len)?;
+        put(code, Instr::Jmp(at + 4 + 2 * len))?;
+        put_all(code, body)
     }
-    let at = code.len() as u32;
-    let len = body.len() as u32;
-    put_load(code, 0, layout.mask(depth))?;
-    put(code, Instr::Jz(0, at + 3 + len))?;
-    put_all(code, body)?;
-    put(code, Instr::Jmp(at + 4 + 2 * len))?;
-    put_idle(code, len + 1)
-}
 
-// The mask after an `else`.
-#[tactic(auto, unfolding(crate::specs::Lines::others))]
-fn put_else(code: &mut Vec<Instr>, layout: &Layout, depth: usize) -> Result<(), JobKind>
-    requires { depth < layout.now.choices }
-    ensures { Puts code.old.items code.new.items result (others layout.now depth) }
-{
-    let mask = layout.inner_mask(depth);
-    put_load(code, 0, mask)?;
-    put_rest(code, layout, depth)?;
-    put_store(code, mask)
-}
-
-// Register 0 becomes 1 for those of the mask around that it is 0 for.
-fn put_rest(code: &mut Vec<Instr>, layout: &Layout, depth: usize) -> Result<(), JobKind>
-    requires { depth < layout.now.choices }
-    ensures { Puts code.old.items code.new.items result (rest_code layout.now depth) }
-{
-    if depth == 0 {
-        return put(code, Instr::Eq(0, 0, Operand::Number(0)));
+    // The mask after an `if`, whose condition comes into register 0.
+    fn put_if(&self, code: &mut Vec<Instr>, body: &[Instr]) -> Result<(), JobKind>
+        requires room { vec_len code.old ≤ MOST }
+        requires depth { self.now.depth < self.now.layout.now.choices }
+        requires shallow { is_shallow body.now ≡ true }
+        ensures { PutsLine code.old.items code.new.items result
+            (choosing self.now.layout.now (length code.old.items) self.now.depth body.now) }
+    {
+        if body.len() > MAX_CODE {
+            return Err(JobKind::TooLong);
+        }
+        self.put_choice(code, body)?;
+        put_store(code, self.layout.inner_mask(self.depth))
     }
-    put_load(code, 1, layout.mask(depth))?;
-    put(code, Instr::Lt(0, 0, Operand::Register(1)))
+
+    // The condition of active processors, and 0 of the others.
+    fn put_choice(&self, code: &mut Vec<Instr>, body: &[Instr]) -> Result<(), JobKind>
+        requires room { vec_len code.old + length body.now ≤ MOST + MOST }
+        requires shallow { is_shallow body.now ≡ true }
+        ensures { Puts code.old.items code.new.items result
+            (choice_code self.now.layout.now (length code.old.items) self.now.depth body.now) }
+    {
+        if self.depth == 0 {
+            return put_all(code, body);
+        }
+        let at = code.len() as u32;
+        let len = body.len() as u32;
+        put_load(code, 0, self.layout.mask(self.depth))?;
+        put(code, Instr::Jz(0, at + 3 + len))?;
+        put_all(code, body)?;
+        put(code, Instr::Jmp(at + 4 + 2 * len))?;
+        put_idle(code, len + 1)
+    }
+
+    // The mask after an `else`.
+    #[tactic(auto, unfolding(crate::specs::Lines::others))]
+    fn put_else(&self, code: &mut Vec<Instr>) -> Result<(), JobKind>
+        requires { self.now.depth < self.now.layout.now.choices }
+        ensures { Puts code.old.items code.new.items result
+            (others self.now.layout.now self.now.depth) }
+    {
+        let mask = self.layout.inner_mask(self.depth);
+        put_load(code, 0, mask)?;
+        self.put_rest(code)?;
+        put_store(code, mask)
+    }
+
+    // Register 0 becomes 1 for those of the mask around that it is 0 for.
+    fn put_rest(&self, code: &mut Vec<Instr>) -> Result<(), JobKind>
+        requires { self.now.depth < self.now.layout.now.choices }
+        ensures { Puts code.old.items code.new.items result
+            (rest_code self.now.layout.now self.now.depth) }
+    {
+        if self.depth == 0 {
+            return put(code, Instr::Eq(0, 0, Operand::Number(0)));
+        }
+        put_load(code, 1, self.layout.mask(self.depth))?;
+        put(code, Instr::Lt(0, 0, Operand::Register(1)))
+    }
 }
 
 // The first line of a loop: to the place after it where it has no turn.

@@ -3,7 +3,6 @@ ghost use Rattle.std.specs.Prelude.{◌≡◌, ◌+◌, ◌≤◌, ◌++◌, ◌
 ghost use Rattle.pram_text.specs.declared.instr.Instr.TheVariants.{Ld};
 ghost use Rattle.pram_text.specs.declared.instr.Operand.TheVariants.{Register};
 ghost use Rattle.pram_text.specs.declared.instr.Place.TheVariants.{Named};
-ghost use Rattle.pardo_text.specs.declared.expression.Node.TheVariants.{Apply, Place as PlaceOf};
 ghost use Rattle.pardo_job.specs.Inner.Emitting.{Puts};
 ghost use Rattle.pardo_job.specs.Inner.Nodes.{CanTake, Takes, held_of};
 ghost use Rattle.pardo_job.specs.Lawful.{IsLawful};
@@ -14,7 +13,7 @@ use crate::fault::JobKind;
 use crate::held::{Held, OWN, Stack};
 use crate::layout::Layout;
 use crate::operations::{gives_truth, put, put_operation};
-use pardo_text::{Expr, Node, Op};
+use pardo_text::{Expr, Node};
 use pram_text::{Array, Instr, Operand, Place};
 use std::alloc::Global;
 
@@ -91,42 +90,18 @@ fn put_node(
         }
         Node::Loop(nest) => put_own(code, stack, layout.loop_variable(nest)),
         Node::Private(variable) => put_own(code, stack, layout.private(variable)),
-        Node::Place(array) => put_place(code, stack, layout, array),
-        Node::Apply(op) => put_apply(code, stack, layout, op),
+        Node::Place(array) => {
+            let index = stack.pop();
+            put_load(code, stack, layout.array(array), index.operand)
+        }
+        Node::Apply(op) => {
+            let second = stack.pop();
+            let first = stack.pop();
+            let at = stack.free();
+            put_operation(code, at, op, first, second)?;
+            let is_truth = gives_truth(op, first.is_truth && second.is_truth);
+            stack.push(Operand::Register(at), is_truth)?;
+            Ok(())
+        }
     }
-}
-
-// The place of an array whose index is at hand.
-fn put_place(
-    code: &mut Vec<Instr>,
-    stack: &mut Stack,
-    layout: &Layout,
-    array: usize,
-) -> Result<(), JobKind>
-    requires { CanTake stack.old layout.now (PlaceOf array) }
-    ensures { Takes stack.old code.old.items code.new.items stack.new result layout.now
-        (PlaceOf array) }
-{
-    let index = stack.pop();
-    put_load(code, stack, layout.array(array), index.operand)
-}
-
-// An operation whose operands are at hand.
-fn put_apply(
-    code: &mut Vec<Instr>,
-    stack: &mut Stack,
-    layout: &Layout,
-    op: Op,
-) -> Result<(), JobKind>
-    requires { CanTake stack.old layout.now (Apply op) }
-    ensures { Takes stack.old code.old.items code.new.items stack.new result layout.now
-        (Apply op) }
-{
-    let second = stack.pop();
-    let first = stack.pop();
-    let at = stack.free();
-    put_operation(code, at, op, first, second)?;
-    let is_truth = gives_truth(op, first.is_truth && second.is_truth);
-    stack.push(Operand::Register(at), is_truth)?;
-    Ok(())
 }

@@ -39,13 +39,32 @@ returns-in_err-put_assignment-in-Assign c =
     (record { layout_is = c.args.self.now.laid_out; is = c.in-Assign.is }) e
     c.in_err-put_assignment-in-Assign.ensures.fault
 
-pub put_masked-requires-clause-depth : goal.put_masked-requires-clause-depth
-put_masked-requires-clause-depth c =
-    omega (
-      arith,
-      c.requires.line.1,
-      choices_in c.args.self.now.program.now c.args.self.now.layout c.args.self.now.laid_out,
-    )
+pub invariant_of-site : goal.invariant_of-site
+invariant_of-site c = record {
+  within = omega (
+    arith,
+    c.requires.line.1,
+    choices_in c.args.self.now.program.now c.args.self.now.layout c.args.self.now.laid_out,
+  );
+}
+
+pub invariant_of-site-in-If : goal.invariant_of-site-in-If
+invariant_of-site-in-If c = record {
+  within = omega (
+    arith,
+    c.requires.line.1,
+    choices_in c.args.self.now.program.now c.args.self.now.layout c.args.self.now.laid_out,
+  );
+}
+
+pub invariant_of-site-in-Else : goal.invariant_of-site-in-Else
+invariant_of-site-in-Else c = record {
+  within = omega (
+    arith,
+    c.requires.line.1,
+    choices_in c.args.self.now.program.now c.args.self.now.layout c.args.self.now.laid_out,
+  );
+}
 
 pub put_condition-requires : goal.put_condition-requires
 put_condition-requires c =
