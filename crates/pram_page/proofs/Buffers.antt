@@ -106,7 +106,7 @@ kept_as_told f told old now is kept =
     subst (λ (n : ℕ). IsKeptBehind n old now) (sym (ap told_written is ∙ count_told f)) kept
 
 pub kept_as_found : {X : Type 0} (f : Finding) (told : Told) (old now : List X) →
-    told ≡ told_of f → IsKeptAsFound old now f → told.code ≢ MEMORY →
+    told ≡ told_of f → IsKeptAsFound old now f → told.status.code ≢ MEMORY →
     IsKeptBehind (told_written told) old now
 kept_as_found (Done step count) told old now is kept some =
     kept_as_told (Done step count) told old now is kept
@@ -126,7 +126,7 @@ kept_as_found (Refused (NoJob fault)) told old now is kept some =
 kept_as_found (Refused TextTooLong) told old now is kept some =
     kept_as_told (Refused TextTooLong) told old now is kept
 kept_as_found (Refused Memory) told old now is kept some =
-    absurd (some (ap (λ (t : Told). t.code) is))
+    absurd (some (ap (λ (t : Told). t.status.code) is))
 
 pub requests_kept : (job : JobData) (t : ℕ) (old rows : List RequestRow) (f : Finding) →
     AreRequestsAfter job t rows f → IsKeptBehind job.procs old rows →

@@ -4,7 +4,6 @@ mod Fitting
 mod Loads
 mod Counting
 mod Lasts
-mod Moments
 mod ReadCells
 mod Landing
 mod Telling

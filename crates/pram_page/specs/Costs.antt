@@ -3,6 +3,7 @@ use Rattle.std.specs.Prelude.{◌≡◌, ◌⊎◌, ℕ, List, Option, Some, Non
 use Rattle.pram_cost.specs.declared.cost.Cost.{Cost}
 use Rattle.pram_cost.specs.declared.meeting.Meeting.{Meeting}
 use Rattle.pram_cost.specs.declared.pram.Pram.{Pram}
+use Rattle.pram_cost.specs.declared.pram.Pram.TheVariants.{Erew}
 use Rattle.pram_cost.specs.Costs.{IsCost}
 use Rattle.pram_cost.specs.Models.{IsNeeded, strength}
 use Rattle.pram_text.specs.Job.{JobData}
@@ -10,7 +11,7 @@ use Rattle.pram_page.specs.declared.codes.TheConstants.{DONE}
 use Rattle.pram_page.specs.declared.cost.CostTold.{CostTold}
 use Rattle.pram_page.specs.declared.cost.MeetingRow.{MeetingRow}
 use Rattle.pram_page.specs.declared.text.Refusal.{Refusal}
-use Rattle.pram_page.specs.Texts.{IsRefused, OfJob, refused_as}
+use Rattle.pram_page.specs.Texts.{IsRefused, OfJob, coded, refused_as}
 
 abbrev pub meeting_row : Option Meeting → MeetingRow
 meeting_row None = record { step = 0; cell = 0; first = 0; second = 0 }
@@ -24,9 +25,7 @@ meeting_row (Some meeting) = record {
 -- a cost, and the weakest model that accepts all steps
 abbrev pub cost_row : Cost → Pram → CostTold
 cost_row cost pram = record {
-  code = DONE;
-  fault = 0;
-  line = 0;
+  status = coded DONE;
   executed = cost.work.executed;
   steps = cost.steps;
   procs = cost.procs;
@@ -39,22 +38,18 @@ cost_row cost pram = record {
   other_value = meeting_row cost.meetings.other_value;
 }
 
-abbrev pub no_cost : Refusal → CostTold
-no_cost refusal = record {
-  code = (refused_as refusal).code;
-  fault = (refused_as refusal).fault;
-  line = (refused_as refusal).line;
-  executed = 0;
+-- the cost of no step of no processor
+abbrev pub nothing : Cost
+nothing = record {
   steps = 0;
   procs = 0;
-  most = 0;
-  reading = 0;
-  writing = 0;
-  needs = 0;
-  same_read = meeting_row None;
-  same_write = meeting_row None;
-  other_value = meeting_row None;
+  work = record { executed = 0; most = 0; reading = 0; writing = 0 };
+  meetings = record { same_read = None; same_write = None; other_value = None };
+  conflict = None;
 }
+
+abbrev pub no_cost : Refusal → CostTold
+no_cost refusal = record (cost_row nothing Erew) { status = refused_as refusal }
 
 -- what the run of a job costs, with the model that it needs
 abbrev pub IsCostOfRun : JobData → CostTold → Type 0

@@ -11,7 +11,7 @@ use Rattle.pram_page.specs.declared.fates.EndRow.{EndRow}
 use Rattle.pram_page.specs.declared.fates.FatesTold.{FatesTold}
 use Rattle.pram_page.specs.declared.fates.LostRow.{LostRow}
 use Rattle.pram_page.specs.declared.text.Refusal.{Refusal}
-use Rattle.pram_page.specs.Texts.{IsRefused, OfJob, refused_as}
+use Rattle.pram_page.specs.Texts.{IsRefused, OfJob, coded, refused_as}
 
 -- how they are at the end, by the lines of the text: none, so many run, or all have stopped
 abbrev pub end_row : List ℕ → Option End → EndRow
@@ -29,18 +29,14 @@ lost_row text (Some lost) =
 
 abbrev pub fates_row : List ℕ → Fates → FatesTold
 fates_row text fates = record {
-  code = DONE;
-  fault = 0;
-  line = 0;
+  status = coded DONE;
   end = end_row text fates.end;
   lost = lost_row text fates.lost;
 }
 
 abbrev pub no_fates : Refusal → FatesTold
 no_fates refusal = record {
-  code = (refused_as refusal).code;
-  fault = (refused_as refusal).fault;
-  line = (refused_as refusal).line;
+  status = refused_as refusal;
   end = end_row [] None;
   lost = lost_row [] None;
 }

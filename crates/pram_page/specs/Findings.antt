@@ -8,14 +8,12 @@ use Rattle.pram_page.specs.declared.finding.Finding.TheVariants.{NoStep, TooFar,
 use Rattle.pram_page.specs.declared.finding.Finding.TheVariants.{BadEvent, Refused}
 use Rattle.pram_page.specs.declared.finding.Told.{Told}
 use Rattle.pram_page.specs.declared.text.Refusal.TheVariants.{Memory}
-use Rattle.pram_page.specs.Texts.{refused_as}
+use Rattle.pram_page.specs.Texts.{coded, refused_as}
 
 -- a code and a count alone
 abbrev pub counted : ℕ → ℕ → Told
 counted code count = record {
-  code = code;
-  fault = 0;
-  line = 0;
+  status = coded code;
   step = 0;
   cell = 0;
   first = 0;
@@ -26,9 +24,7 @@ counted code count = record {
 abbrev pub told_of : Finding → Told
 told_of (Done step count) = record (counted DONE count) { step = step }
 told_of (Conflict fault count) = record {
-  code = CONFLICT;
-  fault = 0;
-  line = 0;
+  status = coded CONFLICT;
   step = fault.step;
   cell = fault.cell;
   first = fault.first;
@@ -42,10 +38,7 @@ told_of TooFar = counted TOO_FAR 0
 told_of BadWorkers = counted BAD_WORKERS 0
 told_of (BadEvent number) = counted BAD_EVENT number
 told_of (Refused refusal) =
-    record (counted (refused_as refusal).code 0) {
-      fault = (refused_as refusal).fault;
-      line = (refused_as refusal).line;
-    }
+    record (counted DONE 0) { status = refused_as refusal }
 
 -- a finding of which this holds is told
 abbrev pub IsToldOf : (Finding → Type 0) → Told → Type 0
@@ -60,7 +53,7 @@ count_written (Conflict fault count) = count
 count_written _ = 0
 
 abbrev pub told_written : Told → ℕ
-told_written told = if told.code == DONE || told.code == CONFLICT then told.count else 0
+told_written told = if told.status.code == DONE || told.status.code == CONFLICT then told.count else 0
 
 -- what lies after the first so many elements is as it was
 abbrev pub IsKeptBehind : {X : Type 0} → ℕ → List X → List X → Type 0

@@ -1,5 +1,5 @@
 -- What is told of the plain machine.
-use Rattle.std.specs.Prelude.{◌≡◌, ℕ, ◌<◌, ◌≤◌, List, length, take}
+use Rattle.std.specs.Prelude.{◌≡◌, ◌⊎◌, ℕ, ◌<◌, ◌≤◌, List, length, take}
 use Rattle.pram_text.specs.Job.{JobData}
 use Rattle.pram_step.specs.declared.answer.RunAnswer.TheVariants as answer
 use Rattle.pram_step.specs.Machine.{place_count}
@@ -35,14 +35,15 @@ IsStateTold job t old places (Done step count) =
 IsStateTold job t old places (NoRoom needed) = (needed ≡ place_count job) × (length old < needed)
 IsStateTold job t old places _ = ⊥
 
-abbrev pub IsStateFound : List ℕ → ℕ → ℕ → List ℕ → List ℕ → Finding → Type 0
-IsStateFound text t most old places (Done step count) =
-    OfJob text (λ job. IsStateTold job t old places (Done step count))
-IsStateFound text t most old places (Conflict fault count) =
+-- why no state after t steps of a text's job is told
+abbrev pub IsNotReached : List ℕ → ℕ → ℕ → Finding → Type 0
+IsNotReached text t most (Conflict fault count) =
     OfJob text (λ job. (count ≡ 0) × IsFirstConflict job fault × (fault.step ≤ t))
-IsStateFound text t most old places (NoRoom needed) =
-    OfJob text (λ job. IsStateTold job t old places (NoRoom needed))
-IsStateFound text t most old places NoStep = OfJob text (λ job. job.steps < t)
-IsStateFound text t most old places TooFar = OfJob text (λ job. (most < t) × IsReached job most)
-IsStateFound text t most old places (Refused refusal) = IsRefused text refusal
-IsStateFound text t most old places _ = ⊥
+IsNotReached text t most NoStep = OfJob text (λ job. job.steps < t)
+IsNotReached text t most TooFar = OfJob text (λ job. (most < t) × IsReached job most)
+IsNotReached text t most (Refused refusal) = IsRefused text refusal
+IsNotReached text t most _ = ⊥
+
+abbrev pub IsStateFound : List ℕ → ℕ → ℕ → List ℕ → List ℕ → Finding → Type 0
+IsStateFound text t most old places finding =
+    OfJob text (λ job. IsStateTold job t old places finding) ⊎ IsNotReached text t most finding

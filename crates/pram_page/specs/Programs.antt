@@ -35,6 +35,7 @@ use Rattle.pram_page.specs.declared.program.NoProgram.{NoProgram}
 use Rattle.pram_page.specs.declared.program.NoProgram.TheVariants.{OtherLanguage, TextTooLong}
 use Rattle.pram_page.specs.declared.program.NoProgram.TheVariants.{Refused, Memory}
 use Rattle.pram_page.specs.declared.program.ProgramTold.{ProgramTold}
+use Rattle.pram_page.specs.Texts.{coded}
 
 -- ---- why nothing is told of a text
 
@@ -71,7 +72,11 @@ job_kind_code Endless = 18
 
 abbrev pub why_told : ℕ → ℕ → ℕ → ProgramTold
 why_told code fault line =
-    record { code = code; fault = fault; line = line; bytes = 0; rows = 0 }
+    record {
+      status = record { code = code; fault = fault; line = line };
+      bytes = 0;
+      rows = 0;
+    }
 
 abbrev pub fault_told : ℕ → ℕ → ProgramTold
 fault_told kind line =
@@ -88,14 +93,14 @@ no_program_told Memory = why_told MEMORY 0 0
 
 -- how many bytes and how many rows were written
 abbrev pub bytes_told : ProgramTold → ℕ
-bytes_told told = if told.code == DONE then told.bytes else 0
+bytes_told told = if told.status.code == DONE then told.bytes else 0
 
 abbrev pub rows_told : ProgramTold → ℕ
-rows_told told = if told.code == DONE then told.rows else 0
+rows_told told = if told.status.code == DONE then told.rows else 0
 
 abbrev pub sizes_told : ℕ → ℕ → ℕ → ProgramTold
 sizes_told code bytes rows =
-    record { code = code; fault = 0; line = 0; bytes = bytes; rows = rows }
+    record { status = coded code; bytes = bytes; rows = rows }
 
 -- the bytes and the rows stand at the fronts of their buffers
 abbrev pub AreWritten : {X : Type 0} → List ℕ → List X → List ℕ → List X → ProgramTold → Type 0

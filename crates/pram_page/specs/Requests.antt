@@ -3,18 +3,17 @@ use Rattle.std.specs.Prelude.{◌≡◌, ◌⊎◌, ℕ, ◌+◌, ◌-◌, ◌*�
 use Rattle.std.specs.Prelude.{List, length, slice_get, slice_index, Option, Some, None}
 use Rattle.pram_text.specs.declared.instr.Instr.{Instr}
 use Rattle.pram_text.specs.Job.{JobData}
-use Rattle.pram_step.specs.declared.answer.Fault.{Fault}
 use Rattle.pram_step.specs.Instructions.{cell_read, operand_held, request_in}
 use Rattle.pram_step.specs.Machine.{State, counter}
 use Rattle.pram_step.specs.Runs.{AgreesAfter, IsReached, IsFirstConflict, state_after}
 use Rattle.pram_page.specs.declared.finding.Finding.{Finding}
 use Rattle.pram_page.specs.declared.finding.Finding.TheVariants.{Done, Conflict, NoRoom}
-use Rattle.pram_page.specs.declared.finding.Finding.TheVariants.{NoStep, TooFar}
-use Rattle.pram_page.specs.declared.finding.Finding.TheVariants.{Refused}
+use Rattle.pram_page.specs.declared.finding.Finding.TheVariants.{NoStep, Refused}
 use Rattle.pram_page.specs.declared.requests.RequestRow.{RequestRow}
 use Rattle.pram_page.specs.declared.requests.Target.{Target}
 use Rattle.pram_page.specs.declared.text.Refusal.TheVariants.{Memory}
-use Rattle.pram_page.specs.Texts.{OfJob, IsRefused}
+use Rattle.pram_page.specs.Moments.{IsNotReached}
+use Rattle.pram_page.specs.Texts.{OfJob}
 
 -- 0 where a counter is an instruction's index, 1 where the processor has halted, 2 where an address
 -- was out of range
@@ -86,22 +85,7 @@ AreRequestsTold job t old rows (NoRoom needed) = (needed ≡ job.procs) × (leng
 AreRequestsTold job t old rows NoStep = job.steps ≤ t
 AreRequestsTold job t old rows finding = AreRequestsAfter job t rows finding
 
--- the first conflict comes before this step
-abbrev pub IsDisputedBefore : JobData → ℕ → Fault → ℕ → Type 0
-IsDisputedBefore job t fault count =
-    IsFirstConflict job fault × (fault.step ≤ t) × (count ≡ 0)
-
 abbrev pub AreRequestsFound
     : List ℕ → ℕ → ℕ → List RequestRow → List RequestRow → Finding → Type 0
-AreRequestsFound text t most old rows (Done step count) =
-    OfJob text (λ job. AreRequestsAfter job t rows (Done step count))
-AreRequestsFound text t most old rows (Conflict fault count) =
-    OfJob text (λ job. AreRequestsAfter job t rows (Conflict fault count)
-    ⊎ IsDisputedBefore job t fault count)
-AreRequestsFound text t most old rows (NoRoom needed) =
-    OfJob text (λ job. AreRequestsTold job t old rows (NoRoom needed))
-AreRequestsFound text t most old rows NoStep =
-    OfJob text (λ job. AreRequestsTold job t old rows NoStep)
-AreRequestsFound text t most old rows TooFar = OfJob text (λ job. (most < t) × IsReached job most)
-AreRequestsFound text t most old rows (Refused refusal) = IsRefused text refusal
-AreRequestsFound text t most old rows _ = ⊥
+AreRequestsFound text t most old rows finding =
+    OfJob text (λ job. AreRequestsTold job t old rows finding) ⊎ IsNotReached text t most finding

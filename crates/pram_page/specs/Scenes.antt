@@ -36,7 +36,7 @@ use Rattle.pram_page.specs.declared.words.WordRow.{WordRow}
 use Rattle.pram_page.specs.declared.board.Hindrance.{Hindrance}
 use Rattle.pram_page.specs.declared.board.Hindrance.TheVariants.{Refused, BadWorkers, BadEvent}
 use Rattle.pram_page.specs.declared.codes.TheConstants.{DONE, NO_ROOM, BAD_WORKERS, BAD_EVENT}
-use Rattle.pram_page.specs.Texts.{OfJob, refused_as}
+use Rattle.pram_page.specs.Texts.{OfJob, coded, refused_as}
 use Rattle.pram_page.specs.Events.{BoardAfter, IsHindered, act_of, moved, effect_by}
 use Rattle.pram_page.specs.Events.{run_from}
 
@@ -234,9 +234,7 @@ count_shown events from rows = min rows (events - from)
 
 abbrev pub no_scene : Scene
 no_scene = record {
-  code = DONE;
-  fault = 0;
-  line = 0;
+  status = coded DONE;
   root = 0;
   at = 0;
   words = 0;
@@ -249,14 +247,9 @@ no_scene = record {
 
 -- why there is none
 abbrev pub hindered_as : Hindrance → Scene
-hindered_as (Refused refusal) =
-    record no_scene {
-      code = (refused_as refusal).code;
-      fault = (refused_as refusal).fault;
-      line = (refused_as refusal).line;
-    }
-hindered_as BadWorkers = record no_scene { code = BAD_WORKERS }
-hindered_as (BadEvent at) = record no_scene { code = BAD_EVENT; at = at }
+hindered_as (Refused refusal) = record no_scene { status = refused_as refusal }
+hindered_as BadWorkers = record no_scene { status = coded BAD_WORKERS }
+hindered_as (BadEvent at) = record no_scene { status = coded BAD_EVENT; at = at }
 
 -- what a world shows at a glance, so many rows being written
 abbrev pub glance_of : WorldData → ℕ → Scene
@@ -296,7 +289,7 @@ HaveNoRoom world words bodies =
 abbrev pub IsBoardTold : WorldData → ℕ → List WordRow → List BodyRow → Scene → Type 0
 IsBoardTold world shown words bodies told =
     (AreWords world words × AreBodies world bodies × (told ≡ glance_of world shown))
-    ⊎ (HaveNoRoom world words bodies × (told ≡ record (glance_of world shown) { code = NO_ROOM }))
+    ⊎ (HaveNoRoom world words bodies × (told ≡ record (glance_of world shown) { status = coded NO_ROOM }))
 
 -- what is told of the board of a text after events, and of what they did; or why there is none
 abbrev pub IsScene
@@ -310,7 +303,7 @@ IsScene text workers events from rows words bodies told =
 
 -- so many words and bodies are written, as is told
 abbrev pub words_told : Scene → ℕ
-words_told told = if told.code == DONE then told.words else 0
+words_told told = if told.status.code == DONE then told.words else 0
 
 abbrev pub bodies_told : Scene → ℕ
-bodies_told told = if told.code == DONE then told.bodies else 0
+bodies_told told = if told.status.code == DONE then told.bodies else 0

@@ -8,11 +8,11 @@ use Rattle.pram_step.specs.Runs.{IsReached, IsFirstConflict, state_after}
 use Rattle.pram_cost.specs.Accesses.{is_running, read_by, write_by}
 use Rattle.pram_cost.specs.Costs.{at_work}
 use Rattle.pram_page.specs.declared.finding.Finding.{Finding}
-use Rattle.pram_page.specs.declared.finding.Finding.TheVariants.{Done, Conflict, NoStep, TooFar}
-use Rattle.pram_page.specs.declared.finding.Finding.TheVariants.{Refused}
+use Rattle.pram_page.specs.declared.finding.Finding.TheVariants.{Done, Conflict, Refused}
 use Rattle.pram_page.specs.declared.steps.StepRow.{StepRow}
 use Rattle.pram_page.specs.declared.text.Refusal.TheVariants.{Memory}
-use Rattle.pram_page.specs.Texts.{OfJob, IsRefused}
+use Rattle.pram_page.specs.Moments.{IsNotReached}
+use Rattle.pram_page.specs.Texts.{OfJob}
 
 -- how many processors read a cell in the step after a state, and how many write one
 abbrev pub count_reading : JobData → State → ℕ
@@ -56,15 +56,8 @@ AreStepsAfter job t old rows (Conflict fault count) =
 AreStepsAfter job t old rows (Refused refusal) = refusal ≡ Memory
 AreStepsAfter job t old rows _ = ⊥
 
--- what the steps after t steps do, or the first conflict comes before them
+-- what the steps after t steps do, or the state after t steps is not reached
 abbrev pub AreStepsFound
     : List ℕ → ℕ → ℕ → List StepRow → List StepRow → Finding → Type 0
-AreStepsFound text t most old rows (Done step count) =
-    OfJob text (λ job. AreStepsAfter job t old rows (Done step count))
-AreStepsFound text t most old rows (Conflict fault count) =
-    OfJob text (λ job. AreStepsAfter job t old rows (Conflict fault count)
-    ⊎ (IsFirstConflict job fault × (fault.step ≤ t) × (count ≡ 0)))
-AreStepsFound text t most old rows NoStep = OfJob text (λ job. job.steps < t)
-AreStepsFound text t most old rows TooFar = OfJob text (λ job. (most < t) × IsReached job most)
-AreStepsFound text t most old rows (Refused refusal) = IsRefused text refusal
-AreStepsFound text t most old rows _ = ⊥
+AreStepsFound text t most old rows finding =
+    OfJob text (λ job. AreStepsAfter job t old rows finding) ⊎ IsNotReached text t most finding

@@ -12,12 +12,12 @@ use Rattle.pram_text.specs.declared.instr.Rule.TheVariants.{Common, Priority, Cr
 use Rattle.pram_text.specs.Job.{JobData}
 use Rattle.pram_text.specs.Text.{Spells, Bears}
 use Rattle.pram_step.specs.Machine.{place_count}
+use Rattle.pram_page.specs.declared.codes.Status.{Status}
 use Rattle.pram_page.specs.declared.codes.TheConstants.{DONE, NO_JOB, MEMORY, TEXT_TOO_LONG}
 use Rattle.pram_page.specs.declared.codes.TheConstants.{TEXT_MOST}
 use Rattle.pram_page.specs.declared.text.Judgement.{Judgement}
 use Rattle.pram_page.specs.declared.text.Refusal.{Refusal}
 use Rattle.pram_page.specs.declared.text.Refusal.TheVariants.{NoJob, TextTooLong, Memory}
-use Rattle.pram_page.specs.declared.text.Refused.{Refused}
 
 abbrev pub fault_code : TextKind → ℕ
 fault_code NotAscii = 1
@@ -49,19 +49,21 @@ IsRefused text (NoJob fault) = Bears text fault.line fault.kind
 IsRefused text TextTooLong = TEXT_MOST < length text
 IsRefused text Memory = Unit {0}
 
-abbrev pub refused_as : Refusal → Refused
+-- a code alone
+abbrev pub coded : ℕ → Status
+coded code = record { code = code; fault = 0; line = 0 }
+
+abbrev pub refused_as : Refusal → Status
 refused_as (NoJob fault) =
     record { code = NO_JOB; fault = fault_code fault.kind; line = fault.line }
-refused_as TextTooLong = record { code = TEXT_TOO_LONG; fault = 0; line = 0 }
-refused_as Memory = record { code = MEMORY; fault = 0; line = 0 }
+refused_as TextTooLong = coded TEXT_TOO_LONG
+refused_as Memory = coded MEMORY
 
 -- ---- the judgement of a text
 
 abbrev pub sizes_of : JobData → Judgement
 sizes_of job = record {
-  code = DONE;
-  fault = 0;
-  line = 0;
+  status = coded DONE;
   rule = rule_code job.rule;
   cells = job.cells;
   procs = job.procs;
@@ -72,9 +74,7 @@ sizes_of job = record {
 
 abbrev pub judgement_of : Refusal → Judgement
 judgement_of refusal = record {
-  code = (refused_as refusal).code;
-  fault = (refused_as refusal).fault;
-  line = (refused_as refusal).line;
+  status = refused_as refusal;
   rule = 0;
   cells = 0;
   procs = 0;

@@ -1,4 +1,33 @@
 //! The codes of what is told.
+ghost use Rattle.std.specs.Prelude.{◌≡◌};
+ghost use Rattle.pram_page.specs.Texts.{coded};
+
+/// How a call ended: what is told begins with its code, and with the kind and the line of a fault.
+#[repr(C)]
+#[derive(Clone, Copy, Debug, PartialEq, Eq)]
+pub struct Status {
+    pub code: u32,
+    pub fault: u32,
+    pub line: u64,
+}
+
+/// A code alone.
+pub(crate) fn coded(code: u32) -> Status
+    ensures { result ≡ coded code }
+{
+    Status {
+        code,
+        fault: 0,
+        line: 0,
+    }
+}
+
+/// The status where it is told.
+pub(crate) const TOLD: Status = Status {
+    code: DONE,
+    fault: 0,
+    line: 0,
+};
 
 /// What was asked for is told.
 pub const DONE: u32 = 0;

@@ -6,8 +6,8 @@ ghost use Rattle.pram_text.specs.Job.{JobData};
 ghost use Rattle.pram_page.specs.Costs.{IsCostOfRun, IsCostTold, meeting_row, no_cost};
 ghost use Rattle.pram_page.specs.Texts.{IsRefused, OfJob};
 
-use crate::codes::DONE;
-use crate::text::{Refusal, Refused, take_job, tell_refusal};
+use crate::codes::{Status, TOLD};
+use crate::text::{Refusal, take_job, tell_refusal};
 use pram_cost::{Cost, Meeting, Pram, cost_of};
 use std::alloc::Global;
 
@@ -28,9 +28,7 @@ pub struct MeetingRow {
 #[repr(C)]
 #[derive(Clone, Copy, Debug, PartialEq, Eq)]
 pub struct CostTold {
-    pub code: u32,
-    pub fault: u32,
-    pub line: u64,
+    pub status: Status,
     pub executed: u64,
     pub steps: u32,
     pub procs: u32,
@@ -42,13 +40,6 @@ pub struct CostTold {
     pub same_write: MeetingRow,
     pub other_value: MeetingRow,
 }
-
-const NO_MEETING: MeetingRow = MeetingRow {
-    step: 0,
-    cell: 0,
-    first: 0,
-    second: 0,
-};
 
 /// Tells what the run of a text's job costs: all of its steps, or those up to its first conflict.
 /// None is made after one that changes nothing.
@@ -77,9 +68,7 @@ fn tell_cost(cost: Cost) -> CostTold
     ensures { (job : JobData) → IsCost job cost → IsCostOfRun job result }
 {
     CostTold {
-        code: DONE,
-        fault: 0,
-        line: 0,
+        status: TOLD,
         executed: cost.work.executed,
         steps: cost.steps,
         procs: cost.procs,
@@ -96,11 +85,8 @@ fn tell_cost(cost: Cost) -> CostTold
 fn refused_cost(refusal: Refusal) -> CostTold
     ensures { result ≡ no_cost refusal }
 {
-    let Refused { code, fault, line } = tell_refusal(refusal);
     CostTold {
-        code,
-        fault,
-        line,
+        status: tell_refusal(refusal),
         executed: 0,
         steps: 0,
         procs: 0,
@@ -108,9 +94,9 @@ fn refused_cost(refusal: Refusal) -> CostTold
         reading: 0,
         writing: 0,
         needs: 0,
-        same_read: NO_MEETING,
-        same_write: NO_MEETING,
-        other_value: NO_MEETING,
+        same_read: tell_meeting(None),
+        same_write: tell_meeting(None),
+        other_value: tell_meeting(None),
     }
 }
 
@@ -130,7 +116,12 @@ fn tell_meeting(meeting: Option<Meeting>) -> MeetingRow
     ensures { result ≡ meeting_row meeting }
 {
     match meeting {
-        None => NO_MEETING,
+        None => MeetingRow {
+            step: 0,
+            cell: 0,
+            first: 0,
+            second: 0,
+        },
         Some(
             Meeting {
                 step,

@@ -4,8 +4,8 @@ ghost use Rattle.pram_fates.specs.Fates.{AreFates};
 ghost use Rattle.pram_page.specs.Fates.{AreFatesTold, end_row, fates_row, lost_row, no_fates};
 ghost use Rattle.pram_page.specs.Texts.{IsRefused, OfJob};
 
-use crate::codes::DONE;
-use crate::text::{Refusal, Refused, take_job, tell_refusal};
+use crate::codes::{Status, TOLD};
+use crate::text::{Refusal, take_job, tell_refusal};
 use pram_fates::{End, Fates, Lost, fates_after};
 use pram_text::instruction_line;
 use std::alloc::Global;
@@ -37,9 +37,7 @@ pub struct LostRow {
 #[repr(C)]
 #[derive(Clone, Copy, Debug, PartialEq, Eq)]
 pub struct FatesTold {
-    pub code: u32,
-    pub fault: u32,
-    pub line: u64,
+    pub status: Status,
     pub end: EndRow,
     pub lost: LostRow,
 }
@@ -85,9 +83,7 @@ fn tell_fates(text: &[u8], fates: Fates) -> FatesTold
     ensures { result ≡ fates_row text.now fates }
 {
     FatesTold {
-        code: DONE,
-        fault: 0,
-        line: 0,
+        status: TOLD,
         end: tell_end(text, fates.end),
         lost: tell_lost(text, fates.lost),
     }
@@ -96,11 +92,8 @@ fn tell_fates(text: &[u8], fates: Fates) -> FatesTold
 fn refused_fates(refusal: Refusal) -> FatesTold
     ensures { result ≡ no_fates refusal }
 {
-    let Refused { code, fault, line } = tell_refusal(refusal);
     FatesTold {
-        code,
-        fault,
-        line,
+        status: tell_refusal(refusal),
         end: NO_END,
         lost: NONE_LOST,
     }

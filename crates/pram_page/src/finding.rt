@@ -2,8 +2,10 @@
 ghost use Rattle.std.specs.Prelude.{◌≡◌};
 ghost use Rattle.pram_page.specs.Findings.{counted, told_of};
 
-use crate::codes::{BAD_EVENT, BAD_WORKERS, CONFLICT, DONE, NO_ROOM, NO_STEP, TOO_FAR, UNFINISHED};
-use crate::text::{Refusal, Refused, tell_refusal};
+use crate::codes::{
+    BAD_EVENT, BAD_WORKERS, CONFLICT, NO_ROOM, NO_STEP, Status, TOLD, TOO_FAR, UNFINISHED, coded,
+};
+use crate::text::{Refusal, tell_refusal};
 use pram_step::Fault;
 
 /// What is told of a job: `count` is how many elements of the buffer were written, how many it
@@ -11,9 +13,7 @@ use pram_step::Fault;
 #[repr(C)]
 #[derive(Clone, Copy, Debug, PartialEq, Eq)]
 pub struct Told {
-    pub code: u32,
-    pub fault: u32,
-    pub line: u64,
+    pub status: Status,
     pub step: u32,
     pub cell: u32,
     pub first: u32,
@@ -45,9 +45,7 @@ pub enum Finding {
 }
 
 const NOTHING: Told = Told {
-    code: DONE,
-    fault: 0,
-    line: 0,
+    status: TOLD,
     step: 0,
     cell: 0,
     first: 0,
@@ -66,7 +64,7 @@ pub(crate) fn tell(finding: Finding) -> Told
             ..NOTHING
         },
         Finding::Conflict { fault, count } => Told {
-            code: CONFLICT,
+            status: coded(CONFLICT),
             step: fault.step,
             cell: fault.cell,
             first: fault.first,
@@ -75,7 +73,7 @@ pub(crate) fn tell(finding: Finding) -> Told
             ..NOTHING
         },
         Finding::Unfinished { step } => Told {
-            code: UNFINISHED,
+            status: coded(UNFINISHED),
             step,
             ..NOTHING
         },
@@ -84,15 +82,10 @@ pub(crate) fn tell(finding: Finding) -> Told
         Finding::TooFar => counted(TOO_FAR, 0),
         Finding::BadWorkers => counted(BAD_WORKERS, 0),
         Finding::BadEvent { number } => counted(BAD_EVENT, number),
-        Finding::Refused(refusal) => {
-            let Refused { code, fault, line } = tell_refusal(refusal);
-            Told {
-                code,
-                fault,
-                line,
-                ..NOTHING
-            }
-        }
+        Finding::Refused(refusal) => Told {
+            status: tell_refusal(refusal),
+            ..NOTHING
+        },
     }
 }
 
@@ -100,7 +93,7 @@ fn counted(code: u32, count: u64) -> Told
     ensures { result ≡ counted code count }
 {
     Told {
-        code,
+        status: coded(code),
         count,
         ..NOTHING
     }

@@ -35,7 +35,7 @@ pub extern "C" fn pram_page_last(
     told: &mut Told,
 )
     ensures told { IsToldOf (AreLastFound text.now step most rows.old rows.new) told.new }
-    ensures behind { told.new.code ≢ MEMORY
+    ensures behind { told.new.status.code ≢ MEMORY
         → IsKeptBehind (told_written told.new) rows.old rows.new }
 {
     *told = tell(last(alloc, text, step, most, rows));

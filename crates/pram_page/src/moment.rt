@@ -1,11 +1,10 @@
 //! A moment of the plain machine: its state, and what the processors ask for in it.
-ghost use Rattle.std.specs.Prelude.{◌≡◌, ◌≢◌, ◌≤◌, List, IfErr, IfOk, ℕ};
+ghost use Rattle.std.specs.Prelude.{◌≡◌, ◌≢◌, ◌≤◌, IfErr, IfOk};
 ghost use Rattle.pram_text.specs.Text.{Spells};
 ghost use Rattle.pram_step.specs.Runs.{IsStateAfter};
 ghost use Rattle.pram_page.specs.declared.codes.TheConstants.{MEMORY};
-ghost use Rattle.pram_page.specs.declared.requests.RequestRow.{RequestRow as Row};
 ghost use Rattle.pram_page.specs.Findings.{IsKeptBehind, IsToldOf, count_written, told_written};
-ghost use Rattle.pram_page.specs.Moments.{IsStateFound, IsStateTold};
+ghost use Rattle.pram_page.specs.Moments.{IsNotReached, IsStateFound, IsStateTold};
 ghost use Rattle.pram_page.specs.Requests.{AreRequestsFound};
 
 use crate::finding::{Finding, Told, tell};
@@ -21,7 +20,6 @@ use std::alloc::Global;
 /// step after it, and whether that step is against the rule, and where. At most `most` steps are
 /// made.
 #[unsafe(no_mangle)]
-#[tactic(auto, using(crate::proofs::Moments::state_found, crate::proofs::Moments::requests_found))]
 pub extern "C" fn pram_page_moment(
     alloc: Global,
     text: &[u8],
@@ -35,18 +33,13 @@ pub extern "C" fn pram_page_moment(
     ensures state { IsToldOf (IsStateFound text.now step most places.old places.new) state.new }
     ensures places { IsKeptBehind (told_written state.new) places.old places.new }
     ensures asked { IsToldOf (AreRequestsFound text.now step most rows.old rows.new) asked.new }
-    ensures rows { asked.new.code ≢ MEMORY
+    ensures rows { asked.new.status.code ≢ MEMORY
         → IsKeptBehind (told_written asked.new) rows.old rows.new }
 {
     match go(alloc, text, step, most) {
-        Ok(
-            Reached {
-                job,
-                state: reached,
-            },
-        ) => {
-            *state = tell(tell_state(&job, step, &reached, places));
-            *asked = tell(requests(alloc, &job, step, reached, rows));
+        Ok(reached) => {
+            *state = tell(tell_state(&reached, places));
+            *asked = tell(requests(alloc, reached, rows));
         }
         Err(finding) => {
             *state = tell(finding);
@@ -55,21 +48,21 @@ pub extern "C" fn pram_page_moment(
     }
 }
 
-// A job and one of its states.
+/// A job, and its state after so many of its steps.
 #[derive(Drop)]
-struct Reached {
-    job: Job,
-    state: State,
+pub(crate) struct Reached {
+    pub(crate) job: Job,
+    pub(crate) step: u32,
+    pub(crate) state: State,
+    ghost after: { IsStateAfter job step state },
+    ghost within: { step ≤ job.steps },
 }
 
-// The job of a text, and its state after so many steps; or why there is none.
-fn go(alloc: Global, text: &[u8], step: u32, most: u32) -> Result<Reached, Finding>
-    ensures job { IfOk result (λ r. Spells text.now r.job × (step ≤ r.job.steps)) }
-    ensures state { IfOk result (λ r. IsStateAfter r.job step r.state) }
-    ensures no_state { IfErr result
-        (λ f. (old new : List ℕ) → IsStateFound text.now step most old new f) }
-    ensures no_requests { IfErr result
-        (λ f. (old new : List Row) → AreRequestsFound text.now step most old new f) }
+/// The job of a text, and its state after so many steps; or why there is none.
+pub(crate) fn go(alloc: Global, text: &[u8], step: u32, most: u32) -> Result<Reached, Finding>
+    ensures job { IfOk result (λ r. Spells text.now r.job) }
+    ensures step { IfOk result (λ r. r.step ≡ step) }
+    ensures none { IfErr result (IsNotReached text.now step most) }
     ensures unwritten { IfErr result (λ f. count_written f ≡ 0) }
 {
     let job = match take_job(alloc, text) {
@@ -83,22 +76,23 @@ fn go(alloc: Global, text: &[u8], step: u32, most: u32) -> Result<Reached, Findi
         Err(_) => Err(Finding::Refused(Refusal::Memory)),
         Ok(Arrival::TooFar) => Err(Finding::TooFar),
         Ok(Arrival::Disputed(fault)) => Err(Finding::Conflict { fault, count: 0 }),
-        Ok(Arrival::Reached(state)) => Ok(Reached { job, state }),
+        Ok(Arrival::Reached(state)) => Ok(Reached { job, step, state }),
     }
 }
 
 // The places of a state are copied to the front of the buffer, if it has room for them.
-fn tell_state(job: &Job, step: u32, state: &State, places: &mut [u32]) -> Finding
-    requires reached { IsStateAfter job.now step state.now }
-    requires within { step ≤ job.now.steps }
-    ensures state { IsStateTold job.now step places.old places.new result }
+fn tell_state(reached: &Reached, places: &mut [u32]) -> Finding
+    ensures state { IsStateTold reached.now.job reached.now.step places.old places.new result }
     ensures behind { IsKeptBehind (count_written result) places.old places.new }
 {
-    job.limits_hold();
+    reached.job.limits_hold();
     laws::states_have_all_places();
-    let count = state.places().len() as u64;
-    if copy(state.places(), places) {
-        Finding::Done { step, count }
+    let count = reached.state.places().len() as u64;
+    if copy(reached.state.places(), places) {
+        Finding::Done {
+            step: reached.step,
+            count,
+        }
     } else {
         Finding::NoRoom { needed: count }
     }

@@ -71,9 +71,7 @@ fn names_of(alloc: Global, program: &Program) -> Result<Named, AllocError>
     ensures names { IfOk result (λ named. named.names.items ≡ all_names program.now) }
     ensures rows { IfOk result (λ named. named.rows.items ≡ all_rows program.now) }
 {
-    let mut names = Vec::new(alloc);
-    push_shared_names(&mut names, program.arrays())?;
-    push_private_names(&mut names, program.privates())?;
+    let names = name_bytes(alloc, program.arrays(), program.privates())?;
     let mut rows = Vec::new(alloc);
     push_shared_rows(&mut rows, program.arrays())?;
     push_own_rows(&mut rows, program)?;
@@ -82,24 +80,20 @@ fn names_of(alloc: Global, program: &Program) -> Result<Named, AllocError>
 
 // ---- names
 
-fn push_shared_names(names: &mut Vec<u8>, arrays: &[Array]) -> Result<(), AllocError>
-    ensures { OnOk result (names.new.items
-        ≡ names.old.items ++ flat_map (λ array. array.name) arrays.now) }
+// Those of arrays, and then those of private variables.
+fn name_bytes(alloc: Global, arrays: &[Array], privates: &[Private]) -> Result<Vec<u8>, AllocError>
+    ensures { IfOk result (λ names. names.items
+        ≡ flat_map (λ array. array.name) arrays.now
+        ++ flat_map (λ variable. variable.name) privates.now) }
 {
+    let mut names = Vec::new(alloc);
     for array in arrays {
         names.extend_from_slice(array.name())?;
     }
-    Ok(())
-}
-
-fn push_private_names(names: &mut Vec<u8>, privates: &[Private]) -> Result<(), AllocError>
-    ensures { OnOk result (names.new.items
-        ≡ names.old.items ++ flat_map (λ variable. variable.name) privates.now) }
-{
     for variable in privates {
         names.extend_from_slice(variable.name())?;
     }
-    Ok(())
+    Ok(names)
 }
 
 // ---- cells

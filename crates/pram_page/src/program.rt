@@ -11,7 +11,9 @@ ghost use Rattle.pram_page.specs.Programs.{bytes_told, fault_told, job_kind_code
 ghost use Rattle.pram_page.specs.Programs.{no_program_told, rows_told, sizes_told, text_kind_code};
 ghost use Rattle.pram_page.specs.Programs.{why_told};
 
-use crate::codes::{DONE, MEMORY, NO_JOB, NO_ROOM, OTHER_LANGUAGE, TEXT_MOST, TEXT_TOO_LONG};
+use crate::codes::{
+    DONE, MEMORY, NO_JOB, NO_ROOM, OTHER_LANGUAGE, Status, TEXT_MOST, TEXT_TOO_LONG, coded,
+};
 use job_text::laws::printed_is_read_back;
 use job_text::spell;
 use pardo_answers::is_program;
@@ -26,9 +28,7 @@ use std::alloc::{AllocError, Global};
 #[repr(C)]
 #[derive(Clone, Copy, Debug, PartialEq, Eq)]
 pub struct ProgramTold {
-    pub code: u32,
-    pub fault: u32,
-    pub line: u64,
+    pub status: Status,
     pub bytes: u64,
     pub rows: u64,
 }
@@ -109,12 +109,7 @@ fn compiled(alloc: Global, text: &[u8]) -> Result<Made, NoProgram>
     ensures none { IfErr result (IsNoProgram text.now) }
 {
     programs_are_lawful();
-    if text.len() > TEXT_MOST {
-        return Err(NoProgram::TextTooLong);
-    }
-    if !is_program(text) {
-        return Err(NoProgram::OtherLanguage);
-    }
+    admit(text)?;
     match compile(alloc, text) {
         Err(refusal) => Err(NoProgram::Refused(refusal)),
         Ok((program, compiled)) => match spelled(alloc, &program, compiled) {
@@ -122,6 +117,19 @@ fn compiled(alloc: Global, text: &[u8]) -> Result<Made, NoProgram>
             Err(_) => Err(NoProgram::Memory),
         },
     }
+}
+
+// Whether a text may spell a program.
+fn admit(text: &[u8]) -> Result<(), NoProgram>
+    ensures { IfErr result (IsNoProgram text.now) }
+{
+    if text.len() > TEXT_MOST {
+        return Err(NoProgram::TextTooLong);
+    }
+    if !is_program(text) {
+        return Err(NoProgram::OtherLanguage);
+    }
+    Ok(())
 }
 
 // A program's job as a text.
@@ -144,12 +152,7 @@ pub(crate) fn take_program(alloc: Global, text: &[u8]) -> Result<Program, NoProg
     ensures none { IfErr result (IsNoProgram text.now) }
 {
     programs_are_lawful();
-    if text.len() > TEXT_MOST {
-        return Err(NoProgram::TextTooLong);
-    }
-    if !is_program(text) {
-        return Err(NoProgram::OtherLanguage);
-    }
+    admit(text)?;
     match read_program(alloc, text) {
         Ok(program) => Ok(program),
         Err(fault) => Err(NoProgram::Refused(Refusal::Text(fault))),
@@ -221,9 +224,7 @@ fn sizes(code: u32, bytes: usize, rows: usize) -> ProgramTold
     ensures { result ≡ sizes_told code bytes rows }
 {
     ProgramTold {
-        code,
-        fault: 0,
-        line: 0,
+        status: coded(code),
         bytes: bytes as u64,
         rows: rows as u64,
     }
@@ -263,9 +264,7 @@ fn no_more(code: u32, fault: u32, line: u64) -> ProgramTold
     ensures { result ≡ why_told code fault line }
 {
     ProgramTold {
-        code,
-        fault,
-        line,
+        status: Status { code, fault, line },
         bytes: 0,
         rows: 0,
     }

@@ -9,6 +9,7 @@ ghost use Rattle.pram_page.specs.Requests.{cell_in, cell_part, held_part, row_in
 ghost use Rattle.pram_page.specs.Requests.{target_of};
 
 use crate::finding::Finding;
+use crate::moment::Reached;
 use crate::text::Refusal;
 use pram_step::{Sources, State, cell_read, counter, laws, make_step, request_after, sources_of};
 use pram_text::Job;
@@ -40,48 +41,39 @@ pub struct Target {
     pub value: u32,
 }
 
-/// Tells what each processor asks for in this state, which the job reaches after so many steps, and
-/// whether the next step is against the rule.
-pub(crate) fn requests(
-    alloc: Global,
-    job: &Job,
-    step: u32,
-    state: State,
-    rows: &mut [RequestRow],
-) -> Finding
-    requires reached { IsStateAfter job.now step state }
-    requires within { step ≤ job.now.steps }
-    ensures requests { AreRequestsTold job.now step rows.old rows.new result }
+/// Tells what each processor asks for in a state that the job reaches, and whether the next step is
+/// against the rule.
+pub(crate) fn requests(alloc: Global, reached: Reached, rows: &mut [RequestRow]) -> Finding
+    ensures requests { AreRequestsTold reached.job reached.step rows.old rows.new result }
     ensures behind { IsKeptAsFound rows.old rows.new result }
 {
-    if step == job.steps() {
+    if reached.step == reached.job.steps() {
         return Finding::NoStep;
     }
-    if rows.len() < job.procs() as usize {
+    let procs = reached.job.procs();
+    if rows.len() < procs as usize {
         return Finding::NoRoom {
-            needed: u64::from(job.procs()),
+            needed: u64::from(procs),
         };
     }
-    tell_requests(alloc, job, step, state, rows)
+    tell_requests(alloc, reached, rows)
 }
 
 // The requests in this state, and whether they agree.
-fn tell_requests(
-    alloc: Global,
-    job: &Job,
-    step: u32,
-    mut state: State,
-    rows: &mut [RequestRow],
-) -> Finding
-    requires reached { IsStateAfter job.now step state }
-    requires within { step < job.now.steps }
-    requires room { job.now.procs ≤ length rows.old }
-    ensures requests { AreRequestsAfter job.now step rows.new result }
-    ensures behind { IsKeptBehind job.now.procs rows.old rows.new }
+fn tell_requests(alloc: Global, reached: Reached, rows: &mut [RequestRow]) -> Finding
+    requires within { reached.step < reached.job.steps }
+    requires room { reached.job.procs ≤ length rows.old }
+    ensures requests { AreRequestsAfter reached.job reached.step rows.new result }
+    ensures behind { IsKeptBehind reached.job.procs rows.old rows.new }
 {
+    let Reached {
+        job,
+        step,
+        mut state,
+    } = reached;
     let count = u64::from(job.procs());
-    write_rows(job, &state, rows);
-    match make_step(alloc, job, &mut state, step) {
+    write_rows(&job, &state, rows);
+    match make_step(alloc, &job, &mut state, step) {
         Ok(None) => Finding::Done { step, count },
         Ok(Some(fault)) => Finding::Conflict { fault, count },
         Err(_) => Finding::Refused(Refusal::Memory),

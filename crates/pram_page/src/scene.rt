@@ -9,12 +9,12 @@ ghost use Rattle.pram_page.specs.Scenes.{bodies_told, glance_of, hindered_as, ro
 
 use crate::board::{Event, Hindrance, make, open};
 use crate::bodies::{BodyRow, write_bodies};
-use crate::codes::{BAD_EVENT, BAD_WORKERS, DONE, NO_ROOM};
+use crate::codes::{BAD_EVENT, BAD_WORKERS, NO_ROOM, Status, TOLD, coded};
 use crate::finding::{Told, tell};
 use crate::outcome::no_board;
 use crate::reads::{ReadRow, reads};
 use crate::rows::{EventRow, event_row};
-use crate::text::{Refusal, Refused, tell_refusal};
+use crate::text::{Refusal, tell_refusal};
 use crate::words::{WordRow, write_words};
 use pram_world::{Effect, World};
 use std::alloc::Global;
@@ -26,9 +26,7 @@ use walkx::seen_step;
 #[repr(C)]
 #[derive(Clone, Copy, Debug, PartialEq, Eq)]
 pub struct Scene {
-    pub code: u32,
-    pub fault: u32,
-    pub line: u64,
+    pub status: Status,
     pub root: u64,
     pub at: u64,
     pub words: u32,
@@ -88,9 +86,7 @@ pub extern "C" fn pram_page_scene(
 }
 
 const NO_SCENE: Scene = Scene {
-    code: DONE,
-    fault: 0,
-    line: 0,
+    status: TOLD,
     root: 0,
     at: 0,
     words: 0,
@@ -106,23 +102,18 @@ fn hindered(hindrance: Hindrance) -> Scene
 {
     match hindrance {
         Hindrance::BadWorkers => Scene {
-            code: BAD_WORKERS,
+            status: coded(BAD_WORKERS),
             ..NO_SCENE
         },
         Hindrance::BadEvent(at) => Scene {
-            code: BAD_EVENT,
+            status: coded(BAD_EVENT),
             at,
             ..NO_SCENE
         },
-        Hindrance::Refused(refusal) => {
-            let Refused { code, fault, line } = tell_refusal(refusal);
-            Scene {
-                code,
-                fault,
-                line,
-                ..NO_SCENE
-            }
-        }
+        Hindrance::Refused(refusal) => Scene {
+            status: tell_refusal(refusal),
+            ..NO_SCENE
+        },
     }
 }
 
@@ -172,7 +163,7 @@ fn tell_board(
     let seen = glance(world, count, small(shown)?);
     if words.len() < world.layout().length() as usize || bodies.len() < world.count() {
         return Ok(Scene {
-            code: NO_ROOM,
+            status: coded(NO_ROOM),
             ..seen
         });
     }

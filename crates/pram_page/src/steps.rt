@@ -1,14 +1,15 @@
 //! What steps do: how many processors run, and how many go to cells.
-ghost use Rattle.std.specs.Prelude.{◌≡◌, ◌≢◌, ℕ, ◌≤◌, if◌then◌else◌};
+ghost use Rattle.std.specs.Prelude.{◌≡◌, ◌≢◌, ℕ, if◌then◌else◌};
 ghost use Rattle.pram_step.specs.Runs.{IsStateAfter};
 ghost use Rattle.pram_page.specs.declared.codes.TheConstants.{MEMORY};
 ghost use Rattle.pram_page.specs.Findings.{IsKeptAsFound, IsKeptBehind, IsToldOf, told_written};
 ghost use Rattle.pram_page.specs.Steps.{AreStepsAfter, AreStepsFound, first_counter, step_row};
 
 use crate::finding::{Finding, Told, tell};
-use crate::text::{Refusal, take_job};
+use crate::moment::{Reached, go};
+use crate::text::Refusal;
 use pram_cost::{is_running, read_of, write_of};
-use pram_step::{Arrival, State, counter, go_to, laws, make_step};
+use pram_step::{State, counter, laws, make_step};
 use pram_text::Job;
 use std::alloc::Global;
 
@@ -35,7 +36,7 @@ pub extern "C" fn pram_page_steps(
     told: &mut Told,
 )
     ensures told { IsToldOf (AreStepsFound text.now from most rows.old rows.new) told.new }
-    ensures behind { told.new.code ≢ MEMORY
+    ensures behind { told.new.status.code ≢ MEMORY
         → IsKeptBehind (told_written told.new) rows.old rows.new }
 {
     *told = tell(steps(alloc, text, from, most, rows));
@@ -45,39 +46,27 @@ fn steps(alloc: Global, text: &[u8], from: u32, most: u32, rows: &mut [StepRow])
     ensures found { AreStepsFound text.now from most rows.old rows.new result }
     ensures behind { IsKeptAsFound rows.old rows.new result }
 {
-    let job = match take_job(alloc, text) {
-        Ok(job) => job,
-        Err(refusal) => return Finding::Refused(refusal),
-    };
-    if from > job.steps() {
-        return Finding::NoStep;
-    }
-    match go_to(alloc, &job, from, most) {
-        Err(_) => Finding::Refused(Refusal::Memory),
-        Ok(Arrival::TooFar) => Finding::TooFar,
-        Ok(Arrival::Disputed(fault)) => Finding::Conflict { fault, count: 0 },
-        Ok(Arrival::Reached(state)) => tell_steps(alloc, &job, from, state, rows),
+    match go(alloc, text, from, most) {
+        Ok(reached) => tell_steps(alloc, reached, rows),
+        Err(finding) => finding,
     }
 }
 
-// What the steps after this state do.
-fn tell_steps(
-    alloc: Global,
-    job: &Job,
-    from: u32,
-    mut state: State,
-    rows: &mut [StepRow],
-) -> Finding
-    requires reached { IsStateAfter job.now from state }
-    requires within { from ≤ job.now.steps }
-    ensures steps { AreStepsAfter job.now from rows.old rows.new result }
+// What the steps after a state do.
+fn tell_steps(alloc: Global, reached: Reached, rows: &mut [StepRow]) -> Finding
+    ensures steps { AreStepsAfter reached.job reached.step rows.old rows.new result }
     ensures behind { IsKeptAsFound rows.old rows.new result }
 {
+    let Reached {
+        job,
+        step: from,
+        mut state,
+    } = reached;
     job.limits_hold();
     let count = rows.len().min((job.steps() - from) as usize) as u32;
     for made in 0..count {
-        rows[made as usize] = row(job, &state);
-        match make_step(alloc, job, &mut state, from + made) {
+        rows[made as usize] = row(&job, &state);
+        match make_step(alloc, &job, &mut state, from + made) {
             Ok(None) => {}
             Ok(Some(fault)) => {
                 return Finding::Conflict {

@@ -4,7 +4,7 @@ ghost use Rattle.pram_text.specs.Text.{Spells};
 ghost use Rattle.pram_page.specs.Texts.{IsJudged, IsRefused, fault_code, judgement_of, refused_as};
 ghost use Rattle.pram_page.specs.Texts.{rule_code, sizes_of};
 
-use crate::codes::{DONE, MEMORY, NO_JOB, TEXT_MOST, TEXT_TOO_LONG};
+use crate::codes::{MEMORY, NO_JOB, Status, TEXT_MOST, TEXT_TOO_LONG, TOLD, coded};
 use pram_text::{Job, Rule, TextFault, TextKind, read_job};
 use std::alloc::Global;
 
@@ -13,9 +13,7 @@ use std::alloc::Global;
 #[repr(C)]
 #[derive(Clone, Copy, Debug, PartialEq, Eq)]
 pub struct Judgement {
-    pub code: u32,
-    pub fault: u32,
-    pub line: u64,
+    pub status: Status,
     pub rule: u32,
     pub cells: u32,
     pub procs: u32,
@@ -33,14 +31,6 @@ pub enum Refusal {
     TextTooLong,
     /// Out of memory.
     Memory,
-}
-
-/// The code of a refusal, with the kind and the line of a fault.
-#[derive(Clone, Copy, Debug, PartialEq, Eq)]
-pub struct Refused {
-    pub code: u32,
-    pub fault: u32,
-    pub line: u64,
 }
 
 /// Judges a text: tells the sizes of the job that it spells, or the first line that is wrong.
@@ -64,9 +54,7 @@ fn sizes(job: &Job) -> Judgement
     ensures { result ≡ sizes_of job.now }
 {
     Judgement {
-        code: DONE,
-        fault: 0,
-        line: 0,
+        status: TOLD,
         rule: number_of_rule(job.rule()),
         cells: job.cells(),
         procs: job.procs(),
@@ -79,11 +67,8 @@ fn sizes(job: &Job) -> Judgement
 fn refused_judgement(refusal: Refusal) -> Judgement
     ensures { result ≡ judgement_of refusal }
 {
-    let Refused { code, fault, line } = tell_refusal(refusal);
     Judgement {
-        code,
-        fault,
-        line,
+        status: tell_refusal(refusal),
         rule: 0,
         cells: 0,
         procs: 0,
@@ -103,36 +88,23 @@ pub(crate) fn take_job(alloc: Global, text: &[u8]) -> Result<Job, Refusal>
     }
     match read_job(alloc, text) {
         Ok(job) => Ok(job),
-        Err(
-            TextFault {
-                kind: TextKind::Memory,
-                ..
-            },
-        ) => Err(Refusal::Memory),
+        Err(fault) if fault.kind == TextKind::Memory => Err(Refusal::Memory),
         Err(fault) => Err(Refusal::NoJob(fault)),
     }
 }
 
 /// A refusal in numbers.
-pub(crate) fn tell_refusal(refusal: Refusal) -> Refused
+pub(crate) fn tell_refusal(refusal: Refusal) -> Status
     ensures { result ≡ refused_as refusal }
 {
     match refusal {
-        Refusal::NoJob(fault) => Refused {
+        Refusal::NoJob(fault) => Status {
             code: NO_JOB,
             fault: number_of_kind(fault.kind),
             line: fault.line,
         },
-        Refusal::TextTooLong => Refused {
-            code: TEXT_TOO_LONG,
-            fault: 0,
-            line: 0,
-        },
-        Refusal::Memory => Refused {
-            code: MEMORY,
-            fault: 0,
-            line: 0,
-        },
+        Refusal::TextTooLong => coded(TEXT_TOO_LONG),
+        Refusal::Memory => coded(MEMORY),
     }
 }
 

@@ -1,12 +1,12 @@
 //! What is told of boards.
 use crate::board::Event;
 use crate::bodies::BodyRow;
-use crate::codes::{BAD_EVENT, BAD_WORKERS, CONFLICT, DONE, NO_ROOM, UNFINISHED};
+use crate::codes::{BAD_EVENT, BAD_WORKERS, CONFLICT, DONE, NO_ROOM, TOLD, UNFINISHED, coded};
 use crate::outcome::pram_page_outcome;
 use crate::reads::ReadRow;
 use crate::rows::EventRow;
 use crate::scene::{Scene, pram_page_scene};
-use crate::tests::{DISPUTED, NOTHING};
+use crate::tests::{DISPUTED, NO_STATUS, NOTHING};
 use crate::words::WordRow;
 use std::test::Fail;
 
@@ -45,9 +45,7 @@ const NO_WORD: WordRow = WordRow {
 };
 
 const NO_SCENE: Scene = Scene {
-    code: 99,
-    fault: 0,
-    line: 0,
+    status: NO_STATUS,
     root: 0,
     at: 0,
     words: 0,
@@ -84,7 +82,7 @@ fn a_scene_is_told(rt: HostRuntime) -> Result<(), Fail> {
         &mut read,
     );
     assert_eq!(rt;
-        (told.code, told.rows, told.leaves, told.finished),
+        (told.status.code, told.rows, told.leaves, told.finished),
         (DONE, 2, 1, 1)
     );
     assert_eq!(rt; (told.root, told.words, told.bodies), (4, 18, 1));
@@ -160,7 +158,7 @@ fn a_loss_a_twin_and_a_return_are_told(rt: HostRuntime) -> Result<(), Fail> {
         &mut [],
         &mut read,
     );
-    assert_eq!(rt; (told.code, told.rows, told.bodies), (DONE, 4, 2));
+    assert_eq!(rt; (told.status.code, told.rows, told.bodies), (DONE, 4, 2));
     // The body that is lost makes no step.
     assert_eq!(rt; rows[0], no_step(1, 0, NO_BODY));
     assert_eq!(rt; rows[1], no_step(0, 0, NO_BODY));
@@ -219,7 +217,7 @@ fn bad_sizes_have_codes_of_their_own(rt: HostRuntime) -> Result<(), Fail> {
         assert_eq!(rt;
             told,
             Scene {
-                code: BAD_WORKERS,
+                status: coded(BAD_WORKERS),
                 ..no_scene()
             }
         );
@@ -246,7 +244,7 @@ fn bad_sizes_have_codes_of_their_own(rt: HostRuntime) -> Result<(), Fail> {
         assert_eq!(rt;
             told,
             Scene {
-                code: BAD_EVENT,
+                status: coded(BAD_EVENT),
                 at: 1,
                 ..no_scene()
             }
@@ -270,10 +268,10 @@ fn bad_sizes_have_codes_of_their_own(rt: HostRuntime) -> Result<(), Fail> {
         &mut read,
     );
     assert_eq!(rt;
-        (told.code, told.words, told.bodies, told.rows),
+        (told.status.code, told.words, told.bodies, told.rows),
         (NO_ROOM, 18, 1, 0)
     );
-    assert_eq!(rt; (read.code, read.count), (NO_ROOM, 1));
+    assert_eq!(rt; (read.status.code, read.count), (NO_ROOM, 1));
     assert_eq!(rt;
         (rows, words, bodies),
         ([NO_EVENT; 1], [NO_WORD; 17], [NO_BODY; 1])
@@ -283,7 +281,7 @@ fn bad_sizes_have_codes_of_their_own(rt: HostRuntime) -> Result<(), Fail> {
 
 fn no_scene() -> Scene {
     Scene {
-        code: DONE,
+        status: TOLD,
         ..NO_SCENE
     }
 }
@@ -306,7 +304,10 @@ fn reads_are_told(rt: HostRuntime) -> Result<(), Fail> {
         &mut cells,
         &mut read,
     );
-    assert_eq!(rt; (told.code, read.code, read.count), (NO_ROOM, DONE, 1));
+    assert_eq!(rt;
+        (told.status.code, read.status.code, read.count),
+        (NO_ROOM, DONE, 1)
+    );
     let first = ReadRow { step: 1, value: 4 };
     assert_eq!(rt; cells, [first, ReadRow { step: 0, value: 0 }]);
     pram_page_scene(
@@ -322,8 +323,8 @@ fn reads_are_told(rt: HostRuntime) -> Result<(), Fail> {
         &mut cells,
         &mut read,
     );
-    assert_eq!(rt; (told.code, told.at), (BAD_EVENT, 1));
-    assert_eq!(rt; (read.code, read.count), (BAD_EVENT, 1));
+    assert_eq!(rt; (told.status.code, told.at), (BAD_EVENT, 1));
+    assert_eq!(rt; (read.status.code, read.count), (BAD_EVENT, 1));
     Ok(())
 }
 
@@ -339,7 +340,7 @@ fn a_conflict_of_a_board_is_told(rt: HostRuntime) -> Result<(), Fail> {
         &mut cells,
         &mut told,
     );
-    assert_eq!(rt; (told.code, told.step, told.cell), (CONFLICT, 5, 4));
+    assert_eq!(rt; (told.status.code, told.step, told.cell), (CONFLICT, 5, 4));
     assert_eq!(rt; (told.first, told.second, told.count), (1, 3, 0));
     assert_eq!(rt; cells, [8; 5]);
     Ok(())
@@ -357,7 +358,7 @@ fn an_outcome_is_told(rt: HostRuntime) -> Result<(), Fail> {
         &mut cells,
         &mut told,
     );
-    assert_eq!(rt; (told.code, told.step), (UNFINISHED, 1));
+    assert_eq!(rt; (told.status.code, told.step), (UNFINISHED, 1));
     pram_page_outcome(
         rt.alloc(),
         COUNTER.as_bytes(),
@@ -366,7 +367,7 @@ fn an_outcome_is_told(rt: HostRuntime) -> Result<(), Fail> {
         &mut cells,
         &mut told,
     );
-    assert_eq!(rt; (told.code, told.step, told.count), (DONE, 2, 1));
+    assert_eq!(rt; (told.status.code, told.step, told.count), (DONE, 2, 1));
     assert_eq!(rt; cells, [7]);
     pram_page_outcome(
         rt.alloc(),
@@ -376,7 +377,7 @@ fn an_outcome_is_told(rt: HostRuntime) -> Result<(), Fail> {
         &mut cells,
         &mut told,
     );
-    assert_eq!(rt; told.code, BAD_WORKERS);
+    assert_eq!(rt; told.status.code, BAD_WORKERS);
     let unknown = [GO, Event { kind: 4, body: 0 }];
     pram_page_outcome(
         rt.alloc(),
@@ -386,6 +387,6 @@ fn an_outcome_is_told(rt: HostRuntime) -> Result<(), Fail> {
         &mut cells,
         &mut told,
     );
-    assert_eq!(rt; (told.code, told.count), (BAD_EVENT, 1));
+    assert_eq!(rt; (told.status.code, told.count), (BAD_EVENT, 1));
     Ok(())
 }

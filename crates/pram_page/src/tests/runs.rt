@@ -1,10 +1,10 @@
 //! What is told of a whole run.
-use crate::codes::{CONFLICT, DONE, NO_JOB, NO_ROOM, NO_STEP, TOO_FAR};
+use crate::codes::{CONFLICT, DONE, NO_ROOM, NO_STEP, TOLD, TOO_FAR};
 use crate::cost::{CostTold, MeetingRow, pram_page_cost};
 use crate::fates::{EndRow, FatesTold, LostRow, pram_page_fates};
 use crate::last::{LastRow, pram_page_last};
 use crate::steps::{StepRow, pram_page_steps};
-use crate::tests::{DISPUTED, NOTHING, SWAP};
+use crate::tests::{DISPUTED, NO_STATUS, NOTHING, SWAP, fault_at};
 use std::test::Fail;
 
 // Processor 1 names a cell that there is not in step 3, the last one.
@@ -26,9 +26,7 @@ const NONE_LOST: LostRow = LostRow {
 };
 
 const NO_FATES: FatesTold = FatesTold {
-    code: 99,
-    fault: 0,
-    line: 0,
+    status: NO_STATUS,
     end: NO_END,
     lost: NONE_LOST,
 };
@@ -48,7 +46,7 @@ fn fates_are_told(rt: HostRuntime) -> Result<(), Fail> {
         step: 3,
         processor: 1,
     };
-    assert_eq!(rt; (told.code, told.end, told.lost), (DONE, runs, lost));
+    assert_eq!(rt; (told.status.code, told.end, told.lost), (DONE, runs, lost));
     pram_page_fates(rt.alloc(), SWAP.as_bytes(), &mut told);
     let stopped = EndRow {
         kind: 2,
@@ -56,13 +54,16 @@ fn fates_are_told(rt: HostRuntime) -> Result<(), Fail> {
         ..NO_END
     };
     assert_eq!(rt;
-        (told.code, told.end, told.lost),
+        (told.status.code, told.end, told.lost),
         (DONE, stopped, NONE_LOST)
     );
     pram_page_fates(rt.alloc(), DISPUTED.as_bytes(), &mut told);
-    assert_eq!(rt; (told.code, told.end, told.lost), (DONE, NO_END, NONE_LOST));
+    assert_eq!(rt;
+        (told.status.code, told.end, told.lost),
+        (DONE, NO_END, NONE_LOST)
+    );
     pram_page_fates(rt.alloc(), b"pram 1\ncells 0\n", &mut told);
-    assert_eq!(rt; (told.code, told.fault, told.line), (NO_JOB, 4, 2));
+    assert_eq!(rt; told.status, fault_at(4, 2));
     Ok(())
 }
 
@@ -74,9 +75,7 @@ const NO_MEETING: MeetingRow = MeetingRow {
 };
 
 const NO_COST: CostTold = CostTold {
-    code: 99,
-    fault: 0,
-    line: 0,
+    status: NO_STATUS,
     executed: 0,
     steps: 0,
     procs: 0,
@@ -94,7 +93,7 @@ fn a_cost_is_told(rt: HostRuntime) -> Result<(), Fail> {
     let mut told = NO_COST;
     pram_page_cost(rt.alloc(), SWAP.as_bytes(), &mut told);
     let cheap = CostTold {
-        code: DONE,
+        status: TOLD,
         executed: 10,
         steps: 5,
         procs: 2,
@@ -113,7 +112,7 @@ fn a_cost_is_told(rt: HostRuntime) -> Result<(), Fail> {
         second: 3,
     };
     let disputed = CostTold {
-        code: DONE,
+        status: TOLD,
         executed: 18,
         steps: 5,
         procs: 4,
@@ -127,7 +126,7 @@ fn a_cost_is_told(rt: HostRuntime) -> Result<(), Fail> {
     };
     assert_eq!(rt; told, disputed);
     pram_page_cost(rt.alloc(), b"pram 1\ncells 0\n", &mut told);
-    assert_eq!(rt; (told.code, told.fault, told.line), (NO_JOB, 4, 2));
+    assert_eq!(rt; told.status, fault_at(4, 2));
     Ok(())
 }
 
@@ -143,7 +142,7 @@ fn steps_are_told(rt: HostRuntime) -> Result<(), Fail> {
     let mut rows = [IDLE; 3];
     let mut told = NOTHING;
     pram_page_steps(rt.alloc(), SWAP.as_bytes(), 3, 100, &mut rows, &mut told);
-    assert_eq!(rt; (told.code, told.step, told.count), (DONE, 5, 2));
+    assert_eq!(rt; (told.status.code, told.step, told.count), (DONE, 5, 2));
     let load = StepRow {
         running: 2,
         reading: 2,
@@ -159,7 +158,7 @@ fn steps_are_told(rt: HostRuntime) -> Result<(), Fail> {
     assert_eq!(rt; rows, [load, store, IDLE]);
     let mut one = [IDLE];
     pram_page_steps(rt.alloc(), SWAP.as_bytes(), 3, 100, &mut one, &mut told);
-    assert_eq!(rt; (told.code, told.step, told.count), (DONE, 4, 1));
+    assert_eq!(rt; (told.status.code, told.step, told.count), (DONE, 4, 1));
     pram_page_steps(
         rt.alloc(),
         DISPUTED.as_bytes(),
@@ -168,7 +167,7 @@ fn steps_are_told(rt: HostRuntime) -> Result<(), Fail> {
         &mut rows,
         &mut told,
     );
-    assert_eq!(rt; (told.code, told.step, told.count), (CONFLICT, 5, 1));
+    assert_eq!(rt; (told.status.code, told.step, told.count), (CONFLICT, 5, 1));
     assert_eq!(rt; rows[0], store);
     pram_page_steps(
         rt.alloc(),
@@ -178,11 +177,11 @@ fn steps_are_told(rt: HostRuntime) -> Result<(), Fail> {
         &mut rows,
         &mut told,
     );
-    assert_eq!(rt; (told.code, told.step, told.count), (CONFLICT, 5, 0));
+    assert_eq!(rt; (told.status.code, told.step, told.count), (CONFLICT, 5, 0));
     pram_page_steps(rt.alloc(), SWAP.as_bytes(), 6, 100, &mut rows, &mut told);
-    assert_eq!(rt; told.code, NO_STEP);
+    assert_eq!(rt; told.status.code, NO_STEP);
     pram_page_steps(rt.alloc(), SWAP.as_bytes(), 3, 2, &mut rows, &mut told);
-    assert_eq!(rt; told.code, TOO_FAR);
+    assert_eq!(rt; told.status.code, TOO_FAR);
     Ok(())
 }
 
@@ -200,22 +199,22 @@ fn what_was_executed_last_is_told(rt: HostRuntime) -> Result<(), Fail> {
         &mut rows,
         &mut told,
     );
-    assert_eq!(rt; (told.code, told.step, told.count), (CONFLICT, 5, 4));
+    assert_eq!(rt; (told.status.code, told.step, told.count), (CONFLICT, 5, 4));
     let halts = LastRow { step: 4, index: 5 };
     let stores = LastRow { step: 5, index: 4 };
     assert_eq!(rt; rows, [halts, stores, halts, stores, NEVER]);
     pram_page_last(rt.alloc(), SWAP.as_bytes(), 3, 100, &mut rows, &mut told);
-    assert_eq!(rt; (told.code, told.step, told.count), (DONE, 3, 2));
+    assert_eq!(rt; (told.status.code, told.step, told.count), (DONE, 3, 2));
     let subtracts = LastRow { step: 3, index: 2 };
     assert_eq!(rt; rows, [subtracts, subtracts, halts, stores, NEVER]);
     pram_page_last(rt.alloc(), SWAP.as_bytes(), 0, 100, &mut rows, &mut told);
-    assert_eq!(rt; (told.code, rows[0], rows[1]), (DONE, NEVER, NEVER));
+    assert_eq!(rt; (told.status.code, rows[0], rows[1]), (DONE, NEVER, NEVER));
     pram_page_last(rt.alloc(), SWAP.as_bytes(), 6, 100, &mut rows, &mut told);
-    assert_eq!(rt; told.code, NO_STEP);
+    assert_eq!(rt; told.status.code, NO_STEP);
     let mut few = [NEVER; 3];
     pram_page_last(rt.alloc(), DISPUTED.as_bytes(), 4, 0, &mut few, &mut told);
-    assert_eq!(rt; (told.code, told.count), (NO_ROOM, 4));
+    assert_eq!(rt; (told.status.code, told.count), (NO_ROOM, 4));
     pram_page_last(rt.alloc(), DISPUTED.as_bytes(), 4, 3, &mut rows, &mut told);
-    assert_eq!(rt; told.code, TOO_FAR);
+    assert_eq!(rt; told.status.code, TOO_FAR);
     Ok(())
 }

@@ -11,16 +11,17 @@ use Rattle.pram_page.proofs.steps.tell_steps.Goals as goal
 
 pub loop-made-init : goal.loop-made-init
 loop-made-init c = record {
-  after = subst (λ (n : ℕ). IsStateAfter c.args.job.now n c.args.state)
-      (let e : c.args.from ≡ c.args.from + 0 = omega arith in e) c.requires.reached;
+  after = subst (λ (n : ℕ). IsStateAfter c.args.reached.job n c.args.reached.state)
+      (let e : c.args.reached.step ≡ c.args.reached.step + 0 = omega arith in e)
+      c.args.reached.after;
   steps = λ k lt. absurd (omega arith);
   behind = refl;
 }
 
 pub returns-in-Ok-Some-clause-steps : goal.returns-in-Ok-Some-clause-steps
 returns-in-Ok-Some-clause-steps c =
-    let job = c.args.job.now in
-    let from = c.args.from in
+    let job = c.args.reached.job in
+    let from = c.args.reached.step in
     let old = c.loop-made.invariant in
     let row : ℕ → StepRow = λ k. step_row job (state_after job (from + k)) in
     let found = rw c.in-Ok-Some.field-0-is at c.in-Ok-Some.ensures in
@@ -38,8 +39,8 @@ returns-in-Ok-Some-clause-steps c =
 
 pub loop-made-preserved : goal.loop-made-preserved
 loop-made-preserved c =
-    let job = c.args.job.now in
-    let from = c.args.from in
+    let job = c.args.reached.job in
+    let from = c.args.reached.step in
     let old = c.loop-made.invariant in
     let few = c.min-count.ensures in
     let row : ℕ → StepRow = λ k. step_row job (state_after job (from + k)) in
@@ -57,8 +58,8 @@ loop-made-preserved c =
 
 pub returns-clause-steps : goal.returns-clause-steps
 returns-clause-steps c =
-    let job = c.args.job.now in
-    let from = c.args.from in
+    let job = c.args.reached.job in
+    let from = c.args.reached.step in
     let old = c.loop-made.invariant in
     let few = c.min-count.ensures in
     let told = c.from-2.ensures in
