@@ -17,6 +17,10 @@ export const CODE = {
   OTHER_LANGUAGE: 11,
 };
 
+// Of a request: whether its processor runs, and where it writes to.
+export const STATUS = { RUNS: 0, HALTED: 1, OUT_OF_RANGE: 2 };
+export const TARGET = { NOTHING: 0, CELL: 1, REGISTER: 2 };
+
 // Structs: name and width of each field in bytes, in order.
 const JUDGEMENT = {
   code: 4, fault: 4, line: 8, rule: 4, cells: 4, procs: 4, steps: 4, instructions: 4, places: 4,
