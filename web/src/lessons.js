@@ -97,13 +97,14 @@ class Lessons {
     else this.visit(lesson.address);
   }
 
-  // An exercise that was begun goes on. One that is only looked at is no program of one's own yet.
+  // An exercise that was begun goes on; what someone sent stays. One that is only looked at is no
+  // program of one's own yet.
   write(exercise, isAnew) {
     const { app } = this;
-    const begun = isAnew ? undefined : app.drafts.list.find(({ text }) => isOf(exercise, text));
-    const text = begun?.text ?? startOf(exercise);
     if (app.view !== 'lockstep') app.turnTo('lockstep');
-    app.choose(text, begun?.number, this.name);
+    if (!isAnew && app.work.name === undefined && isOf(exercise, app.text)) return;
+    const begun = isAnew ? undefined : app.drafts.list.find(({ text }) => isOf(exercise, text));
+    app.choose(begun?.text ?? startOf(exercise), begun?.number, this.name);
   }
 
   async visit(address) {
@@ -121,7 +122,7 @@ class Lessons {
     if (this.kind === 'exercise') {
       this.say({ isRight: false, said: 'It is being judged.' });
       this.say(await judgeExercise((...call) => this.ask(...call), lesson, app.text));
-    } else if (app.isCompiling) {
+    } else if (app.isWaiting) {
       this.later = setTimeout(() => this.judge(), PAUSE);
     } else if (app.job) {
       this.say(judgePuzzle(lesson, app.views.workers.board, this.outcome()));

@@ -1,4 +1,6 @@
 // What a lecture needs: ends, costs, the plot of the steps, exercises, puzzles and the tour.
+import { writeAddress } from '../src/address.js';
+import { Schedule } from '../src/schedule.js';
 import { count, focused, has, is, isShown, open, page, picture, text, valueOf, write }
   from './drive.js';
 import { NO_SCHEDULES, SCHEDULES, SOLUTIONS, WRONG } from './solutions.js';
@@ -101,6 +103,27 @@ export async function testWrongSolutions() {
   await begin(2);
   await write('pram 1\n');
   await judged('no program', 'Not yet: the line “pardo 1” is missing.');
+}
+
+// An exercise that someone sent is judged as it stands, beside one's own.
+export async function testSentExercises() {
+  await open();
+  await page.evaluate('localStorage.clear()');
+  await open();
+  await begin(1);
+  const [start, sent] = [await valueOf('#text'), await withLines(SOLUTIONS[0])];
+  await write(await withLines('A[i] := 7'));
+  const shown = { text: sent, view: 'workers', step: 0, schedule: new Schedule(2) };
+  await open(`#${await writeAddress(shown, [])}`);
+  await begin(1);
+  is('it stays', await valueOf('#text'), sent);
+  await judged('and is judged', 'Right on all ');
+  await page.click('#lesson-anew');
+  is('until it is begun anew', await valueOf('#text'), start);
+  await begin(2);
+  await begin(1);
+  is('one’s own is there', (await valueOf('#text')).endsWith('code\nA[i] := 7\n'), true);
+  await page.evaluate('localStorage.clear()');
 }
 
 const OLD = `; Exercise 2: double\n${LEAVING}`;
