@@ -5,29 +5,30 @@ import { CODE } from './core.js';
 import { WIDTH, findEffect, isStep } from './effects.js';
 import { isGoing } from './worker_cards.js';
 
+// So many acts are told by one call; of new ones early in a schedule fewer, since what comes before
+// them takes no time there.
 const MOST_STEPS = 60000;
+const FIRST_STEPS = 20000;
 const isSame = (some, others) => some.every((part, k) => part === others[k]);
 const NO_STEP = { count: 0, isFound: false };
 
-function joined(events, bodies) {
-  const pairs = new Uint32Array(events.length + 2 * bodies.length);
+// The events, and after them a step of each of so many bodies, which take turns.
+function joined(events, bodies, count) {
+  const pairs = new Uint32Array(events.length + 2 * count);
   pairs.set(events);
-  bodies.forEach((body, k) => { pairs[events.length + 2 * k + 1] = body; });
+  for (let k = 0; k < count; k += 1) pairs[events.length + 2 * k + 1] = bodies[k % bodies.length];
   return pairs;
 }
 
-// The bodies that made a step, of which the effects are these, and those effects alone.
-function madeOf(bodies, effects) {
-  const made = bodies.filter((_, k) => isStep(effects, k));
-  if (made.length === bodies.length) return { made, told: effects };
-  const told = new Uint32Array(made.length * WIDTH);
-  let to = 0;
-  bodies.forEach((_, k) => {
-    if (!isStep(effects, k)) return;
-    told.set(effects.subarray(k * WIDTH, (k + 1) * WIDTH), to);
-    to += WIDTH;
-  });
-  return { made, told };
+// Of the first turns those in which a step was made, as acts, with the effects of those alone.
+function madeOf(bodies, count, effects) {
+  const acts = [];
+  for (let k = 0; k < count; k += 1) {
+    if (!isStep(effects, k)) continue;
+    const to = acts.push(actOf(ACT.GO, bodies[k % bodies.length])) - 1;
+    if (to < k) effects.copyWithin(to * WIDTH, k * WIDTH, (k + 1) * WIDTH);
+  }
+  return { acts, told: effects.subarray(0, acts.length * WIDTH) };
 }
 
 // The effects of acts, with zeros for those that are no events.
@@ -121,28 +122,27 @@ export class Board {
       (isGoing(row) && !sleepers.has(body) ? [body] : []));
   }
 
-  // A step of each of these, without those that the core says were none; up to the first one that
-  // is wanted, if `isWanted` is given. Tells how many were made, and whether the wanted one was.
-  step(bodies, mark, isWanted) {
+  // So many steps of these, who take turns, without those that the core says were none; up to the
+  // first one that is wanted, if `isWanted` is given. Tells how many were made, and whether the
+  // wanted one was.
+  step(bodies, { most = bodies.length, mark, isWanted } = {}) {
     const { schedule, events } = this;
-    const scene = this.ask(joined(events, bodies), events.length / 2);
+    const scene = this.ask(joined(events, bodies, most), events.length / 2);
     if (scene.code !== CODE.DONE) return NO_STEP;
-    const found = isWanted ? findEffect(scene.effects, 0, bodies.length, isWanted) : -1;
-    const count = found < 0 ? bodies.length : found + 1;
-    const effects = scene.effects.subarray(0, count * WIDTH);
-    const { made, told } = madeOf(bodies.slice(0, count), effects);
-    schedule.add(made.map((body) => actOf(ACT.GO, body)), { mark, told });
-    if (count === bodies.length) this.keep(scene);
-    return { count: made.length, isFound: found >= 0 };
+    const { effects } = scene;
+    const found = isWanted ? findEffect(effects, 0, most, isWanted) : -1;
+    const count = found < 0 ? most : found + 1;
+    const { acts, told } = madeOf(bodies, count, effects);
+    schedule.add(acts, { mark, told });
+    if (count === most) this.keep(scene);
+    return { count: acts.length, isFound: found >= 0 };
   }
 
   // So many rounds of these bodies, as many as one call makes.
   goRounds(count, mark, bodies = this.going(), isWanted = undefined) {
-    const room = MOST_ACTS - this.schedule.at;
-    const most = Math.min(bodies.length * count, room, MOST_STEPS);
-    if (most === 0) return NO_STEP;
-    const turns = Array.from({ length: most }, (_, k) => bodies[k % bodies.length]);
-    return this.step(turns, mark, isWanted);
+    const { at } = this.schedule;
+    const most = Math.min(bodies.length * count, MOST_ACTS - at, MOST_STEPS, FIRST_STEPS + at);
+    return most === 0 ? NO_STEP : this.step(bodies, { most, mark, isWanted });
   }
 
   // Those that are going, from the one after the body that made the last step.

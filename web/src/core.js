@@ -17,6 +17,10 @@ export const CODE = {
   OTHER_LANGUAGE: 11,
 };
 
+// Of a request: whether its processor runs, and where it writes to.
+export const STATUS = { RUNS: 0, HALTED: 1, OUT_OF_RANGE: 2 };
+export const TARGET = { NOTHING: 0, CELL: 1, REGISTER: 2 };
+
 // Structs: name and width of each field in bytes, in order.
 const JUDGEMENT = {
   code: 4, fault: 4, line: 8, rule: 4, cells: 4, procs: 4, steps: 4, instructions: 4, places: 4,
@@ -62,6 +66,7 @@ const wordsOf = (struct) => sizeOf(struct) / 4;
 const EVENT_SIZE = 8;
 const MODELS = 3;
 const WORD_WORDS = wordsOf(WORD);
+const REQUEST_WORDS = wordsOf(REQUEST);
 const ROW_WORDS = wordsOf(EFFECT) + wordsOf(BODY);
 const TWIN = 3;
 const STEP_AT = 3;
@@ -184,7 +189,14 @@ function tellList(desk, element, most, call, read) {
 }
 
 const readNumbers = (memory, at, count) => memory.slice(at, at + count);
-const readRequests = (memory, at, count) => readStructs(memory, at, REQUEST, count);
+// There are many of these: written out they are read in a third of the time.
+const readRequests = (memory, rows, count) => Array.from({ length: count }, (_, k) => {
+  const at = rows + k * REQUEST_WORDS;
+  return {
+    counter: memory[at], status: memory[at + 1], reads: memory[at + 2], held: memory[at + 3],
+    target: memory[at + 4], number: memory[at + 5], value: memory[at + 6], next: memory[at + 7],
+  };
+});
 const readSteps = (memory, at, count) => readStructs(memory, at, STEP, count);
 const readLast = (memory, at, count) => readStructs(memory, at, LAST, count);
 

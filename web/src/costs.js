@@ -4,7 +4,7 @@ import { grouped } from './numbers.js';
 import { nameOfPlace } from './places.js';
 
 export const MODELS = ['EREW', 'CREW', 'CRCW common', 'CRCW priority'];
-const MEETS = ['read', 'write', 'write different values to'];
+export const MEETS = ['read', 'write', 'write different values to'];
 
 const NUMBERS = [
   ['steps', ({ steps }) => steps],

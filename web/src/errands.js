@@ -1,6 +1,12 @@
 // Long errands: pieces of work one after the other, which give the page back between them, so that
 // a click is answered while they go on. One at a time.
-const PATIENCE = 40;
+const PATIENCE = 16;
+
+// A page that is in sight is painted first.
+function afterPaint(work) {
+  if (document.hidden) setTimeout(work);
+  else requestAnimationFrame(() => setTimeout(work));
+}
 
 export class Errands {
   constructor() {
@@ -12,6 +18,7 @@ export class Errands {
   start({ piece, onPause, onEnd }) {
     this.stop();
     const number = this.count;
+    let wait = afterPaint;
     const go = () => {
       const end = performance.now() + PATIENCE;
       let isMore = true;
@@ -21,18 +28,18 @@ export class Errands {
         return;
       }
       onPause();
-      this.timer = setTimeout(async () => {
+      wait(async () => {
         const goesOn = await isMore;
         if (number !== this.count) return;
         if (goesOn) go();
         else onEnd();
       });
+      wait = setTimeout;
     };
     go();
   }
 
   stop() {
     this.count += 1;
-    clearTimeout(this.timer);
   }
 }

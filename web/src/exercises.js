@@ -1,122 +1,159 @@
-// Exercises: each asks for code that does a task on inputs that it does not see, within so many
-// steps, under a model.
-const PLACES = 16;
+// Exercises: each asks for lines of code that do a task for n processors on inputs that one does
+// not see, within so many steps of the machine, under a model.
 const [EREW, CREW, COMMON] = [0, 1, 2];
 const GREATEST = 2 ** 32 - 1;
-const INDICES = Array.from({ length: PLACES }, (_, i) => i);
 
-const A_AND_B = [['A', 0], ['B', PLACES]];
-const total = (values) => values.reduce((sum, value) => (sum + value) % 2 ** 32, 0);
-
-// What cells are to hold: those from this one on, one value after the other.
-const wanted = (first, values) => values.map((value, k) => [first + k, value]);
+const indices = (n) => Array.from({ length: n }, (_, i) => i);
+const sumOf = (values) => values.reduce((sum, value) => (sum + value) % 2 ** 32, 0);
 
 // Numbers that look like thrown ones, the same ones each time.
-function thrown(seed, most) {
+function thrown(n, seed, most) {
   let state = seed;
-  return INDICES.map(() => {
+  return indices(n).map(() => {
     state = (state * 1103515245 + 12345) % 2 ** 31;
     return (state >> 8) % (most + 1);
   });
 }
 
-const VALUES = [thrown(1, 99), thrown(2, 99), INDICES.map(() => 0),
-  INDICES.map((i) => (i === 11 ? GREATEST : i)), thrown(3, 9)];
+const ELEVEN = indices(16).map((i) => (i === 11 ? GREATEST : i));
+
+// The number of processors is that of the values.
+const VALUES = [thrown(16, 1, 99), thrown(16, 2, 99), indices(16).map(() => 0), ELEVEN,
+  thrown(16, 3, 9), thrown(64, 7, 99)];
 
 // A list in a random order: of each element the next one, of the last one itself.
-function listOf(seed) {
-  const weights = thrown(seed, 2 ** 20);
-  const order = [...INDICES].sort((i, j) => weights[i] - weights[j]);
+function listOf(n, seed) {
+  const weights = thrown(n, seed, 2 ** 20);
+  const order = indices(n).sort((i, j) => weights[i] - weights[j]);
   const next = [];
   order.forEach((element, k) => { next[element] = order[k + 1] ?? element; });
   return next;
 }
 
+const LISTS = [indices(16).map((i) => Math.min(i + 1, 15)), listOf(16, 4), listOf(16, 5),
+  listOf(16, 6), listOf(64, 8)];
+
 function ranksOf(next) {
-  return INDICES.map((element) => {
+  return next.map((_, element) => {
     let [at, rank] = [element, 0];
     while (next[at] !== at) [at, rank] = [next[at], rank + 1];
     return rank;
   });
 }
 
-// `inputs` stand in the cells from `from` on, and the rest holds 0; `want` tells what is wanted.
+const ALONE = (name) => ['if i = 0', `   ${name} := A[0]`, 'end'];
+
+const intoOf = ({ shared }) => shared.at(-1).split('[', 1)[0];
+
+// Of `shared` the first array has the input, and the last one is to hold what `want` tells. `most`
+// is the bar on steps, by the logarithm of n, and `begin` are the lines that one begins with.
 export const EXERCISES = [
   {
     title: 'own numbers',
     task: 'A[i] becomes i.',
-    steps: 2, model: EREW, arrays: A_AND_B, from: 0, inputs: VALUES,
-    want: () => wanted(0, INDICES),
+    most: () => 6, model: EREW, shared: ['A[n]'], inputs: VALUES, begin: ['A[i] := A[i]'],
+    want: (a) => indices(a.length),
   },
   {
     title: 'double',
-    task: 'B[i] becomes twice A[i].',
-    steps: 4, model: EREW, arrays: A_AND_B, from: 0, inputs: VALUES,
-    want: (a) => wanted(PLACES, a.map((value) => (2 * value) % 2 ** 32)),
+    task: 'B[i] becomes twice A[i], modulo 2^32.',
+    most: () => 10, model: EREW, shared: ['A[n]', 'B[n]'], inputs: VALUES,
+    begin: ['B[i] := A[i]'],
+    want: (a) => a.map((value) => (2 * value) % 2 ** 32),
   },
   {
     title: 'reverse',
-    task: 'B becomes A in reverse: B[0] is A[15].',
-    steps: 6, model: EREW, arrays: A_AND_B, from: 0, inputs: VALUES,
-    want: (a) => wanted(PLACES, [...a].reverse()),
+    task: 'B becomes A in reverse: B[0] is A[n - 1].',
+    most: () => 10, model: EREW, shared: ['A[n]', 'B[n]'], inputs: VALUES,
+    begin: ['B[i] := A[i]'],
+    want: (a) => [...a].reverse(),
   },
   {
     title: 'neighbours',
-    task: 'B[i] becomes A[i] + A[i + 1], and B[15] becomes A[15] + A[0].',
-    steps: 8, model: EREW, arrays: A_AND_B, from: 0, inputs: VALUES,
-    want: (a) => wanted(PLACES, INDICES.map((i) => total([a[i], a[(i + 1) % PLACES]]))),
+    task: 'B[i] becomes A[i] + A[i + 1], and B[n - 1] becomes A[n - 1] + A[0].',
+    most: () => 24, model: EREW, shared: ['A[n]', 'B[n]'], inputs: VALUES,
+    begin: ['B[i] := A[i]'],
+    want: (a) => a.map((value, i) => sumOf([value, a[(i + 1) % a.length]])),
   },
   {
     title: 'broadcast',
     task: 'Each A[i] becomes A[0]. No two may read it in one step: copies make copies.',
-    steps: 40, model: EREW, arrays: A_AND_B, from: 0, inputs: VALUES,
-    want: (a) => wanted(0, INDICES.map(() => a[0])),
+    most: (rounds) => 30 * rounds, model: EREW, shared: ['A[n]'], inputs: VALUES,
+    begin: ['A[i] := A[i]'],
+    want: (a) => a.map(() => a[0]),
   },
   {
     title: 'is a seven among them',
-    task: 'B[0] becomes 1 if some A[i] is 7, and else stays 0.',
-    steps: 6, model: COMMON, arrays: A_AND_B, from: 0, inputs: VALUES,
-    want: (a) => wanted(PLACES, [a.includes(7) ? 1 : 0]),
+    task: 'found becomes 1 if some A[i] is 7, and else stays 0.',
+    most: () => 20, model: COMMON, shared: ['A[n]', 'found'], inputs: VALUES,
+    begin: ['found := 0'],
+    want: (a) => [a.includes(7) ? 1 : 0],
   },
   {
     title: 'sum',
-    task: 'B[0] becomes the sum of all A[i], modulo 2^32. A may change.',
-    steps: 50, model: EREW, arrays: A_AND_B, from: 0, inputs: VALUES,
-    want: (a) => wanted(PLACES, [total(a)]),
+    task: 'total becomes the sum of all A[i], modulo 2^32. A may change.',
+    most: (rounds) => 30 * rounds, model: EREW, shared: ['A[n]', 'total'], inputs: VALUES,
+    begin: ALONE('total'),
+    want: (a) => [sumOf(a)],
   },
   {
     title: 'maximum',
-    task: 'B[0] becomes the greatest of all A[i]. A may change.',
-    steps: 64, model: EREW, arrays: A_AND_B, from: 0, inputs: VALUES,
-    want: (a) => wanted(PLACES, [Math.max(...a)]),
+    task: 'greatest becomes the greatest of all A[i]. A may change.',
+    most: (rounds) => 35 * rounds, model: EREW, shared: ['A[n]', 'greatest'], inputs: VALUES,
+    begin: ALONE('greatest'),
+    want: (a) => [Math.max(...a)],
   },
   {
     title: 'prefix sums',
-    task: 'A[i] becomes A[0] + .. + A[i], modulo 2^32. Before A lies Z, which holds 0.',
-    steps: 40, model: EREW, arrays: [['Z', 0], ['A', PLACES]], from: PLACES, inputs: VALUES,
-    want: (a) => wanted(PLACES, a.map((_, i) => total(a.slice(0, i + 1)))),
+    task: 'A[i] becomes A[0] + .. + A[i], modulo 2^32.',
+    most: (rounds) => 30 * rounds, model: EREW, shared: ['A[n]'], inputs: VALUES,
+    begin: ['A[i] := A[i]'],
+    want: (a) => a.map((_, i) => sumOf(a.slice(0, i + 1))),
   },
   {
     title: 'ranks in a list',
     task: 'N[i] is the element after i in a list, and of its last one that itself. R[i] becomes ' +
       'how many come after i. N may change.',
-    steps: 40, model: CREW, arrays: [['N', 0], ['R', PLACES]], from: 0,
-    inputs: [INDICES.map((i) => Math.min(i + 1, PLACES - 1)), listOf(4), listOf(5), listOf(6)],
-    want: (next) => wanted(PLACES, ranksOf(next)),
+    most: (rounds) => 30 * rounds, model: CREW, shared: ['N[n]', 'R[n]'], inputs: LISTS,
+    begin: ['R[i] := N[i]'],
+    want: ranksOf,
   },
-].map((exercise, k) => ({ ...exercise, number: k + 1, procs: PLACES, cells: 2 * PLACES }));
+].map((exercise, k) => ({ ...exercise, number: k + 1, into: intoOf(exercise) }));
+
+// The bar for an input.
+export const mostFor = ({ most }, input) => most(Math.log2(input.length));
+
+// How many processors there are, with one input or another.
+export const sizesOf = ({ inputs }) => [...new Set(inputs.map(({ length }) => length))];
 
 const headOf = ({ number, title }) => `; Exercise ${number}: ${title}`;
 
-export const isOf = (exercise, text) => text.startsWith(`${headOf(exercise)}\n`);
+export const ruleOf = ({ model }) => (model === COMMON ? 'common' : 'crew');
+
+// The lines of an exercise before `code`, with this input.
+export function headerOf({ model, shared: [given, ...others] }, input) {
+  return ['pardo 1', `rule ${ruleOf({ model })}`, `const n = ${input.length}`,
+    'procs i < n', `shared ${given} = ${input.join(', ')}`,
+    ...others.map((name) => `shared ${name}`)];
+}
+
+const wordsIn = (line) => line.split(';', 1)[0].split(/\W+/).filter((word) => word !== '');
+
+// What a line before `code` is about: its first word, and the name that it declares.
+export function keyOf(line) {
+  const [first, name] = wordsIn(line);
+  return ['const', 'procs', 'shared'].includes(first) ? `${first} ${name}` : first;
+}
+
+const isProgram = (text) => text.split('\n').map(keyOf).find(Boolean) === 'pardo';
+
+// Whether a text is what someone made of the exercise.
+export const isOf = (exercise, text) =>
+  text.startsWith(`${headOf(exercise)}\n`) && isProgram(text);
 
 // What a learner begins with.
 export function startOf(exercise) {
-  const { procs, cells, steps, model, arrays, from, inputs: [input] } = exercise;
-  return [
-    headOf(exercise), 'pram 3', `cells ${cells}`, `procs ${procs}`, `steps ${steps}`,
-    `rule ${model === COMMON ? 'common' : 'crew'}`,
-    ...arrays.map(([name, first]) => `array ${name} ${first} ${PLACES}`),
-    `init ${from} ${input.join(' ')}`, 'code', '        pid r0', '        halt', '',
-  ].join('\n');
+  const { inputs: [input], begin } = exercise;
+  return [headOf(exercise), ...headerOf(exercise, input), '; your own variables', 'code',
+    '; your lines', ...begin, ''].join('\n');
 }

@@ -2,25 +2,36 @@
 import { readAddress } from './address.js';
 import { MODELS } from './costs.js';
 import { byId, make, onClick, setDisabled, setHidden, setText } from './dom.js';
-import { EXERCISES, isOf, startOf } from './exercises.js';
+import { EXERCISES, isOf, mostFor, sizesOf, startOf } from './exercises.js';
+import { Far } from './far.js';
 import { judgeExercise } from './judge.js';
-import { counted } from './numbers.js';
 import { PUZZLES, judgePuzzle } from './puzzles.js';
 import { TOUR } from './tour.js';
+
+const PAUSE = 50;
 
 const group = (label, options) => make('optgroup', { label }, ...options);
 
 const optionsOf = (kind, list) => list.map(({ number, title }) =>
   make('option', { value: `${kind} ${number}` }, `${number}: ${title}`));
 
-function taskInWords({ task, procs, steps, model }) {
-  return `${task} ${counted(procs, 'processor')}, at most ${counted(steps, 'step')}, ` +
-    `${MODELS[model]}. Judge tries your code on inputs that you do not see.`;
+// The bar on steps, by n where it is not the same for all.
+function barInWords(exercise) {
+  const bars = sizesOf(exercise).map((n) => [n, mostFor(exercise, { length: n })]);
+  const isOne = bars.every(([, most]) => most === bars[0][1]);
+  return isOne ? `${bars[0][1]} steps`
+    : bars.map(([n, most]) => `${most} steps with n = ${n}`).join(' and ');
+}
+
+function taskInWords(exercise) {
+  return `${exercise.task} Under ${MODELS[exercise.model]}, in at most ${barInWords(exercise)}. ` +
+    `Judge tries your lines on inputs that you do not see, with n = ${
+      sizesOf(exercise).join(' and with n = ')}.`;
 }
 
 class Lessons {
   constructor(app) {
-    Object.assign(this, { app, lesson: undefined, stop: 0 });
+    Object.assign(this, { app, lesson: undefined, stop: 0, far: new Far(app.far.bytes) });
     const menu = byId('lesson');
     menu.append(make('option', { value: 'tour 1' }, 'A tour: losing a worker'),
       group('Exercises', optionsOf('exercise', EXERCISES)),
@@ -51,7 +62,13 @@ class Lessons {
     else this.begin();
   }
 
+  stopJudging() {
+    clearTimeout(this.later);
+    this.far.forget();
+  }
+
   close() {
+    this.stopJudging();
     byId('lesson').value = '';
     byId('lesson-panel').hidden = true;
     byId('lesson').focus();
@@ -71,6 +88,7 @@ class Lessons {
     setText(byId('lesson-title'), `${this.name} of ${this.list.length}: ${lesson.title}`);
     setText(byId('lesson-text'), this.kind === 'exercise' ? taskInWords(lesson) : lesson.task);
     byId('lesson-panel').hidden = false;
+    this.stopJudging();
     setHidden(byId('judge'), this.kind === 'tour');
     setDisabled(byId('lesson-back'), this.stop === 0);
     setDisabled(byId('lesson-on'), this.stop === this.list.length - 1);
@@ -79,13 +97,14 @@ class Lessons {
     else this.visit(lesson.address);
   }
 
-  // An exercise that was begun goes on. One that is only looked at is no program of one's own yet.
+  // An exercise that was begun goes on; what someone sent stays. One that is only looked at is no
+  // program of one's own yet.
   write(exercise, isAnew) {
     const { app } = this;
-    const begun = isAnew ? undefined : app.drafts.list.find(({ text }) => isOf(exercise, text));
-    const text = begun?.text ?? startOf(exercise);
     if (app.view !== 'lockstep') app.turnTo('lockstep');
-    app.choose(text, begun?.number, this.name);
+    if (!isAnew && app.work.name === undefined && isOf(exercise, app.text)) return;
+    const begun = isAnew ? undefined : app.drafts.list.find(({ text }) => isOf(exercise, text));
+    app.choose(begun?.text ?? startOf(exercise), begun?.number, this.name);
   }
 
   async visit(address) {
@@ -94,12 +113,28 @@ class Lessons {
     app.link.push();
   }
 
-  judge() {
+  // An exercise is judged by its text, and a puzzle by what is shown, once that is compiled.
+  async judge() {
+    this.stopJudging();
     const { app } = this;
     const lesson = this.list[this.stop];
-    if (!app.job) this.say({ isRight: false, said: 'Not yet: the program has a fault.' });
-    else if (this.kind === 'exercise') this.say(judgeExercise(app.core, lesson, app.text));
-    else this.say(judgePuzzle(lesson, app.views.workers.board, this.outcome()));
+    app.editor.look();
+    if (this.kind === 'exercise') {
+      this.say({ isRight: false, said: 'It is being judged.' });
+      this.say(await judgeExercise((...call) => this.ask(...call), lesson, app.text));
+    } else if (app.isWaiting) {
+      this.later = setTimeout(() => this.judge(), PAUSE);
+    } else if (app.job) {
+      this.say(judgePuzzle(lesson, app.views.workers.board, this.outcome()));
+    } else {
+      this.say({ isRight: false, said: 'Not yet: the program has a fault.' });
+    }
+  }
+
+  // Calls the core in the thread of lessons; what was asked for before is forgotten.
+  ask(name, wanted) {
+    this.far.forget();
+    return new Promise((done) => { this.far.ask(name, wanted, done); });
   }
 
   // What the board answers after all acts.

@@ -10,7 +10,7 @@ import { momentInWords } from './lockstep_words.js';
 import { boxesOf, marksOf } from './memory_boxes.js';
 import { saveMemory } from './memory_svg.js';
 import { Moments } from './moments.js';
-import { grouped, numberWithin } from './numbers.js';
+import { counted, grouped, numberWithin } from './numbers.js';
 import { LinePace, MachinePace } from './paces.js';
 import { openPlayer } from './player.js';
 import { openPlot } from './plot.js';
@@ -206,7 +206,7 @@ export class LockstepView {
     if (!isAhead) app.step = pace.stepAt(pace.numberAt(app.step));
     this.showButtons(pace);
     if (isAhead || !moments.isThere(app.step)) {
-      setText(byId('plain-said'), `Making ${grouped(app.step)} steps.`);
+      setText(byId('plain-said'), `Making ${app.step === 0 ? 'the start' : counted(app.step, 'step')}.`);
       return;
     }
     const state = moments.state(app.step);

@@ -1,11 +1,11 @@
 // A moment of the plain machine in words.
-import { CODE } from './core.js';
+import { CODE, STATUS } from './core.js';
 import { endInWords } from './ends.js';
 import { loopsAround } from './loop_names.js';
 import { named } from './memory_boxes.js';
 import { counted, grouped, shortened } from './numbers.js';
 import { nameOfPlace } from './places.js';
-import { STATUS, instructionInWords } from './processors.js';
+import { instructionInWords } from './processors.js';
 import { RULES } from './program.js';
 import { lineOf } from './text_lines.js';
 

@@ -12,7 +12,8 @@ import { Link } from './link.js';
 import { LockstepView } from './lockstep.js';
 import { unpack } from './packing.js';
 import { listenToPrinting } from './print.js';
-import { answerFar, judge, refused, showCompiling, showJudgement } from './program.js';
+import { answerFar, foundOf, refused, showJudgement, showWaiting } from './program.js';
+import { isNear, readJob, readText } from './reading.js';
 import { Schedule } from './schedule.js';
 import { Source } from './source.js';
 import { openStops } from './stops.js';
@@ -120,39 +121,47 @@ class Playground {
   // Shows the work of now, whose text stands in the editor: a program, or a text of the machine.
   showNow() {
     this.pause();
-    const { work, works, core } = this;
+    const { work, works } = this;
     this.far.forget();
-    clearTimeout(this.late);
-    const read = core.lines(work.text);
-    this.isProgram = read.code !== CODE.OTHER_LANGUAGE;
-    if (read.code === CODE.DONE) this.compile(read.list);
-    else this.hear(this.isProgram ? refused(read) : judge(core, work.text));
+    if (isNear(work.text, 0)) this.read(readText(this.core, work.text));
+    else this.wait('readText', 'It is being read.', (told) => this.read(told));
     this.gallery.show(work);
     setDisabled(byId('undo-text'), !works.canUndo);
     setDisabled(byId('redo-text'), !works.canRedo);
   }
 
-  // A program is compiled in the other thread, since it is run for that. What was shown stays for
-  // a moment.
-  compile(lines) {
-    const { text } = this;
-    this.isCompiling = true;
+  // Has the other thread do something with the text. What was shown stays for a moment.
+  wait(name, words, onTold) {
+    this.isWaiting = true;
+    clearTimeout(this.late);
     this.late = setTimeout(() => {
       this.job = undefined;
-      showCompiling();
+      showWaiting(words);
       this.show();
     }, PATIENCE);
-    this.far.ask('compile', [text], (made) => {
-      clearTimeout(this.late);
-      this.hear(made.code === CODE.DONE
-        ? judge(this.core, made.text, new Source(lines, made)) : refused(made));
-    });
+    this.far.ask(name, [this.text], onTold);
+  }
+
+  // A program is compiled in the other thread, since it is run for that.
+  read({ read, told }) {
+    this.isProgram = read.code !== CODE.OTHER_LANGUAGE;
+    if (read.code === CODE.DONE) {
+      this.wait('compile', 'It is being compiled, and run once.', (made) =>
+        this.hear(made.code === CODE.DONE ? this.compiled(read.list, made) : refused(made)));
+    } else {
+      this.hear(this.isProgram ? refused(read) : foundOf(told, this.text));
+    }
+  }
+
+  compiled(lines, made) {
+    return foundOf(readJob(this.core, made.text), made.text, new Source(lines, made));
   }
 
   // What the core says of the text.
   hear(found) {
+    clearTimeout(this.late);
     const { job, answer, most, isAnswering } = found;
-    Object.assign(this, { job, answer, most, isAnswering, isCompiling: false });
+    Object.assign(this, { job, answer, most, isAnswering, isWaiting: false });
     showJudgement(found, this, job && !isAnswering ? this.whole.lines() : undefined);
     if (isAnswering) answerFar(this.far, found, (told) => this.hear(told));
     this.show();

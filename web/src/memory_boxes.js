@@ -1,8 +1,8 @@
 // What the boxes of the memory and the lines of the text show of a step of the plain machine, or of
 // the steps that a line of a program takes.
 import { labelOf } from './cells.js';
+import { STATUS, TARGET } from './core.js';
 import { ranges, shortened } from './numbers.js';
-import { STATUS, TARGET } from './processors.js';
 
 function byNumber(requests, numberOf) {
   const found = new Map();

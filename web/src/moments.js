@@ -2,9 +2,9 @@
 // processors ask for in it. Those that were asked for last are kept, so that the one before is not
 // asked for again. Far ones are asked for in another thread.
 import { CODE } from './core.js';
+import { isNear } from './reading.js';
 
 const MOST = 96;
-const NEAR = 500000;
 const NOTHING = { list: [], code: CODE.DONE };
 
 // What the core is told of a job's sizes.
@@ -70,7 +70,7 @@ export class Moments {
 
   // The same of a far step, as a promise; what is asked for meanwhile is forgotten.
   farRequests(step) {
-    if (!this.hasRequests(step) || this.app.isCompiling) return Promise.resolve(NOTHING);
+    if (!this.hasRequests(step) || this.app.isWaiting) return Promise.resolve(NOTHING);
     this.app.far.forget();
     return new Promise((done) => {
       this.app.far.ask('moment', this.wantedFor(step), (told) =>
@@ -79,7 +79,8 @@ export class Moments {
   }
 
   isNear(step) {
-    return step * this.app.job.procs <= NEAR;
+    const { text, procs } = this.app.job;
+    return isNear(text, step * procs);
   }
 
   // Which moments are not kept of those that are shown at a step: it, and the one before.

@@ -1,5 +1,5 @@
 // A schedule as a plan for `pramx replay`.
-import { ACT, bodyOf, kindOf } from './acts.js';
+import { ACT, MOST_BODIES, bodyOf, kindOf } from './acts.js';
 
 const HEAD = 'worker,act,ticks';
 
@@ -7,24 +7,27 @@ export function hasTwins(acts) {
   return acts.some((act) => kindOf(act) === ACT.TWIN);
 }
 
-const rowOf = ({ worker, ticks }) => `${worker},go,${ticks}`;
+// Most rows have one tick.
+const SINGLE = Array.from({ length: MOST_BODIES }, (_, worker) => `${worker},go,1`);
+const rowOf = (worker, ticks) => (ticks === 1 ? SINGLE[worker] : `${worker},go,${ticks}`);
 
 // The rows of a plan, as many as asked for. A loss that is followed by a return is one row, at the
 // return; the other losses stand at the end, since a lost worker makes no step.
 export function rowsOfPlan(acts, most = Infinity) {
   const rows = [];
   const lost = new Set();
-  let run = { worker: -1, ticks: 0 };
+  let [goer, ticks] = [0, 0];
   const end = () => {
-    if (run.ticks > 0) rows.push(rowOf(run));
-    run = { worker: -1, ticks: 0 };
+    if (ticks > 0) rows.push(rowOf(goer, ticks));
+    ticks = 0;
   };
   for (let k = 0; k < acts.length && rows.length < most; k += 1) {
     const worker = bodyOf(acts[k]);
     const kind = kindOf(acts[k]);
     if (kind === ACT.GO && !lost.has(worker)) {
-      if (run.worker !== worker) end();
-      run = { worker, ticks: run.ticks + 1 };
+      if (goer !== worker) end();
+      goer = worker;
+      ticks += 1;
     }
     if (kind === ACT.LOSE) lost.add(worker);
     if (kind === ACT.BACK) {

@@ -1,4 +1,5 @@
 // The processors as a table: counter, registers, and what each asks for in the next step.
+import { STATUS, TARGET } from './core.js';
 import { byId, fit, make, setAttribute, setText } from './dom.js';
 import { grouped } from './numbers.js';
 import { counterPlace, nameOfPlace, registersOf } from './places.js';
@@ -7,9 +8,6 @@ import { openWindow } from './window.js';
 const IN_SIGHT = 32;
 const COLUMNS = ['processor', 'r0', 'r1', 'r2', 'r3', 'counter', 'instruction', 'reads', 'writes',
   'goes to'];
-
-export const STATUS = { RUNS: 0, HALTED: 1, OUT_OF_RANGE: 2 };
-export const TARGET = { NOTHING: 0, CELL: 1, REGISTER: 2 };
 
 function makeRow() {
   const cells = COLUMNS.slice(1).map((name) => make('td', { 'data-name': name }));

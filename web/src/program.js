@@ -7,19 +7,15 @@ import { nameOfPlace } from './places.js';
 import { wordsOfProgramFault } from './program_faults.js';
 import { instructionsOf, lineOf } from './text_lines.js';
 
-// The page makes so many steps of processors at most, and so many while one waits.
+// The page makes so many steps of processors at most.
 const MOST_STEPS = 20000000;
-const NEAR_STEPS = 500000;
 const MOST_CHARACTERS = 600;
 const MOST_ARRAYS = 100;
 export const RULES = ['common', 'priority', 'crew'];
 
-// What the core says of a text of the machine; of one that it made of a program, with its source.
-export function judge(core, text, source) {
-  const judged = core.judge(text);
+// What was told of a text of the machine; of one that was made of a program, with its source.
+export function foundOf({ judged, most, answer }, text, source) {
   if (judged.code !== CODE.DONE) return { judged };
-  const most = Math.floor(NEAR_STEPS / judged.procs);
-  const answer = core.answer(text, judged, most);
   const program = source ? source.program : instructionsOf(text);
   return {
     judged,
@@ -100,8 +96,8 @@ export function showJudgement(found, { text, editor }, pace) {
   if (line > 0) editor.reveal(line);
 }
 
-// Says that the text is being compiled.
-export function showCompiling() {
+// Says what is done with the text.
+export function showWaiting(words) {
   setText(byId('fault'), '');
-  setText(byId('answer'), 'It is being compiled, and run once.');
+  setText(byId('answer'), words);
 }

@@ -61,7 +61,7 @@ export const PUZZLES = [
     isSolved: (schedule, moments) => wakesAndFinishes(schedule, moments),
   },
 ].map((puzzle, k) =>
-  ({ ...puzzle, number: k + 1, address: 'example=sum&view=workers&workers=3' }));
+  ({ ...puzzle, number: k + 1, address: 'example=sum.pardo&view=workers&workers=3' }));
 
 export function judgePuzzle(puzzle, board, outcome) {
   const { schedule } = board;

@@ -21,7 +21,7 @@ import { actOfAction, isGoing, openCards } from './worker_cards.js';
 
 const ROUNDS = { 'all-1': 1, 'all-10': 10, 'all-100': 100 };
 const END_ROUNDS = 1024;
-const SEEK_ROUNDS = 16;
+const SEEK_ROUNDS = 256;
 
 export class WorkersView {
   constructor(app) {

@@ -149,6 +149,7 @@ async function testLongTexts() {
   const lines = `pram 1\ncells 4\nprocs 4\nsteps 3\ncode\npid r0\n${comments}st r0 r0\n`;
   await open(`#${await linkTo(lines)}`);
   await has('a text of 1 MB', '#answer', '4 cells');
+  await has('is shown', '#plain-said', 'After step 0 of 3.');
   await page.click('#lines input');
   await page.selectAll();
   await page.insert('110000');

@@ -1,6 +1,9 @@
 // What a lecture needs: ends, costs, the plot of the steps, exercises, puzzles and the tour.
-import { count, focused, has, is, isShown, open, page, text, valueOf, write } from './drive.js';
-import { NO_SCHEDULES, SCHEDULES, SOLUTIONS, TOO_SLOW, TOO_STRONG } from './solutions.js';
+import { writeAddress } from '../src/address.js';
+import { Schedule } from '../src/schedule.js';
+import { count, focused, has, is, isShown, open, page, picture, text, valueOf, write }
+  from './drive.js';
+import { NO_SCHEDULES, SCHEDULES, SOLUTIONS, WRONG } from './solutions.js';
 
 const LEAVING = 'pram 1\ncells 2\nprocs 2\nsteps 3\ncode\n' +
   'pid r0\nadd r1 r0 r0\nst r1 r0\nhalt\n';
@@ -50,26 +53,31 @@ export async function testPlot() {
   is('nothing comes after the end', await text('#plot-said'), '');
 }
 
-// The text in the editor, with this code in place of its own.
-const withCode = async (code) =>
-  `${(await valueOf('#text')).split('\ncode\n', 1)[0]}\ncode\n${code}\n`;
+// The text in the editor, with these lines in place of those from `code` on.
+const withLines = async (lines) =>
+  `${(await valueOf('#text')).split('\ncode\n', 1)[0]}\ncode\n${lines}\n`;
 
 async function judged(what, wanted) {
   await page.click('#judge');
   await has(what, '#lesson-said', wanted);
 }
 
+async function begin(number) {
+  await page.choose('#lesson', `exercise ${number}`);
+  await has(`exercise ${number}`, '#lesson-title', `Exercise ${number} of 10`);
+}
+
 export async function testExercises() {
   await open();
   is('a program that stays', await valueOf('#example'), 'prefix.pardo');
   for (const [k, solution] of SOLUTIONS.entries()) {
-    await page.choose('#lesson', `exercise ${k + 1}`);
-    await has(`exercise ${k + 1}`, '#lesson-title', `Exercise ${k + 1} of 10`);
-    await judged(`its beginning is no solution: ${k + 1}`, 'Not yet: on input ');
-    await write(await withCode(solution));
+    await begin(k + 1);
+    await judged(`its beginning is no solution: ${k + 1}`, 'Not yet, on input ');
+    await write(await withLines(solution));
     await judged(`a solution of exercise ${k + 1}`, 'Right on all ');
     is('it is shown as right', await count('#lesson-said.right'), 1);
   }
+  await picture('exercise');
   await page.choose('#lesson', 'exercise 1');
   is('what was begun goes on', (await valueOf('#text')).endsWith(`${SOLUTIONS[0]}\n`), true);
   await page.click('#lesson-anew');
@@ -78,19 +86,64 @@ export async function testExercises() {
 
 export async function testWrongSolutions() {
   await open();
-  for (const [[k, code], wanted] of [[TOO_SLOW, 'after 40 steps; wanted is'],
-    [TOO_STRONG, 'it needs CREW, since processors 0 and 1 meet at cell 0 in step 2']]) {
-    await page.choose('#lesson', `exercise ${k + 1}`);
+  for (const [k, lines, wanted] of WRONG) {
+    await begin(k + 1);
     await page.click('#lesson-anew');
-    await write(await withCode(code));
-    await judged(`wrong in exercise ${k + 1}`, wanted);
+    await write(await withLines(lines));
+    await judged(`wrong in exercise ${k + 1}`, `Not yet${wanted}`);
   }
   await page.click('#lesson-try');
-  await has('the input that is wrong', '#answer', 'done after 40 steps');
-  await page.click('#undo-text');
-  await page.choose('#lesson', 'exercise 2');
+  await has('the input that is wrong', '#fault', 'still here after 1,048,576 steps');
+  await has('has its name', '#example option:checked', 'Exercise 6, this input');
+  await begin(7);
+  await write(await withLines(WRONG[5][1]));
+  await judged('with more processors', '(n = 64): total holds 850, wanted 3,012;');
+  await page.click('#lesson-try');
+  await has('the input that is wrong', '#answer', '64 processors');
+  await begin(2);
   await write('pram 1\n');
-  await judged('no program', 'Not yet: the program has a fault.');
+  await judged('no program', 'Not yet: the line “pardo 1” is missing.');
+}
+
+// An exercise that someone sent is judged as it stands, beside one's own.
+export async function testSentExercises() {
+  await open();
+  await page.evaluate('localStorage.clear()');
+  await open();
+  await begin(1);
+  const [start, sent] = [await valueOf('#text'), await withLines(SOLUTIONS[0])];
+  await write(await withLines('A[i] := 7'));
+  const shown = { text: sent, view: 'workers', step: 0, schedule: new Schedule(2) };
+  await open(`#${await writeAddress(shown, [])}`);
+  await begin(1);
+  is('it stays', await valueOf('#text'), sent);
+  await judged('and is judged', 'Right on all ');
+  await page.click('#lesson-anew');
+  is('until it is begun anew', await valueOf('#text'), start);
+  await begin(2);
+  await begin(1);
+  is('one’s own is there', (await valueOf('#text')).endsWith('code\nA[i] := 7\n'), true);
+  await page.evaluate('localStorage.clear()');
+}
+
+const OLD = `; Exercise 2: double\n${LEAVING}`;
+
+// What was kept of an exercise that was written for the machine is a program of one's own.
+export async function testOldExercises() {
+  await open();
+  await page.evaluate(`localStorage.setItem('kaolinsilk drafts',
+    ${JSON.stringify(JSON.stringify([{ number: 5, text: OLD }]))})`);
+  await open();
+  await begin(2);
+  await has('the exercise begins', '#answer', '16 processors');
+  is('in pardo', (await valueOf('#text')).startsWith('; Exercise 2: double\npardo 1\n'), true);
+  await page.choose('#example', 'own 5');
+  is('the old text is there', await valueOf('#text'), OLD);
+  await has('and runs', '#answer', 'done after 3 steps');
+  await judged('as no exercise', 'Not yet: the line “pardo 1” is missing.');
+  await page.click('#lesson-anew');
+  await judged('it begins anew', 'B[0] holds 54, wanted 108; line 11 wrote it last.');
+  await page.evaluate('localStorage.clear()');
 }
 
 // A program of one's own stays beside exercises that are looked at.
@@ -107,7 +160,7 @@ export async function testExercisesKeepDrafts() {
     .some((one) => one.textContent === 'your own: mine too')`), true);
 }
 
-const START = '#example=sum&view=workers&workers=3';
+const START = '#example=sum.pardo&view=workers&workers=3';
 
 async function hasActs(acts) {
   await page.evaluate(`location.hash = ${JSON.stringify(`${START}&acts=${acts}`)}`);

@@ -1,7 +1,8 @@
 // How long a click takes, until the page is laid out anew and painted: with a bar.
 import { writeAddress } from '../src/address.js';
 import { Schedule } from '../src/schedule.js';
-import { has, is, open, page, paste, valueOf } from './drive.js';
+import { has, is, open, page, paste, valueOf, write } from './drive.js';
+import { SOLUTIONS } from './solutions.js';
 
 // A click is to take 100 ms of the page's thread on a quiet machine. What the clock says depends on
 // what else the machine does, and beside other work even the thread's own time does: so work that
@@ -76,6 +77,23 @@ async function clicksOn(what, selectors) {
   for (const selector of selectors) await clickOn(what, selector);
 }
 
+// What is made in pieces or in a thread is to be there after a second, by the clock.
+const PATIENCE = 1000;
+
+async function isSoon(what, button, selector, wanted) {
+  const before = await knownWork();
+  const took = await page.evaluate(`(async () => {
+    const start = performance.now();
+    document.querySelector(${JSON.stringify(button)}).click();
+    const told = document.querySelector(${JSON.stringify(selector)});
+    while (!${wanted}.test(told.textContent)) await new Promise((done) => { setTimeout(done); });
+    return performance.now() - start;
+  })()`);
+  const slower = Math.max(1, (before + await knownWork()) / 2 / QUIET);
+  console.log(`  ${what}: ${took.toFixed(0)} ms by the clock`);
+  is(`${what} is soon there`, took < PATIENCE * slower || took, true);
+}
+
 export async function testSpeedOfBitonic() {
   await openQuietly('#example=bitonic&view=workers&workers=4');
   await clicksOn('bitonic', ['#all-1', '#all-100', '#to-end']);
@@ -83,6 +101,8 @@ export async function testSpeedOfBitonic() {
   await clicksOn('bitonic, late', ['#moment-back', '#moment-back', '#plan-part summary',
     '#moment-back', '#cards li:nth-child(2) [data-action=lose]', '#undo-acts', '#moment-start',
     '#next-change', '#reset', '#undo-acts', '#tab-lockstep', '#access-on', '#step-end']);
+  await open('#example=bitonic&view=workers&workers=4');
+  await isSoon('bitonic, the end', '#to-end', '#outcome', /^Done/);
 }
 
 const choiceOf = (selector, value) => `(() => {
@@ -92,10 +112,19 @@ const choiceOf = (selector, value) => `(() => {
 })()`;
 
 export async function testSpeedOfLessons() {
+  await open();
+  await page.evaluate('localStorage.clear()');
   await openQuietly();
   for (let k = 1; k <= 10; k += 1) {
     await isQuick(`exercise ${k}`, choiceOf('#lesson', `exercise ${k}`));
     await clickOn(`exercise ${k}`, '#judge');
+    await has(`exercise ${k} is judged`, '#lesson-said', 'Not yet, on input ');
+    await isSoon(`exercise ${k}, judged`, '#judge', '#lesson-said', /^Not yet/);
+  }
+  for (const [k, solution] of SOLUTIONS.entries()) {
+    await page.evaluate(choiceOf('#lesson', `exercise ${k + 1}`));
+    await write((await valueOf('#text')).replace(/code\n[^]*/, `code\n${solution}\n`));
+    await isSoon(`exercise ${k + 1}, right`, '#judge', '#lesson-said', /^Right/);
   }
   await isQuick('a puzzle', choiceOf('#lesson', 'puzzle 1'));
   await clicksOn('a puzzle', ['#all-100', '#to-end']);
@@ -140,12 +169,15 @@ export async function testSpeedOfMany() {
   await clicksOn('1,024 processors', ['#step-on', '#access-on', '#step-end', '#step-back']);
   await clickOn('1,024 processors', '#tab-workers');
   await clicksOn('1,024 processors', ['#all-1', '#all-100', '#moment-back', '#next-finish']);
+  await has('1,024 processors', '#outcome', 'Finished: 1 of 200');
+  await isSoon('1,024 processors, the next finished step', '#next-finish', '#outcome',
+    /^Finished: 2/);
 }
 
 export async function testSpeedOfLongSchedules() {
   await openQuietly(`${await linkTo(loop(4, 4, 4294967295), 'workers')}&acts=0.1.2.3*99990`);
   await clicksOn('400,000 acts', ['#moment-back', '#moment-on', '#all-1', '#plan-part summary',
-    '#moment-start', '#moment-end']);
+    '#moment-back', '#save-plan', '#copy-link', '#moment-start', '#moment-end']);
 }
 
 export async function testSpeedOfFarSteps() {
@@ -169,8 +201,8 @@ export async function testSpeedOfLongTexts() {
   const lines = `'pram 1\\ncells 4\\nprocs 4\\nsteps 3\\ncode\\npid r0\\n' +
     '; a line\\n'.repeat(110000) + 'st r0 r0\\n'`;
   await isQuick('1 MB is pasted', paste(lines));
-  is('and is a program', await page.evaluate(
-    'document.getElementById("answer").textContent.startsWith("4 cells")'), true);
+  await has('and is a program', '#answer', '4 cells');
+  await has('that is shown', '#plain-said', 'After step 0 of 3.');
   await clicksOn('1 MB', ['#step-on', '#step-on', '#undo-text']);
   await clickOn('1 MB', '#redo-text');
   await isQuick('a line of 1 MB is pasted', paste('"x".repeat(1000000)'));
