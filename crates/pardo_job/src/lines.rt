@@ -16,8 +16,9 @@ use crate::layout::Layout;
 use crate::operations::put;
 use crate::pieces::{
     none_test, put_all, put_assignment, put_condition, put_first_value, put_load, put_store,
-    put_turn_test, put_while_test,
+    put_while_test,
 };
+use crate::values::put_value;
 use pardo_text::{Line, Program, Statement};
 use pram_text::limits::MAX_CODE;
 use pram_text::{Instr, Operand};
@@ -84,7 +85,9 @@ impl Listing<'_> {
         }
     }
 
-    // The end of a loop whose first line is this one: the next turn, unless it was the last.
+    // The end of a loop whose first line is this one: register 0 becomes its variable, and register
+    // 1 is 0 in the last turn; else the next turn begins.
+    #[tactic(auto, unfolding(crate::specs::Lines::turn_code))]
     fn put_turn(
         &self,
         code: &mut Vec<Instr>,
@@ -99,10 +102,13 @@ impl Listing<'_> {
     {
         match first {
             Statement::For(nest, _, last, up, end) => {
-                put_turn_test(code, alloc, &self.layout, *nest, last)?;
+                let variable = self.layout.loop_variable(*nest);
+                put_load(code, 0, variable)?;
+                let held = put_value(code, alloc, &self.layout, 1, last)?;
+                put(code, Instr::Sub(1, 0, held.operand))?;
                 put(code, Instr::Jz(1, self.place_after(*end)))?;
                 put(code, next_turn(*up))?;
-                put_store(code, self.layout.loop_variable(*nest))?;
+                put_store(code, variable)?;
                 put(code, Instr::Jmp(self.place_after(begin)))
             }
             _ => Ok(()),

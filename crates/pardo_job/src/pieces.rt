@@ -152,24 +152,6 @@ pub(crate) fn put_first_value(
     put(code, Instr::St(own_place(cells), held.operand))
 }
 
-/// How far a loop is: register 0 becomes its variable, and register 1 is 0 in its last turn.
-#[tactic(auto, unfolding(crate::specs::Lines::turn_code))]
-pub(crate) fn put_turn_test(
-    code: &mut Vec<Instr>,
-    alloc: Global,
-    layout: &Layout,
-    nest: usize,
-    last: &Expr,
-) -> Result<(), JobKind>
-    requires nest { nest < layout.now.loops }
-    requires last { IsLawful layout.now last.now }
-    ensures { Puts code.old.items code.new.items result (turn_code layout.now nest last.now) }
-{
-    put_load(code, 0, layout.loop_variable(nest))?;
-    let held = put_value(code, alloc, layout, 1, last)?;
-    put(code, Instr::Sub(1, 0, held.operand))
-}
-
 /// A register becomes what a processor's own cell of a row holds.
 pub(crate) fn put_load(code: &mut Vec<Instr>, register: u8, row: Array) -> Result<(), JobKind>
     ensures { Puts code.old.items code.new.items result (own_load register row ∷ []) }

@@ -39,10 +39,7 @@ fn refusal(line: u64, kind: PardoKind) -> PardoFault
     ensures line { kind ≢ PardoKind.Memory → result.line ≡ line }
     ensures memory { kind ≡ PardoKind.Memory → result.line ≡ 0 }
 {
-    let line = match kind {
-        PardoKind::Memory => 0,
-        _ => line,
-    };
+    let line = if kind == PardoKind::Memory { 0 } else { line };
     PardoFault { line, kind }
 }
 
