@@ -6,5 +6,4 @@ mod Counting
 mod Lasts
 mod Moments
 mod ReadCells
-mod Landing
 mod Telling
