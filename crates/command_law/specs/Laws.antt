@@ -1,4 +1,4 @@
--- The laws of answers of programs, from bytes to bytes.
+-- The laws of answers of programs, and of printed jobs, from bytes to bytes.
 use Rattle.std.specs.Prelude.{◌≡◌, ◌⊎◌, ℕ, List, Option, Some, Ok, true, false}
 use Rattle.pram_text.specs.Job.{JobData}
 use Rattle.pram_step.specs.declared.answer.RunAnswer.{RunAnswer}
@@ -8,7 +8,9 @@ use Rattle.pardo_text.specs.Program.{ProgramData}
 use Rattle.pardo_text.specs.Reading.{program_of}
 use Rattle.pardo_answers.specs.Language.{is_program}
 use Rattle.pardo_answers.specs.Laws.{IsAnswerText}
+use Rattle.pram_commands.specs.Names.{IsMachines, Means}
 use Rattle.pram_commands.specs.Plain.{no_plan, plainly}
+use Rattle.pram_commands.specs.Texts.{compiling}
 use Rattle.pram_commands.specs.Threads.{running}
 
 -- The text is a program, and these bytes are its answer by its meaning, with the steps of the job.
@@ -35,3 +37,15 @@ RunsPrintTheProgramsAnswer = (text : List ℕ) (job : JobData) (plan : PlanData)
     (bytes : List ℕ) (answer : Option RunAnswer) → is_program text ≡ true →
     (running false workers).Comes text job plan bytes answer →
     IsProgramsAnswer text job bytes ⊎ IsCutOff plan answer
+
+-- The bytes are a text of the machine, and this is its one job.
+pub record IsTextOf (bytes : List ℕ) (job : JobData) : Type 0 where
+  pub is : IsMachines bytes job
+  pub only : (other : JobData) → Means bytes other → other ≡ job
+
+-- What `compile` prints of a text is a text of the machine, whose one job is the one that the text
+-- means.
+abbrev pub CompilePrintsTheSameJob : Type 0
+CompilePrintsTheSameJob = (text : List ℕ) (job : JobData) (bytes : List ℕ)
+    (answer : Option RunAnswer) → Means text job →
+    compiling.Comes text job no_plan bytes answer → IsTextOf bytes job

@@ -20,8 +20,8 @@ use Rattle.pram_commands.specs.Threads.{IsGrain, size_of}
 use Rattle.pram_commands.specs.declared.refusal.TheConstants.{DONE, FAILED, MEMORY}
 use Rattle.pram_commands.specs.declared.line.Line.{Line}
 use Rattle.command_line.specs.declared.line.Asked.{Asked}
-use Rattle.pram_commands.specs.declared.line.Line.TheVariants.{Check, Plain, Cost, Steps}
-use Rattle.pram_commands.specs.declared.line.Line.TheVariants.{Run, Watch, Replay}
+use Rattle.pram_commands.specs.declared.line.Line.TheVariants.{Check, Compile, Plain, Cost}
+use Rattle.pram_commands.specs.declared.line.Line.TheVariants.{Steps, Run, Watch, Replay}
 
 -- an option with a value
 abbrev pub option_rule : Text → Rule
@@ -94,8 +94,9 @@ bare =
 -- with those of the plain machine alone
 abbrev pub on_machine : App
 on_machine =
-    with_subcommand (with_subcommand (with_subcommand (with_subcommand bare
+    with_subcommand (with_subcommand (with_subcommand (with_subcommand (with_subcommand bare
     (on_file (codes "check")).top)
+    (on_file (codes "compile")).top)
     on_plain.top)
     (on_file (codes "cost")).top)
     on_steps.top
@@ -188,6 +189,7 @@ pub record HasWatch (matches : Option (Text × List Row)) (name file : Text) (pl
 -- the line is what was met
 abbrev pub IsMet : Option (Text × List Row) → Line → Type 0
 IsMet matches (Check file) = HasFile matches (codes "check") file.now
+IsMet matches (Compile file) = HasFile matches (codes "compile") file.now
 IsMet matches (Plain file why) =
     HasFile matches (codes "plain") file.now × HasFlag (codes "why") matches why
 IsMet matches (Cost file) = HasFile matches (codes "cost") file.now

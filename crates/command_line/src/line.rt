@@ -21,6 +21,7 @@ use std::alloc::{AllocError, Global};
 const EXAMPLES: &str = "\
 Examples:
   pramx check examples/prefix.pram
+  pramx compile examples/prefix.pardo
   pramx plain examples/prefix.pram
   pramx plain examples/sum.pram --why
   pramx cost examples/prefix.pram
@@ -231,6 +232,11 @@ fn machine_command<'a>(alloc: Global) -> Result<Command<'a>, AllocError>
         "check",
         "Say whether a text spells a job, and how large it is",
     )?;
+    let compile = file_command(
+        alloc,
+        "compile",
+        "Print the job of a program as a text of the machine",
+    )?;
     let plain = plain_command(alloc)?;
     let cost = file_command(
         alloc,
@@ -244,6 +250,7 @@ fn machine_command<'a>(alloc: Global) -> Result<Command<'a>, AllocError>
         .after_help(EXAMPLES)
         .subcommand_required(true)
         .subcommand(check)?
+        .subcommand(compile)?
         .subcommand(plain)?
         .subcommand(cost)?
         .subcommand(steps)
@@ -407,6 +414,7 @@ fn line_of<'a>(matches: &ArgMatches<'a>, on_terminal: bool) -> Option<Line<'a>>
     let file = inner.get_str("file")?;
     match name {
         "check" => Some(Line::Check { file }),
+        "compile" => Some(Line::Compile { file }),
         "plain" => {
             let why = inner.get_flag("why");
             Some(Line::Plain { file, why })

@@ -28,6 +28,8 @@ pub const FILE: &str = "job.txt";
 
 pub const CHECK: Line<'static> = Line::Check { file: FILE };
 
+pub const COMPILE: Line<'static> = Line::Compile { file: FILE };
+
 pub const PLAIN: Line<'static> = Line::Plain {
     file: FILE,
     why: false,

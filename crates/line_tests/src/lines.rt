@@ -52,6 +52,7 @@ fn words_make_a_line(rt: HostRuntime) -> Result<(), Fail> {
     let alloc = rt.alloc();
     for (row, line) in [
         ("pramx check f", Line::Check { file: "f" }),
+        ("pramx compile f", Line::Compile { file: "f" }),
         ("pramx plain f", plain(false)),
         ("pramx plain --why f", plain(true)),
         ("pramx cost f", Line::Cost { file: "f" }),
@@ -155,6 +156,7 @@ pramx -> MissingSubcommand
 pramx walk f -> InvalidSubcommand
 pramx plain -> MissingRequiredArgument
 pramx plain f g -> UnknownArgument
+pramx compile f --why -> UnknownArgument
 pramx run job.txt -> MissingRequiredArgument
 pramx run job.txt --workers 0 -> ValueValidation
 pramx replay job.txt --workers 65 -> ValueValidation
@@ -207,14 +209,15 @@ Runs programs of a synchronous parallel machine with shared memory.
 Usage: pramx <COMMAND>
 
 Commands:
-  check   Say whether a text spells a job, and how large it is
-  plain   Run a job on the plain machine
-  cost    Say what the run of a job costs, and which model of the PRAM it needs
-  steps   Run a job on the plain machine, and print what each processor asks for in each step
-  run     Run a job on threads
-  watch   Run a job on threads, and read cells while they run
-  replay  Run a job on one thread, and print each step
-  help    Print this message or the help of the given subcommand(s)
+  check    Say whether a text spells a job, and how large it is
+  compile  Print the job of a program as a text of the machine
+  plain    Run a job on the plain machine
+  cost     Say what the run of a job costs, and which model of the PRAM it needs
+  steps    Run a job on the plain machine, and print what each processor asks for in each step
+  run      Run a job on threads
+  watch    Run a job on threads, and read cells while they run
+  replay   Run a job on one thread, and print each step
+  help     Print this message or the help of the given subcommand(s)
 
 Options:
   -h, --help     Print help

@@ -3,3 +3,4 @@ pub mod Leaving
 pub mod Ending
 pub mod Cells
 pub mod LawAnswers
+pub mod Landing

@@ -143,6 +143,8 @@ module _ (taken : Taking) (w : Writing) where
       IsTrue (is_some (command_of l).workers)
   stops (line.Check file) status prints three =
       let none = ap ends_with prints.work.comes.1 in absurd (omega (arith, prints.is, three, none))
+  stops (line.Compile file) status prints three =
+      let none = ap ends_with prints.work.comes.1 in absurd (omega (arith, prints.is, three, none))
   stops (line.Plain file why) status prints three =
       let comes = prints.work.comes in
       absurd (ended-plain prints.work.job comes.ended prints.answer comes.ends

@@ -12,5 +12,6 @@ pub mod Progress
 pub mod Replayed
 pub mod Served
 pub mod Steps
+pub mod Texts
 pub mod Threads
 pub mod Why

@@ -7,16 +7,18 @@ use Rattle.pram_commands.specs.Did.{Command}
 use Rattle.pram_commands.specs.Plain.{checking, plainly}
 use Rattle.pram_commands.specs.Replayed.{replaying}
 use Rattle.pram_commands.specs.Steps.{stepping}
+use Rattle.pram_commands.specs.Texts.{compiling}
 use Rattle.pram_commands.specs.Threads.{running, watching}
 use Rattle.pram_commands.specs.declared.line.Line.{Line}
-use Rattle.pram_commands.specs.declared.line.Line.TheVariants.{Check, Plain, Cost, Steps}
-use Rattle.pram_commands.specs.declared.line.Line.TheVariants.{Run, Watch, Replay}
+use Rattle.pram_commands.specs.declared.line.Line.TheVariants.{Check, Compile, Plain, Cost}
+use Rattle.pram_commands.specs.declared.line.Line.TheVariants.{Steps, Run, Watch, Replay}
 
 abbrev pub text_of : Option (Bor (List ℕ)) → Option (List ℕ)
 text_of = option_map (λ text. text.now)
 
 abbrev pub file_of : Line → List ℕ
 file_of (Check file) = file.now
+file_of (Compile file) = file.now
 file_of (Plain file why) = file.now
 file_of (Cost file) = file.now
 file_of (Steps file from to alone) = file.now
@@ -26,6 +28,7 @@ file_of (Replay file workers plan alone) = file.now
 
 abbrev pub plan_of : Line → Option (List ℕ)
 plan_of (Check file) = None
+plan_of (Compile file) = None
 plan_of (Plain file why) = None
 plan_of (Cost file) = None
 plan_of (Steps file from to alone) = None
@@ -37,6 +40,7 @@ plan_of (Replay file workers plan alone) = text_of plan
 -- ends
 abbrev pub command_of : Line → Command
 command_of (Check file) = checking
+command_of (Compile file) = compiling
 command_of (Plain file why) = plainly why
 command_of (Cost file) = costing
 command_of (Steps file from to alone) = stepping alone (record { from = from; to = to })

@@ -16,7 +16,7 @@ use crate::line::Line;
 use crate::names::{Words, print_told};
 use crate::refusal::{CONFLICT, DONE, UNFINISHED};
 use crate::sources::Sources;
-pub use alone::{check, cost, plain, replay, steps};
+pub use alone::{check, compile, cost, plain, replay, steps};
 pub use on_threads::{Reads, Wanted, run, watch};
 use pram_cost::Cost;
 use pram_rows::Window;
@@ -42,6 +42,10 @@ pub(crate) fn do_alone<J: Source, P: Source, O: Sink>(
     match *line {
         Line::Check { .. } => {
             check(alloc, sources, out)?;
+            Ok(DONE)
+        }
+        Line::Compile { .. } => {
+            compile(alloc, sources, out)?;
             Ok(DONE)
         }
         Line::Plain { why, .. } => ended(plain(alloc, why, sources, out)),

@@ -23,7 +23,7 @@ mod workers;
 
 pub use block::Block;
 pub use cell_list::CellList;
-pub use commands::{Reads, Wanted, check, cost, plain, replay, run, steps, watch};
+pub use commands::{Reads, Wanted, check, compile, cost, plain, replay, run, steps, watch};
 pub use explanation::{Explanation, Reasons};
 pub use fault::CommandFault;
 pub use files::{Folder, serve_files};

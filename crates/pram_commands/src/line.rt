@@ -13,6 +13,10 @@ pub enum Line<'a> {
     Check {
         file: &'a str,
     },
+    /// Print the job as a text of the machine.
+    Compile {
+        file: &'a str,
+    },
     /// Run the job on the plain machine; after the answer what became of the processors, if it is
     /// asked for.
     Plain {
@@ -66,8 +70,8 @@ impl<'a> Line<'a> {
         ensures { IsTrue result ↔ StartsNoThread self.now }
     {
         match self {
-            Line::Check { .. } | Line::Plain { .. } | Line::Cost { .. } => true,
-            Line::Steps { .. } | Line::Replay { .. } => true,
+            Line::Check { .. } | Line::Compile { .. } | Line::Plain { .. } => true,
+            Line::Cost { .. } | Line::Steps { .. } | Line::Replay { .. } => true,
             Line::Run { .. } | Line::Watch { .. } => false,
         }
     }
@@ -78,6 +82,7 @@ impl<'a> Line<'a> {
     {
         match *self {
             Line::Check { file }
+            | Line::Compile { file }
             | Line::Plain { file, .. }
             | Line::Cost { file }
             | Line::Steps { file, .. }
@@ -92,8 +97,8 @@ impl<'a> Line<'a> {
         ensures { text_of result ≡ plan_of self.now }
     {
         match *self {
-            Line::Check { .. } | Line::Plain { .. } | Line::Cost { .. } => None,
-            Line::Steps { .. } => None,
+            Line::Check { .. } | Line::Compile { .. } | Line::Plain { .. } => None,
+            Line::Cost { .. } | Line::Steps { .. } => None,
             Line::Run { plan, .. } | Line::Watch { plan, .. } | Line::Replay { plan, .. } => plan,
         }
     }

@@ -5,5 +5,4 @@ mod Loads
 mod Counting
 mod Lasts
 mod ReadCells
-mod Landing
 mod Telling

@@ -3,7 +3,7 @@
 ghost use Rattle.std.specs.Prelude.{◌≤◌};
 
 use crate::tests::programs::PROGRAMS;
-use crate::tests::{CHECK, FILE, PLAIN, of_text, serve_text};
+use crate::tests::{CHECK, COMPILE, FILE, PLAIN, of_text, serve_text};
 use pram_commands::{Console, Line, Manner, Telling, Workers, serve};
 use pram_streams::IntoWrite;
 use std::alloc::Global;
@@ -40,6 +40,23 @@ fn programs_are_answered_by_names(rt: HostRuntime) {
             assert!(rt; served.err.is_empty(), "{text}");
             assert!(rt; served.status == status, "{text}");
         }
+    }
+}
+
+// The text of a program's job is printed again as it is, and ends as the program does.
+#[test]
+fn programs_are_printed_as_texts(rt: HostRuntime) {
+    let alloc = rt.alloc();
+    for (text, answer, status) in PROGRAMS {
+        let printed = serve_text(&rt, alloc, &COMPILE, text.as_bytes());
+        assert!(rt; printed.status == 0, "{text}");
+        let again = serve_text(&rt, alloc, &COMPILE, printed.out.as_slice());
+        assert!(rt; again.out.as_slice() == printed.out.as_slice(), "{text}");
+        let served = serve_text(&rt, alloc, &PLAIN, printed.out.as_slice());
+        assert!(rt; served.status == status, "{text}");
+        let ending = answer.lines().next().unwrap_or("");
+        let ends = served.out.as_slice().starts_with(ending.as_bytes());
+        assert!(rt; ends || status == 1, "{text}");
     }
 }
 

@@ -1,4 +1,4 @@
-//! The commands that start no thread: `check`, `plain`, `cost`, `steps` and `replay`.
+//! The commands that start no thread: `check`, `compile`, `plain`, `cost`, `steps` and `replay`.
 ghost use Rattle.std.specs.Prelude.{◌≡◌, [], false, IfOk};
 ghost use Rattle.pram_commands.specs.Did.{Did, tells_none, writing, tells};
 ghost use Rattle.pram_commands.specs.Inner.Puts.{Puts};
@@ -9,6 +9,7 @@ ghost use Rattle.pram_commands.specs.Names.{AreNames};
 ghost use Rattle.pram_commands.specs.Costs.{costing, tells_conflict};
 ghost use Rattle.pram_commands.specs.Steps.{stepping};
 ghost use Rattle.pram_commands.specs.Replayed.{replaying};
+ghost use Rattle.pram_commands.specs.Texts.{compiling};
 
 use crate::commands::{print_ending, printed};
 use crate::fault::CommandFault;
@@ -17,6 +18,7 @@ use crate::names::Words;
 use crate::sources::{Inputs, Sources};
 use crate::why::{Question, put_told};
 use crate::workers::Workers;
+use job_text::print_text;
 use pram_cost::{Cost, cost_of, print_cost};
 use pram_rows::{Window, print_steps};
 use pram_run::replay_to;
@@ -45,6 +47,30 @@ fn put_summary<O: Sink>(alloc: Global, job: &Job, out: &mut O) -> Result<(), Pri
         (writing O.Sink out.old out.new) tells_none result }
 {
     print_summary(alloc, out, job)?;
+    Ok(())
+}
+
+/// Reads a job, and prints it as a text of version 3 of the machine, which spells that very job.
+/// The time is that of reading the text and of `print_text`.
+pub fn compile<J: Source, P: Source, O: Sink>(
+    alloc: Global,
+    sources: &mut Sources<J, P>,
+    out: &mut O,
+) -> Result<(), CommandFault>
+    requires { AreReady J.Source P.Source O.Sink sources.old out.old }
+    ensures { Did compiling (taking J.Source P.Source sources.old sources.new)
+        (writing O.Sink out.old out.new) tells_none result }
+{
+    let job = take_job(alloc, &mut sources.job)?;
+    printed(put_job(alloc, &job, out))
+}
+
+fn put_job<O: Sink>(alloc: Global, job: &Job, out: &mut O) -> Result<(), PrintFault>
+    requires { O.has_failed out.old ≡ false }
+    ensures { Puts (compiling.Comes [] job.now no_plan) compiling.InPieces
+        (writing O.Sink out.old out.new) tells_none result }
+{
+    print_text(alloc, out, job)?;
     Ok(())
 }
 

@@ -7,6 +7,10 @@ pub returns-in-check : goal.returns-in-check
 returns-in-check c = rw (← c.in-check.is)
     (met_file _ _ _ _ c.in_ok-name.ensures.name c.in_ok-name.ensures.rows c.in_ok-file.ensures)
 
+pub returns-in-compile : goal.returns-in-compile
+returns-in-compile c = rw (← c.in-compile.is)
+    (met_file _ _ _ _ c.in_ok-name.ensures.name c.in_ok-name.ensures.rows c.in_ok-file.ensures)
+
 pub returns-in-plain : goal.returns-in-plain
 returns-in-plain c = rw (← c.in-plain.is) (
   met_file _ _ _ _ c.in_ok-name.ensures.name c.in_ok-name.ensures.rows c.in_ok-file.ensures,

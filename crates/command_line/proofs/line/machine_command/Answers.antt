@@ -13,7 +13,8 @@ returns c =
       top = record a.top { has_version = true; subcommand_required = true };
     }) c.new.ensures.app) in
     let one = added _ _ _ _ _ c.in_ok-subcommand.ensures.shape bare_is c.in_ok-check.ensures refl in
-    let two = added _ _ _ _ _ c.in_ok-subcommand-2.ensures.shape one c.in_ok-plain.ensures refl in
-    let three = added _ _ _ _ _ c.in_ok-subcommand-3.ensures.shape two c.in_ok-cost.ensures refl in
-    IfOk-weaker c.subcommand-4.result _ _
-    (λ r last. added _ _ _ _ _ last.shape three c.in_ok-steps.ensures refl) c.subcommand-4.ensures
+    let two = added _ _ _ _ _ c.in_ok-subcommand-2.ensures.shape one c.in_ok-compile.ensures refl in
+    let three = added _ _ _ _ _ c.in_ok-subcommand-3.ensures.shape two c.in_ok-plain.ensures refl in
+    let four = added _ _ _ _ _ c.in_ok-subcommand-4.ensures.shape three c.in_ok-cost.ensures refl in
+    IfOk-weaker c.subcommand-5.result _ _
+    (λ r last. added _ _ _ _ _ last.shape four c.in_ok-steps.ensures refl) c.subcommand-5.ensures

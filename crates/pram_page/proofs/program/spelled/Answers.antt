@@ -3,7 +3,7 @@ use Rattle.std.specs.Prelude.{slice_index}
 use Rattle.pram_text.specs.Text.{Spells}
 use Rattle.job_text.specs.Laws.{JumpsLand}
 use Rattle.job_text.specs.Printed.{text_of}
-use Rattle.pram_page.proofs.Landing.{jumps_land}
+use Rattle.pardo_answers.proofs.Landing.{jumps_land}
 use Rattle.pram_page.proofs.program.spelled.Goals as goal
 
 pub returns-clause-spells : goal.returns-clause-spells
