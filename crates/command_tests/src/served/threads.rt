@@ -1,6 +1,6 @@
 //! Runs and watches served: answers, reads, and cells that a job does not have. In texts `/` stands
 //! for a line feed.
-use crate::tests::{Below, FILE, Served, TWO, expect, expect_below, run_line, serve_rows};
+use crate::served::{Below, FILE, Served, TWO, expect, expect_below, run_line, serve_rows};
 use pram_commands::{Block, CellList, Line, Manner, Telling};
 use std::alloc::Global;
 use std::process::Abort;

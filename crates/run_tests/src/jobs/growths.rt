@@ -2,7 +2,7 @@
 //! same call then succeeds.
 ghost use Rattle.std.specs.Prelude.{◌≡◌, IfOk};
 
-use crate::tests::{SWAP, Wanted};
+use crate::jobs::{SWAP, Wanted};
 use pram_board::{Board, Seat};
 use pram_run::{Sight, Trace, replay, run, watch};
 use pram_step::RunAnswer;

@@ -1,5 +1,5 @@
 //! The sentence that explains a refusal.
-use crate::tests::{CHECK, of_text};
+use crate::served::{CHECK, of_text};
 use pram_commands::{CommandFault, Console, Explanation, Line, Reasons, Workers, serve};
 use pram_streams::{IntoWrite, Reason};
 use pram_text::TextKind;

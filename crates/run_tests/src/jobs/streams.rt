@@ -2,8 +2,8 @@
 //! ends within a row of the plan.
 ghost use Rattle.std.specs.Prelude.{◌≤◌};
 
-use crate::tests::replays::{LONG_SWAP, traced};
-use crate::tests::{Wanted, plan_of};
+use crate::jobs::replays::{LONG_SWAP, traced};
+use crate::jobs::{Wanted, plan_of};
 use pram_run::{print_trace, replay_to};
 use pram_streams::IntoWrite;
 use pram_text::read_job;

@@ -1,6 +1,6 @@
 //! What lines write for a text, and their statuses. In rows `/` stands for
 //! a line feed.
-use crate::tests::{CHECK, COMPILE, COST, FILE, PLAIN, TWO, expect, expect_table};
+use crate::served::{CHECK, COMPILE, COST, FILE, PLAIN, TWO, expect, expect_table};
 use pram_commands::{Line, Workers};
 use std::test::Fail;
 

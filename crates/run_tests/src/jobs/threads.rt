@@ -1,7 +1,7 @@
 //! Runs on threads: worked rows, and gates that hold workers and readers at chosen ticks.
 ghost use Rattle.std.specs.Prelude.{◌≤◌};
 
-use crate::tests::{
+use crate::jobs::{
     BELOW_ZERO, BEYOND, COMMON_EQUAL, COMMON_NUMBERS, CREW_EQUAL, LATER, PRIORITY_NUMBERS, SET,
     SUMS, SWAP, TWO_CELLS, Wanted, holds_at, plan_of,
 };

@@ -2,7 +2,7 @@
 //! feed.
 ghost use Rattle.std.specs.Prelude.{◌≤◌};
 
-use crate::tests::{Below, FILE, expect, expect_below, serve_rows};
+use crate::served::{Below, FILE, expect, expect_below, serve_rows};
 use pram_commands::{Line, Workers};
 use std::test::Fail;
 

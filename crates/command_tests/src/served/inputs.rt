@@ -1,7 +1,7 @@
 //! Jobs and plans taken from their sources.
 ghost use Rattle.std.specs.Prelude.{◌≡◌, false};
 
-use crate::tests::TWO;
+use crate::served::TWO;
 use pram_commands::{
     CellList, CommandFault, Reads, Sources, Wanted, Workers, cost, replay, run, take_inputs,
     take_plan, watch,

@@ -1,7 +1,7 @@
 //! Worked rows by replay: by 1, 2 and 4 workers, and under plans that leave some worker.
 ghost use Rattle.std.specs.Prelude.{◌≤◌};
 
-use crate::tests::{
+use crate::jobs::{
     BELOW_ZERO, BEYOND, COMMON_EQUAL, COMMON_NUMBERS, CREW_EQUAL, LATER, PRIORITY_NUMBERS, SET,
     SUMS, SWAP, TWO_CELLS, Wanted, holds_at, plan_of,
 };

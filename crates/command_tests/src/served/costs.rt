@@ -1,5 +1,5 @@
 //! What is printed of a text's answer and of its costs.
-use crate::tests::{COST, PLAIN, expect};
+use crate::served::{COST, PLAIN, expect};
 use std::alloc::Global;
 use std::process::Abort;
 use std::rt::Clock;

@@ -1,7 +1,7 @@
 //! Devices that fail at each place in turn.
 ghost use Rattle.std.specs.Prelude.{◌≡◌, false};
 
-use crate::tests::of_text;
+use crate::served::of_text;
 use failing_devices::Drip;
 use pram_commands::{CommandFault, Sources, check, plain};
 use pram_streams::{Empty, IntoWrite, MOST, Source};

@@ -2,7 +2,7 @@
 //! the answer is heard while another is, and where the sink fails the watch goes on.
 ghost use Rattle.std.specs.Prelude.{◌≡◌, ⊤, false};
 
-use crate::tests::LATER;
+use crate::jobs::LATER;
 use pram_board::{Board, Seat};
 use pram_run::{Assignment, Listener, Observation, Reads, Sight, print_reads, watch_heard};
 use pram_step::RunAnswer;

@@ -2,8 +2,8 @@
 //! refused.
 ghost use Rattle.std.specs.Prelude.{◌≤◌};
 
-use crate::tests::programs::PROGRAMS;
-use crate::tests::{CHECK, COMPILE, FILE, PLAIN, of_text, serve_text};
+use crate::served::programs::PROGRAMS;
+use crate::served::{CHECK, COMPILE, FILE, PLAIN, of_text, serve_text};
 use pram_commands::{Console, Line, Manner, Telling, Workers, serve};
 use pram_streams::IntoWrite;
 use std::alloc::Global;

@@ -1,7 +1,7 @@
 //! Answers that are heard while a worker is held, and after all have left.
 ghost use Rattle.std.specs.Prelude.{◌≡◌, ◌≤◌, ⊤};
 
-use crate::tests::{SWAP, TWO_CELLS, holds_at, plan_of};
+use crate::jobs::{SWAP, TWO_CELLS, holds_at, plan_of};
 use pram_board::Board;
 use pram_run::{Assignment, Listener, run_heard};
 use pram_step::RunAnswer;

@@ -1,5 +1,5 @@
 //! Files and outputs that fail.
-use crate::tests::{
+use crate::served::{
     CHECK, FILE, PLAIN, Served, TWO, run_line, serve_source, serve_sources, serve_text,
 };
 use failing_devices::Drip;
