@@ -58,7 +58,7 @@ const WORKERS: &str = "How many workers there are, from 1 to 64";
 
 const PLAN: &str = "The plan that the workers follow, as CSV; - is standard input";
 
-const CELLS: &str = "The cells that are read, by their numbers";
+const CELLS: &str = "The cells that are read, by their numbers, or as places of a program: A[3],s";
 
 const ROUNDS: &str = "How often they are read, from 1 to 1000000";
 
@@ -173,7 +173,7 @@ fn cells_error(alloc: Global, text: &str) -> Result<Error, AllocError>
     ensures { IfOk result (λ error. kind_of error ≡ ErrorKind.ValueValidation) }
 {
     let message = format!(in alloc;
-        "invalid value '{text}' for '--cells <C,C,..>': cells are numbers with commas between"
+        "invalid value '{text}' for '--cells <C,C,..>': cells are numbers or places, with commas between"
     )?;
     let command = watch_command(alloc)?.bin_name("pramx watch")?;
     refused(command, message.as_str())

@@ -164,7 +164,7 @@ pramx steps f --from 0 -> ValueValidation
 pramx steps f --to last -> ValueValidation
 pramx steps f --from 3 --to 2 -> ValueValidation
 pramx watch f --workers 1 --rounds 1 -> MissingRequiredArgument
-pramx watch f --workers 1 --rounds 1 --cells 1,x -> ValueValidation
+pramx watch f --workers 1 --rounds 1 --cells 1,3x -> ValueValidation
 pramx watch f --workers 1 --rounds 1 --cells 1,,2 -> ValueValidation
 pramx watch f --workers 1 --rounds 0 --cells 1 -> ValueValidation
 pramx watch f --workers 1 --rounds 1000001 --cells 1 -> ValueValidation
@@ -235,7 +235,7 @@ fn text_of(alloc: Global, row: &str) -> Result<Option<String>, AllocError> {
 }
 
 const BAD_CELLS_TEXT: &str = "\
-error: invalid value '1,x' for '--cells <C,C,..>': cells are numbers with commas between
+error: invalid value '1,3x' for '--cells <C,C,..>': cells are numbers or places, with commas between
 
 Usage: pramx watch [OPTIONS] --workers <W> --cells <C,C,..> --rounds <R> <FILE>
 
@@ -266,7 +266,7 @@ fn texts_of_errors_and_requests(rt: HostRuntime) -> Result<(), Fail> {
     for (row, wanted) in [
         ("pramx --version", "pramx 0.2.0\n"),
         (
-            "pramx watch f --workers 1 --rounds 1 --cells 1,x",
+            "pramx watch f --workers 1 --rounds 1 --cells 1,3x",
             BAD_CELLS_TEXT,
         ),
         ("pramx run f --workers 1 --block 48", ODD_BLOCK_TEXT),

@@ -11,3 +11,4 @@ mod text;
 pub use ended::{Ended, Lines, plain_end};
 pub use language::is_program;
 pub use print::{Names, print_named};
+pub use text::push_cell;

@@ -60,8 +60,8 @@ fn value_at(cells: &[u32], cell: usize) -> u32
     cells.get(cell).copied().unwrap_or(0)
 }
 
-/// The place of a shared cell.
-pub(crate) fn push_cell(text: &mut Vec<u8>, arrays: &[Array], cell: usize) -> Result<(), AllocError>
+/// Adds the place of a shared cell of these arrays, and nothing for another cell.
+pub fn push_cell(text: &mut Vec<u8>, arrays: &[Array], cell: usize) -> Result<(), AllocError>
     ensures { OnOk result (text.new.items ≡ text.old.items ++ cell_text arrays.now cell) }
 {
     for array in arrays {

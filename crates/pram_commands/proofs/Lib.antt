@@ -5,4 +5,5 @@ pub mod Ends
 pub mod Statuses
 pub mod Told
 pub mod Hearing
+pub mod Outside
 pub mod Watching

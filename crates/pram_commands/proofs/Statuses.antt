@@ -18,6 +18,7 @@ use Rattle.pram_commands.specs.Line.{command_of}
 use Rattle.pram_commands.specs.Served.{Served}
 use Rattle.pram_commands.specs.declared.fault.CommandFault.{CommandFault}
 use Rattle.pram_commands.specs.declared.fault.CommandFault.TheVariants.{Text, Program, Plan, OutsideCell}
+use Rattle.pram_commands.specs.declared.fault.CommandFault.TheVariants.{OutsidePlace}
 use Rattle.pram_commands.specs.declared.fault.CommandFault.TheVariants.{OutsideStep}
 use Rattle.pram_commands.specs.declared.fault.CommandFault.TheVariants.{JobDevice, PlanDevice}
 use Rattle.pram_commands.specs.declared.fault.CommandFault.TheVariants.{OutDevice, JobTooLarge}
@@ -45,6 +46,8 @@ fault-status (Program refusal) =
 fault-status (Plan row kind) =
     record { least = omega arith; most = omega arith; other = λ e. omega (arith, e) }
 fault-status (OutsideCell cell) =
+    record { least = omega arith; most = omega arith; other = λ e. omega (arith, e) }
+fault-status (OutsidePlace at) =
     record { least = omega arith; most = omega arith; other = λ e. omega (arith, e) }
 fault-status (OutsideStep step) =
     record { least = omega arith; most = omega arith; other = λ e. omega (arith, e) }
@@ -116,6 +119,7 @@ wrote-none command r w (Text number kind) two wrote = wrote
 wrote-none command r w (Program refusal) two wrote = wrote
 wrote-none command r w (Plan row kind) two wrote = wrote
 wrote-none command r w (OutsideCell cell) two wrote = wrote
+wrote-none command r w (OutsidePlace at) two wrote = wrote
 wrote-none command r w (OutsideStep step) two wrote = wrote
 wrote-none command r w JobDevice two wrote = wrote
 wrote-none command r w PlanDevice two wrote = wrote
@@ -130,6 +134,7 @@ wrote-some command r w (Text number kind) wrote = inl wrote
 wrote-some command r w (Program refusal) wrote = inl wrote
 wrote-some command r w (Plan row kind) wrote = inl wrote
 wrote-some command r w (OutsideCell cell) wrote = inl wrote
+wrote-some command r w (OutsidePlace at) wrote = inl wrote
 wrote-some command r w (OutsideStep step) wrote = inl wrote
 wrote-some command r w JobDevice wrote = inl wrote
 wrote-some command r w PlanDevice wrote = inl wrote

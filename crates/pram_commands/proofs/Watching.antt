@@ -21,7 +21,7 @@ use Rattle.pram_commands.specs.Inner.Puts.{Puts, outcome}
 use Rattle.pram_commands.specs.Inner.Watching.{Hearing, HasPrintedAfter, IsWatchedBy}
 use Rattle.pram_commands.specs.Inner.Watching.{Reading}
 use Rattle.pram_commands.specs.Names.{AreNames, NamingData}
-use Rattle.pram_commands.specs.Threads.{TellsSights}
+use Rattle.pram_commands.specs.Threads.{TellsSights, cell_words}
 use Rattle.pram_commands.specs.declared.sources.Inputs.{Inputs}
 use Rattle.pram_commands.proofs.Doing.{begins_after, begins_front, ok_not_err, put_both, put_failed}
 use Rattle.pram_commands.proofs.Doing.{well}
@@ -59,10 +59,11 @@ watched_as task plan given later ended heard Reads Hears Reads' Hears' of reads 
 -- what a watch tells whose reads were put
 pub told_by : {P H : Type 0} (Reads : Reading P) (Hears : Hearing P H) (inputs : Inputs)
     (cells : List ℕ) (rounds : ℕ) (ended : Ended × H) (a b : Option (List ℕ))
-    (printed : Printing) (by : IsWatchedBy Reads Hears inputs cells rounds ended) →
-    (put : PutWatch by.made.0.task cells rounds by.made.1 by.on.watched.ran.reader a b printed) →
-    TellsSights inputs.job inputs.plan cells rounds by.on.watched.answer (sights_text put.sights)
-told_by Reads Hears inputs cells rounds ended a b printed by put =
+    (printed : Printing) (names : Option NamingData) (by : IsWatchedBy Reads Hears inputs cells rounds ended) →
+    (put : PutWatch (cell_words names) by.made.0.task cells rounds by.made.1 by.on.watched.ran.reader a b printed) →
+    TellsSights names inputs.job inputs.plan cells rounds by.on.watched.answer
+    (sights_text (cell_words names) put.sights)
+told_by Reads Hears inputs cells rounds ended a b printed names by put =
     let all = by.on.watched in
     record {
       sights = put.sights;
@@ -95,10 +96,10 @@ no_answer : IsErrOf {T = RunAnswer} (Err Memory) Device → ⊥
 no_answer is = cc is
 
 module _ {O : Type 0} (of_out : a_sink.Ghosts O) (inputs : Inputs) (cells : List ℕ) (rounds : ℕ)
-    (before mid last : O) (names : Option NamingData)
+    (before mid last : O) (seen names : Option NamingData)
     (are_names : AreNames inputs.text.items inputs.job names) where
   abbrev Tells : RunAnswer → List ℕ → Type 0
-  Tells = TellsSights inputs.job inputs.plan cells rounds
+  Tells = TellsSights seen inputs.job inputs.plan cells rounds
 
   abbrev Watches : Result RunAnswer PrintFault → Type 0
   Watches = Puts (Answering Tells inputs.text.items inputs.job) ⊤ (writing of_out before last) tells

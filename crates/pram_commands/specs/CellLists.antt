@@ -1,11 +1,25 @@
--- Cells named by a text of numbers, parted by commas.
-use Rattle.std.specs.Prelude.{◌==◌, ◌<◌, ◌^◌, ℕ, List, map}
+-- Cells named by a text, parted by commas: by their numbers, or as places of a program.
+use Rattle.std.specs.Prelude.{◌≡◌, ◌⊎◌, ◌==◌, ◌<◌, ◌≤◌, ◌^◌, ℕ, Bool, true, false, List, [], ◌∷◌, length}
+use Rattle.std.specs.Prelude.{Option, None, Some, IsTrue, slice_index_or, ⊤}
 use Rattle.std.specs.List.{All, slice_split}
 use Rattle.std.specs.Str.Parse.{IsNumeral, digits_value, without_leading_plus}
+use Rattle.pram_text.specs.Job.{JobData}
+use Rattle.pardo_text.specs.Tokens.{begins_name}
+use Rattle.pardo_job.specs.Printed.{cell_text}
+use Rattle.pram_commands.specs.Names.{NamingData}
+use Rattle.pram_commands.specs.declared.fault.CommandFault.{CommandFault}
+use Rattle.pram_commands.specs.declared.fault.CommandFault.TheVariants.{OutsideCell, OutsidePlace}
+use Rattle.pram_commands.specs.declared.fault.CommandFault.TheVariants.{Memory}
 
 -- the parts of a text between its commas
 abbrev pub parts_of : List ℕ → List (List ℕ)
 parts_of = slice_split (λ byte. byte == 44)
+
+-- the part of this number, counted from 0
+abbrev pub part_at : List (List ℕ) → ℕ → List ℕ
+part_at parts at = slice_index_or parts at []
+
+-- ---- which texts are lists
 
 abbrev pub cell_of : List ℕ → ℕ
 cell_of part = digits_value 10 (without_leading_plus part)
@@ -14,10 +28,54 @@ cell_of part = digits_value 10 (without_leading_plus part)
 abbrev pub SpellsCell : List ℕ → Type 0
 SpellsCell part = IsNumeral 10 (without_leading_plus part) × (cell_of part < 2 ^ 32)
 
--- each part is such a number
-abbrev pub SpellsCells : List ℕ → Type 0
-SpellsCells text = All SpellsCell (parts_of text)
+-- whether it begins as a name does
+abbrev pub begins_place : List ℕ → Bool
+begins_place [] = false
+begins_place (byte ∷ bytes) = begins_name byte
 
--- the numbers, in order
-abbrev pub cells_of : List ℕ → List ℕ
-cells_of text = map cell_of (parts_of text)
+-- each part is such a number, or begins as a name does
+abbrev pub SpellsPart : List ℕ → Type 0
+SpellsPart part = SpellsCell part ⊎ IsTrue (begins_place part)
+
+abbrev pub SpellsCells : List ℕ → Type 0
+SpellsCells text = All SpellsPart (parts_of text)
+
+-- ---- which cells they name
+
+-- the program's answers tell the cell so: `A[3]`, or a scalar by its name
+abbrev pub IsPlaceOf : Option NamingData → ℕ → List ℕ → Type 0
+IsPlaceOf None cell part = ⊥
+IsPlaceOf (Some naming) cell part =
+    (1 ≤ length part) × (cell_text naming.program.arrays cell ≡ part)
+
+-- A number names the cell of that number, and another part the cell whose place it is.
+abbrev pub IsCellOf : Option NamingData → List ℕ → ℕ → Type 0
+IsCellOf names part cell = (SpellsCell part × (cell ≡ cell_of part))
+    ⊎ ((¬ SpellsCell part) × IsPlaceOf names cell part)
+
+-- these cells, one for each part
+abbrev pub AreCellsOf : Option NamingData → List (List ℕ) → List ℕ → Type 0
+AreCellsOf names [] [] = ⊤
+AreCellsOf names (part ∷ parts) (cell ∷ cells) =
+    IsCellOf names part cell × AreCellsOf names parts cells
+AreCellsOf names _ _ = ⊥
+
+-- the job has the cell that the part names
+abbrev pub HasCell : Option NamingData → JobData → List ℕ → Type 0
+HasCell names job part = (cell : ℕ) × IsCellOf names part cell × (cell < job.cells)
+
+-- This is the first of the parts that names no cell of the job.
+pub record IsFirstOutside (names : Option NamingData) (job : JobData) (parts : List (List ℕ))
+    (at : ℕ) : Type 0 where
+  pub within : at < length parts
+  pub before : (k : ℕ) → k < at → HasCell names job (part_at parts k)
+  pub here : ¬ HasCell names job (part_at parts at)
+
+-- So says the fault: by the number of the cell, or else by that of the part.
+abbrev pub IsOutside : Option NamingData → JobData → List (List ℕ) → CommandFault → Type 0
+IsOutside names job parts (OutsideCell cell) = (at : ℕ) × IsFirstOutside names job parts at
+    × SpellsCell (part_at parts at) × (cell ≡ cell_of (part_at parts at))
+IsOutside names job parts (OutsidePlace at) =
+    IsFirstOutside names job parts at × (¬ SpellsCell (part_at parts at))
+IsOutside names job parts Memory = ⊤
+IsOutside names job parts _ = ⊥

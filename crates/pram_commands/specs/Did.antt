@@ -11,13 +11,14 @@ use Rattle.pram_streams.specs.declared.device.Sink as a_sink
 use Rattle.pram_streams.specs.declared.transfer.TheConstants.{MOST}
 use Rattle.stop_plan.specs.Plan.{PlanData}
 use Rattle.pram_commands.specs.Inputs.{GivesFault, GivesPlan, GivesPlanFault, GivesText}
-use Rattle.pram_commands.specs.Inputs.{GivesSomeJob, IsOfJob, Reading, Taking, first_outside}
+use Rattle.pram_commands.specs.CellLists.{IsOutside}
+use Rattle.pram_commands.specs.Inputs.{GivesSomeJob, IsOfJob, Reading, Taking}
 use Rattle.pram_commands.specs.Inputs.{missing_step}
 use Rattle.pram_commands.specs.Names.{AreNames, NamingData, told}
 use Rattle.pram_commands.specs.declared.fault.CommandFault.{CommandFault}
 use Rattle.pram_commands.specs.declared.fault.CommandFault.TheVariants.{Text, Program, Plan}
 use Rattle.pram_commands.specs.declared.fault.CommandFault.TheVariants.{OutsideCell, JobDevice}
-use Rattle.pram_commands.specs.declared.fault.CommandFault.TheVariants.{OutsideStep}
+use Rattle.pram_commands.specs.declared.fault.CommandFault.TheVariants.{OutsidePlace, OutsideStep}
 use Rattle.pram_commands.specs.declared.fault.CommandFault.TheVariants.{PlanDevice, OutDevice}
 use Rattle.pram_commands.specs.declared.fault.CommandFault.TheVariants.{JobTooLarge, PlanTooLarge}
 use Rattle.pram_commands.specs.declared.fault.CommandFault.TheVariants.{Memory}
@@ -38,14 +39,14 @@ writing of_out before after = record {
   Unwritten = after ≡ before;
 }
 
--- What a command is: the workers of the plan that it follows, if it follows one; the cells that the
--- job has to have; the first step that it shows, which the job has to have, or 1; whether it prints
+-- What a command is: the workers of the plan that it follows, if it follows one; the parts of a list
+-- of cells that the job has to have; the first step that it shows, which the job has to have, or 1; whether it prints
 -- in pieces, so that a beginning may stand printed where memory runs out; and what it comes to: on
 -- this text, its job and this plan it prints these bytes, and this is the answer, if
 -- it gives one.
 pub record Command : Type 1 where
   pub workers : Option ℕ
-  pub cells : List ℕ
+  pub cells : List (List ℕ)
   pub first : ℕ
   pub InPieces : Type 0
   pub Comes : List ℕ → JobData → PlanData → List ℕ → Option RunAnswer → Type 0
@@ -125,12 +126,14 @@ abbrev pub AfterJob : Option ℕ → Reading → (ℕ → Type 0) → Type 0
 AfterJob None reads Holds = ⊥
 AfterJob (Some workers) reads Holds = GivesSomeJob reads.job reads.job' × Holds workers
 
--- The sources gave a job, and this is the first of the command's cells that the job does not have.
-pub record GivesOutside (command : Command) (reads : Reading) (cell : ℕ) : Type 0 where
+-- The sources gave a job, and this fault says the first of the command's cells that it does not have.
+pub record GivesOutside (command : Command) (reads : Reading) (fault : CommandFault) : Type 0 where
   pub job : JobData
   pub plan : PlanData
+  pub names : Option NamingData
   pub given : Given command reads job plan
-  pub outside : first_outside job command.cells ≡ Some cell
+  pub are_names : AreNames given.job_text job names
+  pub outside : IsOutside names job command.cells fault
 
 -- The sources gave a job, and it does not have the first step that the command shows.
 pub record GivesNoStep (command : Command) (reads : Reading) (step : ℕ) : Type 0 where
@@ -146,7 +149,8 @@ Explains command reads writes (Program refusal) = GivesFault reads.job reads.job
 Explains command reads writes (Plan row kind) =
     AfterJob command.workers reads
     (λ workers. GivesPlanFault reads.plan reads.plan' workers row kind)
-Explains command reads writes (OutsideCell cell) = GivesOutside command reads cell
+Explains command reads writes (OutsideCell cell) = GivesOutside command reads (OutsideCell cell)
+Explains command reads writes (OutsidePlace at) = GivesOutside command reads (OutsidePlace at)
 Explains command reads writes (OutsideStep step) = GivesNoStep command reads step
 Explains command reads writes JobDevice = IsTrue reads.job_failed
 Explains command reads writes PlanDevice =

@@ -7,7 +7,7 @@ use Rattle.pram_streams.specs.declared.transfer.TakeFault.TheVariants as take
 use Rattle.pram_commands.specs.declared.fault.CommandFault.{CommandFault}
 use Rattle.pram_commands.specs.declared.fault.CommandFault.TheVariants.{Text, Program, Plan}
 use Rattle.pram_commands.specs.declared.fault.CommandFault.TheVariants.{OutsideCell, JobDevice}
-use Rattle.pram_commands.specs.declared.fault.CommandFault.TheVariants.{OutsideStep}
+use Rattle.pram_commands.specs.declared.fault.CommandFault.TheVariants.{OutsidePlace, OutsideStep}
 use Rattle.pram_commands.specs.declared.fault.CommandFault.TheVariants.{PlanDevice, OutDevice}
 use Rattle.pram_commands.specs.declared.fault.CommandFault.TheVariants.{JobTooLarge, PlanTooLarge}
 use Rattle.pram_commands.specs.declared.fault.CommandFault.TheVariants.{Memory}
@@ -36,6 +36,7 @@ fault_status (Text line kind) = REFUSED
 fault_status (Program refusal) = REFUSED
 fault_status (Plan row kind) = REFUSED
 fault_status (OutsideCell cell) = REFUSED
+fault_status (OutsidePlace at) = REFUSED
 fault_status (OutsideStep step) = REFUSED
 fault_status JobDevice = FAILED
 fault_status PlanDevice = FAILED

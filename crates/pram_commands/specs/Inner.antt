@@ -1,6 +1,5 @@
 -- For private contracts alone.
 pub mod Puts
 pub mod Refusals
-pub mod Cells
 pub mod Hearing
 pub mod Watching

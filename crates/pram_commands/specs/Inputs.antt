@@ -1,6 +1,6 @@
 -- What reading a job and a plan says of their sources, by their bytes before and after.
 use Rattle.std.specs.Prelude.{◌≡◌, ◌≢◌, ◌↔◌, ℕ, Bool, true, false, List, Option, Result, ⊤}
-use Rattle.std.specs.Prelude.{IfOk, IfErr, IsErrOf, IsTrue, find, nat_le, nat_lt, ◌&&◌}
+use Rattle.std.specs.Prelude.{IfOk, IfErr, IsErrOf, IsTrue, nat_lt, ◌&&◌}
 use Rattle.std.specs.Prelude.{if◌then◌else◌, None, Some}
 use Rattle.pram_text.specs.Job.{JobData}
 use Rattle.pram_text.specs.Text.{Bears}
@@ -173,10 +173,6 @@ pub record Took (workers : ℕ) (taken : Taking) (result : Result Inputs Command
   pub plan_failed : IsTrue taken.reads.plan_failed ↔ IsErrOf result PlanDevice
   pub job_reads : GivesSome taken.reads.job taken.reads.job'
   pub plan_reads : GivesSome taken.reads.plan taken.reads.plan'
-
--- The first of the cells that the job does not have.
-abbrev pub first_outside : JobData → List ℕ → Option ℕ
-first_outside job cells = find (λ cell. nat_le job.cells cell) cells
 
 -- The step, if the job does not have it. Step 1 is never missed, also where the job has no step.
 abbrev pub missing_step : JobData → ℕ → Option ℕ

@@ -1,7 +1,7 @@
 -- The files that a line names, and its command.
-use Rattle.std.specs.Prelude.{ℕ, List, Option, None, ⊤, option_map}
+use Rattle.std.specs.Prelude.{ℕ, List, [], Option, None, ⊤, option_map}
 use Rattle.std.specs.Borrow.{Bor}
-use Rattle.pram_commands.specs.CellLists.{cells_of}
+use Rattle.pram_commands.specs.CellLists.{part_at, parts_of}
 use Rattle.pram_commands.specs.Costs.{costing}
 use Rattle.pram_commands.specs.Did.{Command}
 use Rattle.pram_commands.specs.Plain.{checking, plainly}
@@ -36,6 +36,11 @@ plan_of (Run file plan manner why) = text_of plan
 plan_of (Watch file plan manner cells rounds) = text_of plan
 plan_of (Replay file workers plan alone) = text_of plan
 
+-- the part of this number of the list of cells
+abbrev pub place_of : Line → ℕ → List ℕ
+place_of (Watch file plan manner cells rounds) at = part_at (parts_of cells.text.now) at
+place_of _ at = []
+
 -- what the line comes to: its command says which bytes it prints on a job and a plan, and how it
 -- ends
 abbrev pub command_of : Line → Command
@@ -46,7 +51,7 @@ command_of (Cost file) = costing
 command_of (Steps file from to alone) = stepping alone (record { from = from; to = to })
 command_of (Run file plan manner why) = running why manner.workers.count
 command_of (Watch file plan manner cells rounds) =
-    watching manner.workers.count (cells_of cells.text.now) rounds
+    watching manner.workers.count (parts_of cells.text.now) rounds
 command_of (Replay file workers plan alone) = replaying alone workers.count
 
 -- The line is done by the thread that calls.

@@ -1,6 +1,6 @@
 -- What the commands come to that run a job on threads.
-use Rattle.std.specs.Prelude.{◌≡◌, ◌^◌, ℕ, Bool, List, [], Option, None, Some, ⊤, map}
-use Rattle.std.specs.Prelude.{slice_index, All}
+use Rattle.std.specs.Prelude.{◌≡◌, ◌^◌, ℕ, Bool, List, [], ◌∷◌, Option, None, Some, ⊤, map}
+use Rattle.std.specs.Prelude.{slice_index, All, codes, decimal}
 use Rattle.std.specs.List.{repeat}
 use Rattle.std.specs.List.Sorted.{IsNonDecreasingBy}
 use Rattle.pram_text.specs.Job.{JobData}
@@ -11,11 +11,14 @@ pub use Rattle.pram_words.specs.Words.{IsGrain, grain_for}
 use Rattle.stop_plan.specs.Plan.{PlanData}
 use Rattle.pram_board.specs.Seats.{Desk, SeatData, IsOpened}
 use Rattle.pram_run.specs.Heard.{HasRunBeside}
-use Rattle.pram_run.specs.Printed.{sights_text}
+use Rattle.pram_run.specs.Printed.{CellWords, by_numbers, sights_text}
+use Rattle.pardo_job.specs.Printed.{cell_text}
 use Rattle.pram_run.specs.Running.{IsRun}
 use Rattle.pram_run.specs.Watching.{HasReadBeside, IsWatch}
 use Rattle.pram_run.specs.declared.sight.Sight.{Sight}
+use Rattle.pram_commands.specs.CellLists.{AreCellsOf}
 use Rattle.pram_commands.specs.Did.{Answering, Command}
+use Rattle.pram_commands.specs.Names.{AreNames, NamingData}
 use Rattle.pram_commands.specs.Why.{Explaining}
 use Rattle.pram_commands.specs.declared.block.Block.{Block}
 
@@ -84,20 +87,41 @@ pub record IsWatchEnd (job : JobData) (plan : PlanData) (cells : List ℕ) (roun
   pub later : SeatData
   pub at_it : WatchEndsAt job plan cells rounds later sights answer
 
--- A watch came to this answer, and these bytes tell what its reader saw.
-pub record TellsSights (job : JobData) (plan : PlanData) (cells : List ℕ) (rounds : ℕ)
-    (answer : RunAnswer) (front : List ℕ) : Type 0 where
+-- how a watch tells cells: by their numbers, or by a program's places, of those that have one
+abbrev pub or_number : List ℕ → ℕ → List ℕ
+or_number [] cell = decimal cell
+or_number (byte ∷ bytes) cell = byte ∷ bytes
+
+abbrev pub cell_words : Option NamingData → CellWords
+cell_words None = by_numbers
+cell_words (Some naming) = record {
+  header = codes "step,place,value\n";
+  word = λ cell. or_number (cell_text naming.program.arrays cell) cell;
+}
+
+-- A watch came to this answer, and these bytes tell what its reader saw, the cells by a text's names.
+pub record TellsSights (names : Option NamingData) (job : JobData) (plan : PlanData)
+    (cells : List ℕ) (rounds : ℕ) (answer : RunAnswer) (front : List ℕ) : Type 0 where
   pub sights : List Sight
   pub saw : HasSights job cells rounds sights
   pub ends : IsWatchEnd job plan cells rounds sights answer
-  pub text : front ≡ sights_text sights
+  pub text : front ≡ sights_text (cell_words names) sights
+
+-- The bytes are those of a watch of the cells that these parts name, and of its answer.
+pub record TellsWatch (parts : List (List ℕ)) (rounds : ℕ) (job_text : List ℕ) (job : JobData)
+    (plan : PlanData) (text : List ℕ) (answer : Option RunAnswer) : Type 0 where
+  pub names : Option NamingData
+  pub are_names : AreNames job_text job names
+  pub cells : List ℕ
+  pub are_cells : AreCellsOf names parts cells
+  pub shows : Answering (TellsSights names job plan cells rounds) job_text job text answer
 
 -- it prints the sights of a watch of the job under the plan, and then the answer
-abbrev pub watching : ℕ → List ℕ → ℕ → Command
-watching workers cells rounds = record {
+abbrev pub watching : ℕ → List (List ℕ) → ℕ → Command
+watching workers parts rounds = record {
   workers = Some workers;
-  cells = cells;
+  cells = parts;
   first = 1;
   InPieces = ⊤;
-  Comes = λ job_text job plan. Answering (TellsSights job plan cells rounds) job_text job;
+  Comes = TellsWatch parts rounds;
 }

@@ -40,6 +40,9 @@ impl fmt::Display for Explanation<'_> {
                 writeln!(f, "{plan}, row {row}: {}", sentences::of_plan(row, kind))
             }
             CommandFault::OutsideCell { cell } => writeln!(f, "{job}: the job has no cell {cell}"),
+            CommandFault::OutsidePlace { at } => {
+                writeln!(f, "{job}: it has no place {}", self.line.place(at))
+            }
             CommandFault::OutsideStep { step } => writeln!(f, "{job}: the job has no step {step}"),
             CommandFault::JobDevice => writeln!(f, "{job}: {}", sentences::of_file(of_job)),
             CommandFault::PlanDevice => writeln!(f, "{plan}: {}", sentences::of_file(of_plan)),

@@ -18,6 +18,9 @@ pub enum CommandFault {
     Plan { row: u64, kind: PlanKind },
     /// The job has no such cell, which is the first of its kind that a watch names.
     OutsideCell { cell: u32 },
+    /// The part of this number of what a watch names, counted from 0, is no place of the program; it
+    /// is the first of its kind.
+    OutsidePlace { at: usize },
     /// The job has no such step, with which the window of a `steps` begins.
     OutsideStep { step: u32 },
     /// The job's source failed.

@@ -1,6 +1,6 @@
 //! What the program is asked for.
 ghost use Rattle.std.specs.Prelude.{◌≡◌};
-ghost use Rattle.pram_commands.specs.Line.{file_of, plan_of, text_of};
+ghost use Rattle.pram_commands.specs.Line.{file_of, place_of, plan_of, text_of};
 
 use crate::cell_list::CellList;
 use crate::threads::Manner;
@@ -100,6 +100,16 @@ impl<'a> Line<'a> {
             Line::Check { .. } | Line::Compile { .. } | Line::Plain { .. } => None,
             Line::Cost { .. } | Line::Steps { .. } => None,
             Line::Run { plan, .. } | Line::Watch { plan, .. } | Line::Replay { plan, .. } => plan,
+        }
+    }
+
+    /// What a watch names, by its number.
+    pub(crate) fn place(&self, at: usize) -> &'a str
+        ensures { result.now ≡ place_of self.now at }
+    {
+        match self {
+            Line::Watch { cells, .. } => cells.part(at),
+            _ => "",
         }
     }
 }

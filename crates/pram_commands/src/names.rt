@@ -1,17 +1,22 @@
 //! What a text is, and how an answer is told by it.
-ghost use Rattle.std.specs.Prelude.{◌≡◌, true, false, Some, None, IfOk, IfErr};
+ghost use Rattle.std.specs.Prelude.{◌≡◌, ◌<◌, ◌++◌, ℕ, true, false, Some, None, IfOk, IfErr, OnOk};
+ghost use Rattle.std.specs.Prelude.{MatchOption};
+ghost use Rattle.pardo_job.specs.Printed.{cell_text};
 ghost use Rattle.pardo_answers.specs.Language.{is_program};
 ghost use Rattle.pram_fates.specs.Told.{line_in};
 ghost use Rattle.pram_commands.specs.Did.{writing};
 ghost use Rattle.pram_commands.specs.Inner.Hearing.{PutText};
 ghost use Rattle.pram_commands.specs.Inner.Refusals.{IsBadOrMemory, IsFaultOf};
+ghost use Rattle.pram_commands.specs.CellLists.{IsPlaceOf};
 ghost use Rattle.pram_commands.specs.Names.{AreNames, IsMachines, line_at, told};
+ghost use Rattle.pram_commands.specs.Threads.{cell_words, or_number};
 
 use crate::fault::CommandFault;
-use pardo_answers::{Ended, Names, is_program, plain_end, print_named};
+use pardo_answers::{Ended, Names, is_program, plain_end, print_named, push_cell};
 use pardo_job::{JobFault, JobKind, Refusal as ProgramRefusal, compile};
 use pardo_text::{PardoFault, PardoKind, Program};
 use pram_fates::Origin;
+use pram_run::{CellNames, Numbers};
 use pram_step::{Cells, RunAnswer};
 use pram_streams::{PrintFault, Sink, print_answer};
 use pram_text::{Job, TextFault, TextKind, read_job};
@@ -42,6 +47,29 @@ impl Model for Naming {
 }
 
 impl Naming {
+    /// The cell, of so many, whose place is told by this text, if there is one.
+    pub(crate) fn cell_at(
+        &self,
+        alloc: Global,
+        place: &[u8],
+        count: u32,
+    ) -> Result<Option<u32>, AllocError>
+        ensures { IfOk result (λ found. MatchOption found
+            ((cell : ℕ) → cell < count → ¬ IsPlaceOf (Some self.now) cell place.now)
+            (λ cell. (cell < count) × IsPlaceOf (Some self.now) cell place.now)) }
+    {
+        if place.is_empty() {
+            return Ok(None);
+        }
+        for cell in 0..count {
+            let told = place_text(alloc, &self.program, cell)?;
+            if told.as_slice() == place {
+                return Ok(Some(cell));
+            }
+        }
+        Ok(None)
+    }
+
     /// The answer of the job, which was found with its lines.
     pub(crate) fn answer(&self, alloc: Global) -> Result<RunAnswer, AllocError>
         ensures { IfOk result (λ answer. answer ≡ self.now.ended.answer) }
@@ -55,6 +83,45 @@ impl Naming {
 pub(crate) struct Words<'a> {
     pub names: &'a Option<Naming>,
     pub steps: u32,
+}
+
+impl CellNames for Words<'_> {
+    ghost words = { λ w. cell_words w.names.now };
+
+    fn header(&self) -> &str {
+        match self.names {
+            None => Numbers.header(),
+            Some(_) => "step,place,value\n",
+        }
+    }
+
+    fn push_cell(&self, text: &mut Vec<u8>, cell: u32) -> Result<(), AllocError> {
+        match self.names {
+            None => Numbers.push_cell(text, cell),
+            Some(naming) => push_place(text, &naming.program, cell),
+        }
+    }
+}
+
+// The place of a cell, or where it has none its number.
+fn push_place(text: &mut Vec<u8>, program: &Program, cell: u32) -> Result<(), AllocError>
+    ensures { OnOk result (text.new.items ≡ text.old.items
+        ++ or_number (cell_text program.now.arrays cell) cell) }
+{
+    let before = text.len();
+    push_cell(text, program.arrays(), cell as usize)?;
+    if text.len() == before {
+        return Numbers.push_cell(text, cell);
+    }
+    Ok(())
+}
+
+fn place_text(alloc: Global, program: &Program, cell: u32) -> Result<Vec<u8>, AllocError>
+    ensures { IfOk result (λ text. text.items ≡ cell_text program.now.arrays cell) }
+{
+    let mut text = Vec::new(alloc);
+    push_cell(&mut text, program.arrays(), cell as usize)?;
+    Ok(text)
 }
 
 /// The job of a text, and what its answers are told by if it is a program.

@@ -7,6 +7,7 @@ ghost use Rattle.pram_commands.specs.Inner.Hearing.{HasPrinted, HasToldEnd};
 ghost use Rattle.pram_commands.specs.Inner.Puts.{outcome};
 ghost use Rattle.pram_commands.specs.Inner.Watching.{HasPrintedAfter};
 ghost use Rattle.pram_commands.specs.Names.{AreNames};
+ghost use Rattle.pram_commands.specs.Threads.{cell_words};
 
 use crate::names::{Words, print_told};
 use crate::why::{Question, put_told};
@@ -88,7 +89,7 @@ impl<O: Sink> Reads for PrintingReads<'_, O> {
 
     ghost reads = { λ p task cells rounds given later after.
         (after.out.ghost_name ≡ p.out.ghost_name) × (after.words ≡ p.words)
-        × PutWatch task cells rounds given later (O.taken p.out.now) (O.taken after.out.now)
+        × PutWatch (cell_words p.words.names.now) task cells rounds given later (O.taken p.out.now) (O.taken after.out.now)
         after.printed × (IsTrue (O.has_failed after.out.now) ↔ IsErrOf after.printed Device) };
 
     fn read<G: Gate>(
@@ -103,7 +104,7 @@ impl<O: Sink> Reads for PrintingReads<'_, O> {
             out,
             ..
         } = self;
-        let printed = print_reads(observation, seat, sights, out);
+        let printed = print_reads(observation, seat, sights, out, &words);
         PrintingReads {
             alloc,
             words,

@@ -17,7 +17,7 @@ pub const DONE: u8 = 0;
 /// The job ended in a conflict.
 pub const CONFLICT: u8 = 1;
 
-/// The job, its plan, a cell to be watched, or a step to be shown is refused.
+/// The job, its plan, a cell or a place to be watched, or a step to be shown is refused.
 pub const REFUSED: u8 = 2;
 
 /// The workers stopped before the job's end.
@@ -43,6 +43,8 @@ pub enum Refusal<'a> {
     Plan { row: u64, kind: PlanKind },
     /// The job has no such cell.
     Cell(u32),
+    /// The program has no such place.
+    Place(&'a str),
     /// The job has no such step.
     Step(u32),
     /// The file failed.
@@ -63,7 +65,7 @@ impl Refusal<'_> {
     {
         match self {
             Refusal::Text { .. } | Refusal::Program(_) | Refusal::Plan { .. } => REFUSED,
-            Refusal::Cell(_) | Refusal::Step(_) => REFUSED,
+            Refusal::Cell(_) | Refusal::Place(_) | Refusal::Step(_) => REFUSED,
             Refusal::Memory => MEMORY,
             Refusal::File(_) | Refusal::Output | Refusal::Size(_) | Refusal::Word => FAILED,
         }
@@ -84,6 +86,7 @@ impl fmt::Display for Refusal<'_> {
             }
             Refusal::Plan { row, kind } => writeln!(f, "plan row={row} kind={kind:?}"),
             Refusal::Cell(cell) => writeln!(f, "watch cell={cell}"),
+            Refusal::Place(place) => writeln!(f, "watch place={place}"),
             Refusal::Step(step) => writeln!(f, "steps step={step}"),
             Refusal::File(name) => writeln!(f, "file {name}"),
             Refusal::Output => writeln!(f, "file -"),

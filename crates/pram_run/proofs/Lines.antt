@@ -1,6 +1,6 @@
 -- The lines of a trace's rows and of sights, and that csv writes them without quotes.
 use Rattle.std.proofs.Common.{◌≡◌, ◌∙◌, ◌++◌, ◌+◌, ◌<◌, ◌^◌, ◌∷◌, []}
-use Rattle.std.proofs.Common.{ℕ, List, Option, false, refl, sym, ap, append_assoc}
+use Rattle.std.proofs.Common.{ℕ, List, Option, false, refl, subst, sym, ap, append_assoc}
 use Rattle.std.proofs.Common.{append-nil, length, take, get_or, drop, arith}
 use Rattle.std.proofs.lemmas.List.{length-take-le, take-append-drop, take_all, take_more}
 use Rattle.std.proofs.lemmas.Bool.{ne_eqb}
@@ -13,7 +13,7 @@ use Rattle.csv.specs.Writing.{default_writer, field_text, fields_text}
 use Rattle.csv.specs.Writing.{is_blank, needs_byte, needs_quotes, row_text}
 use Rattle.pram_streams.specs.Transfer.{AppendsBeginning}
 use Rattle.pram_streams.proofs.Beginnings.{beginning-longer}
-use Rattle.pram_run.specs.Printed.{kind_word, row_line, row_lines, sight_line}
+use Rattle.pram_run.specs.Printed.{CellWords, kind_word, row_line, row_lines, sight_line}
 use Rattle.pram_run.specs.Printed.{sight_lines, sights_text, trace_text}
 use Rattle.pram_run.specs.declared.sight.Sight.{Sight}
 use Rattle.pram_run.specs.declared.trace.StepKind.{StepKind}
@@ -99,42 +99,40 @@ unfolding fields_text is_blank
 row-text tick worker word before after kind ticks workers words befores afters =
     rw (ticks, workers, kind-plain kind, words, befores, afters) (simp append_assoc)
 
--- the lines of some sights, and then of others
-pub sights-append : (sights more : List Sight) →
-    sight_lines (sights ++ more) ≡ sight_lines sights ++ sight_lines more
-sights-append [] more = refl
-sights-append (sight ∷ sights) more =
-    ap (λ l. sight_line sight ++ l) (sights-append sights more)
-    ∙ sym (append_assoc (sight_line sight) (sight_lines sights) (sight_lines more))
+module _ (words : CellWords) where
+  -- the lines of some sights, and then of others
+  pub sights-append : (sights more : List Sight) →
+      sight_lines words (sights ++ more) ≡ sight_lines words sights ++ sight_lines words more
+  sights-append [] more = refl
+  sights-append (sight ∷ sights) more =
+      ap (λ l. sight_line words sight ++ l) (sights-append sights more)
+      ∙ sym (append_assoc (sight_line words sight) (sight_lines words sights) (sight_lines words more))
 
--- the lines of one sight more
-pub sights-more : (sights : List Sight) (n : ℕ) (d : Sight) → n < length sights →
-    sight_lines (take (n + 1) sights)
-    ≡ sight_lines (take n sights) ++ sight_line (get_or sights n d)
-sights-more sights n d within =
-    ap (λ l. sight_lines l) (take_more sights n d within)
-    ∙ sights-append (take n sights) (get_or sights n d ∷ [])
-    ∙ ap (λ l. sight_lines (take n sights) ++ l) (append-nil (sight_line (get_or sights n d)))
+  -- the lines of one sight more
+  pub sights-more : (sights : List Sight) (n : ℕ) (d : Sight) → n < length sights →
+      sight_lines words (take (n + 1) sights)
+      ≡ sight_lines words (take n sights) ++ sight_line words (get_or sights n d)
+  sights-more sights n d within =
+      ap (λ l. sight_lines words l) (take_more sights n d within)
+      ∙ sights-append (take n sights) (get_or sights n d ∷ [])
+      ∙ ap (λ l. sight_lines words (take n sights) ++ l) (append-nil (sight_line words (get_or sights n d)))
 
--- the lines of all the sights, where they were made from the first one on
-pub sights-all : (sights : List Sight) (lines : List ℕ) →
-    sight_lines (take 0 sights) ++ lines ≡ sight_lines (take (length sights) sights) →
-    lines ≡ sight_lines sights
-sights-all sights lines is =
-    is ∙ ap (λ l. sight_lines l) (take_all (length sights) sights (omega arith))
+  -- the lines of all the sights, where they were made from the first one on
+  pub sights-all : (sights : List Sight) (lines : List ℕ) →
+      sight_lines words (take 0 sights) ++ lines ≡ sight_lines words (take (length sights) sights) →
+      lines ≡ sight_lines words sights
+  sights-all sights lines is =
+      is ∙ ap (λ l. sight_lines words l) (take_all (length sights) sights (omega arith))
 
--- a beginning of the text of the first sights is one of the whole text
-pub sights-begin : (a b : Option (List ℕ)) (sights : List Sight) (n : ℕ) →
-    AppendsBeginning a b (sights_text (take n sights)) → AppendsBeginning a b (sights_text sights)
-sights-begin a b sights n begins =
-    let all = sights-append (take n sights) (drop n sights) in
-    let whole = ap (λ l. sights_text l) (take-append-drop n sights) in
-    rw (sym whole, all)
-    (beginning-longer a b (sights_text (take n sights)) (sight_lines (drop n sights)) begins)
-
--- a row of three such fields as csv writes it
-pub three-text : (step cell value : List ℕ) → IsPlain step → IsPlain cell → IsPlain value →
-    row_text default_writer (step ∷ cell ∷ value ∷ [])
-    ≡ step ++ codes "," ++ cell ++ codes "," ++ value ++ codes "\n"
-unfolding fields_text is_blank
-three-text step cell value steps cells values = rw (steps, cells, values) (simp append_assoc)
+  -- a beginning of the text of the first sights is one of the whole text
+  pub sights-begin : (a b : Option (List ℕ)) (sights : List Sight) (n : ℕ) →
+      AppendsBeginning a b (sights_text words (take n sights)) → AppendsBeginning a b (sights_text words sights)
+  sights-begin a b sights n begins =
+      let front = sight_lines words (take n sights) in
+      let back = sight_lines words (drop n sights) in
+      let whole : sights_text words sights ≡ sights_text words (take n sights) ++ back =
+      ap (λ l. sights_text words l) (sym (take-append-drop n sights))
+      ∙ ap (λ l. words.header ++ l) (sights-append (take n sights) (drop n sights))
+      ∙ sym (append_assoc words.header front back) in
+      subst (λ text. AppendsBeginning a b text) (sym whole)
+      (beginning-longer a b (sights_text words (take n sights)) back begins)

@@ -26,16 +26,25 @@ row_lines tick (row ∷ rows) = row_line (tick + 1) row ++ row_lines (tick + 1) 
 abbrev pub trace_text : List TraceRow → List ℕ
 trace_text rows = codes "tick,worker,op,word,before,after\n" ++ row_lines 0 rows
 
+-- How cells are told: the header of their sights, and what tells each of them.
+pub record CellWords : Type 0 where
+  pub header : List ℕ
+  pub word : ℕ → List ℕ
+
+-- by their numbers
+abbrev pub by_numbers : CellWords
+by_numbers = record { header = codes "step,cell,value\n"; word = λ cell. decimal cell }
+
 -- the line of a sight
-abbrev pub sight_line : Sight → List ℕ
-sight_line sight = decimal sight.step ++ codes "," ++ decimal sight.cell ++ codes ","
+abbrev pub sight_line : CellWords → Sight → List ℕ
+sight_line words sight = decimal sight.step ++ codes "," ++ words.word sight.cell ++ codes ","
     ++ decimal sight.value ++ codes "\n"
 
 -- a line for each sight
-abbrev pub sight_lines : List Sight → List ℕ
-sight_lines [] = []
-sight_lines (sight ∷ sights) = sight_line sight ++ sight_lines sights
+abbrev pub sight_lines : CellWords → List Sight → List ℕ
+sight_lines words [] = []
+sight_lines words (sight ∷ sights) = sight_line words sight ++ sight_lines words sights
 
 -- the header, and a line for each sight
-abbrev pub sights_text : List Sight → List ℕ
-sights_text sights = codes "step,cell,value\n" ++ sight_lines sights
+abbrev pub sights_text : CellWords → List Sight → List ℕ
+sights_text words sights = words.header ++ sight_lines words sights

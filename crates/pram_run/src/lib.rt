@@ -3,6 +3,7 @@
 
 mod assignment;
 mod bell;
+mod cell_names;
 mod crew;
 mod ending;
 mod heard;
@@ -17,6 +18,7 @@ mod trace;
 mod watcher;
 
 pub use assignment::{Assignment, Observation};
+pub use cell_names::{CellNames, Numbers};
 pub use heard::run_heard;
 pub use listener::Listener;
 pub use observation::{Reads, print_reads, watch_heard};

@@ -14,6 +14,7 @@ ghost use Rattle.pram_run.specs.Watching.{most_waiting};
 
 use crate::assignment::{Assignment, Observation};
 use crate::bell::Bell;
+use crate::cell_names::CellNames;
 use crate::crew::Crew;
 use crate::ending::answer;
 use crate::heard::{Shift, await_end, join_beside, tells_end};
@@ -211,29 +212,31 @@ fn read_beside<'s, R: Threads + Wait, G: Gate + Sync, H, P: Reads<Heard = H>>(
 /// Goes so many rounds through the cells, and prints what it reads, as `print_sights` prints it.
 /// Where that fails, the rounds that are left are read at once: without printing, and without the
 /// gate.
-pub fn print_reads<G: Gate, W: Sink>(
+pub fn print_reads<G: Gate, W: Sink, C: CellNames>(
     observation: &Observation<'_, '_, G>,
     seat: &mut Seat,
     sights: &mut Vec<Sight>,
     sink: &mut W,
+    names: &C,
 ) -> Result<(), PrintFault>
     requires sink { W.has_failed sink.old ≡ false }
     requires seat { seat.old.desk ≡ observation.now.assignment.board.now }
     requires empty { vec_len sights.old ≡ 0 }
     requires room { most_waiting observation.now ≤ vec_capacity sights.old }
-    ensures reads { PutWatch observation.now.assignment.board.now.task observation.now.cells.now
-        observation.now.rounds seat.old seat.new (W.taken sink.old) (W.taken sink.new) result }
+    ensures reads { PutWatch (C.words names.now) observation.now.assignment.board.now.task
+        observation.now.cells.now observation.now.rounds seat.old seat.new (W.taken sink.old)
+        (W.taken sink.new) result }
     ensures failed { IsTrue (W.has_failed sink.new) ↔ IsErrOf result PrintFault.Device }
     ensures goes_on { GoesOn seat.old seat.new }
 {
-    let mut printed = begin_sights(sink);
+    let mut printed = begin_sights(sink, names);
     let mut reads = 0u64;
     for _ in 0..observation.rounds {
         read_next(observation, printed.is_ok(), seat, reads, sights);
         reads = reads.saturating_add(observation.cells.len() as u64);
-        printed = pass_sights(sink, printed, sights, observation.piece);
+        printed = pass_sights(sink, printed, sights, observation.piece, names);
     }
-    put_after(*sights.allocator(), sink, printed, sights.as_slice())
+    put_after(*sights.allocator(), sink, printed, sights.as_slice(), names)
 }
 
 // Reads each of the cells, past the gate or not.
@@ -277,15 +280,16 @@ fn read_next<G: Gate>(
 }
 
 // Prints the sights and lets them go, once there are so many.
-fn pass_sights<W: Sink>(
+fn pass_sights<W: Sink, C: CellNames>(
     sink: &mut W,
     printed: Result<(), PrintFault>,
     sights: &mut Vec<Sight>,
     piece: usize,
+    names: &C,
 ) -> Result<(), PrintFault>
     requires { IsTrue (W.has_failed sink.old) ↔ IsErrOf printed PrintFault.Device }
-    ensures passed { PassedSights printed result (W.taken sink.old) (W.taken sink.new)
-        sights.old.items sights.new.items }
+    ensures passed { PassedSights (C.words names.now) printed result (W.taken sink.old)
+        (W.taken sink.new) sights.old.items sights.new.items }
     ensures failed { IsTrue (W.has_failed sink.new) ↔ IsErrOf result PrintFault.Device }
     ensures few { vec_len sights.new ≤ piece }
     ensures capacity { vec_capacity sights.new ≡ vec_capacity sights.old }
@@ -293,24 +297,26 @@ fn pass_sights<W: Sink>(
     if sights.len() < piece {
         return printed;
     }
-    let printed = put_after(*sights.allocator(), sink, printed, sights.as_slice());
+    let printed = put_after(*sights.allocator(), sink, printed, sights.as_slice(), names);
     sights.clear();
     printed
 }
 
 // Prints the lines of sights, unless printing has failed.
-fn put_after<W: Sink>(
+fn put_after<W: Sink, C: CellNames>(
     alloc: Global,
     sink: &mut W,
     printed: Result<(), PrintFault>,
     sights: &[Sight],
+    names: &C,
 ) -> Result<(), PrintFault>
     requires { IsTrue (W.has_failed sink.old) ↔ IsErrOf printed PrintFault.Device }
-    ensures put { PutAfter printed result (W.taken sink.old) (W.taken sink.new) sights.now }
+    ensures put { PutAfter (C.words names.now) printed result (W.taken sink.old)
+        (W.taken sink.new) sights.now }
     ensures failed { IsTrue (W.has_failed sink.new) ↔ IsErrOf result PrintFault.Device }
 {
     match printed {
-        Ok(()) => put_sights(alloc, sink, sights),
+        Ok(()) => put_sights(alloc, sink, sights, names),
         Err(fault) => Err(fault),
     }
 }

@@ -1,4 +1,4 @@
-//! Traces and sights as text, written with `csv`.
+//! Traces as text, written with `csv`, and sights.
 ghost use Rattle.std.specs.Prelude.{◌≡◌, ◌+◌, ◌<◌, ◌≤◌, ◌^◌, ◌++◌, ◌↔◌, [], false, decimal, length};
 ghost use Rattle.std.specs.Prelude.{map, take, IfOk, OnOk, IsErrOf, IsTrue};
 ghost use Rattle.std.specs.Io.KnownBytes.{Appends};
@@ -8,6 +8,7 @@ ghost use Rattle.pram_run.specs.Inner.Printing.{IsBetweenRecords, PassedOn};
 ghost use Rattle.pram_run.specs.Printed.{kind_word, row_line, row_lines, sight_line};
 ghost use Rattle.pram_run.specs.Printed.{sight_lines, sights_text, trace_text};
 
+use crate::cell_names::{CellNames, push_number};
 use crate::sight::Sight;
 use crate::trace::{PART, Trace, TraceRow};
 use csv::{Error, Writer};
@@ -18,9 +19,6 @@ use std::io::Write;
 
 /// The fields of a row.
 pub(crate) const HEADER: &str = "tick,worker,op,word,before,after\n";
-
-/// The fields of a sight.
-const SIGHTS_HEADER: &str = "step,cell,value\n";
 
 /// The most rows that are put into the sink at once.
 const PIECE: usize = 2048;
@@ -157,25 +155,26 @@ fn write_row<W: Write + Drop>(
     ])
 }
 
-/// Prints sights below a header, in order. They go out piece by piece, as the rows of a trace do.
-/// Out of memory, a beginning of the text was printed, as where the sink fails.
-pub fn print_sights<W: Sink>(
+/// Prints sights below a header, in order, their cells told so. They go out piece by piece, as the
+/// rows of a trace do. Out of memory, a beginning of the text was printed, as where the sink fails.
+pub fn print_sights<W: Sink, C: CellNames>(
     alloc: Global,
     sink: &mut W,
     sights: &[Sight],
+    names: &C,
 ) -> Result<(), PrintFault>
     requires { W.has_failed sink.old ≡ false }
     ensures ok { OnOk result (Appends (W.taken sink.old) (W.taken sink.new)
-        (sights_text sights.now)) }
+        (sights_text (C.words names.now) sights.now)) }
     ensures beginning { AppendsBeginning (W.taken sink.old) (W.taken sink.new)
-        (sights_text sights.now) }
+        (sights_text (C.words names.now) sights.now) }
     ensures failed { IsTrue (W.has_failed sink.new) ↔ IsErrOf result PrintFault.Device }
 {
-    put(sink, SIGHTS_HEADER.as_bytes())?;
+    put(sink, names.header().as_bytes())?;
     let mut done = 0;
     while done < sights.len() {
         let end = sights.len().min(done.saturating_add(PIECE));
-        let lines = sights_between(alloc, sights, done, end)?;
+        let lines = sights_between(alloc, names, sights, done, end)?;
         put(sink, lines.as_slice())?;
         done = end;
     }
@@ -183,73 +182,69 @@ pub fn print_sights<W: Sink>(
 }
 
 /// Prints the header of sights.
-pub(crate) fn begin_sights<W: Sink>(sink: &mut W) -> Result<(), PrintFault>
+pub(crate) fn begin_sights<W: Sink, C: CellNames>(sink: &mut W, names: &C) -> Result<(), PrintFault>
     requires { W.has_failed sink.old ≡ false }
-    ensures ok { OnOk result (Appends (W.taken sink.old) (W.taken sink.new) (sights_text [])) }
-    ensures beginning { AppendsBeginning (W.taken sink.old) (W.taken sink.new) (sights_text []) }
+    ensures ok { OnOk result (Appends (W.taken sink.old) (W.taken sink.new)
+        (sights_text (C.words names.now) [])) }
+    ensures beginning { AppendsBeginning (W.taken sink.old) (W.taken sink.new)
+        (sights_text (C.words names.now) []) }
     ensures failed { IsTrue (W.has_failed sink.new) ↔ IsErrOf result PrintFault.Device }
 {
-    put(sink, SIGHTS_HEADER.as_bytes())?;
+    put(sink, names.header().as_bytes())?;
     Ok(())
 }
 
 /// Prints the lines of sights.
-pub(crate) fn put_sights<W: Sink>(
+pub(crate) fn put_sights<W: Sink, C: CellNames>(
     alloc: Global,
     sink: &mut W,
     sights: &[Sight],
+    names: &C,
 ) -> Result<(), PrintFault>
     requires { W.has_failed sink.old ≡ false }
     ensures ok { OnOk result (Appends (W.taken sink.old) (W.taken sink.new)
-        (sight_lines sights.now)) }
+        (sight_lines (C.words names.now) sights.now)) }
     ensures beginning { AppendsBeginning (W.taken sink.old) (W.taken sink.new)
-        (sight_lines sights.now) }
+        (sight_lines (C.words names.now) sights.now) }
     ensures failed { IsTrue (W.has_failed sink.new) ↔ IsErrOf result PrintFault.Device }
 {
-    let lines = sights_between(alloc, sights, 0, sights.len())?;
+    let lines = sights_between(alloc, names, sights, 0, sights.len())?;
     put(sink, lines.as_slice())?;
     Ok(())
 }
 
 // The lines of the sights from one place up to another.
-fn sights_between(
+fn sights_between<C: CellNames>(
     alloc: Global,
+    names: &C,
     sights: &[Sight],
     start: usize,
     end: usize,
 ) -> Result<Vec<u8>, AllocError>
     requires from { start ≤ end }
     requires to { end ≤ length sights.now }
-    ensures { IfOk result (λ lines. sight_lines (take start sights.now) ++ lines.items
-        ≡ sight_lines (take end sights.now)) }
+    ensures { IfOk result (λ lines. sight_lines (C.words names.now) (take start sights.now)
+        ++ lines.items ≡ sight_lines (C.words names.now) (take end sights.now)) }
 {
-    let mut writer = Writer::from_writer(Vec::new(alloc));
+    let mut lines = Vec::new(alloc);
     for index in start..end {
-        let Ok(()) = write_sight(&mut writer, &sights[index]) else {
-            return Err(AllocError);
-        };
+        push_sight(&mut lines, names, &sights[index])?;
     }
-    match writer.into_inner() {
-        Ok(lines) => Ok(lines),
-        Err(_) => Err(AllocError),
-    }
+    Ok(lines)
 }
 
-// The fields of a sight are numbers, which csv writes without quotes.
-fn write_sight<W: Write + Drop>(writer: &mut Writer<W>, sight: &Sight) -> Result<(), Error>
-    requires { IsBetweenRecords writer.old }
-    ensures between { OnOk result (IsBetweenRecords writer.new) }
-    ensures text { OnOk result (Appends (text_written W.contents writer.old)
-        (text_written W.contents writer.new) (sight_line sight.now)) }
+// Numbers and names hold no comma and no quote, so the line is a record as it stands.
+fn push_sight<C: CellNames>(lines: &mut Vec<u8>, names: &C, sight: &Sight) -> Result<(), AllocError>
+    ensures { OnOk result (lines.new.items
+        ≡ lines.old.items ++ sight_line (C.words names.now) sight.now) }
 {
-    let mut steps = Buffer::new();
-    let mut cells = Buffer::new();
-    let mut values = Buffer::new();
-    writer.write_fields(&[
-        number_text(&mut steps, u64::from(sight.step)),
-        number_text(&mut cells, u64::from(sight.cell)),
-        number_text(&mut values, u64::from(sight.value)),
-    ])
+    push_number(lines, sight.step)?;
+    lines.push(b',')?;
+    names.push_cell(lines, sight.cell)?;
+    lines.push(b',')?;
+    push_number(lines, sight.value)?;
+    lines.push(b'\n')?;
+    Ok(())
 }
 
 fn number_text(buffer: &mut Buffer, number: u64) -> &[u8]

@@ -106,15 +106,14 @@ fn watches_between_devices(rt: HostRuntime) -> Result<(), Fail> {
 }
 
 #[test]
-fn lists_of_cells(rt: HostRuntime) -> Result<(), Fail> {
-    let alloc = rt.alloc();
+fn lists_of_cells(rt: HostRuntime) {
     for text in [
         "",
         ",",
         "1,",
         ",1",
         "1,,2",
-        "x",
+        "3x",
         "1;2",
         "-1",
         "4294967296",
@@ -122,9 +121,7 @@ fn lists_of_cells(rt: HostRuntime) -> Result<(), Fail> {
     ] {
         assert!(rt; CellList::read(text).is_none(), "{text}");
     }
-    let Some(list) = CellList::read("3,0,4294967295,3") else {
-        panic!(rt; "no list");
-    };
-    assert!(rt; list.numbers(alloc)?.as_slice() == [3, 0, 4294967295, 3].as_slice());
-    Ok(())
+    for text in ["3,0,4294967295,3", "A[3],_s,+7"] {
+        assert!(rt; CellList::read(text).is_some(), "{text}");
+    }
 }

@@ -142,3 +142,29 @@ fn cells_that_a_job_does_not_have(rt: HostRuntime) -> Result<(), Fail> {
     let cells = cells_named(&rt, "1,2,0,3");
     expect(&rt, rt.alloc(), &watch_line(TWO, cells, 3), &rows)
 }
+
+const PLACES: &str = "pardo 1/rule crew/procs i < 2/shared A[2]/shared s/code/A[i] := i + 7/";
+
+// Places are told as they are named, and a cell by its number as its place. The first that the
+// program does not have is named.
+#[test]
+fn places_of_a_program_are_watched(rt: HostRuntime) -> Result<(), Fail> {
+    let lists = [
+        (
+            PLACES,
+            "A[1],s,0",
+            "step,place,value/0,A[1],0/0,s,0/0,A[0],0/unfinished step=0/",
+            3,
+        ),
+        (PLACES, "s,A[2],9", "watch place=A[2]/", 2),
+        (PLACES, "s,9,A[2]", "watch cell=9/", 2),
+        (PLACES, "A", "watch place=A/", 2),
+        (SET, "0,s", "watch place=s/", 2),
+    ];
+    for (text, list, wanted, status) in lists {
+        let line = watch_line(TWO, cells_named(&rt, list), 1);
+        let rows = [(text, "0,stop,0/1,stop,0/", wanted, status)];
+        expect(&rt, rt.alloc(), &line, &rows)?;
+    }
+    Ok(())
+}

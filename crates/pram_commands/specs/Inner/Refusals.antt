@@ -6,7 +6,7 @@ use Rattle.pram_text.specs.declared.fault.TextKind.{TextKind}
 use Rattle.stop_plan.specs.declared.plan.PlanKind.{PlanKind}
 use Rattle.pardo_job.specs.declared.fault.Refusal.{Refusal as ProgramRefusal}
 use Rattle.pram_commands.specs.Inputs.{IsBad, IsOfText}
-use Rattle.pram_commands.specs.Line.{file_of, plan_of}
+use Rattle.pram_commands.specs.Line.{file_of, place_of, plan_of}
 use Rattle.pram_commands.specs.declared.fault.CommandFault.{CommandFault}
 use Rattle.pram_commands.specs.declared.fault.CommandFault.TheVariants as fault
 use Rattle.pram_commands.specs.declared.line.Line.{Line}
@@ -19,19 +19,21 @@ refusal_status (refusal.Text line kind) = REFUSED
 refusal_status (refusal.Program found) = REFUSED
 refusal_status (refusal.Plan row kind) = REFUSED
 refusal_status (refusal.Cell cell) = REFUSED
+refusal_status (refusal.Place place) = REFUSED
 refusal_status (refusal.Step step) = REFUSED
 refusal_status refusal.Memory = MEMORY
 refusal_status _ = FAILED
 
 -- What a refusal names: a line of the text or a row of the plan, and what is wrong with it; what is
 -- wrong with a program; a file;
--- a cell; a step; or nothing.
+-- a cell; a place; a step; or nothing.
 pub data Named : Type 0 where
   a_line : ℕ → TextKind → Named
   a_program : ProgramRefusal → Named
   a_row : ℕ → PlanKind → Named
   a_file : List ℕ → Named
   a_cell : ℕ → Named
+  a_place : List ℕ → Named
   a_step : ℕ → Named
   nothing : Named
 
@@ -42,6 +44,7 @@ named_in (refusal.Plan row kind) = a_row row kind
 named_in (refusal.File name) = a_file name.now
 named_in (refusal.Size name) = a_file name.now
 named_in (refusal.Cell cell) = a_cell cell
+named_in (refusal.Place place) = a_place place.now
 named_in (refusal.Step step) = a_step step
 named_in _ = nothing
 
@@ -55,6 +58,7 @@ named_by line fault.JobTooLarge = a_file (file_of line)
 named_by line fault.PlanDevice = a_file (unwrap_or (plan_of line) [])
 named_by line fault.PlanTooLarge = a_file (unwrap_or (plan_of line) [])
 named_by line (fault.OutsideCell cell) = a_cell cell
+named_by line (fault.OutsidePlace at) = a_place (place_of line at)
 named_by line (fault.OutsideStep step) = a_step step
 named_by line _ = nothing
 
@@ -65,6 +69,7 @@ refusal_text (refusal.Text line kind) = None
 refusal_text (refusal.Program found) = None
 refusal_text (refusal.Plan row kind) = None
 refusal_text (refusal.Cell cell) = Some (codes "watch cell=" ++ decimal cell ++ codes "\n")
+refusal_text (refusal.Place place) = Some (codes "watch place=" ++ place.now ++ codes "\n")
 refusal_text (refusal.Step step) = Some (codes "steps step=" ++ decimal step ++ codes "\n")
 refusal_text (refusal.File name) = Some (codes "file " ++ name.now ++ codes "\n")
 refusal_text refusal.Output = Some (codes "file -\n")

@@ -1,11 +1,11 @@
 //! The commands that start threads: `run` and `watch`.
 ghost use Rattle.std.specs.Prelude.{◌≡◌, false, []};
-ghost use Rattle.pram_commands.specs.Did.{Did, tells, writing};
+ghost use Rattle.pram_commands.specs.Did.{Answering, Did, tells, writing};
 ghost use Rattle.pram_commands.specs.Inner.Puts.{Puts};
-ghost use Rattle.pram_commands.specs.Inputs.{AreReady, taking, first_outside};
+ghost use Rattle.pram_commands.specs.Inputs.{AreReady, taking};
 ghost use Rattle.pram_commands.specs.Names.{AreNames};
-ghost use Rattle.pram_commands.specs.Threads.{running, watching};
-ghost use Rattle.pram_commands.specs.CellLists.{cells_of};
+ghost use Rattle.pram_commands.specs.Threads.{TellsSights, running, watching};
+ghost use Rattle.pram_commands.specs.CellLists.{parts_of};
 
 use crate::cell_list::CellList;
 use crate::commands::printed;
@@ -18,7 +18,6 @@ use crate::threads::{Manner, Watched, run_job, watch_job};
 use crate::why::Question;
 use pram_step::RunAnswer;
 use pram_streams::{PrintFault, Sink, Source};
-use pram_text::Job;
 use std::alloc::Global;
 use std::rt::Clock;
 use std::sync::Wait;
@@ -105,7 +104,7 @@ pub fn watch<R: Threads + Wait + Clock + Eprint + Sync, J: Source, P: Source, O:
 ) -> Result<RunAnswer, CommandFault>
     requires { AreReady J.Source P.Source O.Sink sources.old out.old }
     ensures { Did (watching reads.entry.manner.workers.count
-        (cells_of reads.entry.cells.text.now) reads.entry.rounds)
+        (parts_of reads.entry.cells.text.now) reads.entry.rounds)
         (taking J.Source P.Source sources.old sources.new)
         (writing O.Sink out.old out.new) tells result }
 {
@@ -115,14 +114,10 @@ pub fn watch<R: Threads + Wait + Clock + Eprint + Sync, J: Source, P: Source, O:
         rounds,
     } = reads;
     let inputs = take_inputs(alloc, manner.workers, sources)?;
-    let cells = cells.numbers(alloc)?;
-    let cells = cells.as_slice();
-    if let Some(cell) = first_outside(&inputs.job, cells) {
-        return Err(CommandFault::OutsideCell { cell });
-    }
+    let cells = cells.cells_in(alloc, &inputs)?;
     let watched = Watched {
         inputs: &inputs,
-        cells,
+        cells: cells.as_slice(),
         rounds,
     };
     printed(put_watch(rt, alloc, &watched, manner, out))
@@ -139,9 +134,9 @@ fn put_watch<R: Threads + Wait + Clock + Eprint + Sync, O: Sink>(
     requires output { O.has_failed out.old ≡ false }
     requires names { AreNames watched.now.inputs.now.text.items watched.now.inputs.now.job
         watched.now.inputs.now.names }
-    ensures { Puts ((watching 0 watched.now.cells.now watched.now.rounds).Comes
-        watched.now.inputs.now.text.items watched.now.inputs.now.job
-        watched.now.inputs.now.plan) (watching 0 [] 0).InPieces
+    ensures { let inputs = watched.now.inputs.now in
+        Puts (Answering (TellsSights inputs.names inputs.job inputs.plan watched.now.cells.now
+        watched.now.rounds) inputs.text.items inputs.job) (watching 0 [] 0).InPieces
         (writing O.Sink out.old out.new) tells result }
 {
     let words = Words {
@@ -157,12 +152,4 @@ fn put_watch<R: Threads + Wait + Clock + Eprint + Sync, O: Sink>(
     let (ended, (out, put)) = watch_job(rt, alloc, watched, manner, reader);
     take_back(out);
     outcome(put, ended)
-}
-
-// The first of the cells that the job does not have.
-fn first_outside(job: &Job, cells: &[u32]) -> Option<u32>
-    ensures { result ≡ first_outside job.now cells.now }
-{
-    let count = job.cells();
-    cells.iter().find(|cell| **cell >= count).copied()
 }

@@ -5,7 +5,7 @@ use Rattle.std.specs.List.{repeat}
 use Rattle.pram_streams.specs.Transfer.{AppendsBeginning}
 use Rattle.pram_board.specs.declared.task.Task.{Task}
 use Rattle.pram_board.specs.Seats.{SeatData}
-use Rattle.pram_run.specs.Printed.{sight_lines, sights_text}
+use Rattle.pram_run.specs.Printed.{CellWords, sight_lines, sights_text}
 use Rattle.pram_run.specs.PutReads.{Printing}
 use Rattle.pram_run.specs.Watching.{HasRead, cells_of}
 use Rattle.pram_run.specs.declared.sight.Sight.{Sight}
@@ -18,24 +18,26 @@ pub record ReadsRound (task : Task) (round : List ℕ) (sights : List Sight) (be
   pub cells : cells_of sights' ≡ cells_of sights ++ round
 
 -- The lines of these sights were put, or a beginning of them; where printing had failed, nothing.
-abbrev pub PutAfter : Printing → Printing → Option (List ℕ) → Option (List ℕ) → List Sight → Type 0
-PutAfter (Ok done) later sink sink' sights = OnOk later (Appends sink sink' (sight_lines sights))
-    × AppendsBeginning sink sink' (sight_lines sights)
-PutAfter (Err fault) later sink sink' sights = (later ≡ Err fault) × (sink' ≡ sink)
+abbrev pub PutAfter : CellWords → Printing → Printing → Option (List ℕ) → Option (List ℕ) →
+    List Sight → Type 0
+PutAfter words (Ok done) later sink sink' sights =
+    OnOk later (Appends sink sink' (sight_lines words sights))
+    × AppendsBeginning sink sink' (sight_lines words sights)
+PutAfter words (Err fault) later sink sink' sights = (later ≡ Err fault) × (sink' ≡ sink)
 
 -- So the first of the sights went, and the others wait.
-pub record PassedSights (printed later : Printing) (sink sink' : Option (List ℕ)) (sights waiting :
-    List Sight) : Type 0 where
+pub record PassedSights (words : CellWords) (printed later : Printing)
+    (sink sink' : Option (List ℕ)) (sights waiting : List Sight) : Type 0 where
   pub gone : List Sight
   pub parts : sights ≡ gone ++ waiting
-  pub put : PutAfter printed later sink sink' gone
+  pub put : PutAfter words printed later sink sink' gone
 
 -- What was read in so many rounds, from one seat to a later one: the first sights were put, or a
 -- beginning of their text where that failed; the others wait.
-pub record HasPut (task : Task) (cells : List ℕ) (rounds : ℕ) (given later : SeatData)
+pub record HasPut (words : CellWords) (task : Task) (cells : List ℕ) (rounds : ℕ) (given later : SeatData)
     (waiting : List Sight) (sink sink' : Option (List ℕ)) (printed : Printing) : Type 0 where
   pub gone : List Sight
   pub reads : HasRead task given (gone ++ waiting) later
   pub listed : cells_of (gone ++ waiting) ≡ repeat rounds cells
-  pub ok : OnOk printed (Appends sink sink' (sights_text gone))
-  pub beginning : AppendsBeginning sink sink' (sights_text gone)
+  pub ok : OnOk printed (Appends sink sink' (sights_text words gone))
+  pub beginning : AppendsBeginning sink sink' (sights_text words gone)

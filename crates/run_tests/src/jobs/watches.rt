@@ -4,7 +4,9 @@ ghost use Rattle.std.specs.Prelude.{◌≡◌, ⊤, false};
 
 use crate::jobs::LATER;
 use pram_board::{Board, Seat};
-use pram_run::{Assignment, Listener, Observation, Reads, Sight, print_reads, watch_heard};
+use pram_run::{
+    Assignment, Listener, Numbers, Observation, Reads, Sight, print_reads, watch_heard,
+};
 use pram_step::RunAnswer;
 use pram_streams::{Failed, IntoWrite, PrintFault, Sink};
 use pram_text::read_job;
@@ -102,7 +104,7 @@ impl<W: Sink> Reads for Prints<'_, W> {
         sights: &mut Vec<Sight>,
     ) -> Self {
         let Prints { took, sink, .. } = self;
-        let printed = print_reads(observation, seat, sights, sink);
+        let printed = print_reads(observation, seat, sights, sink, &Numbers);
         Prints {
             took,
             sink,

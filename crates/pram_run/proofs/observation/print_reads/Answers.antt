@@ -10,7 +10,7 @@ loop-init g c = record {
   desk = c.requires.seat;
   few = omega arith;
   room = c.requires.room;
-  put = put_begun c.args.observation.now.assignment.board.now.task c.args.observation.now.cells.now
+  put = put_begun _ c.args.observation.now.assignment.board.now.task c.args.observation.now.cells.now
       0 c.args.seat.now _ _ _ _
       (nil_from_length _ (omega (arith, c.requires.empty, c.args.sights.now.ok)))
       c.begin_sights-printed.ensures.ok c.begin_sights-printed.ensures.beginning;
@@ -26,8 +26,8 @@ loop-preserved g c =
       desk = read.desk;
       few = passed.few;
       room = omega (arith, was.room, read.capacity, passed.capacity);
-      put = put_more _ _ _ _ _ _ _ _ _ _ _ _
-          (put_round _ _ _ _ _ _ _ _ _ _ _ was.put read.reads) passed.passed;
+      put = put_more _ _ _ _ _ _ _ _ _ _ _ _ _
+          (put_round _ _ _ _ _ _ _ _ _ _ _ _ was.put read.reads) passed.passed;
       failed = passed.failed;
     }
 
@@ -35,12 +35,12 @@ pub returns-clause-reads : goal.returns-clause-reads
 returns-clause-reads g c =
     let observation = c.args.observation.now in
     let all : c.loop.counter ≡ observation.rounds = omega arith in
-    subst (λ (n : ℕ). PutWatch observation.assignment.board.now.task observation.cells.now n
+    subst (λ (n : ℕ). PutWatch (g.C.CellNames.words c.args.names.now) observation.assignment.board.now.task observation.cells.now n
     c.args.seat.now c.loop.seat (g.W.Sink.taken c.args.sink.now)
     (g.W.Sink.taken c.put_after.new.sink) c.put_after.result) all
-    (put_watch _ _ _ _ _ _ _ _
-    (put_more _ _ _ _ _ _ [] _ _ _ _ _ c.loop.invariant.put
-    (passed_all _ _ _ _ _ _ [] c.as_slice.ensures.value refl c.put_after.ensures.put)))
+    (put_watch _ _ _ _ _ _ _ _ _
+    (put_more _ _ _ _ _ _ _ [] _ _ _ _ _ c.loop.invariant.put
+    (passed_all _ _ _ _ _ _ _ [] c.as_slice.ensures.value refl c.put_after.ensures.put)))
 
 pub returns-clause-goes_on : goal.returns-clause-goes_on
 returns-clause-goes_on g c =

@@ -9,7 +9,7 @@ invariant-loop-done g l = record {
   unfailed : g.W.Sink.has_failed l.sink ≡ false;
   within : l.done ≤ length l.sights;
   put : Appends (g.W.Sink.taken l.fn.sink)
-      (g.W.Sink.taken l.sink) (sights_text (take l.done l.sights));
+      (g.W.Sink.taken l.sink) (sights_text (g.C.CellNames.words l.names) (take l.done l.sights));
 }
 
 abbrev pub decreases-loop-done : goal.decreases-loop-done

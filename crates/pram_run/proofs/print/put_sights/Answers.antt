@@ -9,19 +9,19 @@ pub returns-in_err-put-clause-beginning : goal.returns-in_err-put-clause-beginni
 returns-in_err-put-clause-beginning g c =
     subst (λ bytes. AppendsBeginning (g.W.Sink.taken c.args.sink.now)
     (g.W.Sink.taken c.put.new.sink) bytes)
-    (c.as_slice.ensures.value ∙ sights-all _ _ c.in_ok-lines.ensures)
+    (c.as_slice.ensures.value ∙ sights-all (g.C.CellNames.words c.args.names.now) _ _ c.in_ok-lines.ensures)
     c.in_err-put.ensures.beginning
 
 pub returns-clause-ok : goal.returns-clause-ok
 returns-clause-ok g c =
     subst (λ bytes. Appends (g.W.Sink.taken c.args.sink.now) (g.W.Sink.taken c.put.new.sink) bytes)
-    (c.as_slice.ensures.value ∙ sights-all _ _ c.in_ok-lines.ensures) c.in_ok-put.ensures.ok
+    (c.as_slice.ensures.value ∙ sights-all (g.C.CellNames.words c.args.names.now) _ _ c.in_ok-lines.ensures) c.in_ok-put.ensures.ok
 
 pub returns-clause-beginning : goal.returns-clause-beginning
 returns-clause-beginning g c =
     subst (λ bytes. AppendsBeginning (g.W.Sink.taken c.args.sink.now)
     (g.W.Sink.taken c.put.new.sink) bytes)
-    (c.as_slice.ensures.value ∙ sights-all _ _ c.in_ok-lines.ensures) c.in_ok-put.ensures.beginning
+    (c.as_slice.ensures.value ∙ sights-all (g.C.CellNames.words c.args.names.now) _ _ c.in_ok-lines.ensures) c.in_ok-put.ensures.beginning
 
 pub returns-in_err-lines-clause-beginning : goal.returns-in_err-lines-clause-beginning
 returns-in_err-lines-clause-beginning g c = begins_none _ _

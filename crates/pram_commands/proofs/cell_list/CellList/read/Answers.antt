@@ -1,10 +1,11 @@
-use Rattle.std.proofs.Common.{ℕ, List, All, lit<, subst, arith}
+use Rattle.std.proofs.Common.{◌∙◌, ℕ, List, All, lit<, subst, sym, arith}
 use Rattle.std.proofs.lemmas.Iterator.Consumers.{YieldsList-at, YieldsList-end, YieldsList-turn}
 use Rattle.std.proofs.lemmas.Iterator.Splits.{YieldsList-from_str_split}
 use Rattle.std.proofs.lemmas.List.Elements.{All-map, All-push}
+use Rattle.std.proofs.lemmas.Bool.{false≢true}
 use Rattle.std.specs.Borrow.{Bor}
-use Rattle.pram_commands.specs.CellLists.{SpellsCell}
-use Rattle.pram_commands.proofs.Cells.{spelled, turn_spelled, unspelled}
+use Rattle.pram_commands.specs.CellLists.{SpellsPart}
+use Rattle.pram_commands.proofs.Cells.{turn_spelled}
 use Rattle.pram_commands.proofs.cell_list.CellList.read.Goals as goal
 
 pub loop-part-init : goal.loop-part-init
@@ -12,28 +13,27 @@ loop-part-init c = λ k d less. absurd (omega (arith, less))
 
 pub loop-part-preserved : goal.loop-part-preserved
 loop-part-preserved c =
-    All-push (λ (part : Bor (List ℕ)). SpellsCell part.now)
+    All-push (λ (part : Bor (List ℕ)). SpellsPart part.now)
     c.loop-part.yielded c.in-Some.part c.loop-part.invariant
-    (spelled c.in-Some.part.now c.cell_of.result c.cell_of.ensures c.if-is_none.ensures)
+    (c.spells_part.ensures.0 c.if-not-spells_part.false)
 
-pub returns-then-is_none-clause-none : goal.returns-then-is_none-clause-none
-returns-then-is_none-clause-none c = λ _ all.
+pub returns-then-not-spells_part-clause-none : goal.returns-then-not-spells_part-clause-none
+returns-then-not-spells_part-clause-none c = λ _ all.
     let road = YieldsList-at c.into_iter-part-iterator.ensures.into_iter_gives
     (YieldsList-from_str_split 44 c.args.text.now (lit< tt) c.split-part-items.ensures.text
     c.split-part-items.ensures.has_more c.split-part-items.ensures.pattern) in
-    unspelled c.in-Some.part.now c.cell_of.result c.cell_of.ensures c.if-is_none.ensures
+    let spells = c.spells_part.ensures.1
     (turn_spelled _ _ c.in-Some.part.now all (YieldsList-turn road c.loop-part.yielded _
-    c.loop-part.yielded_by _ _ c.in-Some.part c.in-Some.is c.next.ensures.steps))
+    c.loop-part.yielded_by _ _ c.in-Some.part c.in-Some.is c.next.ensures.steps)) in
+    false≢true (sym c.if-not-spells_part.true ∙ spells)
 
-pub invariant_of-result : goal.invariant_of-result
-invariant_of-result c =
+pub returns-clause-spells : goal.returns-clause-spells
+returns-clause-spells c =
     let road = YieldsList-at c.into_iter-part-iterator.ensures.into_iter_gives
     (YieldsList-from_str_split 44 c.args.text.now (lit< tt) c.split-part-items.ensures.text
     c.split-part-items.ensures.has_more c.split-part-items.ensures.pattern) in
     let whole = YieldsList-end road c.loop-part.yielded
     _ c.loop-part.yielded_by _ _ c.in-None.is c.next.ensures.steps in
-    record {
-      spells = subst (λ (parts : List (List ℕ)). All SpellsCell parts) whole.0
-          (All-map SpellsCell (λ (part : Bor (List ℕ)). part.now)
-          c.loop-part.yielded c.loop-part.invariant);
-    }
+    subst (λ (parts : List (List ℕ)). All SpellsPart parts) whole.0
+    (All-map SpellsPart (λ (part : Bor (List ℕ)). part.now)
+    c.loop-part.yielded c.loop-part.invariant)

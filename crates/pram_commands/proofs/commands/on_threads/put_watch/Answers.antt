@@ -13,18 +13,18 @@ returns g c =
     elim c.watch_job-ended.ensures [
       | inl alone ↦ rw (c.out-1.given.1 (sym alone.1.0) ∙ c.take_back.ensures)
           (puts_alone g.O.Sink inputs cells rounds c.args.out.now c.args.out.now ended.1.0.now
-          inputs.names c.requires.names
+          inputs.names inputs.names c.requires.names
           c.steps.result ended.0 ended.1.1 c.outcome.result alone.0 alone.1.1 c.requires.output
           c.outcome.ensures)
       | inr by ↦
           let read = by.on.watched.ran.reads in
           rw (c.out-1.given.1 (sym (read.hears.0 ∙ read.reads.0)) ∙ c.take_back.ensures)
           (puts_read g.O.Sink inputs cells rounds c.args.out.now read.after.out.now
-          ended.1.0.now read.after.words.names.now
+          ended.1.0.now inputs.names read.after.words.names.now
           (subst (λ words. AreNames inputs.text.items inputs.job words.names.now)
           (sym read.reads.1) c.requires.names)
           by.on.watched.answer _ read.after.words.steps read.after.printed ended.0
-          ended.1.1 c.outcome.result (told_by _ _ inputs cells rounds ended _ _ _ by
+          ended.1.1 c.outcome.result (told_by _ _ inputs cells rounds ended _ _ _ inputs.names by
           read.reads.2) by.on.watched.given_if read.reads.2.ok read.reads.2.beginning
           read.reads.3 (ap (λ words. words.steps) read.reads.1 ∙ c.steps.ensures.value)
           read.hears.1

@@ -1,33 +1,56 @@
-use Rattle.std.proofs.Common.{◌∙◌, ℕ, List, subst, sym}
+use Rattle.std.proofs.Common.{◌<◌, ℕ, List, All, refl, subst, sym}
 use Rattle.std.specs.Prelude.{⊤}
-use Rattle.pram_commands.proofs.Cells.{inside}
-use Rattle.pram_commands.proofs.Doing.{ok_not_err, printed_did}
-use Rattle.pram_commands.specs.Did.{tells, writing}
-use Rattle.pram_commands.specs.Inner.Puts.{Puts}
-use Rattle.pram_commands.specs.Threads.{watching}
+use Rattle.pram_commands.proofs.Doing.{err_is, ok_not_err, printed_did, well}
+use Rattle.pram_commands.proofs.Outside.{outside_did, puts_as}
+use Rattle.pram_commands.specs.CellLists.{AreCellsOf, parts_of}
+use Rattle.pram_commands.specs.Did.{Answering, tells, writing}
+use Rattle.pram_commands.specs.Threads.{TellsSights, TellsWatch}
 use Rattle.pram_commands.proofs.commands.on_threads.watch.Goals as goal
 
 pub invariant_of-watched : goal.invariant_of-watched
-invariant_of-watched g c =
-    record {
-      within = inside c.in_ok-inputs.inputs.job.cells c.as_slice-cells.result.now
-          (sym c.first_outside.ensures ∙ c.in_default.is);
-    }
+invariant_of-watched g c = record {
+  within = subst (λ (cells : List ℕ). All (λ cell. cell < c.in_ok-inputs.inputs.job.cells) cells)
+      (sym c.as_slice.ensures.value) c.in_ok-cells.ensures.within;
+}
+
+pub returns-in_err-cells : goal.returns-in_err-cells
+returns-in_err-cells g c =
+    let took = c.in_ok-inputs.ensures in
+    outside_did _ _ _ _ c.in_ok-inputs.inputs.job c.in_ok-inputs.inputs.plan
+    (record {
+      job_text = c.in_ok-inputs.inputs.text.items;
+      a_job = took.both.gives_job;
+      a_plan = took.both.gives_plan;
+    }) c.in_ok-inputs.inputs.names took.names refl tt
+    (λ f. ok_not_err _ _ (took.job_failed.0 f))
+    (λ f. ok_not_err _ _ (took.plan_failed.0 f)) (well _ c.requires.output) took.job_reads
+    took.plan_reads c.in_err-cells.field-0.0 c.in_err-cells.ensures.outside _
+    (err_is _ _ c.from_residual-in_err-cells.ensures)
 
 pub returns : goal.returns
 returns g c =
     let took = c.in_ok-inputs.ensures in
-    let job = c.in_ok-inputs.inputs.job in
-    let plan = c.in_ok-inputs.inputs.plan in
-    let puts =
-    subst (λ (cells : List ℕ).
-    Puts ((watching 0 cells c.args.reads.rounds).Comes c.in_ok-inputs.inputs.text.items job plan) ⊤
-    (writing g.O.Sink c.args.out.now c.put_watch.new.out)
-    tells c.put_watch.result)
-    (c.as_slice-cells.ensures.value ∙ c.in_ok-cells.ensures) c.put_watch.ensures in
-    printed_did _ _ _ _ job plan
+    let inputs = c.in_ok-inputs.inputs in
+    let parts = parts_of c.args.reads.cells.text.now in
+    let rounds = c.args.reads.rounds in
+    let w = writing g.O.Sink c.args.out.now c.put_watch.new.out in
+    let cells = c.as_slice.result.now in
+    let are_cells = subst (λ (l : List ℕ). AreCellsOf inputs.names parts l)
+    (sym c.as_slice.ensures.value) c.in_ok-cells.ensures.cells in
+    let puts = puts_as
+    (Answering (TellsSights inputs.names inputs.job inputs.plan cells rounds) inputs.text.items
+    inputs.job)
+    (TellsWatch parts rounds inputs.text.items inputs.job inputs.plan) ⊤ w tells
+    (λ text answer shows. record {
+      names = inputs.names;
+      are_names = took.names;
+      cells = cells;
+      are_cells = are_cells;
+      shows = shows;
+    }) c.put_watch.result c.put_watch.ensures in
+    printed_did _ _ _ _ inputs.job inputs.plan
     (record {
-      job_text = c.in_ok-inputs.inputs.text.items;
+      job_text = inputs.text.items;
       a_job = took.both.gives_job;
       a_plan = took.both.gives_plan;
     }) tt
