@@ -6,7 +6,7 @@ use Rattle.pram_step.specs.declared.answer.Dispute.{Dispute}
 use Rattle.pram_step.specs.declared.answer.Fault.{Fault}
 use Rattle.pram_step.specs.declared.requests.Request.{Request}
 use Rattle.pram_step.specs.Arrivals.{IsStepMade}
-use Rattle.pram_step.specs.Laws.{AllStopped}
+use Rattle.pram_step.specs.Machine.{AllStopped}
 use Rattle.pram_step.specs.Machine.{State}
 use Rattle.pram_step.specs.Runs.{IsFirstConflict, IsReached, IsStateAfter}
 use Rattle.pram_step.specs.Runs.{dispute_of, requests_after, state_after}

@@ -1,6 +1,6 @@
 //! After how many steps a job is over.
 ghost use Rattle.std.specs.Prelude.{◌≡◌, length, IfOk, IfNone, IfSome};
-ghost use Rattle.pram_step.specs.Laws.{AllStopped};
+ghost use Rattle.pram_step.specs.Machine.{AllStopped};
 ghost use Rattle.pram_step.specs.Machine.{place_count};
 ghost use Rattle.pardo_job.specs.Inner.Endings.{IsEnding};
 ghost use Rattle.pardo_job.specs.Refusals.{IsFirstRunning};

@@ -6,7 +6,7 @@ use Rattle.std.specs.Option.{is_none}
 use Rattle.std.proofs.lemmas.Bool.{cases_lt, cases_order}
 use Rattle.pram_text.specs.declared.instr.Instr.TheVariants.{Halt}
 use Rattle.pram_text.specs.Job.{JobData}
-use Rattle.pram_step.specs.Laws.{AllStopped}
+use Rattle.pram_step.specs.Machine.{AllStopped}
 use Rattle.pram_step.specs.Machine.{State, register, counter, halted, out_of_range, IsStopped}
 use Rattle.pram_step.specs.Runs.{state_after, IsStateAfter, IsFirstConflict, AgreesAfter}
 use Rattle.pram_step.specs.Runs as machine

@@ -15,7 +15,7 @@ use Rattle.pram_cost.specs.declared.meeting.Sharing.{Sharing}
 use Rattle.pram_cost.specs.declared.pram.Pram.TheVariants.{Erew}
 use Rattle.pram_cost.specs.Accesses.{is_running, running_in}
 use Rattle.pram_cost.specs.Costs.{at_work, has_access, first_states, executed, steps_with}
-use Rattle.pram_step.specs.Laws.{AllStopped}
+use Rattle.pram_step.specs.Machine.{AllStopped}
 use Rattle.pram_step.specs.Machine.{State, counter, halted}
 use Rattle.pram_cost.specs.Models.{Accepts}
 use Rattle.pram_step.specs.Runs.{state_after}

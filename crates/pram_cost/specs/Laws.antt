@@ -8,7 +8,7 @@ use Rattle.pram_cost.specs.declared.pram.Pram.{Pram}
 use Rattle.pram_cost.specs.declared.pram.Pram.TheVariants.{Erew, Crew, CommonCrcw, PriorityCrcw}
 use Rattle.pram_cost.specs.Costs.{at_work, has_access, executed, steps_with, IsCost}
 use Rattle.pram_step.specs.Instructions.{requests_in}
-use Rattle.pram_step.specs.Laws.{AllStopped}
+use Rattle.pram_step.specs.Machine.{AllStopped}
 use Rattle.pram_step.specs.Machine.{State}
 use Rattle.pram_cost.specs.Models.{strength, Accepts, AcceptsSteps, IsNeeded}
 use Rattle.pram_step.specs.Runs.{IsReached}

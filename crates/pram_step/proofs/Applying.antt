@@ -4,12 +4,10 @@ use Rattle.std.proofs.Common.{List, length, take, drop, get_or, set, Option, Som
 use Rattle.std.proofs.Common.{refl, sym, ap, ◌∙◌, inl, inr, subst, arith, below_more}
 use Rattle.std.proofs.Common.{◌++◌, length-set, length-take-le, get_or-set_same, get_or-set_other}
 use Rattle.std.specs.Prelude.{unwrap_or}
-use Rattle.std.specs.Bool.{OnFalse}
-use Rattle.std.proofs.lemmas.Bool.{cases_eq, cases_lt, eq-eqb, OnFalse_at, OnFalse_from}
+use Rattle.std.proofs.lemmas.Bool.{cases_eq, cases_lt, eq-eqb}
 use Rattle.std.proofs.lemmas.List.{ext_get_or, get_or-take, take-append-drop}
 use Rattle.std.proofs.lemmas.Option.{none-some, some_pair_parts}
 use Rattle.pram_text.specs.Job.{JobData, IsJob}
-use Rattle.pram_step.specs.declared.pass.Moves.{Moves}
 use Rattle.pram_step.specs.declared.requests.Request.{Request}
 use Rattle.pram_step.specs.declared.stores.Store.{Store}
 use Rattle.pram_step.specs.Machine.{State, IsDataPlace, IsStopped, place_count, counter_place}
@@ -19,7 +17,7 @@ use Rattle.pram_step.specs.Steps.{Writes, written, Agrees, IsNext}
 use Rattle.pram_step.specs.Steps.{first_written, next_state}
 use Rattle.pram_step.specs.Inner.Marks.{Puts, AreAsked, AreStored}
 use Rattle.pram_step.specs.Inner.Marks.{AsksNext, store_at}
-use Rattle.pram_step.specs.Inner.Passes.{AllIdle, IsAdvance, SameCells}
+use Rattle.pram_step.specs.Inner.Passes.{IsAdvance, SameCells}
 use Rattle.pram_step.specs.Inner.Passes.{AreRunning, HaveMoved, IsIdle, IsMove, IsOwnPlace}
 use Rattle.pram_step.specs.Inner.Passes.{IsPassed}
 use Rattle.pram_step.proofs.LawCounters.{next_counter}
@@ -27,7 +25,7 @@ use Rattle.pram_step.proofs.LawFixed.{length-after}
 use Rattle.pram_step.proofs.LawFrames.{reads_one_cell}
 use Rattle.pram_step.proofs.LawNext.{after_at, after_first, after_none, next_is_next}
 use Rattle.pram_step.proofs.LawPlaces.{written_place, writer_is, writes_place}
-use Rattle.pram_step.proofs.LawStopped.{stopped_request, unchanged}
+use Rattle.pram_step.proofs.LawStopped.{stopped_request}
 use Rattle.pram_step.proofs.LawWriters.{writer_cases}
 use Rattle.pram_step.proofs.Marking.{AreAsked_none, AreAsked_quiet}
 use Rattle.pram_step.proofs.Passing.{bound, bound_inside, run_first, run_next}
@@ -427,8 +425,8 @@ module _ (job : JobData) (is_job : IsJob job) (s : State) (places : length s ≡
 
     -- the step is made
     pub advanced : Agrees job (requests_in job s) → (running : List ℕ) → AreRunning job s running →
-        (moves : Moves) → OnFalse moves.changed (AllIdle job s) → IsAdvance job running s new moves
-    advanced agrees running runs moves idle =
+        IsAdvance job running s new
+    advanced agrees running runs =
         let next = all_passed in
         record {
           made = record {
@@ -439,8 +437,6 @@ module _ (job : JobData) (is_job : IsJob job) (s : State) (places : length s ≡
           };
           runs = subst (λ r. AreRunning job r running) (sym next)
               (AreRunning_next job s running is_job places runs);
-          idle = OnFalse_from moves.changed (new ≡ s)
-              (λ e. next ∙ unchanged job s (OnFalse_at e idle));
         }
 
 -- with the cells, what lies behind them was kept

@@ -11,7 +11,7 @@ use Rattle.pram_step.specs.Machine.{State, counter_place, counter, IsStopped}
 use Rattle.pram_step.specs.Instructions.{goes_to, request_in, requests_in}
 use Rattle.pram_step.specs.Steps.{Writes, written, Agrees, next_state}
 use Rattle.pram_step.specs.Runs.{IsStateAfter}
-use Rattle.pram_step.specs.Laws.{AllStopped}
+use Rattle.pram_step.specs.Machine.{AllStopped}
 use Rattle.pram_step.specs.Inner.Passes.{AllIdle}
 use Rattle.pram_step.proofs.LawWriters.{HasFirst, HasNone, writer_cases}
 use Rattle.pram_step.proofs.LawPlaces.{writer_is}
@@ -72,6 +72,12 @@ pub stopped_stays : (job : JobData) (s : State) → AllStopped job s →
 stopped_stays job s stopped =
     let idle : AllIdle job s = λ i low. stopped_request job s i (stopped i low) in
     (idle_agrees job s idle, unchanged job s idle)
+
+-- where all requests change nothing, each later state is this one
+pub idle_later : (job : JobData) (t k : ℕ) (s : State) → IsStateAfter job t s → AllIdle job s →
+    IsStateAfter job (t + k) s
+idle_later job t k s is idle =
+    unchanged_later job t k s is (idle_agrees job s idle) (unchanged job s idle)
 
 pub stopped_later : (job : JobData) (t k : ℕ) (s : State) → IsStateAfter job t s →
     AllStopped job s → IsStateAfter job (t + k) s

@@ -14,7 +14,6 @@ use Rattle.std.proofs.lemmas.List.Elements.{Contains-append_left, Contains-push}
 use Rattle.std.proofs.lemmas.List.Kept.{AllPairs-from_increasing}
 use Rattle.pram_text.specs.Job.{JobData}
 use Rattle.pram_step.specs.Machine.{State, counter, halted, IsStopped}
-use Rattle.pram_step.specs.Laws.{AllStopped}
 use Rattle.pram_step.specs.Inner.Passes.{AreRunning, AreRunningBelow}
 
 -- ---- from a number to a later one
@@ -141,15 +140,6 @@ module _ (job : JobData) (s : State) (running : List ℕ) (are : AreRunning job 
         P (bound job running (k + 1))
     run_next = skip_next job.procs (length running) (λ k. get_or running k 0) (bound job running)
         (IsStopped job s) bound_inside bound_past listed_below rises others P step
-
--- where none is listed, all have stopped
-pub stopped_of_none : (job : JobData) (s : State) (running : List ℕ) → AreRunning job s running →
-    length running ≡ 0 → AllStopped job s
-stopped_of_none job s running are none i low = elim (cases_lt (counter job s i) (halted job)) [
-  | inr past ↦ past
-  | inl runs ↦ (let there = are.all i low runs in
-      let inside = there.1 in absurd (omega arith))
-]
 
 -- ---- how they are listed
 

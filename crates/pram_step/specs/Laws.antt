@@ -11,17 +11,13 @@ use Rattle.pram_step.specs.declared.answer.RunAnswer.{RunAnswer}
 use Rattle.pram_step.specs.declared.answer.RunAnswer.TheVariants.{Final, Conflict}
 use Rattle.pram_step.specs.declared.requests.Request.{Request}
 use Rattle.pram_step.specs.Machine.{State, start, counter_place, place_count}
-use Rattle.pram_step.specs.Machine.{register, counter, out_of_range, IsStopped}
+use Rattle.pram_step.specs.Machine.{register, counter, out_of_range, IsStopped, AllStopped}
 use Rattle.pram_step.specs.Instructions.{decided, HasShape, request_in, requests_in}
 use Rattle.pram_step.specs.Steps.{Writes, Agrees, IsDispute, IsNext, next_state}
 use Rattle.pram_step.specs.Runs.{state_after, requests_after, AgreesAfter, IsReached}
 use Rattle.pram_step.specs.Runs.{IsStateAfter, IsFirstConflict, IsAnswer}
 use Rattle.pram_step.specs.History.{Asks, Wins, IsWritten, last_write, part_after}
 use Rattle.pram_step.specs.Orders.{HasAll, after_first_found, after_least_found, after_in_turn}
-
--- all processors have stopped
-abbrev pub AllStopped : JobData → State → Type 0
-AllStopped job state = (i : ℕ) → i < job.procs → IsStopped job state i
 
 -- the two states hold the same in the registers and the counter of processor i
 pub record SameOwn (job : JobData) (state other : State) (i : ℕ) : Type 0 where

@@ -43,3 +43,7 @@ out_of_range job = length job.code + 1
 -- it has stopped, by either
 abbrev pub IsStopped : JobData → State → ℕ → Type 0
 IsStopped job state i = halted job ≤ counter job state i
+
+-- all processors have stopped
+abbrev pub AllStopped : JobData → State → Type 0
+AllStopped job state = (i : ℕ) → i < job.procs → IsStopped job state i

@@ -1,14 +1,13 @@
 //! A step in one pass over the processors that run. Registers and counters are each one
 //! processor's own, so they are written at once; stores to cells wait for the end.
-ghost use Rattle.std.specs.Prelude.{◌≡◌, ◌*◌, ◌<◌, ◌≤◌, length, IfOk, IfErr, IfSome, OnOk, OnErr};
+ghost use Rattle.std.specs.Prelude.{◌≡◌, ◌*◌, ◌<◌, ◌≤◌, length, IfErr, IfSome, OnOk, OnErr};
 ghost use Rattle.std.specs.Prelude.{vec_len};
-ghost use Rattle.std.specs.Bool.{OnFalse};
-ghost use Rattle.pram_step.specs.Machine.{IsDataPlace, counter, counter_place, place_count, start};
+ghost use Rattle.pram_step.specs.Machine.{IsDataPlace, counter_place, place_count, start};
 ghost use Rattle.pram_step.specs.Instructions.{requests_in};
 ghost use Rattle.pram_step.specs.Steps.{IsDispute};
 ghost use Rattle.pram_step.specs.Inner.Marks.{HasRoom};
 ghost use Rattle.pram_step.specs.Inner.Turns.{put_of, request_of, IsSorted};
-ghost use Rattle.pram_step.specs.Inner.Passes.{AllIdle, AreRunning, GoesTo, IsAdvance, IsMade};
+ghost use Rattle.pram_step.specs.Inner.Passes.{AreRunning, GoesTo, IsAdvance, IsMade};
 ghost use Rattle.pram_step.specs.Inner.Passes.{IsMove, IsPassed, SameCells};
 
 use crate::answer::{Dispute, Fault};
@@ -30,23 +29,11 @@ pub(crate) enum Course {
     Disputed(Fault),
 }
 
-/// What the processors did in a step: whether one of them changed anything, and whether one had
-/// stopped before.
-#[derive(Clone, Copy, Debug, PartialEq, Eq)]
-pub(crate) struct Moves {
-    pub changed: bool,
-    pub stopped: bool,
-}
+/// After so many steps each it is looked at whether processors have stopped or stand still.
+const PAUSE: u32 = 32;
 
-/// What a pass came to: how many stores are asked for, and what the processors did.
-#[derive(Clone, Copy, Debug, PartialEq, Eq)]
-struct Passed {
-    count: u32,
-    moves: Moves,
-}
-
-/// Makes so many steps from the start, or those up to the first that is against the rule. After a
-/// step that changes nothing the later ones change nothing either, so they are left out.
+/// Makes so many steps from the start, or those up to the first that is against the rule. Where no
+/// processor changes anything the later steps change nothing either, so they are left out.
 pub(crate) fn make_steps(
     job: &Job,
     places: &mut [u32],
@@ -62,17 +49,14 @@ pub(crate) fn make_steps(
     job.limits_hold();
     running.find(job, places);
     for done in 0..steps {
-        match advance(job, places, running.as_slice(), stores) {
-            Err(dispute) => return Course::Disputed(dispute.in_step(done + 1)),
-            Ok(moves) => {
-                if !moves.changed {
-                    return Course::Settled;
-                }
-                running.update(job, places, moves.stopped);
-            }
+        if let Err(dispute) = advance(job, places, running.as_slice(), stores) {
+            return Course::Disputed(dispute.in_step(done + 1));
+        }
+        if running.rest(job, places, done % PAUSE == PAUSE - 1) {
+            return Course::Settled;
         }
     }
-    if running.as_slice().is_empty() {
+    if running.rest(job, places, true) {
         Course::Settled
     } else {
         Course::Made
@@ -100,7 +84,7 @@ pub(crate) fn attempt(
     kept.copy_from_slice(&places[cells..]);
     running.find(job, places);
     match advance(job, places, running.as_slice(), stores) {
-        Ok(_) => Ok(()),
+        Ok(()) => Ok(()),
         Err(dispute) => {
             places[cells..].copy_from_slice(kept);
             Err(dispute)
@@ -116,71 +100,61 @@ fn advance(
     places: &mut [u32],
     running: &[u32],
     stores: &mut Stores,
-) -> Result<Moves, Dispute>
+) -> Result<(), Dispute>
     requires places { length places.old ≡ place_count job.now }
     requires running { AreRunning job.now places.old running.now }
     requires stores { HasRoom job.now stores.old }
-    ensures made { IfOk result (IsAdvance job.now running.now places.old places.new) }
+    ensures made { OnOk result (IsAdvance job.now running.now places.old places.new) }
     ensures dispute { IfErr result (IsDispute job.now (requests_in job.now places.old)) }
     ensures cells { OnErr result (SameCells job.now.cells places.old places.new) }
     ensures stores { HasRoom job.now stores.new }
 {
     job.limits_hold();
-    let passed = pass(job, places, running, &mut stores.asked);
-    let asked = &stores.asked[..passed.count as usize];
+    let count = pass(job, places, running, &mut stores.asked);
+    let asked = &stores.asked[..count as usize];
     match judge_all(job, asked, &mut stores.marks) {
         Some(dispute) => Err(dispute),
         None => {
             write_stores(places, asked);
-            Ok(passed.moves)
+            Ok(())
         }
     }
 }
 
-/// Takes the turn of each processor that runs, and what it asks to store.
+/// Takes the turn of each processor that runs, and what it asks to store. Answers how many stores
+/// are asked for.
 #[inline(always)]
-fn pass(job: &Job, places: &mut [u32], running: &[u32], asked: &mut [Store]) -> Passed
+fn pass(job: &Job, places: &mut [u32], running: &[u32], asked: &mut [Store]) -> u32
     requires places { length places.old ≡ place_count job.now }
     requires running { AreRunning job.now places.old running.now }
     requires asked { length asked.old ≡ job.now.procs }
-    ensures passed { IsPassed job.now places.old job.now.procs places.new asked.new result.count }
-    ensures few { result.count ≤ job.now.procs }
-    ensures idle { OnFalse result.moves.changed (AllIdle job.now places.old) }
+    ensures passed { IsPassed job.now places.old job.now.procs places.new asked.new result }
+    ensures few { result ≤ job.now.procs }
 {
     job.limits_hold();
     let counters = counters_at(job.cells(), job.procs());
     let mut count = 0;
-    let mut changed = false;
-    let mut stopped = false;
     for processor in running {
         let counter = counters + *processor;
-        stopped |= places[counter as usize] as usize >= job.code().len();
         let turn = turn_in(job, places, *processor, counter);
-        changed |= move_on(job, places, *processor, counter, turn);
+        move_on(job, places, *processor, counter, turn);
         count = take_up(job, asked, count, *processor, turn.put);
     }
-    Passed {
-        count,
-        moves: Moves { changed, stopped },
-    }
+    count
 }
 
-/// Writes what a processor asks for to its own register and counter, and answers whether its
-/// counter changed.
+/// Writes what a processor asks for to its own register and counter.
 #[inline(always)]
-fn move_on(job: &Job, places: &mut [u32], processor: u32, at: u32, turn: Turn) -> bool
+fn move_on(job: &Job, places: &mut [u32], processor: u32, at: u32, turn: Turn)
     requires processor { processor < job.now.procs }
     requires places { length places.old ≡ place_count job.now }
     requires counter { at ≡ counter_place job.now processor }
     requires own { IfSome (put_of turn.put) (λ w. IsDataPlace job.now processor w.0) }
     requires sorted { IsSorted job.now turn.put }
-    ensures moved { IsMove job.now processor (request_of turn) places.old places.new }
-    ensures idle { OnFalse result (turn.next ≡ counter job.now places.old processor) }
+    ensures { IsMove job.now processor (request_of turn) places.old places.new }
 {
-    let changed = places[at as usize] != turn.next;
     places[at as usize] = turn.next;
     if let Put::Register(place, value) = turn.put {
         places[place as usize] = value;
     }
-    changed
 }

@@ -1,9 +1,12 @@
 //! The processors that run.
 ghost use Rattle.std.specs.Prelude.{◌≡◌, ◌≤◌, length, take, vec_len, OnOk};
+ghost use Rattle.std.specs.Bool.{OnTrue};
 ghost use Rattle.pram_step.specs.Machine.{place_count};
-ghost use Rattle.pram_step.specs.Inner.Passes.{AreRunning};
+ghost use Rattle.pram_step.specs.Inner.Passes.{AllIdle, AreRunning};
 
+use crate::requests::request_in;
 use pram_text::Job;
+use pram_text::places::counters_at;
 use std::alloc::{AllocError, Global};
 
 /// The processors that run, in order, and room for all of them.
@@ -46,9 +49,10 @@ impl Running {
         self.count = list_running(job, places, &mut self.processors);
     }
 
-    /// Finds them anew, if one has stopped.
+    /// Whether they change nothing any more. It is looked at where it is due, and then those that
+    /// have stopped are left out.
     #[inline(always)]
-    pub(crate) fn update(&mut self, job: &Job, places: &[u32], stopped: bool)
+    pub(crate) fn rest(&mut self, job: &Job, places: &[u32], due: bool) -> bool
         requires room { vec_len self.old.processors ≡ job.now.procs }
         requires places { length places.now ≡ place_count job.now }
         requires found { AreRunning job.now places.now
@@ -56,11 +60,18 @@ impl Running {
         ensures room { vec_len self.new.processors ≡ job.now.procs }
         ensures found { AreRunning job.now places.now
             (take self.new.count self.new.processors.items) }
+        ensures idle { OnTrue result (AllIdle job.now places.now) }
     {
-        if !stopped {
-            return;
+        if !due {
+            return false;
         }
-        self.find(job, places);
+        if are_idle(job, places, self.as_slice()) {
+            return true;
+        }
+        if has_stopped(job, places, self.as_slice()) {
+            self.find(job, places);
+        }
+        false
     }
 
     /// The processors, in order.
@@ -71,7 +82,38 @@ impl Running {
     }
 }
 
-// Lists the processors that run, and answers how many they are.
+/// Whether one of these processors has stopped.
+fn has_stopped(job: &Job, places: &[u32], running: &[u32]) -> bool
+    requires places { length places.now ≡ place_count job.now }
+    requires running { AreRunning job.now places.now running.now }
+{
+    let counters = counters_at(job.cells(), job.procs());
+    for processor in running {
+        if places[(counters + *processor) as usize] as usize >= job.code().len() {
+            return true;
+        }
+    }
+    false
+}
+
+/// Whether no processor that runs changes anything: each asks for its own counter as it is.
+fn are_idle(job: &Job, places: &[u32], running: &[u32]) -> bool
+    requires places { length places.now ≡ place_count job.now }
+    requires running { AreRunning job.now places.now running.now }
+    ensures { OnTrue result (AllIdle job.now places.now) }
+{
+    job.limits_hold();
+    let counters = counters_at(job.cells(), job.procs());
+    for processor in running {
+        let at = counters + *processor;
+        if request_in(job, places, *processor, at).next != places[at as usize] {
+            return false;
+        }
+    }
+    true
+}
+
+/// Lists the processors that run, and answers how many they are.
 fn list_running(job: &Job, places: &[u32], list: &mut [u32]) -> usize
     requires room { length list.old ≡ job.now.procs }
     requires places { length places.now ≡ place_count job.now }

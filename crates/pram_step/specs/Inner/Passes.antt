@@ -1,14 +1,12 @@
 -- A pass over the processors that run.
 use Rattle.std.specs.Prelude.{◌≡◌, ℕ, ◌+◌, ◌<◌, ◌≤◌, ◌⊎◌, List, length, take, All}
 use Rattle.std.specs.Prelude.{slice_index, unwrap_or, Option, MatchOption}
-use Rattle.std.specs.Bool.{OnFalse}
 use Rattle.std.specs.List.{Contains}
 use Rattle.std.specs.List.Sorted.{IsStrictlyIncreasing}
 use Rattle.pram_text.specs.Job.{JobData}
 use Rattle.pram_step.specs.declared.answer.Fault.{Fault}
 use Rattle.pram_step.specs.declared.pass.Course.{Course}
 use Rattle.pram_step.specs.declared.pass.Course.TheVariants.{Made, Settled, Disputed}
-use Rattle.pram_step.specs.declared.pass.Moves.{Moves}
 use Rattle.pram_step.specs.declared.requests.Request.{Request}
 use Rattle.pram_step.specs.declared.stores.Store.{Store}
 use Rattle.pram_step.specs.Machine.{State, counter, counter_place, halted, register_place}
@@ -73,11 +71,9 @@ pub record IsMade (job : JobData) (old new : State) : Type 0 where
   pub written : IsNext job (requests_in job old) old new
 
 -- so it is, and those that ran are all that may run still
-pub record IsAdvance (job : JobData) (running : List ℕ) (old new : State) (moves : Moves) : Type 0
-  where
-    pub made : IsMade job old new
-    pub runs : AreRunning job new running
-    pub idle : OnFalse moves.changed (new ≡ old)
+pub record IsAdvance (job : JobData) (running : List ℕ) (old new : State) : Type 0 where
+  pub made : IsMade job old new
+  pub runs : AreRunning job new running
 
 -- the cells hold what they held
 pub record SameCells (cells : ℕ) (old new : State) : Type 0 where

@@ -12,13 +12,13 @@ pub returns-in-Some-clause-dispute : goal.returns-in-Some-clause-dispute
 returns-in-Some-clause-dispute c =
     let job = c.args.job.now in
     let s = c.args.places.now in
-    let count = c.pass-passed.result.count in
+    let count = c.pass-count.result in
     let room : count ≤ length c.deref.result.now = omega arith in
     let are = AreAsked_take job.cells (requests_in job s) job.procs c.deref.result.now count room
     (subst (λ (xs : List Store). AreAsked job.cells (requests_in job s) job.procs xs count)
-    (sym (c.deref.ensures.value ∙ refilled c.args.stores.now.asked.len c.pass-passed.new.asked
-    (drop (length c.pass-passed.new.asked) c.args.stores.now.asked.items) (omega arith)))
-    c.pass-passed.ensures.passed.stores) in
+    (sym (c.deref.ensures.value ∙ refilled c.args.stores.now.asked.len c.pass-count.new.asked
+    (drop (length c.pass-count.new.asked) c.args.stores.now.asked.items) (omega arith)))
+    c.pass-count.ensures.passed.stores) in
     subst (IsVerdict job (requests_in job s)) c.in-Some.is
     (c.judge_all.ensures (requests_in job s)
     (subst (λ n. AreAsked job.cells (requests_in job s) n (take count c.deref.result.now)
@@ -27,24 +27,24 @@ returns-in-Some-clause-dispute c =
 pub returns-in-Some-clause-cells : goal.returns-in-Some-clause-cells
 returns-in-Some-clause-cells c =
     passed_cells c.args.job.now c.limits_hold.ensures c.args.places.now c.requires.places
-    c.pass-passed.new.places c.pass-passed.ensures.passed.own
+    c.pass-count.new.places c.pass-count.ensures.passed.own
 
 pub returns-in-None-clause-made : goal.returns-in-None-clause-made
 returns-in-None-clause-made c =
     let job = c.args.job.now in
     let s = c.args.places.now in
-    let count = c.pass-passed.result.count in
+    let count = c.pass-count.result in
     let room : count ≤ length c.deref.result.now = omega arith in
     let are = AreAsked_take job.cells (requests_in job s) job.procs c.deref.result.now count room
     (subst (λ (xs : List Store). AreAsked job.cells (requests_in job s) job.procs xs count)
-    (sym (c.deref.ensures.value ∙ refilled c.args.stores.now.asked.len c.pass-passed.new.asked
-    (drop (length c.pass-passed.new.asked) c.args.stores.now.asked.items) (omega arith)))
-    c.pass-passed.ensures.passed.stores) in
-    advanced job c.limits_hold.ensures s c.requires.places c.pass-passed.new.places
-    c.pass-passed.ensures.passed.own (take count c.deref.result.now) are
+    (sym (c.deref.ensures.value ∙ refilled c.args.stores.now.asked.len c.pass-count.new.asked
+    (drop (length c.pass-count.new.asked) c.args.stores.now.asked.items) (omega arith)))
+    c.pass-count.ensures.passed.stores) in
+    advanced job c.limits_hold.ensures s c.requires.places c.pass-count.new.places
+    c.pass-count.ensures.passed.own (take count c.deref.result.now) are
     c.write_stores.new.places c.write_stores.ensures
     (subst (IsVerdict job (requests_in job s)) c.in-None.is
     (c.judge_all.ensures (requests_in job s)
     (subst (λ n. AreAsked job.cells (requests_in job s) n (take count c.deref.result.now)
     (length (take count c.deref.result.now))) (sym (length-requests_in job s)) are)))
-    c.args.running.now c.requires.running c.pass-passed.result.moves c.pass-passed.ensures.idle
+    c.args.running.now c.requires.running

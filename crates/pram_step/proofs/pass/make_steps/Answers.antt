@@ -1,10 +1,9 @@
-use Rattle.std.proofs.Common.{◌≡◌, ◌+◌, ◌-◌, length, sym, ap, subst, ◌∙◌}
+use Rattle.std.proofs.Common.{◌≡◌, ◌+◌, ◌-◌, sym, subst}
 use Rattle.std.proofs.Common.{arith}
-use Rattle.std.proofs.lemmas.Bool.{OnFalse_at, eqb-true, not-true}
+use Rattle.std.proofs.lemmas.Bool.{OnTrue_at}
 use Rattle.pram_step.specs.Runs.{IsStateAfter}
-use Rattle.pram_step.proofs.LawFixed.{start_after, next_after, unchanged_later}
-use Rattle.pram_step.proofs.LawStopped.{stopped_later}
-use Rattle.pram_step.proofs.Passing.{stopped_of_none}
+use Rattle.pram_step.proofs.LawFixed.{start_after, next_after}
+use Rattle.pram_step.proofs.LawStopped.{idle_later}
 use Rattle.pram_step.proofs.pass.make_steps.Goals as goal
 
 pub loop-done-init : goal.loop-done-init
@@ -19,41 +18,38 @@ loop-done-init c = record {
 pub loop-done-preserved : goal.loop-done-preserved
 loop-done-preserved c = record {
   after = subst (IsStateAfter c.args.job.now (c.loop-done.done + 1))
-      (sym c.in-Ok.ensures.made.made.next)
+      (sym c.in_default.ensures.made.made.next)
       (next_after c.args.job.now c.loop-done.done c.loop-done.places
-      c.loop-done.invariant.after c.in-Ok.ensures.made.made.agrees);
-  running = c.update.ensures.found;
-  room = c.update.ensures.room;
+      c.loop-done.invariant.after c.in_default.ensures.made.made.agrees);
+  running = c.rest.ensures.found;
+  room = c.rest.ensures.room;
   stores = c.advance.ensures.stores;
 }
 
--- a step changed nothing
-pub returns-then-not-moves : goal.returns-then-not-moves
-returns-then-not-moves c = λ more.
+-- nothing changes any more
+pub returns-then-rest : goal.returns-then-rest
+returns-then-rest c = λ more.
     let job = c.args.job.now in
     let done = c.loop-done.done in
-    let same : c.advance.new.places ≡ c.loop-done.places =
-    OnFalse_at (not-true c.in-Ok.moves.changed c.if-not-moves.true) c.in-Ok.ensures.made.idle in
-    let left : done + (c.args.steps + more - done) ≡ c.args.steps + more = omega arith in
-    let last = unchanged_later job done (c.args.steps + more - done) c.loop-done.places
-    c.loop-done.invariant.after c.in-Ok.ensures.made.made.agrees
-    (sym c.in-Ok.ensures.made.made.next ∙ same) in
-    subst (IsStateAfter job (c.args.steps + more)) (sym same)
-    (subst (λ n. IsStateAfter job n c.loop-done.places) left last)
+    let left : done + 1 + (c.args.steps + more - (done + 1)) ≡ c.args.steps + more = omega arith in
+    subst (λ n. IsStateAfter job n c.advance.new.places) left
+    (idle_later job (done + 1) (c.args.steps + more - (done + 1)) c.advance.new.places
+    (subst (IsStateAfter job (done + 1)) (sym c.in_default.ensures.made.made.next)
+    (next_after job done c.loop-done.places c.loop-done.invariant.after
+    c.in_default.ensures.made.made.agrees))
+    (OnTrue_at c.if-rest.true c.rest.ensures.idle))
 
--- all have stopped
-pub returns-then-is_empty : goal.returns-then-is_empty
-returns-then-is_empty c = λ more.
-    let job = c.args.job.now in
+-- nor after the last step
+pub returns-then-rest-2 : goal.returns-then-rest-2
+returns-then-rest-2 c = λ more.
     let over : c.loop-done.done ≡ c.args.steps = omega arith in
-    stopped_later job c.args.steps more c.loop-done.places
-    (subst (λ n. IsStateAfter job n c.loop-done.places) over c.loop-done.invariant.after)
-    (stopped_of_none job c.loop-done.places _ c.loop-done.invariant.running
-    (sym (ap length c.as_slice-2.ensures) ∙ eqb-true (length c.as_slice-2.result.now) 0
-    (sym c.is_empty.ensures ∙ c.if-is_empty.true)))
+    idle_later c.args.job.now c.args.steps more c.loop-done.places
+    (subst (λ n. IsStateAfter c.args.job.now n c.loop-done.places) over
+    c.loop-done.invariant.after)
+    (OnTrue_at c.if-rest-2.true c.rest-2.ensures.idle)
 
-pub returns-else-is_empty : goal.returns-else-is_empty
-returns-else-is_empty c =
+pub returns-else-rest-2 : goal.returns-else-rest-2
+returns-else-rest-2 c =
     let over : c.loop-done.done ≡ c.args.steps = omega arith in
     subst (λ n. IsStateAfter c.args.job.now n c.loop-done.places) over
     c.loop-done.invariant.after

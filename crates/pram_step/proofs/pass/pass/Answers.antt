@@ -1,15 +1,13 @@
-use Rattle.std.proofs.Common.{◌≡◌, ◌<◌, length, get_or, refl, sym, ap, subst, ◌∙◌}
-use Rattle.std.proofs.Common.{inl, arith}
+use Rattle.std.proofs.Common.{◌≡◌, ◌<◌, length, get_or, sym, subst, arith}
 use Rattle.std.specs.Prelude.{IfSome}
 use Rattle.pram_step.specs.declared.requests.Request.{Request}
 use Rattle.pram_step.specs.Machine.{IsDataPlace}
-use Rattle.std.proofs.lemmas.Bool.{OnFalse_at, OnFalse_from, or_parts}
-use Rattle.pram_step.specs.Inner.Passes.{AllIdle, IsPassed}
+use Rattle.pram_step.specs.Inner.Passes.{IsPassed}
 use Rattle.pram_step.specs.Inner.Turns.{request_of}
-use Rattle.pram_step.proofs.Applying.{passed_first, passed_next, passed_turn, same_request}
-use Rattle.pram_step.proofs.Applying.{idle_first, idle_next, count_next}
+use Rattle.pram_step.proofs.Applying.{passed_first, passed_next, passed_turn}
+use Rattle.pram_step.proofs.Applying.{count_next}
 use Rattle.pram_step.proofs.Passing.{bound, bound_inside, bound_past, listed_below}
-use Rattle.pram_step.proofs.Shapes.{request_idle, request_own}
+use Rattle.pram_step.proofs.Shapes.{request_own}
 use Rattle.pram_step.proofs.pass.pass.Goals as goal
 
 pub loop-processor-init : goal.loop-processor-init
@@ -20,7 +18,6 @@ loop-processor-init c =
       few = omega arith;
       passed = passed_first job is_job start c.requires.places c.args.running.now
           c.requires.running c.args.asked.now;
-      idle = idle_first job is_job start c.requires.places c.args.running.now c.requires.running;
     }
 
 pub turn_in-turn-requires-clause-processor : goal.turn_in-turn-requires-clause-processor
@@ -28,8 +25,8 @@ turn_in-turn-requires-clause-processor c =
     listed_below c.args.job.now c.args.places.now c.args.running.now c.requires.running
     c.loop-processor.processor-index (omega arith)
 
-pub move_on-changed-requires-clause-own : goal.move_on-changed-requires-clause-own
-move_on-changed-requires-clause-own c =
+pub move_on-requires-clause-own : goal.move_on-requires-clause-own
+move_on-requires-clause-own c =
     let job = c.args.job.now in
     let p = get_or c.args.running.now c.loop-processor.processor-index 0 in
     subst (λ (r : Request). IfSome r.put (λ w. IsDataPlace job p w.0))
@@ -59,22 +56,12 @@ loop-processor-preserved c =
           count_next job is_job start c.requires.places running are k c.take_up-count.result inside
           (omega arith);
       passed = passed_next job is_job start c.requires.places running are k inside
-          c.move_on-changed.new.places c.take_up-count.new.asked c.take_up-count.result
+          c.move_on.new.places c.take_up-count.new.asked c.take_up-count.result
           (passed_turn job is_job start c.requires.places p low c.loop-processor.places before.own
           c.loop-processor.asked c.loop-processor.count before.stores
-          (request_of c.turn_in-turn.result) c.turn_in-turn.ensures.value c.move_on-changed.new.places
-          c.move_on-changed.ensures.moved
+          (request_of c.turn_in-turn.result) c.turn_in-turn.ensures.value c.move_on.new.places
+          c.move_on.ensures
           c.take_up-count.new.asked c.take_up-count.result c.take_up-count.ensures.asked);
-      idle = OnFalse_from _ _ (λ unchanged.
-          let parts = or_parts c.loop-processor.changed c.move_on-changed.result unchanged in
-          let same = same_request job is_job start c.requires.places p low c.loop-processor.places
-          before.own in
-          idle_next job is_job start c.requires.places running are k inside
-          (OnFalse_at parts.0 c.loop-processor.invariant.idle)
-          (request_idle job start p (ap (λ (r : Request). r.next)
-          (sym (c.turn_in-turn.ensures.value ∙ same))
-          ∙ OnFalse_at parts.1 c.move_on-changed.ensures.idle
-          ∙ before.own.left p _ (omega arith) low (inl refl))));
     }
 
 pub returns-clause-passed : goal.returns-clause-passed
@@ -92,11 +79,3 @@ returns-clause-few c =
     let e = bound_past c.args.job.now c.args.places.now c.args.running.now c.requires.running
     c.loop-processor.processor-index (omega arith) in
     let few = c.loop-processor.invariant.few in omega arith
-
-pub returns-clause-idle : goal.returns-clause-idle
-returns-clause-idle c =
-    let e = bound_past c.args.job.now c.args.places.now c.args.running.now c.requires.running
-    c.loop-processor.processor-index (omega arith) in
-    OnFalse_from c.loop-processor.changed (AllIdle c.args.job.now c.args.places.now)
-    (λ unchanged i low.
-    OnFalse_at unchanged c.loop-processor.invariant.idle i (omega arith))

@@ -1,6 +1,5 @@
-use Rattle.std.proofs.Common.{ℕ, ◌<◌, ◌≤◌}
-use Rattle.std.specs.Bool.{OnFalse}
-use Rattle.pram_step.specs.Inner.Passes.{IsIdle, IsPassed}
+use Rattle.std.proofs.Common.{◌≤◌}
+use Rattle.pram_step.specs.Inner.Passes.{IsPassed}
 use Rattle.pram_step.proofs.Passing.{bound}
 use Rattle.pram_step.proofs.pass.pass.Given as goal
 
@@ -9,6 +8,4 @@ invariant-loop-processor l = record {
   few : l.count ≤ bound l.job l.running l.processor-index;
   passed : IsPassed l.job l.initial.places (bound l.job l.running l.processor-index) l.places
       l.asked l.count;
-  idle : OnFalse l.changed ((i : ℕ) → i < bound l.job l.running l.processor-index →
-      IsIdle l.job l.initial.places i);
 }
