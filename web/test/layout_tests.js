@@ -200,6 +200,39 @@ export async function testFocusOfWindows() {
   is('a bar of lines that goes', await focused(), 'text');
 }
 
+const CONTROLS = `[...document.querySelectorAll('button:not([role=tab]), summary, input')]`;
+
+// Each control that is in sight at first is pressed by keys, while it is there.
+async function pressEach(what) {
+  const all = await page.evaluate(`${CONTROLS}.filter((one) => one.checkVisibility())
+    .map((one, k) => one.dataset.nth = k).length`);
+  const lost = [];
+  for (let k = 0; k < all; k += 1) {
+    const name = await page.evaluate(`(() => {
+      const one = document.querySelector('[data-nth="${k}"]');
+      one?.focus();
+      return one === document.activeElement ? one.id || one.textContent || one.type : '';
+    })()`);
+    if (name !== '') {
+      await page.press('Enter', 'Enter', '\r');
+      await page.press(' ', 'Space', ' ');
+      if (await page.evaluate('document.activeElement === document.body')) lost.push(name);
+    }
+  }
+  is(`${what}: controls`, all > 20 || all, true);
+  is(`${what}: each keeps the focus, or hands it on`, lost.join(), '');
+}
+
+export async function testFocusOfEach() {
+  for (const example of ['maximum', 'prefix.pardo']) {
+    for (const view of ['lockstep', 'workers']) {
+      await open(`#example=${example}&view=${view}&workers=3${SHOWN.replace('.3', '')}`);
+      await has(`${example}, ${view}`, '#answer', 'done after');
+      await pressEach(`${example}, ${view}`);
+    }
+  }
+}
+
 // What eyes that lack one kind of cone make of a colour, in linear light.
 const EYES = {
   all: [[1, 0, 0], [0, 1, 0], [0, 0, 1]],
