@@ -148,14 +148,11 @@ impl<'t> Draft<'t> {
 fn rule_named(name: &[u8]) -> Result<Rule, PardoKind>
     ensures { result ≡ rule_named name.now }
 {
-    if is_word(name, "common") {
-        Ok(Rule::Common)
-    } else if is_word(name, "priority") {
-        Ok(Rule::Priority)
-    } else if is_word(name, "crew") {
-        Ok(Rule::Crew)
-    } else {
-        Err(PardoKind::BadHeader)
+    match name {
+        _ if is_word(name, "common") => Ok(Rule::Common),
+        _ if is_word(name, "priority") => Ok(Rule::Priority),
+        _ if is_word(name, "crew") => Ok(Rule::Crew),
+        _ => Err(PardoKind::BadHeader),
     }
 }
 

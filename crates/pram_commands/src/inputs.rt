@@ -5,6 +5,7 @@ ghost use Rattle.pram_commands.specs.Faults.{fault_of_job_source, fault_of_plan_
 ghost use Rattle.pram_commands.specs.Inputs.{ExplainsJob, ExplainsPlan, GivesJob, GivesPlan};
 ghost use Rattle.pram_commands.specs.Inputs.{GivesText, Took, taking};
 ghost use Rattle.pram_commands.specs.Names.{AreNames};
+ghost use Rattle.pram_commands.specs.declared.fault.CommandFault.TheVariants.{JobDevice};
 
 use crate::fault::CommandFault;
 use crate::names::{Naming, read_text};
@@ -50,8 +51,7 @@ pub fn take_job<J: Source>(alloc: Global, source: &mut J) -> Result<Job, Command
     ensures ok { IfOk result (GivesJob (J.remaining source.old) (J.remaining source.new)) }
     ensures explains { IfErr result (ExplainsJob (J.remaining source.old)
         (J.remaining source.new)) }
-    ensures failed { IsTrue (J.has_failed source.new)
-        ↔ IsErrOf result CommandFault.JobDevice }
+    ensures failed { IsTrue (J.has_failed source.new) ↔ IsErrOf result JobDevice }
     ensures reads { GivesSome (J.remaining source.old) (J.remaining source.new) }
 {
     Ok(take_text(alloc, source)?.job)
@@ -60,14 +60,12 @@ pub fn take_job<J: Source>(alloc: Global, source: &mut J) -> Result<Job, Command
 /// The same, with the text, and what its answers are told by.
 pub(crate) fn take_text<J: Source>(alloc: Global, source: &mut J) -> Result<Spelled, CommandFault>
     requires { J.has_failed source.old ≡ false }
-    ensures names { IfOk result (λ spelled.
-        AreNames spelled.text.items spelled.job spelled.names) }
-    ensures ok { IfOk result (λ spelled. GivesText (J.remaining source.old)
-        (J.remaining source.new) spelled.text.items spelled.job) }
+    ensures names { IfOk result (λ read. AreNames read.text.items read.job read.names) }
+    ensures ok { IfOk result (λ read. GivesText (J.remaining source.old)
+        (J.remaining source.new) read.text.items read.job) }
     ensures explains { IfErr result (ExplainsJob (J.remaining source.old)
         (J.remaining source.new)) }
-    ensures failed { IsTrue (J.has_failed source.new)
-        ↔ IsErrOf result CommandFault.JobDevice }
+    ensures failed { IsTrue (J.has_failed source.new) ↔ IsErrOf result JobDevice }
     ensures reads { GivesSome (J.remaining source.old) (J.remaining source.new) }
 {
     let text = take(alloc, source).map_err(job_fault)?;

@@ -7,7 +7,7 @@ ghost use Rattle.pram_board.specs.Seats.{SeatData};
 ghost use Rattle.pram_run.specs.Inner.Obeying.{GoesOn};
 ghost use Rattle.pram_run.specs.Inner.Posted.{ArePosted};
 ghost use Rattle.pram_run.specs.Inner.Reading.{PassedSights, PutAfter, ReadsRound};
-ghost use Rattle.pram_run.specs.PutReads.{PutWatch};
+ghost use Rattle.pram_run.specs.PutReads.{PutReads};
 ghost use Rattle.pram_run.specs.Running.{IsBoardFor};
 ghost use Rattle.pram_run.specs.Watching.{HasWatchedWith, ReadsAndHears, ReadsUnlessRefused};
 ghost use Rattle.pram_run.specs.Watching.{most_waiting};
@@ -223,9 +223,8 @@ pub fn print_reads<G: Gate, W: Sink, C: CellNames>(
     requires seat { seat.old.desk ≡ observation.now.assignment.board.now }
     requires empty { vec_len sights.old ≡ 0 }
     requires room { most_waiting observation.now ≤ vec_capacity sights.old }
-    ensures reads { PutWatch (C.words names.now) observation.now.assignment.board.now.task
-        observation.now.cells.now observation.now.rounds seat.old seat.new (W.taken sink.old)
-        (W.taken sink.new) result }
+    ensures reads { PutReads (C.words names.now) observation.now seat.old seat.new
+        (W.taken sink.old) (W.taken sink.new) result }
     ensures failed { IsTrue (W.has_failed sink.new) ↔ IsErrOf result PrintFault.Device }
     ensures goes_on { GoesOn seat.old seat.new }
 {

@@ -26,7 +26,7 @@ use walkx::Worker;
 /// Runs the workers of the plan, each on a thread of its own, and answers how the job ended. The
 /// board was opened for this job and so many workers; other threads may use seats of it meanwhile.
 /// Each worker obeys its rows in order and then goes on without a limit, and passes the gate before
-/// each atomic step. Where a thread is refused, that is want of memory: the threads that were
+/// each atomic step. Where a thread is refused, that is out of memory: the threads that were
 /// started run to their end and are joined. The seat given back has seen what all threads saw.
 pub fn run<R: Threads + Wait, G: Gate + Sync>(
     rt: &R,

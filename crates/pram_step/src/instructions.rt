@@ -7,7 +7,7 @@ ghost use Rattle.pram_step.specs.Machine.{out_of_range, register_place};
 ghost use Rattle.pram_step.specs.Instructions.{registers_in, value_of, held_after, index_of};
 ghost use Rattle.pram_step.specs.Instructions.{reached, sources_of, listed, cell_read};
 ghost use Rattle.pram_step.specs.Instructions.{goes_to, decided, HasShape};
-ghost use Rattle.pram_step.specs.Inner.Turns.{request_of, IsSorted};
+ghost use Rattle.pram_step.specs.Inner.Turns.{IsTurnOf};
 ghost use Rattle.pram_step.specs.declared.turn.Put.TheVariants.{Nothing, Register, Cell};
 
 use crate::requests::Request;
@@ -156,11 +156,10 @@ pub(crate) fn decide<H: Held>(
     requires counter { counter < length job.now.code }
     requires instr { IsInstr job.now.cells (length job.now.code) instr.now }
     requires cells { H.cells held.now ≡ job.now.cells }
-    ensures value { request_of result ≡ decided job.now processor counter instr.now
+    ensures { IsTurnOf job.now (decided job.now processor counter instr.now
         (H.operand held.now (sources_of instr.now) 0) (H.operand held.now (sources_of instr.now) 1)
         (H.cell held.now
-        (cell_read job.now instr.now (H.operand held.now (sources_of instr.now) 0))) }
-    ensures sorted { IsSorted job.now result.put }
+        (cell_read job.now instr.now (H.operand held.now (sources_of instr.now) 0)))) result }
 {
     job.limits_hold();
     let gives = |r, value| gives(job, processor, counter, r, value);

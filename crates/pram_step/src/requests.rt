@@ -2,7 +2,7 @@
 ghost use Rattle.std.specs.Prelude.{◌≡◌, ◌+◌, ◌^◌, ◌<◌, ◌≤◌, length, map, slice_index, None, Some};
 ghost use Rattle.pram_step.specs.Machine.{counter_place, place_count, register_place, register};
 ghost use Rattle.pram_step.specs.Instructions.{place_part, value_part, request_in};
-ghost use Rattle.pram_step.specs.Inner.Turns.{request_of, IsSorted};
+ghost use Rattle.pram_step.specs.Inner.Turns.{IsTurnOf};
 
 use crate::instructions::{Held, decide, jumps};
 use crate::turn::Turn;
@@ -56,8 +56,7 @@ pub(crate) fn turn_in(job: &Job, places: &[u32], processor: u32, at: u32) -> Tur
     requires processor { processor < job.now.procs }
     requires places { length places.now ≡ place_count job.now }
     requires counter { at ≡ counter_place job.now processor }
-    ensures value { request_of result ≡ request_in job.now places.now processor }
-    ensures sorted { IsSorted job.now result.put }
+    ensures { IsTurnOf job.now (request_in job.now places.now processor) result }
 {
     let counter = places[at as usize];
     let Some(instr) = job.code().get(counter as usize) else {

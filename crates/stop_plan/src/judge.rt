@@ -41,16 +41,12 @@ pub(crate) fn is_header(fields: &ByteRecord) -> bool
 fn act_of(field: &[u8]) -> Option<Act>
     ensures { result ≡ act_of field.now }
 {
-    if is_word(field, "go") {
-        Some(Act::Go)
-    } else if is_word(field, "sleep") {
-        Some(Act::Sleep)
-    } else if is_word(field, "back") {
-        Some(Act::Back)
-    } else if is_word(field, "stop") {
-        Some(Act::Stop)
-    } else {
-        None
+    match field {
+        _ if is_word(field, "go") => Some(Act::Go),
+        _ if is_word(field, "sleep") => Some(Act::Sleep),
+        _ if is_word(field, "back") => Some(Act::Back),
+        _ if is_word(field, "stop") => Some(Act::Stop),
+        _ => None,
     }
 }
 

@@ -1,5 +1,5 @@
 -- The request that a turn is.
-use Rattle.std.specs.Prelude.{ℕ, ◌<◌, ◌≤◌, Option, Some, None}
+use Rattle.std.specs.Prelude.{◌≡◌, ℕ, ◌<◌, ◌≤◌, Option, Some, None}
 use Rattle.pram_text.specs.Job.{JobData}
 use Rattle.pram_step.specs.declared.requests.Request.{Request}
 use Rattle.pram_step.specs.declared.turn.Put.{Put}
@@ -19,3 +19,8 @@ abbrev pub IsSorted : JobData → Put → Type 0
 IsSorted job Nothing = Unit {0}
 IsSorted job (Register place value) = job.cells ≤ place
 IsSorted job (Cell cell value) = cell < job.cells
+
+-- the turn is this request, sorted so
+pub record IsTurnOf (job : JobData) (request : Request) (turn : Turn) : Type 0 where
+  pub value : request_of turn ≡ request
+  pub sorted : IsSorted job turn.put
