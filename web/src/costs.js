@@ -1,10 +1,13 @@
 // What the run costs, and the model that it needs.
-import { byId, fit, make, setText } from './dom.js';
+import { byId, fit, make, setHidden, setText } from './dom.js';
 import { grouped } from './numbers.js';
 import { nameOfPlace } from './places.js';
 
 export const MODELS = ['EREW', 'CREW', 'CRCW common', 'CRCW priority'];
 export const MEETS = ['read', 'write', 'write different values to'];
+
+const OTHERS = 'With other values at the start the same program may cost more, and need a ' +
+  'stronger model.';
 
 const NUMBERS = [
   ['steps', ({ steps }) => steps],
@@ -40,11 +43,11 @@ export function openCosts(onStep) {
 
   return {
     show(job, cost, lines) {
-      byId('costs').hidden = cost === undefined;
+      setHidden(byId('costs'), cost === undefined);
       if (!cost) return;
       fit(list, NUMBERS.length, makeNumber).forEach((part, k) =>
         setText(part.lastChild, grouped(NUMBERS[k][1](cost))));
-      setText(byId('cost-model'), `This run needs ${MODELS[cost.needs]}.`);
+      setText(byId('cost-model'), `This run needs ${MODELS[cost.needs]}. ${OTHERS}`);
       const ruling = cost.meetings.flatMap((meeting, model) =>
         (meeting.step > 0 ? [{ meeting, model }] : []));
       fit(reasons, ruling.length, makeReason).forEach((item, k) => {

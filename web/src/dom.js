@@ -32,10 +32,10 @@ export function setAttribute(element, name, value) {
   if (element.getAttribute(name) !== String(value)) element.setAttribute(name, value);
 }
 
-// Focus that would be lost goes to the part of the page that it was in.
+// Focus that would be lost goes to the part of the page that it was in, or else to the text.
 function keepFocus(element, goes) {
   if (!goes.contains(document.activeElement)) return;
-  element.closest('[tabindex]')?.focus({ preventScroll: true });
+  (element.closest('[tabindex]') ?? byId('text')).focus({ preventScroll: true });
 }
 
 // Gives the parent exactly so many children, keeping those that are there (and their focus).

@@ -25,14 +25,17 @@ function fittingOf(list) {
   });
 }
 
-// Another page may have kept some meanwhile: they stay.
+// Another page may have kept some meanwhile: they stay. Tells whether all of the list are kept:
+// without room, or where the browser keeps nothing, they last as long as the page.
 function write(list) {
   const others = read().filter(({ number }) => !list.some((draft) => draft.number === number));
+  const kept = fittingOf([...list, ...others]);
   try {
-    localStorage.setItem(KEY, JSON.stringify(fittingOf([...list, ...others])));
+    localStorage.setItem(KEY, JSON.stringify(kept));
   } catch {
-    // Without room, or in a frame that may keep nothing, they last as long as the page.
+    return false;
   }
+  return list.every((draft) => kept.includes(draft));
 }
 
 const LEAST = 40;
@@ -50,7 +53,9 @@ function isAnother(before, after) {
 }
 
 export class Drafts {
-  constructor() {
+  // `onKept` hears whether the browser keeps all of them.
+  constructor(onKept) {
+    this.onKept = onKept;
     this.list = read();
     this.isWritten = true;
     window.addEventListener('pagehide', () => this.write());
@@ -82,7 +87,7 @@ export class Drafts {
   }
 
   write() {
-    if (!this.isWritten) write(this.list);
+    if (!this.isWritten) this.onKept(write(this.list));
     this.isWritten = true;
   }
 }

@@ -45,8 +45,8 @@ export class LockstepView {
     onClick('step-back', () => this.moveBy(-1));
     onClick('step-on', () => this.moveBy(1));
     onClick('step-end', () => this.goToNumber(this.pace.last));
-    onClick('access-back', () => this.seekAccess(0));
-    onClick('access-on', () => this.seekAccess(this.moments.last));
+    onClick('access-back', () => this.seekAccess(true));
+    onClick('access-on', () => this.seekAccess(false));
     onClick('to-stop', () => this.seekStop());
     onClick('save-memory', () => saveMemory(byId('plain-said').textContent));
     byId('by-machine').addEventListener('change', () => this.show());
@@ -60,8 +60,8 @@ export class LockstepView {
       ArrowRight: () => this.moveBy(1),
       Home: () => this.goToNumber(0),
       End: () => this.goToNumber(this.pace.last),
-      n: () => this.seekAccess(this.moments.last),
-      p: () => this.seekAccess(0),
+      n: () => this.seekAccess(false),
+      p: () => this.seekAccess(true),
       s: () => this.seekStop(),
       ' ': () => this.player.toggle(),
     };
@@ -126,15 +126,13 @@ export class LockstepView {
     return new Search(this.moments, this.app.step, to, isWanted);
   }
 
-  // Of a program each line is about its accesses.
-  seekAccess(to) {
-    const isBack = to < this.app.step;
-    if (this.pace instanceof LinePace) {
-      this.moveBy(isBack ? -1 : 1);
-      return;
-    }
-    const where = isBack ? 'earlier' : 'later';
-    this.seek([this.searchTo(to, hasAccess)], `No ${where} memory access. `);
+  // Of a program by its lines: to one that reads or writes a shared array or scalar.
+  seekAccess(isBack) {
+    const { pace, moments, app: { job, step } } = this;
+    const [from, to, where] = isBack ? [step, 0, 'earlier']
+      : [pace.spanAt(this.number).at(-1) ?? step, moments.last, 'later'];
+    const isWanted = hasAccess(pace instanceof LinePace ? job.source.shared : job.cells);
+    this.seek([new Search(moments, from, to, isWanted)], `No ${where} memory access. `);
   }
 
   seekStop() {
@@ -268,7 +266,6 @@ export class LockstepView {
     byId('step').max = last;
     setText(byId('step-name'), isByLine ? 'lines done' : 'after step');
     setHidden(byId('machine-choice'), !job.source);
-    for (const id of ['access-back', 'access-on']) setHidden(byId(id), isByLine);
     for (const id of ['step-start', 'step-back', 'access-back']) {
       setDisabled(byId(id), number === 0);
     }

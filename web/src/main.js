@@ -1,6 +1,6 @@
 // The page: what it shows, and who is told when that changes.
 import { CODE, openCore } from './core.js';
-import { byId, ignoreDisabled, onClick, setDisabled, setText } from './dom.js';
+import { byId, ignoreDisabled, onClick, setDisabled, setHidden, setText } from './dom.js';
 import { Drafts } from './drafts.js';
 import { Editor } from './editor.js';
 import { endInWords } from './ends.js';
@@ -35,7 +35,7 @@ class Playground {
     Object.assign(this, { core, far, examples, view: 'lockstep', written: 0 });
     this.firstShown = new Promise((done) => { this.onShown = done; });
     this.works = new Works(makeWork('', new Schedule(WORKERS)));
-    this.drafts = new Drafts();
+    this.drafts = new Drafts((areKept) => setHidden(byId('unkept'), areKept));
     this.whole = new Whole(this, () => this.showRun());
     this.editor = new Editor({
       change: (text) => this.changeText(text),
@@ -115,7 +115,7 @@ class Playground {
 
   showRun() {
     this.showEnds();
-    this.views.lockstep.hearFar();
+    this.views[this.view].hearFar();
   }
 
   // Shows the work of now, whose text stands in the editor: a program, or a text of the machine.
@@ -227,6 +227,7 @@ class Playground {
 
   // Shows what an address says, and the first example where it says nothing.
   showAddress(shown) {
+    this.editor.look();
     const first = this.examples.find((example) => example.name === FIRST_EXAMPLE);
     const text = shown?.text ?? (first ?? this.examples[0]).text;
     const work = makeWork(text, shown?.schedule ?? new Schedule(WORKERS),

@@ -1,5 +1,6 @@
 // What a board answers, beside the plain machine, in words.
 import { CODE } from './core.js';
+import { endInWords } from './ends.js';
 import { grouped } from './numbers.js';
 import { nameOfPlace } from './places.js';
 
@@ -15,7 +16,8 @@ function areAlike(outcome, answer) {
     ? sameCells(outcome.cells, answer.cells) : sameConflict(outcome, answer);
 }
 
-export function outcomeInWords(job, outcome, answer) {
+// `fates` are those of the plain machine's processors, where they are told.
+export function outcomeInWords(job, outcome, answer, fates) {
   if (outcome.code === CODE.UNFINISHED) {
     return `Unfinished: the last finished step is ${grouped(outcome.step)}.`;
   }
@@ -23,5 +25,5 @@ export function outcomeInWords(job, outcome, answer) {
     ? 'Done' : `Conflict in step ${grouped(outcome.step)} at ${nameOfPlace(job, outcome.cell)}`;
   if (answer.code === CODE.TOO_FAR) return `${told}.`;
   const alike = areAlike(outcome, answer) ? 'the same answer as' : 'ANOTHER ANSWER THAN';
-  return `${told}: ${alike} the plain machine’s.`;
+  return `${told}: ${alike} the plain machine’s. ${endInWords(job, fates)}`.trim();
 }

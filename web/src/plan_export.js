@@ -1,5 +1,5 @@
 // The schedule as a plan file to take home. Of a long plan the page shows the first rows alone.
-import { byId, onClick, setText } from './dom.js';
+import { byId, onClick, setHidden, setText } from './dom.js';
 import { grouped } from './numbers.js';
 import { hasTwins, rowsOfPlan, textOfPlan } from './plan.js';
 import { save } from './styled_svg.js';
@@ -27,7 +27,7 @@ export function showPlan(app) {
   const acts = actsOf(app);
   const isRefused = hasTwins(acts);
   const rows = isRefused ? [] : rowsOfPlan(acts, ROWS + 1);
-  for (const id of ['plan', 'plan-links']) byId(id).hidden = isRefused;
+  for (const id of ['plan', 'plan-links']) setHidden(byId(id), isRefused);
   setText(byId('plan'), textOfPlan(rows.slice(0, ROWS)));
   setText(byId('plan-said'), isRefused
     ? 'A plan has no twins: go back to a moment before the first one.' : commandOf(app, rows));

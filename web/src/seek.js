@@ -28,8 +28,9 @@ export class Search {
   }
 }
 
-export const hasAccess = (requests) =>
-  requests.some(({ reads, target }) => reads > 0 || target === TARGET.CELL);
+// Whether a processor is about to read or write one of the first so many cells.
+export const hasAccess = (cells) => (requests) => requests.some(({ reads, target, number }) =>
+  (reads > 0 && reads <= cells) || (target === TARGET.CELL && number < cells));
 
 // Whether a processor is about to do an instruction of one of these lines.
 export const isAtLine = (program, lines) => (requests) => requests.some(({ status, counter }) =>

@@ -1,5 +1,5 @@
 // A window on a long list: which part of it is in sight, and the bar that moves it.
-import { make, setDisabled, setText } from './dom.js';
+import { make, setDisabled, setHidden, setText } from './dom.js';
 import { grouped, numberWithin } from './numbers.js';
 
 // `one` is the word for an element, such as `cell`; the first one has the number `least`. `onMove`
@@ -29,7 +29,7 @@ export function openWindow(one, size, onMove, least = 0) {
       end = count + least;
       first = isWhole ? least : Math.min(start, Math.max(end - 1, least));
       const last = isWhole ? end : Math.min(first + size, end);
-      bar.hidden = isWhole;
+      setHidden(bar, isWhole);
       if (isWhole) return { first, length: last - first };
       from.value = first;
       from.max = end - 1;

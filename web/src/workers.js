@@ -90,6 +90,11 @@ export class WorkersView {
     this.show();
   }
 
+  // Something was told of the whole run.
+  hearFar() {
+    this.show();
+  }
+
   moveTo(moment) {
     this.pause();
     this.slider.moveTo(moment);
@@ -304,11 +309,11 @@ export class WorkersView {
   }
 
   showOutcome(isOver) {
-    const { app, board, scene, whatIf } = this;
-    const isAnswered = isOver || scene.conflict > 0 || scene.finished === app.job.steps;
+    const { app: { job, answer, whole }, board, scene, whatIf } = this;
+    const isAnswered = isOver || scene.conflict > 0 || scene.finished === job.steps;
     const told = isAnswered
-      ? outcomeInWords(app.job, board.outcome(), app.answer)
-      : `Finished: ${grouped(scene.finished)} of ${counted(app.job.steps, 'step')}.`;
+      ? outcomeInWords(job, board.outcome(), answer, whole.fates())
+      : `Finished: ${grouped(scene.finished)} of ${counted(job.steps, 'step')}.`;
     setText(byId('outcome'), (whatIf?.told ?? '') + told);
     byId('outcome').className = scene.conflict > 0 ? 'said bad' : 'said';
     setHidden(byId('before'), whatIf === undefined);

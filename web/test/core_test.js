@@ -15,6 +15,7 @@ import { statusOf } from '../src/processors.js';
 import { PROGRAM_SENTENCES, wordsOfProgramFault } from '../src/program_faults.js';
 import { ACT, actOf, readActs, writeActs } from '../src/acts.js';
 import { readAddress, writeAddress } from '../src/address.js';
+import { MODELS } from '../src/costs.js';
 import { Schedule } from '../src/schedule.js';
 import { Source } from '../src/source.js';
 import { testExercises } from './exercise_rows.js';
@@ -52,6 +53,20 @@ function printed(answer) {
       `processors=${answer.first},${answer.second}\n`;
   }
   return `code=${answer.code}\n`;
+}
+
+const meetingIn = ({ step, cell, first, second }) =>
+  (step === 0 ? 'none' : `step=${step} cell=${cell} processors=${first},${second}`);
+
+// What `pramx cost` prints of it.
+function printedCost({ meetings: [read, write, other], ...cost }, answer) {
+  const { steps, procs, executed, most, reading, writing, needs } = cost;
+  const rows = ['cost of this input', `steps ${steps}`, `processors ${procs}`,
+    `product ${steps * procs}`, `work ${executed}`, `most ${most}`, `reading ${reading}`,
+    `writing ${writing}`, `needs ${MODELS[needs]}`, `same read ${meetingIn(read)}`,
+    `same write ${meetingIn(write)}`, `other value ${meetingIn(other)}`,
+    printed(answer).split('\n', 1)[0]];
+  return `${rows.join('\n')}\n`;
 }
 
 // What `pramx plain` prints: with a conflict its status is 1.
@@ -152,6 +167,8 @@ function testProgram(core, name) {
   const answer = core.answer(text, job, MOST);
   is(`${name}: answer`, printed(answer), wanted);
   if (pramx) is(`${name}: pramx plain`, printed(answer), plainOf(path));
+  is(`${name}: cost`, printedCost(core.cost(text), answer),
+    readFileSync(join(folder, `${name}.cost`), 'utf8'));
   is(`${name}: requests make the states`, stepsAgree(core, text, job, answer), 'agree');
   const walked = walk(core, text, job);
   is(`${name}: a walk ends`, walked.code, CODE.DONE);
@@ -371,6 +388,21 @@ function testSpeed(core) {
   is('399,996 events in a second', took < 1000 || took, true);
 }
 
+const MOST_BYTES = 400000;
+
+// One file, not too large, that asks for nothing from outside.
+function testFile() {
+  const bytes = Buffer.byteLength(page);
+  is('the page is under 400 KB', bytes < MOST_BYTES || bytes, true);
+  const [, policy] = /http-equiv="Content-Security-Policy" content="([^"]*)"/.exec(page);
+  is('nothing from outside is allowed', policy.startsWith("default-src 'none'; "), true);
+  is('no address is allowed', /https?:|\*|'self'|unsafe-inline/.exec(policy)?.[0] ?? '', '');
+  const parts = page.match(/<(script|link|img|iframe|object|embed|base)\b[^>]*>/g);
+  const outside = parts.filter((tag) => /\s(src|href|data)=/.test(tag) && !/="data:,"/.test(tag));
+  is('no part stands elsewhere', outside.join(), '');
+  is('nor one of its style', /@import|url\(/.exec(page.split('<script', 1)[0])?.[0] ?? '', '');
+}
+
 INSTRUCTIONS.push(...tableOfPage());
 SENTENCES.push(...sentencesOfPage('SENTENCES'));
 PROGRAM_SENTENCES.push(...sentencesOfPage('PROGRAM_SENTENCES'));
@@ -379,6 +411,7 @@ const names = readdirSync(folder).filter((name) => name.endsWith('.pram')).sort(
 for (const name of names) testProgram(core, name.replace(/\.pram$/, ''));
 const programs = readdirSync(folder).filter((name) => name.endsWith('.pardo')).sort();
 for (const name of programs) testPardo(core, name.replace(/\.pardo$/, ''));
+testFile();
 testNames(core);
 testPardoRefusals(core);
 testActs();

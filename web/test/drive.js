@@ -62,13 +62,15 @@ export async function open(hash = '') {
   is(`opens ${hash.slice(0, 60)}`, await page.open(folders.address + hash), true);
 }
 
-// Clicks on what saves a file of this name, and reads the file.
+// Clicks on what saves a file of this name, and reads the file, which is empty at first.
 export async function saved(selector, name) {
   const path = join(folders.downloads, name);
   rmSync(path, { force: true });
   await page.click(selector);
-  for (let polls = 0; polls < 50; polls += 1) {
-    if (readdirSync(folders.downloads).includes(name)) return readFileSync(path, 'utf8');
+  for (let polls = 0; polls < 100; polls += 1) {
+    const isThere = readdirSync(folders.downloads).includes(name);
+    const file = isThere ? readFileSync(path, 'utf8') : '';
+    if (file !== '') return file;
     await page.until('false', 0.1);
   }
   return '';

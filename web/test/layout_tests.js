@@ -1,5 +1,5 @@
 // What is in sight: sizes of windows, phones, frames, paper, pictures, and where the focus is.
-import { clicks, count, focused, has, is, isShown, open, page, picture, saved, text }
+import { clicks, count, focused, has, is, isShown, open, page, paste, picture, saved, text, write }
   from './drive.js';
 
 const SHOWN = '&step=14&acts=0.1.2.3*300';
@@ -40,6 +40,16 @@ const BOXES = `[...document.querySelectorAll('#lockstep .cell, #strip li')].map(
   return [left, top + scrollY, width, height].map(Math.round).join();
 }).join(' ')`;
 
+async function testBoxesOfProgram() {
+  await open('#example=prefix.pardo');
+  await has('by lines', '#step-name', 'lines done');
+  const first = await page.evaluate(BOXES);
+  for (let number = 1; number <= 10; number += 1) {
+    await page.press('ArrowRight');
+    is(`boxes stand still after ${number} lines`, await page.evaluate(BOXES) === first, true);
+  }
+}
+
 export async function testBoxes() {
   await open('#example=maximum');
   const first = await page.evaluate(BOXES);
@@ -53,6 +63,7 @@ export async function testBoxes() {
   await page.click('#step-end');
   await has('a conflict', '#plain-said', 'Conflict: step 4');
   is('boxes stand still in a conflict', await page.evaluate(BOXES) === calm, true);
+  await testBoxesOfProgram();
   is('arrows are in front', await page.evaluate(`(() => {
     const arrows = document.getElementById('arrows');
     const after = arrows.compareDocumentPosition(document.querySelector('#plain-cells')) & 2;
@@ -60,16 +71,33 @@ export async function testBoxes() {
   })()`), true);
 }
 
+// Each view with what is last in sight, the button that goes to the end, and what is said there.
+const FRAMES = [
+  ['lockstep', '#lockstep .picture', '#step-end', '#plain-said'],
+  ['workers', '#cards', '#to-end', '#outcome'],
+];
+
+async function isInFrame(what, last) {
+  const bottom = await bottomOf(last);
+  is(`${what} within a frame of 960 x 540`, bottom <= 540 || bottom, true);
+  const wide = await page.evaluate('document.documentElement.scrollWidth');
+  is(`${what}: as wide as the frame`, wide <= 960 || wide, true);
+}
+
 export async function testFrame() {
   await page.resize(960, 540);
-  for (const [view, last] of [['lockstep', '#lockstep .picture'], ['workers', '#cards']]) {
-    await open(`#embed=1&example=maximum&view=${view}&workers=4${SHOWN}`);
-    const bottom = await bottomOf(last);
-    is(`${view} within a frame of 960 x 540`, bottom <= 540 || bottom, true);
-    is('without the editor', await isShown('#text'), false);
-    const wide = await page.evaluate('document.documentElement.scrollWidth');
-    is('as wide as the frame', wide <= 960 || wide, true);
-    await page.sightPicture(`frame-${view}`);
+  for (const example of ['maximum', 'sum.pardo']) {
+    for (const [view, last, end, said] of FRAMES) {
+      const what = `${example}, ${view}`;
+      await open(`#embed=1&example=${example}&view=${view}&workers=4${SHOWN}`);
+      await isInFrame(what, last);
+      is(`${what}: without the editor`, await isShown('#text'), false);
+      await page.sightPicture(`frame-${example}-${view}`);
+      await page.click(end);
+      await has(`${what}: the end`, said, 'Done: ');
+      await has(`${what}: what became of all`, said, ' had stopped after step ');
+      await isInFrame(`${what} at the end`, last);
+    }
   }
   await page.resize(1280, 900);
 }
@@ -105,8 +133,10 @@ export async function testSavedPictures() {
 }
 
 const SMALL = `[...document.querySelectorAll('button, select, summary, input')]
-  .filter((one) => one.checkVisibility() && one.getBoundingClientRect().height < 44)
-  .map((one) => one.id || one.textContent).join()`;
+  .filter((one) => {
+    const { width, height } = one.getBoundingClientRect();
+    return one.checkVisibility() && Math.min(width, height) < 44;
+  }).map((one) => one.id || one.textContent).join()`;
 
 export async function testPhone() {
   await page.resize(390, 844);
@@ -141,6 +171,66 @@ export async function testFocus() {
   await has('what if', '#outcome', 'What if');
   await page.click('#before');
   is('a button that goes', await focused(), 'workers');
+  await page.click('#moment-start');
+  await page.click('#cards li:nth-child(1) [data-action=twin]');
+  await page.click('#moment-back');
+  await page.click('#plan-part summary');
+  await page.evaluate('document.getElementById("plan").focus()');
+  await page.press('ArrowRight');
+  await has('a plan that goes', '#plan-said', 'A plan has no twins');
+  is('is left', await focused(), 'workers');
+}
+
+const focusOn = (selector) =>
+  page.evaluate(`document.querySelector(${JSON.stringify(selector)}).focus()`);
+
+// The bar of a window goes with a long list.
+export async function testFocusOfWindows() {
+  await open('#example=maximum');
+  await write('pram 1\ncells 100\nprocs 40\nsteps 2\ncode\nhalt\n');
+  await focusOn('#plain-cells .bar button');
+  await page.chord('z');
+  await has('fewer cells', '#answer', '16 cells');
+  is('a bar of cells that goes', await focused(), 'lockstep');
+  await page.evaluate(paste(`'; a line\\n'.repeat(4000)`));
+  await has('a long text', '#fault', 'Line ');
+  await focusOn('#lines button');
+  await page.chord('z');
+  await has('a short text', '#answer', '16 cells');
+  is('a bar of lines that goes', await focused(), 'text');
+}
+
+const CONTROLS = `[...document.querySelectorAll('button:not([role=tab]), summary, input')]`;
+
+// Each control that is in sight at first is pressed by keys, while it is there.
+async function pressEach(what) {
+  const all = await page.evaluate(`${CONTROLS}.filter((one) => one.checkVisibility())
+    .map((one, k) => one.dataset.nth = k).length`);
+  const lost = [];
+  for (let k = 0; k < all; k += 1) {
+    const name = await page.evaluate(`(() => {
+      const one = document.querySelector('[data-nth="${k}"]');
+      one?.focus();
+      return one === document.activeElement ? one.id || one.textContent || one.type : '';
+    })()`);
+    if (name !== '') {
+      await page.press('Enter', 'Enter', '\r');
+      await page.press(' ', 'Space', ' ');
+      if (await page.evaluate('document.activeElement === document.body')) lost.push(name);
+    }
+  }
+  is(`${what}: controls`, all > 20 || all, true);
+  is(`${what}: each keeps the focus, or hands it on`, lost.join(), '');
+}
+
+export async function testFocusOfEach() {
+  for (const example of ['maximum', 'prefix.pardo']) {
+    for (const view of ['lockstep', 'workers']) {
+      await open(`#example=${example}&view=${view}&workers=3${SHOWN.replace('.3', '')}`);
+      await has(`${example}, ${view}`, '#answer', 'done after');
+      await pressEach(`${example}, ${view}`);
+    }
+  }
 }
 
 // What eyes that lack one kind of cone make of a colour, in linear light.

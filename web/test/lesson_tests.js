@@ -18,6 +18,10 @@ export async function testEndsInWords() {
   await has('at the end', '#plain-said', 'the job ends after 3 steps. It ended with 1 processor');
   await has('what it executed last', '#processors tr.stopped',
     'no such cell in step 3, 8: st r1 r0');
+  await page.click('#tab-workers');
+  await page.click('#to-end');
+  await has('by workers', '#outcome', 'the same answer as the plain machine’s. It ended with 1 ' +
+    'processor still running (P0 in line 9). Processor 1 stopped in step 3 at line 8');
   await page.choose('#example', 'conflict');
   await has('a conflict', '#answer', 'a conflict in step 4');
   is('has no end', await text('#ends'), '');
@@ -25,7 +29,8 @@ export async function testEndsInWords() {
 
 export async function testCosts() {
   await open('#example=maximum');
-  await has('the model', '#cost-model', 'This run needs CRCW common.');
+  await has('the model', '#cost-model', 'This run needs CRCW common. With other values at the ' +
+    'start the same program may cost more');
   is('its numbers', await page.evaluate(`[...document.querySelectorAll('#cost-numbers dd')]
     .map((one) => one.textContent).join(' ')`), '20 16 320 312 16 3 2');
   await has('a reason', '#cost-reasons li:nth-child(2)',

@@ -215,11 +215,11 @@ for h = 0 to lg(n) - 1
 end
 `;
 
+const linkToMany = async (view) =>
+  `#${await writeAddress({ text: MANY, view, step: 0, schedule: new Schedule(2) }, [])}`;
+
 export async function testManyProcessors() {
-  const address = await writeAddress({
-    text: MANY, view: 'lockstep', step: 0, schedule: new Schedule(2),
-  }, []);
-  await open(`#${address}`);
+  await open(await linkToMany('lockstep'));
   await has('1,024 processors', '#answer', 'A = 1 2 3 4 5');
   is('by lines', await page.until(
     'document.getElementById("step-name").textContent === "lines done"', 10), true);
@@ -228,4 +228,7 @@ export async function testManyProcessors() {
   await page.click('#step-end');
   is('the last value', await page.until(
     'document.getElementById("plain-said").textContent.startsWith("Done: the program")', 10), true);
+  await open(await linkToMany('workers'));
+  is('by workers the line is marked once it is told', await page.until(
+    'document.querySelectorAll(".line-number.next").length === 1'), true);
 }

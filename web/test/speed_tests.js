@@ -140,9 +140,9 @@ export async function testSpeedOfLessons() {
 export async function testSpeedOfPrograms() {
   await openQuietly('#example=bitonic.pardo');
   await page.until('document.getElementById("step-name").textContent === "lines done"', 5);
-  await clicksOn('bitonic.pardo', ['#step-on', '#step-on', '#step-on', '#step-back', '#step-end',
-    '#step-back', '#by-machine', '#step-on', '#by-machine', '#tab-workers', '#all-100',
-    '#tab-lockstep']);
+  await clicksOn('bitonic.pardo', ['#step-on', '#step-on', '#step-on', '#access-on',
+    '#access-back', '#step-back', '#step-end', '#step-back', '#by-machine', '#step-on',
+    '#by-machine', '#tab-workers', '#all-100', '#tab-lockstep']);
   for (const example of ['components.pardo', 'matrix.pardo', 'maximum', 'prefix.pardo']) {
     await isQuick(example, choiceOf('#example', example));
     await page.until('false', 0.3);
@@ -162,6 +162,9 @@ export async function testSpeedOfManyInAProgram() {
   await page.until('document.getElementById("step-name").textContent === "lines done"', 20);
   await clicksOn('a program of 1,024 processors',
     ['#step-on', '#step-on', '#step-on', '#step-end', '#step-back', '#step-start']);
+  await isSoon('a program of 1,024 processors, the next access', '#access-on', '#plain-said',
+    /A\[i\] := A\[i\] \+ i/);
+  await clickOn('a program of 1,024 processors', '#access-on');
 }
 
 export async function testSpeedOfMany() {

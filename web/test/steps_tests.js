@@ -14,6 +14,26 @@ export async function testAccesses() {
   await has('no other one', '#plain-said', 'No later memory access.');
 }
 
+// Of a program by its lines an access is one of a shared array or scalar.
+export async function testAccessesOfPrograms() {
+  await open('#example=prefix.pardo');
+  await has('by lines', '#step-name', 'lines done');
+  await page.click('#access-on');
+  is('the first line that goes to A', await valueOf('#step'), '2');
+  await page.press('n', 'KeyN', 'n');
+  is('the next one by key', await valueOf('#step'), '5');
+  await page.click('#access-back');
+  is('a line back', await valueOf('#step'), '2');
+  await page.press('p', 'KeyP', 'p');
+  await has('none before', '#plain-said', 'No earlier memory access.');
+  await page.press('p', 'KeyP', 'p');
+  is('nor before the start', await valueOf('#step'), '0');
+  await clicks('#access-on', 4);
+  await has('none after', '#plain-said', 'No later memory access. Done:');
+  await page.click('#access-back');
+  is('the last one', await valueOf('#step'), '8');
+}
+
 export async function testLinesAndStops() {
   await open('#example=maximum');
   const line = (number, part) => `#gutter [data-line="${number}"] .${part}`;

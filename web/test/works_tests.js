@@ -1,5 +1,6 @@
 // No work is lost: drafts, undo, and the browser's history.
-import { clicks, count, has, is, open, page, paste, text, valueOf, write } from './drive.js';
+import { clicks, count, has, is, isShown, open, page, paste, text, valueOf, write }
+  from './drive.js';
 
 const HEAD = 'pram 1\ncells 2\nprocs 2\nsteps 2\ncode\n';
 const OWN = `; mine\n${HEAD}pid r0\nhalt\n`;
@@ -50,11 +51,24 @@ export async function testLongDrafts() {
     await page.choose('#example', 'new');
     await page.evaluate(paste(`'; ${word}\\n'.repeat(200000)`));
     await has(`long ${word}`, '#fault', 'Line ');
+    await page.until('false', 1);
+    is(`it is said that not all are kept: ${word}`, await isShown('#unkept'), word === 'two');
   }
-  await page.until('false', 1);
   await open();
   await chooseOwn('your own: mine');
   is('a short one is there', await valueOf('#text'), OWN);
+}
+
+// Where the browser keeps nothing it is said, and they last as long as the page.
+export async function testUnkeptDrafts() {
+  await open();
+  await page.evaluate('Storage.prototype.setItem = () => { throw new Error("no room"); }');
+  await write(OWN);
+  is('it is said that nothing is kept',
+    await page.until('document.getElementById("unkept").checkVisibility()', 5), true);
+  await page.choose('#example', 'sum');
+  await chooseOwn('your own: mine');
+  is('the own text is there', await valueOf('#text'), OWN);
 }
 
 export async function testUndoOfText() {
