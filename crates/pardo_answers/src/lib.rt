@@ -10,5 +10,5 @@ mod text;
 
 pub use ended::{Ended, Lines, plain_end};
 pub use language::is_program;
-pub use print::{Names, print_named};
+pub use print::{Names, print_named, push_conflict};
 pub use text::push_cell;

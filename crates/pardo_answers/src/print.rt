@@ -105,8 +105,8 @@ fn push_gone_line(text: &mut Vec<u8>, processor: u32, line: Option<u64>) -> Resu
     Ok(())
 }
 
-// In which line, and about which place, the program ended in conflict.
-fn push_conflict(text: &mut Vec<u8>, names: &Names<'_>, fault: &Fault) -> Result<(), AllocError>
+/// Adds the line of a conflict: in which line, and about which place, the program ended.
+pub fn push_conflict(text: &mut Vec<u8>, names: &Names<'_>, fault: &Fault) -> Result<(), AllocError>
     ensures { OnOk result (text.new.items ≡ text.old.items
         ++ conflict_text names.now.program.now names.now.lines.now.disputed
         (dispute_of fault.now)) }

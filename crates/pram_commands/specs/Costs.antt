@@ -1,15 +1,19 @@
 -- What the command comes to that says what a run costs.
-use Rattle.std.specs.Prelude.{◌≡◌, ℕ, List, Option}
+use Rattle.std.specs.Prelude.{◌≡◌, ℕ, List, [], ◌∷◌, ◌++◌, codes, decimal, slice_index}
+use Rattle.std.specs.Prelude.{Option, Some, None}
 use Rattle.std.specs.Option.{option_map}
 use Rattle.pram_text.specs.Job.{JobData}
 use Rattle.pram_step.specs.declared.answer.RunAnswer.{RunAnswer}
 use Rattle.pram_step.specs.declared.answer.RunAnswer.TheVariants.{Conflict}
 use Rattle.pram_cost.specs.Costs.{IsCost}
 use Rattle.pram_cost.specs.Models.{IsNeeded}
-use Rattle.pram_cost.specs.Printed.{cost_text}
+use Rattle.pram_cost.specs.Printed.{CostWords, by_cells, cost_text}
 use Rattle.pram_cost.specs.declared.cost.Cost.{Cost}
+use Rattle.pram_cost.specs.declared.meeting.Meeting.{Meeting}
 use Rattle.pram_cost.specs.declared.pram.Pram.{Pram}
+use Rattle.pardo_job.specs.Printed.{cell_text}
 use Rattle.pram_commands.specs.Did.{Command}
+use Rattle.pram_commands.specs.Names.{AreNames, NamingData, told}
 use Rattle.pram_commands.specs.Plain.{on_job}
 
 -- the conflict of a run, as its answer; else it gives none
@@ -19,15 +23,38 @@ conflict_of cost = option_map Conflict cost.conflict
 abbrev pub tells_conflict : Cost → Option RunAnswer → Type 0
 tells_conflict cost given = given ≡ conflict_of cost
 
--- The text says what the run of the job costs, and which model it needs.
-pub record TellsCost (job : JobData) (text : List ℕ) (answer : Option RunAnswer) : Type 0 where
+-- the place of a meeting, and where its cell has none the cell
+abbrev pub place_or_cell : List ℕ → Meeting → List ℕ
+place_or_cell [] meeting = by_cells.spot meeting
+place_or_cell (byte ∷ bytes) meeting = codes " place=" ++ byte ∷ bytes
+
+-- where two processors meet in a program: the line of the first one's instruction, and the place
+abbrev pub spot_in : NamingData → Meeting → List ℕ
+spot_in naming meeting =
+    codes " line=" ++ decimal (slice_index naming.numbers meeting.counter)
+    ++ place_or_cell (cell_text naming.program.arrays meeting.cell) meeting
+
+-- how costs tell meetings and conflicts: by cells, or by a program's lines and places; a conflict
+-- as the answer tells it
+abbrev pub cost_words : Option NamingData → CostWords
+cost_words None = by_cells
+cost_words (Some naming) = record {
+  spot = spot_in naming;
+  conflict = λ fault. told (Some naming) (Conflict fault) 0;
+}
+
+-- The text says what the run of the job costs, and which model it needs, by the names of its text.
+pub record TellsCost (job_text : List ℕ) (job : JobData) (text : List ℕ)
+    (answer : Option RunAnswer) : Type 0 where
   pub cost : Cost
   pub pram : Pram
+  pub names : Option NamingData
   pub costs : IsCost job cost
   pub needs : IsNeeded job cost.steps pram
-  pub prints : text ≡ cost_text cost pram
+  pub are_names : AreNames job_text job names
+  pub prints : text ≡ cost_text (cost_words names) cost pram
   pub gives : answer ≡ conflict_of cost
 
 -- it prints that text
 abbrev pub costing : Command
-costing = on_job (λ job_text. TellsCost)
+costing = on_job TellsCost

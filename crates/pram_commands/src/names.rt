@@ -9,17 +9,19 @@ ghost use Rattle.pram_commands.specs.Did.{writing};
 ghost use Rattle.pram_commands.specs.Inner.Hearing.{PutText};
 ghost use Rattle.pram_commands.specs.Inner.Refusals.{IsBadOrMemory, IsFaultOf};
 ghost use Rattle.pram_commands.specs.CellLists.{IsPlaceOf};
+ghost use Rattle.pram_commands.specs.Costs.{cost_words, spot_in};
 ghost use Rattle.pram_commands.specs.Names.{AreNames, IsMachines, line_at, told};
 ghost use Rattle.pram_commands.specs.Steps.{lines_of};
 ghost use Rattle.pram_commands.specs.Threads.{cell_words, or_number};
 
 use crate::fault::CommandFault;
-use pardo_answers::{Ended, Names, is_program, plain_end, print_named, push_cell};
+use pardo_answers::{Ended, Names, is_program, plain_end, print_named, push_cell, push_conflict};
 use pardo_job::{JobFault, JobKind, Refusal as ProgramRefusal, compile};
 use pardo_text::{PardoFault, PardoKind, Program};
+use pram_cost::{ByCells, CostNames, Meeting};
 use pram_fates::Origin;
 use pram_run::{CellNames, Numbers};
-use pram_step::{Cells, RunAnswer};
+use pram_step::{Cells, Fault, RunAnswer};
 use pram_streams::{PrintFault, Sink, print_answer};
 use pram_text::{Job, TextFault, TextKind, read_job};
 use std::alloc::{AllocError, Global};
@@ -103,6 +105,60 @@ impl CellNames for Words<'_> {
             Some(naming) => push_place(text, &naming.program, cell),
         }
     }
+}
+
+impl CostNames for Words<'_> {
+    ghost words = { λ w. cost_words w.names.now };
+
+    fn push_spot(
+        &self,
+        alloc: Global,
+        text: &mut Vec<u8>,
+        meeting: Meeting,
+    ) -> Result<(), AllocError> {
+        match self.names {
+            None => ByCells.push_spot(alloc, text, meeting),
+            Some(naming) => push_spot(alloc, text, naming, meeting),
+        }
+    }
+
+    fn push_conflict(&self, text: &mut Vec<u8>, fault: Fault) -> Result<(), AllocError> {
+        match self.names {
+            None => ByCells.push_conflict(text, fault),
+            Some(naming) => {
+                let names = Names {
+                    program: &naming.program,
+                    steps: self.steps,
+                    lines: &naming.ended.lines,
+                };
+                push_conflict(text, &names, &fault)
+            }
+        }
+    }
+}
+
+// In which line, and about which place, two processors meet.
+fn push_spot(
+    alloc: Global,
+    text: &mut Vec<u8>,
+    naming: &Naming,
+    meeting: Meeting,
+) -> Result<(), AllocError>
+    ensures { OnOk result (text.new.items ≡ text.old.items ++ spot_in naming.now meeting) }
+{
+    let number = naming
+        .numbers
+        .get(meeting.counter as usize)
+        .copied()
+        .unwrap_or(0);
+    let line = format!(in alloc; " line={number}")?;
+    let place = place_text(alloc, &naming.program, meeting.cell)?;
+    text.extend_from_slice(line.as_bytes())?;
+    if place.is_empty() {
+        return ByCells.push_spot(alloc, text, meeting);
+    }
+    text.extend_from_slice(b" place=")?;
+    text.extend_from_slice(place.as_slice())
 }
 
 // The place of a cell, or where it has none its number.

@@ -1,7 +1,7 @@
 -- What processors read and write, and that one that has stopped does neither.
-use Rattle.std.proofs.Common.{◌≡◌, ℕ, ◌+◌, ◌<◌, ◌≤◌, Bool, true, false, cond, List, length, get_or}
+use Rattle.std.proofs.Common.{◌≡◌, ℕ, ◌+◌, ◌<◌, ◌≤◌, true, false, List, length, get_or}
 use Rattle.std.proofs.Common.{Option, Some, None, refl, sym, ap, subst, ◌∙◌, inl, inr, arith}
-use Rattle.std.specs.Prelude.{is_some, nat_lt, slice_get, IfSome}
+use Rattle.std.specs.Prelude.{is_some, nat_lt}
 use Rattle.std.specs.List.{range_with_len}
 use Rattle.std.specs.Option.{option_map}
 use Rattle.std.proofs.lemmas.Bool.{cases_Bool, ltb-true, ltb-false, lt-ltb}
@@ -15,7 +15,7 @@ use Rattle.pram_cost.specs.declared.meeting.Sharing.TheVariants.{SameRead, SameW
 use Rattle.pram_step.specs.declared.requests.Request.{Request}
 use Rattle.pram_cost.specs.Accesses.{is_running, running_in, cell_by, put_to_cell, write_by}
 use Rattle.pram_cost.specs.Costs.{has_access}
-use Rattle.pram_step.specs.Instructions.{goes_to, operand_held, request_in}
+use Rattle.pram_step.specs.Instructions.{goes_to, request_in}
 use Rattle.pram_step.specs.Machine.{State, counter, halted}
 use Rattle.pram_cost.specs.Meetings.{access_by}
 use Rattle.pram_step.proofs.LawStopped.{stopped_request}

@@ -1,10 +1,11 @@
 -- A run has one cost.
 use Rattle.std.proofs.Common.{◌≡◌, ℕ, ◌+◌, ◌<◌, ◌≤◌, take, Option, Some, None, refl, sym, ap, subst}
-use Rattle.std.proofs.Common.{◌∙◌, inl, inr, arith}
+use Rattle.std.proofs.Common.{◌∙◌, ap₂, inl, inr, arith}
 use Rattle.std.proofs.lemmas.Bool.{cases_lt}
 use Rattle.pram_text.specs.Job.{JobData}
 use Rattle.pram_step.specs.declared.answer.Fault.{Fault}
 use Rattle.pram_step.specs.declared.answer.RunAnswer.TheVariants.{Final, Conflict}
+use Rattle.pram_step.specs.Machine.{counter}
 use Rattle.pram_step.specs.Runs.{state_after, IsAnswer, IsFault, IsReached}
 use Rattle.pram_step.proofs.LawAnswer.{one_answer}
 use Rattle.pram_cost.specs.declared.cost.Cost.{Cost}
@@ -53,9 +54,9 @@ module _ (sharing : Sharing) (access : ℕ → Option (ℕ × ℕ)) (n : ℕ) wh
       (subst (λ (i : ℕ). Meet sharing access n a.cell i b.second) first
       (subst (λ (c : ℕ). Meet sharing access n c b.first b.second) cell other.meet))
 
-  one_least : (a b : Meeting) → a.step ≡ b.step → IsLeastMeeting sharing access n a →
-      IsLeastMeeting sharing access n b → a ≡ b
-  one_least a b step is other =
+  one_least : (a b : Meeting) → a.step ≡ b.step → (a.first ≡ b.first → a.counter ≡ b.counter) →
+      IsLeastMeeting sharing access n a → IsLeastMeeting sharing access n b → a ≡ b
+  one_least a b step stands is other =
       let le = cell_within a b is other in
       let ge = cell_within b a other is in
       let cell : a.cell ≡ b.cell = omega arith in
@@ -65,7 +66,14 @@ module _ (sharing : Sharing) (access : ℕ → Option (ℕ × ℕ)) (n : ℕ) wh
       let second_le = second_within a b is other (sym cell) (sym first) in
       let second_ge = second_within b a other is cell first in
       let second : a.second ≡ b.second = omega arith in
-      λ i. record { step = step i; cell = cell i; first = first i; second = second i }
+      let counter : a.counter ≡ b.counter = stands first in
+      λ i. record {
+        step = step i;
+        cell = cell i;
+        first = first i;
+        second = second i;
+        counter = counter i;
+      }
 
 -- ---- the first one of a run
 
@@ -87,7 +95,11 @@ module _ (sharing : Sharing) (job : JobData) (n : ℕ) where
         ]
       ] in
       let step : a.step ≡ b.step = is.step ∙ ap (λ (t : ℕ). t + 1) before ∙ sym other.step in
+      let stands : a.first ≡ b.first → a.counter ≡ b.counter = λ first.
+      is.stands ∙ ap₂ (λ (t i : ℕ). counter job (state_after job t) i) before first
+      ∙ sym other.stands in
       one_least sharing (access_by sharing job (state_after job other.before)) job.procs a b step
+      stands
       (subst (λ (t : ℕ). IsLeastMeeting sharing (access_by sharing job (state_after job t))
       job.procs a) before is.least) other.least
 

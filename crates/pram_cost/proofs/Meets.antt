@@ -266,11 +266,17 @@ module _ (sharing : Sharing) (access : ℕ → Option (ℕ × ℕ)) where
           ])
 
       -- they meet, and none was found at this cell or a lesser one
-      new_least : (step : ℕ) → ((i j : ℕ) → i ≢ j → Differ sharing i other j value) →
+      new_least : (step counter : ℕ) → ((i j : ℕ) → i ≢ j → Differ sharing i other j value) →
           ((cell' i j : ℕ) → Meet sharing access m cell' i j → cell < cell') →
           IsLeastMeeting sharing access (m + 1)
-          (record { step = step; cell = cell; first = get_or marks cell 0; second = m })
-      new_least step differ above =
+          (record {
+            step = step;
+            cell = cell;
+            first = get_or marks cell 0;
+            second = m;
+            counter = counter;
+          })
+      new_least step counter differ above =
           let early = before.0 in
           let apart : get_or marks cell 0 ≢ m = λ e. omega (arith, e, early) in
           record {
@@ -300,11 +306,17 @@ module _ (sharing : Sharing) (access : ℕ → Option (ℕ × ℕ)) where
             ];
           }
 
-      pub least_new : (step : ℕ) → ((i j : ℕ) → i ≢ j → Differ sharing i other j value) →
+      pub least_new : (step counter : ℕ) → ((i j : ℕ) → i ≢ j → Differ sharing i other j value) →
           (found : Option Meeting) → MatchOption found (Unit {0}) (λ d. cell < d.cell) →
           IsLeastOrNone sharing access m found → IsLeastOrNone sharing access (m + 1)
-          (Some (record { step = step; cell = cell; first = get_or marks cell 0; second = m }))
-      least_new step differ None lesser none =
-          new_least step differ (λ cell' i j met. absurd (none cell' i j met))
-      least_new step differ (Some d) lesser least = new_least step differ (λ cell' i j met.
+          (Some (record {
+            step = step;
+            cell = cell;
+            first = get_or marks cell 0;
+            second = m;
+            counter = counter;
+          }))
+      least_new step counter differ None lesser none =
+          new_least step counter differ (λ cell' i j met. absurd (none cell' i j met))
+      least_new step counter differ (Some d) lesser least = new_least step counter differ (λ cell' i j met.
           let least_of_all = least.least_cell cell' i j met in omega arith)

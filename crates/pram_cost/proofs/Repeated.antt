@@ -14,7 +14,8 @@ use Rattle.pram_cost.specs.declared.work.Work.{Work}
 use Rattle.pram_cost.specs.Costs.{at_work, has_access, executed, steps_with, first_states}
 use Rattle.pram_cost.specs.Costs.{IsMost, IsWork}
 use Rattle.pram_cost.specs.Inner.Repeats.{Repeats}
-use Rattle.pram_step.specs.Machine.{State}
+use Rattle.pram_cost.specs.Inner.Seen.{IsOfStep}
+use Rattle.pram_step.specs.Machine.{State, counter}
 use Rattle.pram_cost.specs.Meetings.{access_by, NoneMeetIn, IsLeastOrNone}
 use Rattle.pram_cost.specs.Meetings.{IsFirstMeeting, IsFirstOrNone}
 use Rattle.pram_step.specs.Runs.{state_after}
@@ -118,21 +119,23 @@ module _ (job : JobData) (n : ℕ) (s : State) where
   pub first_more : (sharing : Sharing) (found : Option Meeting) → s ≡ state_after job n →
       ((t : ℕ) → t < n → NoneMeetIn sharing job (state_after job t)) →
       IsLeastOrNone sharing (access_by sharing job s) job.procs found →
-      ((meeting : Meeting) → found ≡ Some meeting → meeting.step ≡ n + 1) →
+      ((meeting : Meeting) → found ≡ Some meeting → IsOfStep job s (n + 1) meeting) →
       IsFirstOrNone sharing job (n + 1) found
-  first_more sharing None is none least step = λ t below. elim (cases_lt t n) [
+  first_more sharing None is none least of_step = λ t below. elim (cases_lt t n) [
     | inl early ↦ none t early
     | inr late ↦
         let e : n ≡ t = omega arith in
         subst (λ (r : State). NoneMeetIn sharing job r) (is ∙ ap (state_after job) e) least
   ]
-  first_more sharing (Some meeting) is none least step = record {
+  first_more sharing (Some meeting) is none least of_step = record {
     before = n;
     within = omega arith;
-    step = step meeting refl;
+    step = (of_step meeting refl).0;
     none_before = none;
     least = subst (λ (r : State). IsLeastOrNone sharing (access_by sharing job r) job.procs
         (Some meeting)) is least;
+    stands = subst (λ (r : State). meeting.counter ≡ counter job r meeting.first) is
+        (of_step meeting refl).1;
   }
 
   -- a meeting stays the first
@@ -146,14 +149,14 @@ module _ (job : JobData) (n : ℕ) (s : State) where
         step = first.step;
         none_before = first.none_before;
         least = first.least;
+        stands = first.stands;
       }
 
--- of one that was found the step is known
-pub step_of_found : (found : Option Meeting) (step : ℕ) → IfSome found (λ m. m.step ≡ step) →
-    (meeting : Meeting) → found ≡ Some meeting → meeting.step ≡ step
-step_of_found None step is meeting e = absurd (none-some meeting e)
-step_of_found (Some found) step is meeting e =
-    ap (λ (m : Meeting). m.step) (sym (same_Some found meeting e)) ∙ is
+-- what holds of a meeting that was found
+pub of_found : (found : Option Meeting) (Is : Meeting → Type 0) → IfSome found Is →
+    (meeting : Meeting) → found ≡ Some meeting → Is meeting
+of_found None Is is meeting e = absurd (none-some meeting e)
+of_found (Some found) Is is meeting e = subst Is (same_Some found meeting e) is
 
 pub first_found_stays : (job : JobData) (n : ℕ) (sharing : Sharing) (found : Option Meeting)
     (meeting : Meeting) → found ≡ Some meeting → IsFirstOrNone sharing job n found →

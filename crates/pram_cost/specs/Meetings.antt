@@ -6,7 +6,7 @@ use Rattle.pram_text.specs.Job.{JobData}
 use Rattle.pram_cost.specs.declared.meeting.Meeting.{Meeting}
 use Rattle.pram_cost.specs.declared.meeting.Sharing.{Sharing}
 use Rattle.pram_cost.specs.declared.meeting.Sharing.TheVariants.{SameRead, SameWrite, OtherValue}
-use Rattle.pram_step.specs.Machine.{State}
+use Rattle.pram_step.specs.Machine.{State, counter}
 use Rattle.pram_cost.specs.Accesses.{read_by, write_by}
 use Rattle.pram_step.specs.Runs.{state_after}
 
@@ -60,7 +60,8 @@ MeetIn sharing job state = Meet sharing (access_by sharing job state) job.procs
 abbrev pub NoneMeetIn : Sharing → JobData → State → Type 0
 NoneMeetIn sharing job state = NoneMeet sharing (access_by sharing job state) job.procs
 
--- the first of n steps in which two meet, and the least meeting in it
+-- the first of n steps in which two meet, the least meeting in it, and where its first processor
+-- stands before that step
 pub record IsFirstMeeting (sharing : Sharing) (job : JobData) (n : ℕ) (meeting : Meeting) :
     Type 0 where
   pub before : ℕ
@@ -69,6 +70,7 @@ pub record IsFirstMeeting (sharing : Sharing) (job : JobData) (n : ℕ) (meeting
   pub none_before : (t : ℕ) → t < before → NoneMeetIn sharing job (state_after job t)
   pub least : IsLeastMeeting sharing (access_by sharing job (state_after job before)) job.procs
       meeting
+  pub stands : meeting.counter ≡ counter job (state_after job before) meeting.first
 
 -- in n steps none meet, or this is the first meeting
 abbrev pub IsFirstOrNone : Sharing → JobData → ℕ → Option Meeting → Type 0

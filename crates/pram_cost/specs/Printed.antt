@@ -29,27 +29,39 @@ work_text work =
     ++ codes "\nreading " ++ decimal work.reading ++ codes "\nwriting " ++ decimal work.writing
     ++ codes "\n"
 
+-- how the cell of a meeting is told, and the conflict of a run
+pub record CostWords : Type 0 where
+  pub spot : Meeting → List ℕ
+  pub conflict : Fault → List ℕ
+
+-- by cells and steps: `cell=2`, and the line of a conflict
+abbrev pub by_cells : CostWords
+by_cells = record {
+  spot = λ meeting. codes " cell=" ++ decimal meeting.cell;
+  conflict = conflict_line;
+}
+
 -- where two first meet, or that none do
-abbrev pub meeting_text : Option Meeting → List ℕ
-meeting_text None = codes "none"
-meeting_text (Some meeting) =
-    codes "step=" ++ decimal meeting.step ++ codes " cell=" ++ decimal meeting.cell
+abbrev pub meeting_text : CostWords → Option Meeting → List ℕ
+meeting_text words None = codes "none"
+meeting_text words (Some meeting) =
+    codes "step=" ++ decimal meeting.step ++ words.spot meeting
     ++ codes " processors=" ++ decimal meeting.first ++ codes "," ++ decimal meeting.second
 
-abbrev pub meetings_text : Meetings → List ℕ
-meetings_text meetings =
-    codes "same read " ++ meeting_text meetings.same_read
-    ++ codes "\nsame write " ++ meeting_text meetings.same_write
-    ++ codes "\nother value " ++ meeting_text meetings.other_value ++ codes "\n"
+abbrev pub meetings_text : CostWords → Meetings → List ℕ
+meetings_text words meetings =
+    codes "same read " ++ meeting_text words meetings.same_read
+    ++ codes "\nsame write " ++ meeting_text words meetings.same_write
+    ++ codes "\nother value " ++ meeting_text words meetings.other_value ++ codes "\n"
 
 -- how the run of so many steps ended
-abbrev pub end_line : ℕ → Option Fault → List ℕ
-end_line steps None = codes "done steps=" ++ decimal steps ++ codes "\n"
-end_line steps (Some fault) = conflict_line fault
+abbrev pub end_line : CostWords → ℕ → Option Fault → List ℕ
+end_line words steps None = codes "done steps=" ++ decimal steps ++ codes "\n"
+end_line words steps (Some fault) = words.conflict fault
 
 -- what the run costs, the model that it needs, and how it ended
-abbrev pub cost_text : Cost → Pram → List ℕ
-cost_text cost pram =
+abbrev pub cost_text : CostWords → Cost → Pram → List ℕ
+cost_text words cost pram =
     codes "cost of this input\n" ++ size_text cost ++ work_text cost.work ++ codes "needs "
-    ++ name_of pram ++ codes "\n" ++ meetings_text cost.meetings
-    ++ end_line cost.steps cost.conflict
+    ++ name_of pram ++ codes "\n" ++ meetings_text words cost.meetings
+    ++ end_line words cost.steps cost.conflict

@@ -3,6 +3,7 @@
 
 mod access;
 mod cost;
+mod cost_names;
 pub mod laws;
 mod meeting;
 mod moment;
@@ -12,6 +13,7 @@ mod work;
 
 pub use access::{is_running, read_of, write_of};
 pub use cost::{Cost, cost_of};
+pub use cost_names::{ByCells, CostNames};
 pub use meeting::{Meeting, Meetings, Sharing};
 pub use pram::Pram;
 pub use print::print_cost;

@@ -3,12 +3,12 @@ ghost use Rattle.std.specs.Prelude.{◌≡◌, ◌≢◌, ℕ, ◌+◌, ◌<◌,
 ghost use Rattle.std.specs.Prelude.{MatchOption, MatchBool, IfSome};
 ghost use Rattle.pram_cost.specs.Costs.{AreFirst};
 ghost use Rattle.pram_cost.specs.Inner.Repeats.{Repeats};
-ghost use Rattle.pram_cost.specs.Inner.Seen.{HasLooked, GoesBefore};
+ghost use Rattle.pram_cost.specs.Inner.Seen.{HasLooked, GoesBefore, IsOfStep};
 ghost use Rattle.pram_cost.specs.Meetings.{access_by, Differ, IsLeastOrNone, IsFirstOrNone};
 
 use crate::access::{read_of, write_of};
 use crate::moment::Moment;
-use pram_step::laws;
+use pram_step::{counter, laws};
 
 /// How two processors meet at a cell in a step.
 #[derive(Clone, Copy, Debug, PartialEq, Eq)]
@@ -22,13 +22,15 @@ pub enum Sharing {
 }
 
 /// The first step in which two processors meet, counted from 1, the least cell at which two do, the
-/// least processor that goes there, and the least that meets it.
+/// least processor that goes there, and the least that meets it. The counter is that of the first
+/// one before the step: the index of the instruction by which it goes there.
 #[derive(Clone, Copy, Debug, PartialEq, Eq)]
 pub struct Meeting {
     pub step: u32,
     pub cell: u32,
     pub first: u32,
     pub second: u32,
+    pub counter: u32,
 }
 
 /// The first meeting of each kind in a run, if it has one.
@@ -89,7 +91,8 @@ fn least(sharing: Sharing, moment: &Moment<'_>, marks: &mut [u32]) -> Option<Mee
     requires { length marks.old ≡ moment.now.job.now.cells }
     ensures least { IsLeastOrNone sharing (access_by sharing moment.now.job.now
         moment.now.state.now) moment.now.job.now.procs result }
-    ensures step { IfSome result (λ m. m.step ≡ moment.now.made + 1) }
+    ensures step { IfSome result (IsOfStep moment.now.job.now moment.now.state.now
+        (moment.now.made + 1)) }
 {
     let mut found = None;
     let running = moment.running;
@@ -110,11 +113,12 @@ fn look(
 ) -> Option<Meeting>
     requires processor { processor < moment.now.job.now.procs }
     requires marks { length marks.old ≡ moment.now.job.now.cells }
-    requires looked { HasLooked sharing (access_by sharing moment.now.job.now moment.now.state.now)
+    requires looked { HasLooked sharing moment.now.job.now moment.now.state.now
         (moment.now.made + 1) processor marks.old found }
-    ensures { HasLooked sharing (access_by sharing moment.now.job.now moment.now.state.now)
+    ensures { HasLooked sharing moment.now.job.now moment.now.state.now
         (moment.now.made + 1) (processor + 1) marks.new result }
 {
+    laws::states_have_all_places();
     moment.job.limits_hold();
     let Some((cell, value)) = access_of(sharing, moment, processor) else {
         return found;
@@ -134,6 +138,7 @@ fn look(
             cell,
             first,
             second: processor,
+            counter: counter(moment.job, moment.state, first),
         }),
     }
 }

@@ -1,56 +1,59 @@
 //! What a run costs, as text.
-ghost use Rattle.std.specs.Prelude.{◌≡◌, ◌↔◌, false, string_bytes};
+ghost use Rattle.std.specs.Prelude.{◌≡◌, ◌++◌, ◌↔◌, false, string_bytes};
 ghost use Rattle.std.specs.Prelude.{IfOk, OnOk, IsErrOf, IsTrue};
 ghost use Rattle.std.specs.Io.KnownBytes.{Appends};
 ghost use Rattle.pram_cost.specs.Printed.{cost_text, end_line, meeting_text, meetings_text};
 ghost use Rattle.pram_cost.specs.Printed.{size_text, work_text};
-ghost use Rattle.pram_streams.specs.Printed.{conflict_line};
 ghost use Rattle.pram_streams.specs.Transfer.{AppendsBeginning};
 
 use crate::cost::Cost;
+use crate::cost_names::{CostNames, push_labelled};
 use crate::meeting::{Meeting, Meetings};
 use crate::pram::Pram;
 use crate::work::Work;
-use pram_step::Fault;
 use pram_streams::{PrintFault, Sink, put};
 use std::alloc::{AllocError, Global};
 
-/// Prints what a run costs, and the model that it needs, or a beginning of it where the sink
-/// fails. Nothing is printed before memory for all of it was found.
-pub fn print_cost<W: Sink>(
+/// Prints what a run costs, the model that it needs, and by these names where processors met, or a
+/// beginning of it where the sink fails. Nothing is printed before memory for all of it was found.
+pub fn print_cost<W: Sink, C: CostNames>(
     alloc: Global,
     sink: &mut W,
     cost: &Cost,
     pram: Pram,
+    names: &C,
 ) -> Result<(), PrintFault>
     requires { W.has_failed sink.old ≡ false }
     ensures ok { OnOk result (Appends (W.taken sink.old) (W.taken sink.new)
-        (cost_text cost.now pram)) }
+        (cost_text (C.words names.now) cost.now pram)) }
     ensures beginning { AppendsBeginning (W.taken sink.old) (W.taken sink.new)
-        (cost_text cost.now pram) }
+        (cost_text (C.words names.now) cost.now pram) }
     ensures memory { IsErrOf result PrintFault.Memory → sink.new ≡ sink.old }
     ensures failed { IsTrue (W.has_failed sink.new) ↔ IsErrOf result PrintFault.Device }
 {
-    let text = cost_text(alloc, cost, pram)?;
-    put(sink, text.as_bytes())?;
+    let text = cost_text(alloc, cost, pram, names)?;
+    put(sink, text.as_slice())?;
     Ok(())
 }
 
-fn cost_text(alloc: Global, cost: &Cost, pram: Pram) -> Result<String, AllocError>
-    ensures { IfOk result (λ text. string_bytes text ≡ cost_text cost.now pram) }
+fn cost_text<C: CostNames>(
+    alloc: Global,
+    cost: &Cost,
+    pram: Pram,
+    names: &C,
+) -> Result<Vec<u8>, AllocError>
+    ensures { IfOk result (λ text. text.items ≡ cost_text (C.words names.now) cost.now pram) }
 {
     let size = size_text(alloc, cost)?;
     let work = work_text(alloc, &cost.work)?;
-    let meetings = meetings_text(alloc, &cost.meetings)?;
-    let end = end_line(alloc, cost)?;
-    let mut text = String::from_str(alloc, "cost of this input\n")?;
-    text.push_str(size.as_str())?;
-    text.push_str(work.as_str())?;
-    text.push_str("needs ")?;
-    text.push_str(pram.name())?;
-    text.push_str("\n")?;
-    text.push_str(meetings.as_str())?;
-    text.push_str(end.as_str())?;
+    let mut text = Vec::from_slice(alloc, b"cost of this input\n")?;
+    text.extend_from_slice(size.as_bytes())?;
+    text.extend_from_slice(work.as_bytes())?;
+    text.extend_from_slice(b"needs ")?;
+    text.extend_from_slice(pram.name().as_bytes())?;
+    text.push(b'\n')?;
+    push_meetings(alloc, &mut text, &cost.meetings, names)?;
+    push_end(&mut text, cost, names)?;
     Ok(text)
 }
 
@@ -73,48 +76,53 @@ fn work_text(alloc: Global, work: &Work) -> Result<String, AllocError>
     format!(in alloc; "work {executed}\nmost {most}\nreading {reading}\nwriting {writing}\n")
 }
 
-fn meetings_text(alloc: Global, meetings: &Meetings) -> Result<String, AllocError>
-    ensures { IfOk result (λ text. string_bytes text ≡ meetings_text meetings.now) }
+fn push_meetings<C: CostNames>(
+    alloc: Global,
+    text: &mut Vec<u8>,
+    meetings: &Meetings,
+    names: &C,
+) -> Result<(), AllocError>
+    ensures { OnOk result (text.new.items
+        ≡ text.old.items ++ meetings_text (C.words names.now) meetings.now) }
 {
-    let read = meeting_text(alloc, meetings.same_read)?;
-    let write = meeting_text(alloc, meetings.same_write)?;
-    let value = meeting_text(alloc, meetings.other_value)?;
-    format!(in alloc; "same read {read}\nsame write {write}\nother value {value}\n")
+    text.extend_from_slice(b"same read ")?;
+    push_meeting(alloc, text, meetings.same_read, names)?;
+    text.extend_from_slice(b"\nsame write ")?;
+    push_meeting(alloc, text, meetings.same_write, names)?;
+    text.extend_from_slice(b"\nother value ")?;
+    push_meeting(alloc, text, meetings.other_value, names)?;
+    text.push(b'\n')?;
+    Ok(())
 }
 
-fn meeting_text(alloc: Global, found: Option<Meeting>) -> Result<String, AllocError>
-    ensures { IfOk result (λ text. string_bytes text ≡ meeting_text found) }
+fn push_meeting<C: CostNames>(
+    alloc: Global,
+    text: &mut Vec<u8>,
+    found: Option<Meeting>,
+    names: &C,
+) -> Result<(), AllocError>
+    ensures { OnOk result (text.new.items
+        ≡ text.old.items ++ meeting_text (C.words names.now) found) }
 {
     let Some(meeting) = found else {
-        return format!(in alloc; "none");
+        return text.extend_from_slice(b"none");
     };
-    let Meeting {
-        step,
-        cell,
-        first,
-        second,
-    } = meeting;
-    format!(in alloc; "step={step} cell={cell} processors={first},{second}")
+    push_labelled(text, b"step=", meeting.step)?;
+    names.push_spot(alloc, text, meeting)?;
+    push_labelled(text, b" processors=", meeting.first)?;
+    push_labelled(text, b",", meeting.second)
 }
 
-fn end_line(alloc: Global, cost: &Cost) -> Result<String, AllocError>
-    ensures { IfOk result (λ text. string_bytes text ≡ end_line cost.now.steps cost.now.conflict) }
+fn push_end<C: CostNames>(text: &mut Vec<u8>, cost: &Cost, names: &C) -> Result<(), AllocError>
+    ensures { OnOk result (text.new.items
+        ≡ text.old.items ++ end_line (C.words names.now) cost.now.steps cost.now.conflict) }
 {
-    let steps = cost.steps;
     match cost.conflict {
-        Some(fault) => conflict_line(alloc, fault),
-        None => format!(in alloc; "done steps={steps}\n"),
+        Some(fault) => names.push_conflict(text, fault),
+        None => {
+            push_labelled(text, b"done steps=", cost.steps)?;
+            text.push(b'\n')?;
+            Ok(())
+        }
     }
-}
-
-fn conflict_line(alloc: Global, fault: Fault) -> Result<String, AllocError>
-    ensures { IfOk result (λ text. string_bytes text ≡ conflict_line fault) }
-{
-    let Fault {
-        step,
-        cell,
-        first,
-        second,
-    } = fault;
-    format!(in alloc; "conflict step={step} cell={cell} processors={first},{second}\n")
 }

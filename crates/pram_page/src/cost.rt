@@ -128,6 +128,7 @@ fn tell_meeting(meeting: Option<Meeting>) -> MeetingRow
                 cell,
                 first,
                 second,
+                ..
             },
         ) => MeetingRow {
             step,

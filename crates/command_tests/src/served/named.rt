@@ -3,7 +3,7 @@
 ghost use Rattle.std.specs.Prelude.{◌≤◌};
 
 use crate::served::programs::PROGRAMS;
-use crate::served::{CHECK, COMPILE, FILE, PLAIN, of_text, serve_text};
+use crate::served::{CHECK, COMPILE, COST, FILE, PLAIN, of_text, serve_text};
 use pram_commands::{Console, Line, Manner, Telling, Workers, serve};
 use pram_streams::IntoWrite;
 use std::alloc::Global;
@@ -33,7 +33,7 @@ fn run_by(count: u32) -> Line<'static>
 
 #[test]
 fn programs_are_answered_by_names(rt: HostRuntime) {
-    for (text, answer, status) in PROGRAMS {
+    for (text, answer, _, status) in PROGRAMS {
         for line in [PLAIN, run_by(1), run_by(3)] {
             let served = serve_text(&rt, rt.alloc(), &line, text.as_bytes());
             assert!(rt; served.out.as_slice() == answer.as_bytes(), "{text}");
@@ -43,11 +43,22 @@ fn programs_are_answered_by_names(rt: HostRuntime) {
     }
 }
 
+// With the lines and places where processors first meet.
+#[test]
+fn programs_say_what_they_cost(rt: HostRuntime) {
+    for (text, _, cost, status) in PROGRAMS {
+        let served = serve_text(&rt, rt.alloc(), &COST, text.as_bytes());
+        assert!(rt; served.out.as_slice() == cost.as_bytes(), "{text}");
+        assert!(rt; served.err.is_empty(), "{text}");
+        assert!(rt; served.status == status, "{text}");
+    }
+}
+
 // The text of a program's job is printed again as it is, and ends as the program does.
 #[test]
 fn programs_are_printed_as_texts(rt: HostRuntime) {
     let alloc = rt.alloc();
-    for (text, answer, status) in PROGRAMS {
+    for (text, answer, _, status) in PROGRAMS {
         let printed = serve_text(&rt, alloc, &COMPILE, text.as_bytes());
         assert!(rt; printed.status == 0, "{text}");
         let again = serve_text(&rt, alloc, &COMPILE, printed.out.as_slice());
@@ -69,7 +80,7 @@ fn replays_of_programs_end_with_their_answers(rt: HostRuntime) {
         plan: None,
         alone: false,
     };
-    for (text, answer, status) in PROGRAMS {
+    for (text, answer, _, status) in PROGRAMS {
         if status == 1 || answer.len() < 30 {
             let served = serve_text(&rt, rt.alloc(), &line, text.as_bytes());
             assert!(rt;

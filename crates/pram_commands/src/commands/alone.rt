@@ -133,18 +133,23 @@ pub fn cost<J: Source, P: Source, O: Sink>(
     ensures { Did costing (taking J.Source P.Source sources.old sources.new)
         (writing O.Sink out.old out.new) tells_conflict result }
 {
-    let job = take_job(alloc, &mut sources.job)?;
-    printed(put_cost(alloc, &job, out))
+    let spelled = take_text(alloc, &mut sources.job)?;
+    printed(put_cost(alloc, &spelled, out))
 }
 
-fn put_cost<O: Sink>(alloc: Global, job: &Job, out: &mut O) -> Result<Cost, PrintFault>
-    requires { O.has_failed out.old ≡ false }
-    ensures { Puts (costing.Comes [] job.now no_plan) costing.InPieces
+fn put_cost<O: Sink>(alloc: Global, spelled: &Spelled, out: &mut O) -> Result<Cost, PrintFault>
+    requires output { O.has_failed out.old ≡ false }
+    requires names { AreNames spelled.now.text.items spelled.now.job spelled.now.names }
+    ensures { Puts (costing.Comes spelled.now.text.items spelled.now.job no_plan) costing.InPieces
         (writing O.Sink out.old out.new) tells_conflict result }
 {
-    let cost = cost_of(alloc, job)?;
+    let cost = cost_of(alloc, &spelled.job)?;
     let pram = cost.needs();
-    print_cost(alloc, out, &cost, pram)?;
+    let words = Words {
+        names: &spelled.names,
+        steps: spelled.job.steps(),
+    };
+    print_cost(alloc, out, &cost, pram, &words)?;
     Ok(cost)
 }
 

@@ -1,8 +1,10 @@
 -- What a search for a meeting knows of the processors that it has looked at.
 use Rattle.std.specs.Prelude.{◌≡◌, ℕ, ◌<◌, ◌≤◌, List, slice_index, Option, Some, IfSome}
+use Rattle.pram_text.specs.Job.{JobData}
+use Rattle.pram_step.specs.Machine.{State, counter}
 use Rattle.pram_cost.specs.declared.meeting.Meeting.{Meeting}
 use Rattle.pram_cost.specs.declared.meeting.Sharing.{Sharing}
-use Rattle.pram_cost.specs.Meetings.{IsLeastOrNone}
+use Rattle.pram_cost.specs.Meetings.{access_by, IsLeastOrNone}
 
 -- the mark of each cell that one of n processors goes to names the least of them
 abbrev pub MarkLeast : (ℕ → Option (ℕ × ℕ)) → ℕ → List ℕ → Type 0
@@ -11,12 +13,17 @@ MarkLeast access n marks =
     (slice_index marks cell ≤ i)
     × ((other : ℕ) × (access (slice_index marks cell) ≡ Some (cell, other)))
 
+-- the meeting is one of this step, and its first processor stands there in the state before it
+abbrev pub IsOfStep : JobData → State → ℕ → Meeting → Type 0
+IsOfStep job state step meeting =
+    (meeting.step ≡ step) × (meeting.counter ≡ counter job state meeting.first)
+
 -- n processors were looked at in this step
-pub record HasLooked (sharing : Sharing) (access : ℕ → Option (ℕ × ℕ)) (step n : ℕ) (marks :
+pub record HasLooked (sharing : Sharing) (job : JobData) (state : State) (step n : ℕ) (marks :
     List ℕ) (found : Option Meeting) : Type 0 where
-  pub marked : MarkLeast access n marks
-  pub least : IsLeastOrNone sharing access n found
-  pub step_is : IfSome found (λ meeting. meeting.step ≡ step)
+  pub marked : MarkLeast (access_by sharing job state) n marks
+  pub least : IsLeastOrNone sharing (access_by sharing job state) n found
+  pub of_step : IfSome found (IsOfStep job state step)
 
 -- processor i comes before j, goes to the cell, and brings this value
 abbrev pub GoesBefore : (ℕ → Option (ℕ × ℕ)) → ℕ → ℕ → ℕ → ℕ → Type 0

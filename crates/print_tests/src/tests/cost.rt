@@ -1,5 +1,5 @@
 //! What worked runs cost, as it is printed.
-use pram_cost::{cost_of, print_cost};
+use pram_cost::{ByCells, cost_of, print_cost};
 use pram_streams::IntoWrite;
 use pram_text::read_job;
 use std::process::Abort;
@@ -11,7 +11,7 @@ fn costs<R: AllocGlobal + Abort>(rt: &R, text: &str, lines: &str) -> Result<(), 
     let job = read_job(alloc, text.as_bytes())?;
     let cost = cost_of(alloc, &job)?;
     let mut sink = IntoWrite::new(Vec::new(alloc));
-    print_cost(alloc, &mut sink, &cost, cost.needs())?;
+    print_cost(alloc, &mut sink, &cost, cost.needs(), &ByCells)?;
     assert_eq!(rt; sink.into_inner().as_slice(), lines.as_bytes());
     Ok(())
 }

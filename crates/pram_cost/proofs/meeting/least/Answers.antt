@@ -15,7 +15,7 @@ loop-processor-init c =
     record {
       marked = marked_of_none c.args.sharing access first c.args.marks.now none;
       least = least_of_none c.args.sharing access first none;
-      step_is = tt;
+      of_step = tt;
     }
 
 pub look-found-requires-clause-processor : goal.look-found-requires-clause-processor
@@ -40,7 +40,7 @@ loop-processor-preserved c =
           c.look-found.ensures.marked;
       least = least_past c.args.sharing access (here + 1) next more none c.look-found.result
           c.look-found.ensures.least;
-      step_is = c.look-found.ensures.step_is;
+      of_step = c.look-found.ensures.of_step;
     }
 
 pub returns-clause-least : goal.returns-clause-least

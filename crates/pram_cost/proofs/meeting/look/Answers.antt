@@ -1,6 +1,7 @@
 use Rattle.std.proofs.Common.{◌≡◌, ℕ, ◌+◌, ◌<◌, ◌≤◌, None, MatchOption, sym, subst, refl, arith}
 use Rattle.std.specs.Prelude.{IfSome}
 use Rattle.pram_cost.specs.declared.meeting.Meeting.{Meeting}
+use Rattle.pram_cost.specs.Inner.Seen.{IsOfStep}
 use Rattle.pram_cost.specs.Meetings.{access_by, IsLeastOrNone}
 use Rattle.pram_cost.proofs.Meets.{least_past, marked_past, least_first_there, marked_first_there}
 use Rattle.pram_cost.proofs.Meets.{marked_lost, least_alike, least_later, least_new}
@@ -24,7 +25,7 @@ returns-in_default c =
       marked = marked_past c.args.sharing access m (m + 1) marks none c.requires.looked.marked;
       least = least_past c.args.sharing access m (m + 1) (omega arith) none c.args.found
           c.requires.looked.least;
-      step_is = c.requires.looked.step_is;
+      of_step = c.requires.looked.of_step;
     }
 
 -- it is the first that goes to its cell
@@ -44,7 +45,7 @@ returns-in_default-value_before c =
       least = least_first_there c.args.sharing access m cell value goes marks
           c.requires.looked.marked c.in_default-value_before.ensures c.args.found
           c.requires.looked.least;
-      step_is = c.requires.looked.step_is;
+      of_step = c.requires.looked.of_step;
     }
 
 -- it does not meet the least one there
@@ -63,7 +64,7 @@ returns-then-not-differ c =
       least = least_alike c.args.sharing access m cell value goes marks c.requires.looked.marked
           c.in-Some-value_before.other c.in-Some-value_before.ensures c.if-not-differ.ensures
           c.args.found c.requires.looked.least;
-      step_is = c.requires.looked.step_is;
+      of_step = c.requires.looked.of_step;
     }
 
 -- it does, and two were found to meet at this cell or a lesser one
@@ -84,8 +85,9 @@ returns-in-Some-found c =
           c.if-meeting-cell.true
           (subst (IsLeastOrNone c.args.sharing access m) c.in-Some-found.is
           c.requires.looked.least);
-      step_is = subst (λ found. IfSome found (λ (d : Meeting). d.step ≡ moment.made + 1))
-          c.in-Some-found.is c.requires.looked.step_is;
+      of_step = subst (λ found. IfSome found
+          (IsOfStep moment.job.now moment.state.now (moment.made + 1))) c.in-Some-found.is
+          c.requires.looked.of_step;
     }
 
 -- none was found there, or at a lesser cell
@@ -103,7 +105,7 @@ returns-in_default-found c =
           c.in-Some-value_before.other c.in-Some-value_before.ensures;
       least = least_new c.args.sharing access m cell value goes marks c.requires.looked.marked
           c.in-Some-value_before.other c.in-Some-value_before.ensures (moment.made + 1)
-          c.if-not-differ.ensures c.args.found
+          c.counter.result c.if-not-differ.ensures c.args.found
           (elim c.in_default-found.branch [
             | in_default-found-via-in-Some-found+else-meeting-cell w ↦
                 subst (λ found. MatchOption found (Unit {0}) (λ (d : Meeting). cell < d.cell))
@@ -113,5 +115,5 @@ returns-in_default-found c =
                 (sym w.in_default-found.is) tt
           ])
           c.requires.looked.least;
-      step_is = refl;
+      of_step = (refl, c.counter.ensures);
     }

@@ -1,6 +1,7 @@
 use Rattle.std.proofs.Common.{◌+◌, subst}
+use Rattle.pram_cost.specs.Inner.Seen.{IsOfStep}
 use Rattle.pram_cost.specs.Meetings.{IsFirstOrNone}
-use Rattle.pram_cost.proofs.Repeated.{first_more, first_found_stays, step_of_found}
+use Rattle.pram_cost.proofs.Repeated.{first_more, first_found_stays, of_found}
 use Rattle.pram_cost.proofs.meeting.next.Goals as goal
 
 pub returns-in-Some : goal.returns-in-Some
@@ -16,4 +17,6 @@ returns-in-None c =
     moment.after.state
     (subst (IsFirstOrNone c.args.sharing moment.job.now moment.made) c.in-None.is
     c.requires.found)
-    c.least.ensures.least (step_of_found c.least.result (moment.made + 1) c.least.ensures.step)
+    c.least.ensures.least
+    (of_found c.least.result (IsOfStep moment.job.now moment.state.now (moment.made + 1))
+    c.least.ensures.step)

@@ -12,8 +12,10 @@ returns-in_err-print_cost g c =
       comes = record {
         cost = c.in_ok-cost.cost;
         pram = c.needs-pram.result;
+        names = c.args.spelled.now.names;
         costs = c.in_ok-cost.ensures;
-        needs = c.needs-pram.ensures c.args.job.now c.in_ok-cost.ensures;
+        needs = c.needs-pram.ensures c.args.spelled.now.job c.in_ok-cost.ensures;
+        are_names = c.requires.names;
         prints = refl;
         gives = refl;
       };

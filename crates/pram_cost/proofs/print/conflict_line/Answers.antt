@@ -1,7 +1,0 @@
-use Rattle.std.proofs.Common.{◌∙◌, append_assoc}
-use Rattle.std.proofs.lemmas.Result.{IfOk-weaker}
-use Rattle.pram_cost.proofs.print.conflict_line.Goals as goal
-
-pub returns : goal.returns
-returns c = IfOk-weaker c.format.result _ _
-    (λ text written. written ∙ simp (append_assoc)) c.format.ensures.ok
