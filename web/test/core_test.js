@@ -55,19 +55,22 @@ function printed(answer) {
   return `code=${answer.code}\n`;
 }
 
-const meetingIn = ({ step, cell, first, second }) =>
-  (step === 0 ? 'none' : `step=${step} cell=${cell} processors=${first},${second}`);
-
-// What `pramx cost` prints of it.
-function printedCost({ meetings: [read, write, other], ...cost }, answer) {
+// What `pramx cost` prints of it. `whereOf` tells a cell; `end` is the answer's first line.
+function printedCost({ meetings, ...cost }, end, whereOf = ({ cell }) => `cell=${cell}`) {
   const { steps, procs, executed, most, reading, writing, needs } = cost;
+  const [read, write, other] = meetings.map((meeting) => {
+    const { step, first, second } = meeting;
+    return step === 0 ? 'none'
+      : `step=${step} ${whereOf(meeting)} processors=${first},${second}`;
+  });
   const rows = ['cost of this input', `steps ${steps}`, `processors ${procs}`,
     `product ${steps * procs}`, `work ${executed}`, `most ${most}`, `reading ${reading}`,
-    `writing ${writing}`, `needs ${MODELS[needs]}`, `same read ${meetingIn(read)}`,
-    `same write ${meetingIn(write)}`, `other value ${meetingIn(other)}`,
-    printed(answer).split('\n', 1)[0]];
+    `writing ${writing}`, `needs ${MODELS[needs]}`, `same read ${read}`, `same write ${write}`,
+    `other value ${other}`, end];
   return `${rows.join('\n')}\n`;
 }
+
+const firstLineOf = (text) => text.split('\n', 1)[0];
 
 // What `pramx plain` prints: with a conflict its status is 1.
 function plainOf(path) {
@@ -167,7 +170,7 @@ function testProgram(core, name) {
   const answer = core.answer(text, job, MOST);
   is(`${name}: answer`, printed(answer), wanted);
   if (pramx) is(`${name}: pramx plain`, printed(answer), plainOf(path));
-  is(`${name}: cost`, printedCost(core.cost(text), answer),
+  is(`${name}: cost`, printedCost(core.cost(text), firstLineOf(wanted)),
     readFileSync(join(folder, `${name}.cost`), 'utf8'));
   is(`${name}: requests make the states`, stepsAgree(core, text, job, answer), 'agree');
   const walked = walk(core, text, job);
@@ -188,6 +191,16 @@ function linesAgree(core, source, job, answer) {
   return list.length > 0 ? 'agree' : 'none';
 }
 
+// The costs of a program, with the lines and the places where processors meet, as the page has
+// them: of a line that some instruction of the step came from.
+function costByNames(core, source, wanted) {
+  const whereOf = ({ step, cell }) => {
+    const [{ at }] = core.steps(source.text, step - 1, 1, MOST).list;
+    return `line=${source.lineOf[at]} place=${source.nameOfCell(cell)}`;
+  };
+  return printedCost(core.cost(source.text), firstLineOf(wanted), whereOf);
+}
+
 // A program that a text of the machine was made of.
 function sourceOf(core, text) {
   const [{ list }, made] = [core.lines(text), core.compile(text)];
@@ -203,6 +216,8 @@ function testPardo(core, name) {
   const answer = core.answer(source.text, job, MOST);
   is(`${name}.pardo: answer`, printedByNames(core, source, job, answer), wanted);
   if (pramx) is(`${name}.pardo: pramx plain`, plainOf(path), wanted);
+  is(`${name}.pardo: cost`, costByNames(core, source, wanted),
+    readFileSync(join(folder, `${name}.pardo.cost`), 'utf8'));
   is(`${name}.pardo: lines`, linesAgree(core, source, job, answer), 'agree');
   const walked = walk(core, source.text, job);
   is(`${name}.pardo: a walk ends`, walked.code, CODE.DONE);
