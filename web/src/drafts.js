@@ -25,18 +25,20 @@ function fittingOf(list) {
   });
 }
 
-// Another page may have kept some meanwhile: they stay. Tells whether all of the list are kept:
-// without room, or where the browser keeps nothing, they last as long as the page.
-function write(list) {
-  const others = read().filter(({ number }) => !list.some((draft) => draft.number === number));
+// Keeps these, and of those that stand there all others. Tells which of these are kept: without
+// room, or where the browser keeps nothing, they last as long as the page.
+function write(list, there) {
+  const others = there.filter(({ number }) => !list.some((draft) => draft.number === number));
   const kept = fittingOf([...list, ...others]);
   try {
     localStorage.setItem(KEY, JSON.stringify(kept));
   } catch {
-    return false;
+    return [];
   }
-  return list.every((draft) => kept.includes(draft));
+  return list.filter((draft) => kept.includes(draft));
 }
+
+const byNumber = (list) => new Map(list.map(({ number, text }) => [number, text]));
 
 const LEAST = 40;
 
@@ -57,20 +59,32 @@ export class Drafts {
   constructor(onKept) {
     this.onKept = onKept;
     this.list = read();
+    this.known = byNumber(this.list);
+    this.moved = new Map();
     this.isWritten = true;
-    window.addEventListener('pagehide', () => this.write());
   }
 
-  textOf(number) {
-    return this.list.find((draft) => draft.number === number)?.text;
+  // The number that a draft has now.
+  standing(number) {
+    return this.moved.has(number) ? this.standing(this.moved.get(number)) : number;
+  }
+
+  find(number) {
+    const standing = this.standing(number);
+    return this.list.find((draft) => draft.number === standing);
   }
 
   numberOf(text) {
     return this.list.find((draft) => draft.text === text)?.number;
   }
 
+  get freshNumber() {
+    return Math.max(Date.now(), ...this.list.map(({ number }) => number + 1));
+  }
+
   // Keeps a text as the draft of this number, or as a new one; tells its number.
-  keep(text, number = Date.now()) {
+  keep(text, given = this.freshNumber) {
+    const number = this.standing(given);
     const others = this.list.filter((draft) => draft.number !== number);
     this.list = [{ number, text }, ...others].slice(0, MOST);
     this.isWritten = false;
@@ -86,8 +100,25 @@ export class Drafts {
     return this.keep(text, isAnother(before, text) ? undefined : draft);
   }
 
+  // A draft that another page changed stays as it is there; what was made of it here is another.
   write() {
-    if (!this.isWritten) this.onKept(write(this.list));
+    if (this.isWritten) return;
     this.isWritten = true;
+    const there = read();
+    const theirs = byNumber(there);
+    const isTheirs = ({ number, text }) => theirs.has(number) &&
+      ![text, this.known.get(number)].includes(theirs.get(number));
+    this.list = this.list.map((draft) => (
+      isTheirs(draft) && draft.text !== this.known.get(draft.number) ? this.move(draft) : draft));
+    const own = this.list.filter((draft) => !isTheirs(draft));
+    const kept = write(own, there);
+    for (const { number, text } of kept) this.known.set(number, text);
+    this.onKept(kept.length === own.length);
+  }
+
+  move({ number, text }) {
+    const fresh = this.freshNumber;
+    this.moved.set(number, fresh);
+    return { number: fresh, text };
   }
 }

@@ -32,7 +32,9 @@ function titleOfDraft(draft) {
   return `your own: ${shortened(sayingOf(draft.text) || line.trim() || 'empty', 60)}`;
 }
 
-const valueOf = (draft) => `own ${draft.number}`;
+const OWN = 'own ';
+const valueOf = (draft) => OWN + draft.number;
+const numberIn = (value) => (value.startsWith(OWN) ? Number(value.slice(OWN.length)) : undefined);
 const optionOf = (value, title) => make('option', { value }, title);
 
 // `choose` hears a text, and of an own program the number of its draft.
@@ -45,7 +47,7 @@ export function openGallery(examples, drafts, choose) {
     groupOf('Gallery, for the machine itself', (example) => !isProgram(example)));
   menu.addEventListener('change', () => {
     const example = examples.find((candidate) => candidate.name === menu.value);
-    const draft = drafts.list.find((candidate) => valueOf(candidate) === menu.value);
+    const draft = drafts.find(numberIn(menu.value));
     if (example) choose(example.text);
     else if (draft) choose(draft.text, draft.number);
     else if (menu.value === NEW) choose(SAMPLE);
@@ -53,7 +55,8 @@ export function openGallery(examples, drafts, choose) {
 
   function valueNow({ text, draft }) {
     const example = examples.find((candidate) => candidate.text === text);
-    if (drafts.textOf(draft) !== undefined) return valueOf({ number: draft });
+    const own = drafts.find(draft);
+    if (own) return valueOf(own);
     return example?.name ?? (text === SAMPLE ? NEW : LINKED);
   }
 

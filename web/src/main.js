@@ -60,6 +60,10 @@ class Playground {
     onClick('redo-text', () => this.undoText(1));
     ignoreDisabled();
     listenToPrinting(this);
+    window.addEventListener('pagehide', () => this.keep());
+    document.addEventListener('visibilitychange', () => {
+      if (document.hidden) this.keep();
+    });
     const ofText = { undo: () => this.undoText(-1), redo: () => this.undoText(1) };
     listenToKeys(() => (this.job ? { ...ofText, ...this.views[this.view].keys } : ofText));
   }
@@ -91,6 +95,12 @@ class Playground {
   // A view says that it changed what is shown.
   saved() {
     this.link.later();
+  }
+
+  // Keeps what was written just now: the page may go.
+  keep() {
+    this.editor.look();
+    this.drafts.write();
   }
 
   pause() {

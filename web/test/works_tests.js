@@ -32,6 +32,11 @@ export async function testDrafts() {
   await open();
   await chooseOwn('your own: mine');
   is('it is there when the page is opened anew', await valueOf('#text'), OWN);
+  await write(`; at once\n${HEAD}halt\n`);
+  await open();
+  await chooseOwn('your own: at once');
+  is('what was written just now, too', await valueOf('#text'), `; at once\n${HEAD}halt\n`);
+  await chooseOwn('your own: mine');
   await write('; another\n' + HEAD.replace('procs 2', 'procs 1') + 'set r1 7\nset r2 9\nhalt\n');
   await write('');
   await write(`; a third\n${HEAD}halt\n`);
@@ -39,6 +44,50 @@ export async function testDrafts() {
   is('what is written over it is another one', await valueOf('#text'), OWN);
   await page.choose('#example', 'new');
   await has('a new program', '#answer', 'done after');
+}
+
+const KEY = '"kaolinsilk drafts"';
+const kept = () => page.evaluate(`JSON.parse(localStorage.getItem(${KEY}))
+  .map(({ text }) => text).join('===')`);
+
+// Another page changes the program that was written last.
+const changeElsewhere = (to) => page.evaluate(`(() => {
+  const list = JSON.parse(localStorage.getItem(${KEY}));
+  list[0].text = ${JSON.stringify(to)};
+  localStorage.setItem(${KEY}, JSON.stringify(list));
+})()`);
+
+async function writeAtStart(words) {
+  await page.evaluate('document.getElementById("text").focus()');
+  await page.evaluate('document.getElementById("text").setSelectionRange(0, 0)');
+  await page.insert(words);
+  await page.until('false', 0.5);
+}
+
+// What another page made of a program is not overwritten, nor is what is made of it here lost.
+export async function testDraftsOfTwoPages() {
+  await open();
+  await page.evaluate('localStorage.clear()');
+  await open();
+  await write(OWN);
+  await page.until('false', 0.5);
+  is('it is kept', await kept(), OWN);
+  await changeElsewhere('; theirs\n');
+  await page.choose('#example', 'new');
+  await writeAtStart('; other\n');
+  is('theirs stays', (await kept()).includes('; theirs\n'), true);
+  await chooseOwn('your own: mine');
+  await writeAtStart('; more\n');
+  is('theirs stays again', (await kept()).includes('; theirs\n'), true);
+  is('beside what is written here', (await kept()).includes(`; more\n${OWN}`), true);
+  is('and is shown', await chosen(), 'your own: more');
+  await writeAtStart('; still\n');
+  is('it is one program', (await kept()).split('===').length, 3);
+  is('that goes on', (await kept()).includes(`; still\n; more\n${OWN}`), true);
+  await page.choose('#example', 'sum');
+  await chooseOwn('your own: still');
+  is('it is there', await valueOf('#text'), `; still\n; more\n${OWN}`);
+  await page.evaluate('localStorage.clear()');
 }
 
 // Long programs that the browser has no room for take none of the others'.
