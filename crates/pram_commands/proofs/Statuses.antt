@@ -159,7 +159,7 @@ module _ (taken : Taking) (w : Writing) where
       absurd (ended-cost comes.cost prints.answer comes.gives (sym prints.is ∙ three))
   stops (line.Steps file from to alone) status prints three =
       let comes = prints.work.comes in
-      absurd (ended-plain prints.work.job comes.ended prints.answer comes.ends.0
+      absurd (ended-plain prints.work.job comes.ended prints.answer comes.ends.answers
       comes.gives (sym prints.is ∙ three))
   stops (line.Run file name manner why) status prints three = refl
   stops (line.Watch file name manner cells rounds) status prints three = refl

@@ -1,10 +1,27 @@
 -- What the command comes to that prints the steps of a window.
-use Rattle.std.specs.Prelude.{◌≡◌, Bool, [], None, ⊤}
+use Rattle.std.specs.Prelude.{◌≡◌, ℕ, Bool, List, [], Option, Some, None, ⊤}
+use Rattle.pram_text.specs.Job.{JobData}
 use Rattle.pram_step.specs.Runs.{IsAnswer}
+use Rattle.pram_step.specs.declared.answer.RunAnswer.{RunAnswer}
 use Rattle.pram_rows.specs.Rows.{rows_text}
 use Rattle.pram_rows.specs.Shown.{last_step}
 use Rattle.pram_rows.specs.declared.window.Window.{Window}
 use Rattle.pram_commands.specs.Did.{Command, Showing}
+use Rattle.pram_commands.specs.Names.{AreNames, NamingData}
+
+-- the numbers of the lines that rows tell: of a program those that its job's instructions came from
+abbrev pub lines_of : Option NamingData → Option (List ℕ)
+lines_of None = None
+lines_of (Some naming) = Some naming.numbers
+
+-- This is the answer of the job of a text, and these bytes are the rows of its window, with their
+-- lines where the text is a program.
+pub record TellsSteps (job_text : List ℕ) (job : JobData) (window : Window) (answer : RunAnswer)
+    (front : List ℕ) : Type 0 where
+  pub answers : IsAnswer job answer
+  pub names : Option NamingData
+  pub are_names : AreNames job_text job names
+  pub rows : front ≡ rows_text (lines_of names) job window.from window.to (last_step job answer)
 
 -- it prints the rows of the window, which begins with a step of the job, and then the answer,
 -- unless the rows are to stand alone
@@ -14,6 +31,5 @@ stepping alone window = record {
   cells = [];
   first = window.from;
   InPieces = ⊤;
-  Comes = λ job_text job plan. Showing alone (λ answer front. IsAnswer job answer
-      × (front ≡ rows_text job window.from window.to (last_step job answer))) job_text job;
+  Comes = λ job_text job plan. Showing alone (TellsSteps job_text job window) job_text job;
 }

@@ -1,5 +1,6 @@
 //! What a text is, and how an answer is told by it.
 ghost use Rattle.std.specs.Prelude.{◌≡◌, ◌<◌, ◌++◌, ℕ, true, false, Some, None, IfOk, IfErr, OnOk};
+ghost use Rattle.std.specs.Option.{option_copied};
 ghost use Rattle.std.specs.Prelude.{MatchOption};
 ghost use Rattle.pardo_job.specs.Printed.{cell_text};
 ghost use Rattle.pardo_answers.specs.Language.{is_program};
@@ -10,6 +11,7 @@ ghost use Rattle.pram_commands.specs.Inner.Refusals.{IsBadOrMemory, IsFaultOf};
 ghost use Rattle.pram_commands.specs.CellLists.{IsPlaceOf};
 ghost use Rattle.pram_commands.specs.Costs.{cost_words, spot_in};
 ghost use Rattle.pram_commands.specs.Names.{AreNames, IsMachines, line_at, told};
+ghost use Rattle.pram_commands.specs.Steps.{lines_of};
 ghost use Rattle.pram_commands.specs.Threads.{cell_words, or_number};
 
 use crate::fault::CommandFault;
@@ -299,4 +301,12 @@ pub(crate) fn origin_of<'a>(text: &'a [u8], names: &'a Option<Naming>) -> Origin
         None => Origin::Text(text),
         Some(naming) => Origin::Lines(naming.numbers.as_slice()),
     }
+}
+
+/// The numbers of the lines that the instructions of a program's job came from.
+pub(crate) fn lines_of(names: &Option<Naming>) -> Option<&[u64]>
+    ensures { option_copied result ≡ lines_of names.now }
+{
+    let naming = names.as_ref()?;
+    Some(naming.numbers.as_slice())
 }

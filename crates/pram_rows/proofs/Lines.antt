@@ -37,34 +37,37 @@ pieces-more text f t m k u count place =
     ∙ ap (λ l. text ++ l) (sym (flat_map-range f t m 1 k u count place
     ∙ ap (λ l. flat_map f (range_with_len t m) ++ l) (append-nil (f u))))
 
--- the rows of more steps begin with those of fewer
-lines-longer : (job : JobData) (t m n : ℕ) → m ≤ n →
-    lines_after job t n ≡ lines_after job t m ++ lines_after job (t + m) (n - m)
-lines-longer job t m n few =
-    flat_map-range (step_lines job) t m (n - m) n (t + m) (omega arith) refl
+module _ (lines : Option (List ℕ)) (job : JobData) where
+  -- the rows of more steps begin with those of fewer
+  lines-longer : (t m n : ℕ) → m ≤ n → lines_after lines job t n
+      ≡ lines_after lines job t m ++ lines_after lines job (t + m) (n - m)
+  lines-longer t m n few =
+      flat_map-range (step_lines lines job) t m (n - m) n (t + m) (omega arith) refl
 
--- the header and the rows of some steps are a beginning of the rows of a window
-pub rows-begin : (a b : Option (List ℕ)) (job : JobData) (from to last first m : ℕ) →
-    first ≡ from - 1 → m ≤ min to last - first →
-    AppendsBeginning a b (header ++ lines_after job first m) →
-    AppendsBeginning a b (rows_text job from to last)
-rows-begin a b job from to last first m is few begins =
-    let n = min to last - first in
-    let longer = beginning-longer a b
-    (header ++ lines_after job first m) (lines_after job (first + m) (n - m)) begins in
-    let whole =
-    append_assoc header (lines_after job first m) (lines_after job (first + m) (n - m))
-    ∙ ap (λ l. header ++ l) (sym (lines-longer job first m n few)) in
-    subst (λ f. AppendsBeginning a b (header ++ lines_after job f (min to last - f))) is
-    (subst (λ l. AppendsBeginning a b l) whole longer)
+  -- the header and the rows of some steps are a beginning of the rows of a window
+  pub rows-begin : (a b : Option (List ℕ)) (from to last first m : ℕ) →
+      first ≡ from - 1 → m ≤ min to last - first →
+      AppendsBeginning a b (header lines ++ lines_after lines job first m) →
+      AppendsBeginning a b (rows_text lines job from to last)
+  rows-begin a b from to last first m is few begins =
+      let n = min to last - first in
+      let rows = lines_after lines job first m in
+      let others = lines_after lines job (first + m) (n - m) in
+      let longer = beginning-longer a b (header lines ++ rows) others begins in
+      let whole = append_assoc (header lines) rows others
+      ∙ ap (λ l. header lines ++ l) (sym (lines-longer first m n few)) in
+      subst (λ f.
+      AppendsBeginning a b (header lines ++ lines_after lines job f (min to last - f))) is
+      (subst (λ l. AppendsBeginning a b l) whole longer)
 
--- and those of all its steps are its rows
-pub rows-all : (a b : Option (List ℕ)) (job : JobData) (from to last first m : ℕ) →
-    first ≡ from - 1 → m ≡ min to last - first → Appends a b (header ++ lines_after job first m) →
-    Appends a b (rows_text job from to last)
-rows-all a b job from to last first m is all put =
-    subst (λ f. Appends a b (header ++ lines_after job f (min to last - f))) is
-    (subst (λ n. Appends a b (header ++ lines_after job first n)) all put)
+  -- and those of all its steps are its rows
+  pub rows-all : (a b : Option (List ℕ)) (from to last first m : ℕ) →
+      first ≡ from - 1 → m ≡ min to last - first →
+      Appends a b (header lines ++ lines_after lines job first m) →
+      Appends a b (rows_text lines job from to last)
+  rows-all a b from to last first m is all put =
+      subst (λ f. Appends a b (header lines ++ lines_after lines job f (min to last - f))) is
+      (subst (λ n. Appends a b (header lines ++ lines_after lines job first n)) all put)
 
 -- what was taken whole was begun
 pub whole-begins : (a b : Option (List ℕ)) (text : List ℕ) →
@@ -102,23 +105,28 @@ module _ (a b : Option (List ℕ)) (rest text : List ℕ) (takes : TakesBut a b 
   }
 
 -- before the first row
-pub no-rows : (a b : Option (List ℕ)) (job : JobData) (t : ℕ) (rest : List ℕ) → rest ≡ [] →
-    Appends a b header → TakesBut a b rest (header ++ lines_after job t 0)
-no-rows a b job t rest none put =
-    record { front = header; put = put; text_is = ap (λ l. header ++ l) none }
+pub no-rows : (lines : Option (List ℕ)) (job : JobData) (a b : Option (List ℕ)) (t : ℕ)
+    (rest : List ℕ) → rest ≡ [] → Appends a b (header lines) →
+    TakesBut a b rest (header lines ++ lines_after lines job t 0)
+no-rows lines job a b t rest none put =
+    record { front = header lines; put = put; text_is = ap (λ l. header lines ++ l) none }
 
-module _ (a b : Option (List ℕ)) (job : JobData) (t m k u : ℕ) (rest : List ℕ)
-    (takes : TakesBut a b rest (header ++ lines_after job t m))
+module _ (lines : Option (List ℕ)) (job : JobData) (a b : Option (List ℕ)) (t m k u : ℕ)
+    (rest : List ℕ) (takes : TakesBut a b rest (header lines ++ lines_after lines job t m))
     (count : k ≡ m + 1) (place : u ≡ t + m) where
-  pub row-begins : (c : Option (List ℕ)) → AppendsBeginning b c (rest ++ step_lines job u) →
-      AppendsBeginning a c (header ++ lines_after job t k)
+  pub row-begins : (c : Option (List ℕ)) → AppendsBeginning b c (rest ++ step_lines lines job u) →
+      AppendsBeginning a c (header lines ++ lines_after lines job t k)
   row-begins c begins =
-      subst (λ l. AppendsBeginning a c l) (pieces-more header (step_lines job) t m k u count place)
-      (more-begins a b rest (header ++ lines_after job t m) takes c (step_lines job u) begins)
+      subst (λ l. AppendsBeginning a c l)
+      (pieces-more (header lines) (step_lines lines job) t m k u count place)
+      (more-begins a b rest (header lines ++ lines_after lines job t m) takes c
+      (step_lines lines job u) begins)
 
   pub row-taken : (c : Option (List ℕ)) (left : List ℕ) →
-      TakesBut b c left (rest ++ step_lines job u) →
-      TakesBut a c left (header ++ lines_after job t k)
+      TakesBut b c left (rest ++ step_lines lines job u) →
+      TakesBut a c left (header lines ++ lines_after lines job t k)
   row-taken c left taken =
-      subst (λ l. TakesBut a c left l) (pieces-more header (step_lines job) t m k u count place)
-      (more-taken a b rest (header ++ lines_after job t m) takes c left (step_lines job u) taken)
+      subst (λ l. TakesBut a c left l)
+      (pieces-more (header lines) (step_lines lines job) t m k u count place)
+      (more-taken a b rest (header lines ++ lines_after lines job t m) takes c left
+      (step_lines lines job u) taken)

@@ -9,6 +9,7 @@ use Rattle.std.proofs.lemmas.Option.{slice_get_within, get_or_from_slice_get}
 use Rattle.std.proofs.lemmas.Str.Parse.{digit_at}
 use Rattle.std.specs.Prelude.{codes, decimal, slice_get, nat_lt, IfSome}
 use Rattle.std.specs.Char.{digit_value}
+use Rattle.std.specs.Option.{is_some}
 use Rattle.std.specs.Str.Parse.{AllDigits}
 use Rattle.csv.specs.Writing.{default_writer, field_text, fields_text}
 use Rattle.csv.specs.Writing.{is_blank, needs_byte, needs_quotes, row_text}
@@ -25,10 +26,11 @@ use Rattle.pram_text.specs.declared.instr.Place.TheVariants.{Cell, Named}
 use Rattle.pram_text.specs.Instructions.{IsOperand, IsPlace, AreOperands, row_of}
 use Rattle.pram_step.specs.Instructions.{request_in}
 use Rattle.pram_step.specs.Machine.{IsDataPlace, State, counter, halted, register_place}
+use Rattle.pram_rows.specs.Inner.Printing.{told_fields}
 use Rattle.pram_rows.specs.Instructions.{operand_text, array_text, place_text, and_then}
 use Rattle.pram_rows.specs.Instructions.{instruction_text, one_register, register_number, spelled}
 use Rattle.pram_rows.specs.Rows.{instruction_at, instruction_or_stop}
-use Rattle.pram_rows.specs.Rows.{row_line, target_text, value_text}
+use Rattle.pram_rows.specs.Rows.{line_text, row_line, target_text, value_text}
 
 -- no byte of the field calls for quotes
 abbrev pub IsUnquoted : List ℕ → Type 0
@@ -187,9 +189,29 @@ seven-text step processor index instruction target value next steps processors
     indices instructions targets values nexts =
     rw (steps, processors, indices, instructions, targets, values, nexts) (simp append_assoc)
 
+-- the same of a row with a line
+eight-text : (step processor index instruction target value next line : List ℕ) →
+    IsPlain step → IsPlain processor → IsPlain index → IsPlain instruction →
+    IsPlain target → IsPlain value → IsPlain next → IsPlain line → row_text default_writer
+    (step ∷ processor ∷ index ∷ instruction ∷ target ∷ value ∷ next ∷ line ∷ [])
+    ≡ step ++ codes "," ++ processor ++ codes "," ++ index ++ codes "," ++ instruction ++ codes ","
+    ++ target ++ codes "," ++ value ++ codes "," ++ next ++ (codes "," ++ line ++ codes "\n")
+unfolding fields_text is_blank
+eight-text step processor index instruction target value next line steps processors
+    indices instructions targets values nexts numbers = rw (
+      steps,
+      processors,
+      indices,
+      instructions,
+      targets,
+      values,
+      nexts,
+      numbers,
+    ) (simp append_assoc)
+
 -- the fields of a row of the machine, each plain
-pub record AreFields (job : JobData) (s : State) (n i : ℕ)
-    (step processor index instruction target value next : List ℕ) : Type 0 where
+pub record AreFields (lines : Option (List ℕ)) (job : JobData) (s : State) (n i : ℕ)
+    (step processor index instruction target value next line : List ℕ) : Type 0 where
   pub step_is : step ≡ decimal n
   pub processor_is : processor ≡ decimal i
   pub index_is : index ≡ decimal (counter job s i)
@@ -197,32 +219,55 @@ pub record AreFields (job : JobData) (s : State) (n i : ℕ)
   pub target_is : target ≡ target_text job i (request_in job s i).put
   pub value_is : value ≡ value_text (request_in job s i).put
   pub next_is : next ≡ decimal (request_in job s i).next
+  pub line_is : IfSome lines (λ numbers. line ≡ line_text numbers job (counter job s i))
   pub steps : IsPlain step
   pub processors : IsPlain processor
   pub indices : IsPlain index
   pub values : IsPlain value
   pub nexts : IsPlain next
+  pub numbers : IsPlain line
 
-pub row-is : (job : JobData) (s : State)
-    (n i : ℕ) (step processor index instruction target value next : List ℕ) → IsJob job →
-    i < job.procs → IfSome (request_in job s i).put (λ w. IsDataPlace job i w.0) →
-    AreFields job s n i step processor index instruction target value next →
-    row_text default_writer (step ∷ processor ∷ index ∷ instruction ∷ target ∷ value ∷ next ∷ [])
-    ≡ row_line job s n i
-unfolding row_line
-row-is job s n i step processor index instruction target value next is low own fields =
-    let instructions : IsPlain instruction = subst (λ l. IsPlain l)
-    (sym fields.instruction_is) (instruction-plain job (counter job s i) is) in
-    let targets : IsPlain target = subst (λ l. IsPlain l)
-    (sym fields.target_is) (target-plain job i (request_in job s i).put is low own) in
-    seven-text step processor index instruction target value next
-    fields.steps fields.processors fields.indices instructions targets fields.values fields.nexts
-    ∙ rw (
-      fields.step_is,
-      fields.processor_is,
-      fields.index_is,
-      fields.instruction_is,
-      fields.target_is,
-      fields.value_is,
-      fields.next_is,
-    ) refl
+module _ (job : JobData) (s : State) (n i : ℕ)
+    (step processor index instruction target value next line : List ℕ) (is : IsJob job)
+    (low : i < job.procs) (own : IfSome (request_in job s i).put (λ w. IsDataPlace job i w.0)) where
+  pub row-is : (lines : Option (List ℕ)) (told : Bool) → told ≡ is_some lines →
+      AreFields lines job s n i step processor index instruction target value next line →
+      row_text default_writer (told_fields told
+      (step ∷ processor ∷ index ∷ instruction ∷ target ∷ value ∷ next ∷ line ∷ []))
+      ≡ row_line lines job s n i
+  unfolding row_line
+  row-is None true never fields = absurd (cc never)
+  row-is None false is_told fields =
+      let instructions : IsPlain instruction = subst (λ l. IsPlain l)
+      (sym fields.instruction_is) (instruction-plain job (counter job s i) is) in
+      let targets : IsPlain target = subst (λ l. IsPlain l)
+      (sym fields.target_is) (target-plain job i (request_in job s i).put is low own) in
+      seven-text step processor index instruction target value next
+      fields.steps fields.processors fields.indices instructions targets fields.values fields.nexts
+      ∙ rw (
+        fields.step_is,
+        fields.processor_is,
+        fields.index_is,
+        fields.instruction_is,
+        fields.target_is,
+        fields.value_is,
+        fields.next_is,
+      ) refl
+  row-is (Some numbers) false never fields = absurd (cc never)
+  row-is (Some numbers) true is_told fields =
+      let instructions : IsPlain instruction = subst (λ l. IsPlain l)
+      (sym fields.instruction_is) (instruction-plain job (counter job s i) is) in
+      let targets : IsPlain target = subst (λ l. IsPlain l)
+      (sym fields.target_is) (target-plain job i (request_in job s i).put is low own) in
+      eight-text step processor index instruction target value next line
+      fields.steps fields.processors fields.indices instructions targets fields.values fields.nexts
+      fields.numbers ∙ rw (
+        fields.step_is,
+        fields.processor_is,
+        fields.index_is,
+        fields.instruction_is,
+        fields.target_is,
+        fields.value_is,
+        fields.next_is,
+        fields.line_is,
+      ) refl

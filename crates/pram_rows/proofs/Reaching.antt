@@ -1,5 +1,5 @@
 -- The steps of a job up to the last one that is told, and the rows of the states between.
-use Rattle.std.proofs.Common.{◌≡◌, ◌+◌, ◌-◌, ◌≤◌, ℕ, ◌⊎◌, inl, inr, arith, ap}
+use Rattle.std.proofs.Common.{◌≡◌, ◌+◌, ◌-◌, ◌≤◌, ℕ, ◌⊎◌, List, Option, inl, inr, arith, ap}
 use Rattle.pram_text.specs.Job.{JobData}
 use Rattle.pram_step.specs.Machine.{State}
 use Rattle.pram_step.specs.Arrivals.{IsArrival}
@@ -43,6 +43,6 @@ last-reached job (Conflict fault) is =
 last-reached job (Unfinished step) never = absurd never
 
 -- the rows of a step, by its state
-pub rows-of : (job : JobData) (t : ℕ) (s : State) → IsStateAfter job t s →
-    rows_in job s (t + 1) ≡ step_lines job t
-rows-of job t s after = ap (λ (state : State). rows_in job state (t + 1)) after.state
+pub rows-of : (lines : Option (List ℕ)) (job : JobData) (t : ℕ) (s : State) →
+    IsStateAfter job t s → rows_in lines job s (t + 1) ≡ step_lines lines job t
+rows-of lines job t s after = ap (λ (state : State). rows_in lines job state (t + 1)) after.state

@@ -1,6 +1,7 @@
 -- What each processor asks for in each step, as text.
-use Rattle.std.specs.Prelude.{ℕ, ◌+◌, ◌-◌, ◌==◌, nat_lt, min, if◌then◌else◌, List}
-use Rattle.std.specs.Prelude.{[], ◌++◌, Option, Some, None, slice_get, codes, decimal}
+use Rattle.std.specs.Prelude.{ℕ, ◌+◌, ◌-◌, ◌==◌, ◌&&◌, nat_lt, min, if◌then◌else◌, List}
+use Rattle.std.specs.Prelude.{[], ◌++◌, Option, Some, None, slice_get, slice_index}
+use Rattle.std.specs.Prelude.{codes, decimal}
 use Rattle.std.specs.List.{flat_map, range_with_len}
 use Rattle.pram_text.specs.declared.instr.Instr.{Instr}
 use Rattle.pram_text.specs.Job.{JobData}
@@ -33,31 +34,46 @@ abbrev pub value_text : Option (ℕ × ℕ) → List ℕ
 value_text None = []
 value_text (Some write) = decimal write.1
 
+-- the line that the instruction at a counter came from; nothing where there is no instruction, or
+-- it came from no line, which has the number 0
+abbrev pub line_text : List ℕ → JobData → ℕ → List ℕ
+line_text lines job counter =
+    if nat_lt counter (halted job) && nat_lt 0 (slice_index lines counter)
+    then decimal (slice_index lines counter) else []
+
+-- what ends a row: its line, where the lines of the job's instructions are told
+abbrev pub row_end : Option (List ℕ) → JobData → ℕ → List ℕ
+row_end None job counter = codes "\n"
+row_end (Some lines) job counter = codes "," ++ line_text lines job counter ++ codes "\n"
+
 -- the row of processor i in this step, which is made in the state
-unfoldable pub row_line : JobData → State → ℕ → ℕ → List ℕ
-row_line job state step i =
+unfoldable pub row_line : Option (List ℕ) → JobData → State → ℕ → ℕ → List ℕ
+row_line lines job state step i =
     decimal step ++ codes "," ++ decimal i ++ codes "," ++ decimal (counter job state i)
     ++ codes "," ++ instruction_at job (counter job state i) ++ codes ","
     ++ target_text job i (request_in job state i).put ++ codes ","
     ++ value_text (request_in job state i).put ++ codes ","
-    ++ decimal (request_in job state i).next ++ codes "\n"
+    ++ decimal (request_in job state i).next ++ row_end lines job (counter job state i)
 
 -- the rows of this step, one of each processor
-abbrev pub rows_in : JobData → State → ℕ → List ℕ
-rows_in job state step = flat_map (row_line job state step) (range_with_len 0 job.procs)
+abbrev pub rows_in : Option (List ℕ) → JobData → State → ℕ → List ℕ
+rows_in lines job state step =
+    flat_map (row_line lines job state step) (range_with_len 0 job.procs)
 
 -- the rows of the step after t steps
-abbrev pub step_lines : JobData → ℕ → List ℕ
-step_lines job t = rows_in job (state_after job t) (t + 1)
+abbrev pub step_lines : Option (List ℕ) → JobData → ℕ → List ℕ
+step_lines lines job t = rows_in lines job (state_after job t) (t + 1)
 
 -- the rows of so many steps after t steps
-abbrev pub lines_after : JobData → ℕ → ℕ → List ℕ
-lines_after job t count = flat_map (step_lines job) (range_with_len t count)
+abbrev pub lines_after : Option (List ℕ) → JobData → ℕ → ℕ → List ℕ
+lines_after lines job t count = flat_map (step_lines lines job) (range_with_len t count)
 
-abbrev pub header : List ℕ
-header = codes "step,processor,place,instruction,writes,value,next\n"
+abbrev pub header : Option (List ℕ) → List ℕ
+header None = codes "step,processor,place,instruction,writes,value,next\n"
+header (Some lines) = codes "step,processor,place,instruction,writes,value,next,line\n"
 
 -- the header, and the rows of the steps from one to another, those that there are: the last of all
--- is `last`
-abbrev pub rows_text : JobData → ℕ → ℕ → ℕ → List ℕ
-rows_text job from to last = header ++ lines_after job (from - 1) (min to last - (from - 1))
+-- is `last`; with the lines that the job's instructions came from, where these are told
+abbrev pub rows_text : Option (List ℕ) → JobData → ℕ → ℕ → ℕ → List ℕ
+rows_text lines job from to last =
+    header lines ++ lines_after lines job (from - 1) (min to last - (from - 1))

@@ -8,4 +8,4 @@ mod window;
 
 pub use instruction::instruction_text;
 pub use print::print_steps;
-pub use window::Window;
+pub use window::{Shown, Window};

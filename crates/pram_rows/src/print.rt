@@ -2,14 +2,15 @@
 ghost use Rattle.std.specs.Prelude.{◌≡◌, ◌+◌, ◌-◌, ◌<◌, ◌^◌, ◌⊎◌, ◌++◌, ◌↔◌, false};
 ghost use Rattle.std.specs.Prelude.{IfOk, OnErr, OnOk, IsErrOf, IsTrue};
 ghost use Rattle.std.specs.Io.KnownBytes.{Appends};
+ghost use Rattle.std.specs.Option.{option_copied};
 ghost use Rattle.pram_step.specs.Runs.{IsReached, IsStateAfter};
 ghost use Rattle.pram_streams.specs.Transfer.{AppendsBeginning};
 ghost use Rattle.pram_rows.specs.Inner.Printing.{TakesBut};
-ghost use Rattle.pram_rows.specs.Rows.{rows_text, step_lines};
-ghost use Rattle.pram_rows.specs.Shown.{BeginsSteps, TakesSteps, last_step};
+ghost use Rattle.pram_rows.specs.Rows.{header, step_lines};
+ghost use Rattle.pram_rows.specs.Shown.{BeginsSteps, TakesSteps, last_step, shown_text};
 
 use crate::row::push_rows;
-use crate::window::Window;
+use crate::window::Shown;
 use pram_step::{Arrival, Moment, RunAnswer, State, go_to, make_step, plain_answer};
 use pram_streams::{PrintFault, Sink, put};
 use pram_text::Job;
@@ -18,12 +19,16 @@ use std::alloc::{AllocError, Global};
 /// The fields of a row.
 const HEADER: &str = "step,processor,place,instruction,writes,value,next\n";
 
+/// The same where lines are told.
+const HEADER_WITH_LINES: &str = "step,processor,place,instruction,writes,value,next,line\n";
+
 /// Once so many bytes of rows stand in memory, they are put into the sink.
 const PIECE: usize = 32_768;
 
-/// Prints what each processor asks for in each step of the window, in order, and gives the job's
-/// answer. The step of a conflict is the last one that is printed. Where memory runs out, a
-/// beginning of it may stand printed, as where the sink fails.
+/// Prints what each processor asks for in each step of the window, in order, with the line of its
+/// instruction if lines are told, and gives the job's answer. The step of a conflict is the last
+/// one that is printed. Where memory runs out, a beginning of it may stand printed, as where the
+/// sink fails.
 ///
 /// It takes memory for two states and for the rows of one step and `PIECE` bytes more, wherever the
 /// window is. The steps up to the window's end are made twice: once for the answer, as
@@ -32,19 +37,19 @@ pub fn print_steps<W: Sink>(
     alloc: Global,
     sink: &mut W,
     job: &Job,
-    window: Window,
+    shown: &Shown<'_>,
 ) -> Result<RunAnswer, PrintFault>
     requires { W.has_failed sink.old ≡ false }
-    ensures ok { IfOk result (TakesSteps job.now window (W.taken sink.old) (W.taken sink.new)) }
+    ensures ok { IfOk result (TakesSteps job.now shown.now (W.taken sink.old) (W.taken sink.new)) }
     ensures device { IsErrOf result PrintFault.Device
-        → BeginsSteps job.now window (W.taken sink.old) (W.taken sink.new) }
+        → BeginsSteps job.now shown.now (W.taken sink.old) (W.taken sink.new) }
     ensures memory { OnErr result ((sink.new ≡ sink.old)
-        ⊎ BeginsSteps job.now window (W.taken sink.old) (W.taken sink.new)) }
+        ⊎ BeginsSteps job.now shown.now (W.taken sink.old) (W.taken sink.new)) }
     ensures failed { IsTrue (W.has_failed sink.new) ↔ IsErrOf result PrintFault.Device }
 {
     let answer = plain_answer(alloc, job)?;
     let last = last_of(job, &answer);
-    print_rows(alloc, sink, job, window, last)?;
+    print_rows(alloc, sink, job, shown, last)?;
     Ok(answer)
 }
 
@@ -59,25 +64,35 @@ fn last_of(job: &Job, answer: &RunAnswer) -> u32
     }
 }
 
+// What stands before the rows.
+fn header(lines: Option<&[u64]>) -> &'static str
+    ensures { result.now ≡ header (option_copied lines.entry) }
+{
+    match lines {
+        None => HEADER,
+        Some(_) => HEADER_WITH_LINES,
+    }
+}
+
 // Prints the header, and the rows of the window up to the last step.
 fn print_rows<W: Sink>(
     alloc: Global,
     sink: &mut W,
     job: &Job,
-    window: Window,
+    shown: &Shown<'_>,
     last: u32,
 ) -> Result<(), PrintFault>
     requires sink { W.has_failed sink.old ≡ false }
     requires reached { IsReached job.now (last - 1) }
     ensures ok { OnOk result (Appends (W.taken sink.old) (W.taken sink.new)
-        (rows_text job.now window.from window.to last)) }
+        (shown_text job.now shown.now last)) }
     ensures beginning { AppendsBeginning (W.taken sink.old) (W.taken sink.new)
-        (rows_text job.now window.from window.to last) }
+        (shown_text job.now shown.now last) }
     ensures failed { IsTrue (W.has_failed sink.new) ↔ IsErrOf result PrintFault.Device }
 {
-    let first = window.from.saturating_sub(1);
-    let end = window.to.min(last);
-    put(sink, HEADER.as_bytes())?;
+    let first = shown.window.from.saturating_sub(1);
+    let end = shown.window.to.min(last);
+    put(sink, header(shown.lines).as_bytes())?;
     if first >= end {
         return Ok(());
     }
@@ -87,7 +102,7 @@ fn print_rows<W: Sink>(
         state: &state,
         made: first,
     };
-    let mut rows = show_step(alloc, sink, &moment, Vec::new(alloc))?;
+    let mut rows = show_step(alloc, sink, &moment, shown.lines, Vec::new(alloc))?;
     for made in first..end - 1 {
         agreed_step(alloc, job, &mut state, made)?;
         let moment = Moment {
@@ -95,7 +110,7 @@ fn print_rows<W: Sink>(
             state: &state,
             made: made + 1,
         };
-        rows = show_step(alloc, sink, &moment, rows)?;
+        rows = show_step(alloc, sink, &moment, shown.lines, rows)?;
     }
     put(sink, rows.as_slice())?;
     Ok(())
@@ -107,16 +122,17 @@ fn show_step<W: Sink>(
     alloc: Global,
     sink: &mut W,
     moment: &Moment<'_>,
+    lines: Option<&[u64]>,
     rows: Vec<u8>,
 ) -> Result<Vec<u8>, PrintFault>
     requires { W.has_failed sink.old ≡ false }
     ensures ok { IfOk result (λ left. TakesBut (W.taken sink.old) (W.taken sink.new) left.items
-        (rows.items ++ step_lines moment.now.job.now moment.now.made)) }
+        (rows.items ++ step_lines (option_copied lines.entry) moment.now.job.now moment.now.made)) }
     ensures beginning { AppendsBeginning (W.taken sink.old) (W.taken sink.new)
-        (rows.items ++ step_lines moment.now.job.now moment.now.made) }
+        (rows.items ++ step_lines (option_copied lines.entry) moment.now.job.now moment.now.made) }
     ensures failed { IsTrue (W.has_failed sink.new) ↔ IsErrOf result PrintFault.Device }
 {
-    let rows = push_rows(alloc, moment, rows)?;
+    let rows = push_rows(alloc, moment, lines, rows)?;
     pass_on(sink, rows)
 }
 

@@ -2,10 +2,11 @@
 ghost use Rattle.std.specs.Prelude.{◌≡◌, ◌+◌, ◌<◌, ◌++◌, decimal, length};
 ghost use Rattle.std.specs.Prelude.{map, string_bytes, IfOk, IfSome, OnOk};
 ghost use Rattle.std.specs.Io.KnownBytes.{Appends};
+ghost use Rattle.std.specs.Option.{option_copied};
 ghost use Rattle.csv.specs.Writing.{default_writer, field_text, row_text, text_written};
 ghost use Rattle.pram_step.specs.Machine.{IsDataPlace};
-ghost use Rattle.pram_rows.specs.Inner.Printing.{IsBetweenRecords};
-ghost use Rattle.pram_rows.specs.Rows.{instruction_at, row_line, rows_in};
+ghost use Rattle.pram_rows.specs.Inner.Printing.{IsBetweenRecords, told_fields};
+ghost use Rattle.pram_rows.specs.Rows.{instruction_at, line_text, row_line, rows_in};
 ghost use Rattle.pram_rows.specs.Rows.{stop_word, target_text, value_text};
 
 use crate::instruction::instruction_text;
@@ -20,14 +21,15 @@ use std::io::Write;
 pub(crate) fn push_rows(
     alloc: Global,
     moment: &Moment<'_>,
+    lines: Option<&[u64]>,
     bytes: Vec<u8>,
 ) -> Result<Vec<u8>, AllocError>
-    ensures { IfOk result (λ rows. rows.items ≡ bytes.items
-        ++ rows_in moment.now.job.now moment.now.state.now (moment.now.made + 1)) }
+    ensures { IfOk result (λ rows. rows.items ≡ bytes.items ++ rows_in (option_copied lines.entry)
+        moment.now.job.now moment.now.state.now (moment.now.made + 1)) }
 {
     let mut writer = Writer::from_writer(bytes);
     for processor in 0..moment.job.procs() {
-        write_row(alloc, &mut writer, moment, processor)?;
+        write_row(alloc, &mut writer, moment, lines, processor)?;
     }
     match writer.into_inner() {
         Ok(rows) => Ok(rows),
@@ -40,14 +42,15 @@ fn write_row<W: Write + Drop>(
     alloc: Global,
     writer: &mut Writer<W>,
     moment: &Moment<'_>,
+    lines: Option<&[u64]>,
     processor: u32,
 ) -> Result<(), AllocError>
     requires between { IsBetweenRecords writer.old }
     requires processor { processor < moment.now.job.now.procs }
     ensures between { OnOk result (IsBetweenRecords writer.new) }
     ensures text { OnOk result (Appends (text_written W.contents writer.old)
-        (text_written W.contents writer.new)
-        (row_line moment.now.job.now moment.now.state.now (moment.now.made + 1) processor)) }
+        (text_written W.contents writer.new) (row_line (option_copied lines.entry)
+        moment.now.job.now moment.now.state.now (moment.now.made + 1) processor)) }
 {
     let (job, state, made) = (moment.job, moment.state, moment.made);
     job.limits_hold();
@@ -56,33 +59,35 @@ fn write_row<W: Write + Drop>(
     let request = request_after(job, state, processor);
     let instruction = instruction_in(alloc, job, index)?;
     let target = target_in(alloc, job, processor, request.put)?;
-    let mut steps = Buffer::new();
-    let mut processors = Buffer::new();
-    let mut indices = Buffer::new();
-    let mut values = Buffer::new();
-    let mut nexts = Buffer::new();
-    write_record(
-        writer,
-        &[
-            number_text(&mut steps, u64::from(made) + 1),
-            number_text(&mut processors, u64::from(processor)),
-            number_text(&mut indices, u64::from(index)),
-            instruction.as_bytes(),
-            target.as_bytes(),
-            value_in(&mut values, request.put),
-            number_text(&mut nexts, u64::from(request.next)),
-        ],
-    )
+    let (mut steps, mut processors, mut indices) = (Buffer::new(), Buffer::new(), Buffer::new());
+    let (mut values, mut nexts, mut numbers) = (Buffer::new(), Buffer::new(), Buffer::new());
+    let fields = [
+        number_text(&mut steps, u64::from(made) + 1),
+        number_text(&mut processors, u64::from(processor)),
+        number_text(&mut indices, u64::from(index)),
+        instruction.as_bytes(),
+        target.as_bytes(),
+        value_in(&mut values, request.put),
+        number_text(&mut nexts, u64::from(request.next)),
+        line_in(&mut numbers, job, lines.unwrap_or(&[]), index),
+    ];
+    write_record(writer, &fields, lines.is_some())
 }
 
-fn write_record<W: Write + Drop>(writer: &mut Writer<W>, fields: &[&[u8]]) -> Result<(), AllocError>
+// Writes the fields of a row, the last one only where lines are told.
+fn write_record<W: Write + Drop>(
+    writer: &mut Writer<W>,
+    fields: &[&[u8]; 8],
+    told: bool,
+) -> Result<(), AllocError>
     requires { IsBetweenRecords writer.old }
     ensures between { OnOk result (IsBetweenRecords writer.new) }
     ensures text { OnOk result (Appends (text_written W.contents writer.old)
         (text_written W.contents writer.new)
-        (row_text default_writer (map (λ f. f.now) fields.now))) }
+        (row_text default_writer (told_fields told (map (λ f. f.now) fields.now)))) }
 {
-    match writer.write_fields(fields) {
+    let count = if told { 8 } else { 7 };
+    match writer.write_fields(&fields[..count]) {
         Ok(()) => Ok(()),
         Err(_) => Err(AllocError),
     }
@@ -143,6 +148,19 @@ fn value_in(buffer: &mut Buffer, put: Option<(u32, u32)>) -> &[u8]
     match put {
         Some((_, value)) => number_text(buffer, u64::from(value)),
         None => &[],
+    }
+}
+
+// The line that the instruction at a counter came from, if it came from one.
+fn line_in<'b>(buffer: &'b mut Buffer, job: &Job, lines: &[u64], counter: u32) -> &'b [u8]
+    ensures text { result.now ≡ line_text lines.now job.now counter }
+    ensures plain { field_text default_writer result.now ≡ result.now }
+{
+    let line = lines.get(counter as usize).copied().unwrap_or(0);
+    if (counter as usize) < job.code().len() && line > 0 {
+        number_text(buffer, line)
+    } else {
+        &[]
     }
 }
 

@@ -14,3 +14,12 @@ impl Window {
         to: u32::MAX,
     };
 }
+
+/// What is shown of a job: the steps of a window, and the numbers of the lines that its
+/// instructions came from, if they are told. An instruction without a number, or with the number
+/// 0, came from no line.
+#[derive(Clone, Copy, Debug)]
+pub struct Shown<'a> {
+    pub window: Window,
+    pub lines: Option<&'a [u64]>,
+}

@@ -14,13 +14,13 @@ ghost use Rattle.pram_commands.specs.Texts.{compiling};
 use crate::commands::{print_ending, printed};
 use crate::fault::CommandFault;
 use crate::inputs::{Spelled, take_inputs, take_job, take_text};
-use crate::names::Words;
+use crate::names::{Words, lines_of};
 use crate::sources::{Inputs, Sources};
 use crate::why::{Question, put_told};
 use crate::workers::Workers;
 use job_text::print_text;
 use pram_cost::{Cost, cost_of, print_cost};
-use pram_rows::{Window, print_steps};
+use pram_rows::{Shown, Window, print_steps};
 use pram_run::replay_to;
 use pram_step::{RunAnswer, plain_answer};
 use pram_streams::{PrintFault, Sink, Source, print_summary};
@@ -153,9 +153,10 @@ fn put_cost<O: Sink>(alloc: Global, spelled: &Spelled, out: &mut O) -> Result<Co
     Ok(cost)
 }
 
-/// Reads a job, and prints the steps of the window, and the answer unless they are to stand alone.
-/// A window that begins after the job's last step is refused, but for one that begins with step 1.
-/// Where memory runs out, a beginning of it may stand printed. It costs what `print_steps` does.
+/// Reads a job, and prints the steps of the window, of a program with the lines of its text, and
+/// the answer unless they are to stand alone. A window that begins after the job's last step is
+/// refused, but for one that begins with step 1. Where memory runs out, a beginning of it may stand
+/// printed. It costs what `print_steps` does.
 pub fn steps<J: Source, P: Source, O: Sink>(
     alloc: Global,
     window: Window,
@@ -186,7 +187,11 @@ fn put_steps<O: Sink>(
     ensures { Puts ((stepping alone window).Comes spelled.now.text.items spelled.now.job no_plan)
         (stepping alone window).InPieces (writing O.Sink out.old out.new) tells result }
 {
-    let answer = print_steps(alloc, out, &spelled.job, window)?;
+    let shown = Shown {
+        window,
+        lines: lines_of(&spelled.names),
+    };
+    let answer = print_steps(alloc, out, &spelled.job, &shown)?;
     let words = Words {
         names: &spelled.names,
         steps: spelled.job.steps(),

@@ -1,4 +1,5 @@
 use Rattle.std.proofs.Common.{◌≡◌, ◌+◌, ◌-◌, ◌++◌, false}
+use Rattle.std.specs.Option.{option_copied}
 use Rattle.pram_step.specs.Runs.{IsStateAfter}
 use Rattle.pram_rows.specs.Inner.Printing.{TakesBut}
 use Rattle.pram_rows.specs.Rows.{header, lines_after}
@@ -10,5 +11,6 @@ invariant-loop-made g l = record {
   unfailed : g.W.Sink.has_failed l.sink ≡ false;
   after : IsStateAfter l.job l.made l.state;
   put : TakesBut (g.W.Sink.taken l.fn.sink) (g.W.Sink.taken l.sink) l.rows.items
-      (header ++ lines_after l.job l.first (l.made + 1 - l.first));
+      (header (option_copied l.shown.lines)
+      ++ lines_after (option_copied l.shown.lines) l.job l.first (l.made + 1 - l.first));
 }

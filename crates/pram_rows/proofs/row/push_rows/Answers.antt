@@ -1,4 +1,5 @@
 use Rattle.std.proofs.Common.{◌∙◌, ◌++◌, ◌+◌, ap, refl, arith}
+use Rattle.std.specs.Option.{option_copied}
 use Rattle.pram_rows.specs.Rows.{row_line}
 use Rattle.pram_rows.proofs.Lines.{pieces-more}
 use Rattle.pram_rows.proofs.row.push_rows.Goals as goal
@@ -16,7 +17,8 @@ loop-processor-init c = record {
 pub loop-processor-preserved : goal.loop-processor-preserved
 loop-processor-preserved c =
     let line =
-    row_line c.args.moment.now.job.now c.args.moment.now.state.now (c.args.moment.now.made + 1) in
+    row_line (option_copied c.args.lines) c.args.moment.now.job.now c.args.moment.now.state.now
+    (c.args.moment.now.made + 1) in
     let i = c.loop-processor.processor in
     record {
       between = c.in_ok-write_row.ensures.between;
