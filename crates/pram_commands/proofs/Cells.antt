@@ -1,5 +1,5 @@
 -- The parts of a list, and the cells that they name.
-use Rattle.std.proofs.Common.{◌≡◌, ◌∙◌, ◌⊎◌, ℕ, zero, suc, ◌<◌, ◌≤◌, List, [], ◌∷◌, ◌++◌, All}
+use Rattle.std.proofs.Common.{◌≡◌, ◌∙◌, ◌⊎◌, ℕ, zero, suc, ◌<◌, List, [], ◌∷◌, ◌++◌, All}
 use Rattle.std.proofs.Common.{Option, None, Some, MatchOption, sym, subst, ap, inl, inr, refl, arith}
 use Rattle.std.proofs.Common.{length, take, get_or}
 use Rattle.std.proofs.lemmas.List.{get_or-take, get_or_default}

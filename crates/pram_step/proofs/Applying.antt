@@ -28,7 +28,8 @@ use Rattle.pram_step.proofs.LawPlaces.{written_place, writer_is, writes_place}
 use Rattle.pram_step.proofs.LawStopped.{stopped_request}
 use Rattle.pram_step.proofs.LawWriters.{writer_cases}
 use Rattle.pram_step.proofs.Marking.{AreAsked_none, AreAsked_quiet}
-use Rattle.pram_step.proofs.Passing.{bound, bound_inside, run_first, run_next}
+use Rattle.pram_step.proofs.Passing.{bound_inside, run_first, run_next}
+use Rattle.pram_step.specs.Inner.Passes.{bound}
 use Rattle.pram_step.proofs.RequestList.{written_of_put, written_cases}
 use Rattle.pram_step.proofs.RequestList.{Puts-from_Writes, Puts_at, Puts_inside, Writes-from_Puts}
 use Rattle.pram_step.proofs.Shapes.{asks, asked_at, length-requests_in}
@@ -272,7 +273,7 @@ module _ (job : JobData) (is_job : IsJob job) (s : State)
     stores = AreAsked_none job.cells (requests_in job s) asked;
   }
 
-  passed_stopped : (now : State) (asked : List Store) (count i : ℕ) →
+  pub passed_stopped : (now : State) (asked : List Store) (count i : ℕ) →
       i < job.procs → IsStopped job s i → IsPassed job s i now asked count →
       IsPassed job s (i + 1) now asked count
   passed_stopped now asked count i low stopped passed =
@@ -307,11 +308,6 @@ module _ (job : JobData) (is_job : IsJob job) (s : State)
         let e = bound_inside job s running are k inside in
         run_next job s running are (λ n. (j : ℕ) → j < n → IsIdle job s j) idle_stopped k inside
         (below_more (IsIdle job s) (get_or running k 0) (λ j low. idle j (omega arith)) here)
-
-    pub count_next : (k count : ℕ) → k < length running → count ≤ get_or running k 0 + 1 →
-        count ≤ bound job running (k + 1)
-    count_next k count inside few = run_next job s running are (λ n. count ≤ n)
-        (λ i low stopped few. omega arith) k inside few
 
 -- ---- at the end
 

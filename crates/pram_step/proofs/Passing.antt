@@ -14,7 +14,7 @@ use Rattle.std.proofs.lemmas.List.Elements.{Contains-append_left, Contains-push}
 use Rattle.std.proofs.lemmas.List.Kept.{AllPairs-from_increasing}
 use Rattle.pram_text.specs.Job.{JobData}
 use Rattle.pram_step.specs.Machine.{State, counter, halted, IsStopped}
-use Rattle.pram_step.specs.Inner.Passes.{AreRunning, AreRunningBelow}
+use Rattle.pram_step.specs.Inner.Passes.{AreRunning, AreRunningBelow, bound}
 
 -- ---- from a number to a later one
 
@@ -100,10 +100,6 @@ module _ (total count : ℕ) (at bound : ℕ → ℕ) (quiet : ℕ → Type 0)
 
 -- ---- the processors that run
 
--- the processors below this come before the k-th that runs
-abbrev pub bound : JobData → List ℕ → ℕ → ℕ
-bound job running k = get_or running k job.procs
-
 module _ (job : JobData) (s : State) (running : List ℕ) (are : AreRunning job s running) where
   pub bound_inside : (k : ℕ) → k < length running → bound job running k ≡ get_or running k 0
   bound_inside k inside = get_or_default running k job.procs 0 inside
@@ -140,6 +136,20 @@ module _ (job : JobData) (s : State) (running : List ℕ) (are : AreRunning job 
         P (bound job running (k + 1))
     run_next = skip_next job.procs (length running) (λ k. get_or running k 0) (bound job running)
         (IsStopped job s) bound_inside bound_past listed_below rises others P step
+
+-- so many are below each later one
+pub count_after : (job : JobData) (running : List ℕ) → IsStrictlyIncreasing running →
+    All (λ i. i < job.procs) running → (k count : ℕ) → k < length running →
+    count ≤ get_or running k 0 + 1 → count ≤ bound job running (k + 1)
+count_after job running rise within k count inside few =
+    elim (cases_lt (k + 1) (length running)) [
+      | inl more ↦
+          let less = AllPairs-from_increasing running rise k (k + 1) 0 (omega arith) more in
+          let e = get_or_default running (k + 1) job.procs 0 more in omega arith
+      | inr past ↦
+          let low = within k 0 inside in
+          let e = get_or_past running (k + 1) job.procs past in omega arith
+    ]
 
 -- ---- how they are listed
 

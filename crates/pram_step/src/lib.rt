@@ -7,6 +7,7 @@ mod asking;
 mod conflict;
 mod instructions;
 pub mod laws;
+mod lockstep;
 mod moment;
 mod pass;
 mod requests;

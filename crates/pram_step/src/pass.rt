@@ -1,22 +1,17 @@
-//! A step in one pass over the processors that run. Registers and counters are each one
-//! processor's own, so they are written at once; stores to cells wait for the end.
-ghost use Rattle.std.specs.Prelude.{◌≡◌, ◌*◌, ◌<◌, ◌≤◌, length, IfErr, IfSome, OnOk, OnErr};
-ghost use Rattle.std.specs.Prelude.{vec_len};
-ghost use Rattle.pram_step.specs.Machine.{IsDataPlace, counter_place, place_count, start};
+//! A step: the turns of the processors that run, and then their stores. Where it agrees it is one
+//! pass over them.
+ghost use Rattle.std.specs.Prelude.{◌≡◌, ◌*◌, length, vec_len, IfErr, OnOk, OnErr};
+ghost use Rattle.pram_step.specs.Machine.{place_count, start};
 ghost use Rattle.pram_step.specs.Instructions.{requests_in};
 ghost use Rattle.pram_step.specs.Steps.{IsDispute};
 ghost use Rattle.pram_step.specs.Inner.Marks.{HasRoom};
-ghost use Rattle.pram_step.specs.Inner.Turns.{put_of, request_of, IsSorted};
-ghost use Rattle.pram_step.specs.Inner.Passes.{AreRunning, GoesTo, IsAdvance, IsMade};
-ghost use Rattle.pram_step.specs.Inner.Passes.{IsMove, IsPassed, SameCells};
+ghost use Rattle.pram_step.specs.Inner.Passes.{AreRunning, GoesTo, IsAdvance, IsMade, SameCells};
 
 use crate::answer::{Dispute, Fault};
-use crate::requests::turn_in;
+use crate::lockstep::pass;
 use crate::running::Running;
-use crate::stores::{Store, Stores, judge_all, take_up, write_stores};
-use crate::turn::{Put, Turn};
+use crate::stores::{Stores, judge_all, write_stores};
 use pram_text::Job;
-use pram_text::places::counters_at;
 
 /// What comes of some steps from the start.
 #[derive(Clone, Copy, Debug, PartialEq, Eq)]
@@ -118,43 +113,5 @@ fn advance(
             write_stores(places, asked);
             Ok(())
         }
-    }
-}
-
-/// Takes the turn of each processor that runs, and what it asks to store. Answers how many stores
-/// are asked for.
-#[inline(always)]
-fn pass(job: &Job, places: &mut [u32], running: &[u32], asked: &mut [Store]) -> u32
-    requires places { length places.old ≡ place_count job.now }
-    requires running { AreRunning job.now places.old running.now }
-    requires asked { length asked.old ≡ job.now.procs }
-    ensures passed { IsPassed job.now places.old job.now.procs places.new asked.new result }
-    ensures few { result ≤ job.now.procs }
-{
-    job.limits_hold();
-    let counters = counters_at(job.cells(), job.procs());
-    let mut count = 0;
-    for processor in running {
-        let counter = counters + *processor;
-        let turn = turn_in(job, places, *processor, counter);
-        move_on(job, places, *processor, counter, turn);
-        count = take_up(job, asked, count, *processor, turn.put);
-    }
-    count
-}
-
-/// Writes what a processor asks for to its own register and counter.
-#[inline(always)]
-fn move_on(job: &Job, places: &mut [u32], processor: u32, at: u32, turn: Turn)
-    requires processor { processor < job.now.procs }
-    requires places { length places.old ≡ place_count job.now }
-    requires counter { at ≡ counter_place job.now processor }
-    requires own { IfSome (put_of turn.put) (λ w. IsDataPlace job.now processor w.0) }
-    requires sorted { IsSorted job.now turn.put }
-    ensures { IsMove job.now processor (request_of turn) places.old places.new }
-{
-    places[at as usize] = turn.next;
-    if let Put::Register(place, value) = turn.put {
-        places[place as usize] = value;
     }
 }

@@ -1,12 +1,14 @@
 //! What a processor asks for in a step.
-ghost use Rattle.std.specs.Prelude.{◌≡◌, ◌+◌, ◌^◌, ◌<◌, ◌≤◌, length, map, slice_index, None, Some};
-ghost use Rattle.pram_step.specs.Machine.{counter_place, place_count, register_place, register};
+ghost use Rattle.std.specs.Prelude.{◌≡◌, ◌+◌, ◌^◌, ◌<◌, ◌≤◌, length, map, None, Some};
+ghost use Rattle.std.specs.Prelude.{slice_get, slice_index, MatchOption};
+ghost use Rattle.pram_step.specs.Machine.{counter, counter_place, place_count, register};
+ghost use Rattle.pram_step.specs.Machine.{register_place};
 ghost use Rattle.pram_step.specs.Instructions.{place_part, value_part, request_in};
 ghost use Rattle.pram_step.specs.Inner.Turns.{IsTurnOf};
 
 use crate::instructions::{Held, decide, jumps};
 use crate::turn::Turn;
-use pram_text::Job;
+use pram_text::{Instr, Job};
 
 /// What a processor asks for in a step: at most one data write, and the index of its next
 /// instruction.
@@ -52,27 +54,77 @@ pub(crate) fn request_in(job: &Job, places: &[u32], processor: u32, at: u32) -> 
 /// Its turn: the same, its data told apart.
 #[inline(always)]
 #[tactic(auto, unfolding(crate::specs::Instructions::request_in))]
-pub(crate) fn turn_in(job: &Job, places: &[u32], processor: u32, at: u32) -> Turn
+fn turn_in(job: &Job, places: &[u32], processor: u32, at: u32) -> Turn
     requires processor { processor < job.now.procs }
     requires places { length places.now ≡ place_count job.now }
     requires counter { at ≡ counter_place job.now processor }
     ensures { IsTurnOf job.now (request_in job.now places.now processor) result }
 {
     let counter = places[at as usize];
-    let Some(instr) = job.code().get(counter as usize) else {
-        return jumps(counter);
-    };
-    decide(
-        job,
-        processor,
-        counter,
-        instr,
-        &Registers {
+    match Fetched::at(job, counter) {
+        Some(fetched) => fetched.turn(places, processor),
+        None => jumps(counter),
+    }
+}
+
+/// An instruction of a job, and its index.
+#[derive(Clone, Copy)]
+pub(crate) struct Fetched<'m> {
+    pub job: &'m Job,
+    pub counter: u32,
+    pub instr: &'m Instr,
+    ghost stands: { slice_get job.now.code counter ≡ Some instr.now },
+}
+
+impl<'m> Fetched<'m> {
+    /// The instruction with this index, if there is one.
+    #[inline(always)]
+    pub(crate) fn at(job: &'m Job, counter: u32) -> Option<Self>
+        ensures { MatchOption result (length job.now.code ≤ counter)
+            (λ fetched. (fetched.job ≡ job.entry) × (fetched.counter ≡ counter)) }
+    {
+        let instr = job.code().get(counter as usize)?;
+        Some(Fetched {
+            job,
+            counter,
+            instr,
+        })
+    }
+
+    /// The same instruction, by a name that tells its form.
+    #[inline(always)]
+    pub(crate) fn with(self, instr: &'m Instr) -> Self
+        requires { instr.now ≡ self.instr.now }
+        ensures job { result.job ≡ self.entry.job }
+        ensures counter { result.counter ≡ self.entry.counter }
+    {
+        Fetched {
+            job: self.job,
+            counter: self.counter,
+            instr,
+        }
+    }
+
+    /// The turn of a processor that stands there.
+    #[inline(always)]
+    #[tactic(auto, unfolding(crate::specs::Instructions::request_in))]
+    pub(crate) fn turn(self, places: &[u32], processor: u32) -> Turn
+        requires processor { processor < self.job.now.procs }
+        requires places { length places.now ≡ place_count self.job.now }
+        requires counter { counter self.job.now places.now processor ≡ self.counter }
+        ensures { IsTurnOf self.entry.job.now
+            (request_in self.entry.job.now places.now processor) result }
+    {
+        let job = self.job;
+        job.limits_hold();
+        let held = Registers {
             job,
             places,
             processor,
-        },
-    )
+            base: job.register_place(processor, 0),
+        };
+        decide(job, processor, self.counter, self.instr, &held)
+    }
 }
 
 /// The operands and the cell of a processor, in the machine's places.
@@ -81,8 +133,24 @@ struct Registers<'m> {
     job: &'m Job,
     places: &'m [u32],
     processor: u32,
+    /// The place of its first register.
+    base: u32,
     ghost is_processor: { processor < job.now.procs },
     ghost all_places: { length places.now ≡ place_count job.now },
+    ghost is_base: { base ≡ register_place job.now processor 0 },
+}
+
+impl Registers<'_> {
+    /// What a register holds.
+    #[inline(always)]
+    fn register(&self, r: u8) -> u32
+        requires { r < 4 }
+        ensures { result
+            ≡ slice_index self.now.places.now (register_place self.now.job.now self.now.processor r) }
+    {
+        self.job.limits_hold();
+        self.places[(self.base + u32::from(r)) as usize]
+    }
 }
 
 impl Held for Registers<'_> {
@@ -94,27 +162,16 @@ impl Held for Registers<'_> {
 
     #[inline(always)]
     fn first(&self, r: u8) -> u32 {
-        register(self.job, self.places, self.processor, r)
+        self.register(r)
     }
 
     #[inline(always)]
     fn second(&self, r: u8) -> u32 {
-        register(self.job, self.places, self.processor, r)
+        self.register(r)
     }
 
     #[inline(always)]
     fn cell(&self, address: u32) -> u32 {
         self.places[address as usize]
     }
-}
-
-/// What a register holds.
-#[inline(always)]
-fn register(job: &Job, places: &[u32], processor: u32, r: u8) -> u32
-    requires processor { processor < job.now.procs }
-    requires places { length places.now ≡ place_count job.now }
-    requires register { r < 4 }
-    ensures { result ≡ slice_index places.now (register_place job.now processor r) }
-{
-    places[job.register_place(processor, r) as usize]
 }

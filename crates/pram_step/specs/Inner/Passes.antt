@@ -1,15 +1,17 @@
 -- A pass over the processors that run.
 use Rattle.std.specs.Prelude.{◌≡◌, ℕ, ◌+◌, ◌<◌, ◌≤◌, ◌⊎◌, List, length, take, All}
-use Rattle.std.specs.Prelude.{slice_index, unwrap_or, Option, MatchOption}
+use Rattle.std.specs.Prelude.{slice_index, slice_index_or, unwrap_or, Option, MatchOption}
 use Rattle.std.specs.List.{Contains}
 use Rattle.std.specs.List.Sorted.{IsStrictlyIncreasing}
 use Rattle.pram_text.specs.Job.{JobData}
 use Rattle.pram_step.specs.declared.answer.Fault.{Fault}
+use Rattle.pram_step.specs.declared.lockstep.Turns.{Turns}
 use Rattle.pram_step.specs.declared.pass.Course.{Course}
 use Rattle.pram_step.specs.declared.pass.Course.TheVariants.{Made, Settled, Disputed}
 use Rattle.pram_step.specs.declared.requests.Request.{Request}
 use Rattle.pram_step.specs.declared.stores.Store.{Store}
-use Rattle.pram_step.specs.Machine.{State, counter, counter_place, halted, register_place}
+use Rattle.pram_step.specs.Machine.{State, counter, counter_place, halted, place_count}
+use Rattle.pram_step.specs.Machine.{register_place}
 use Rattle.pram_step.specs.Instructions.{goes_to, request_in, requests_in}
 use Rattle.pram_step.specs.Steps.{Agrees, IsNext, next_state, written}
 use Rattle.pram_step.specs.Runs.{IsFault, IsFirstConflict, IsStateAfter}
@@ -61,6 +63,30 @@ pub record IsPassed (job : JobData) (start : State) (p : ℕ) (now : State)
     (asked : List Store) (count : ℕ) : Type 0 where
   pub own : HaveMoved job start p now
   pub stores : AreAsked job.cells (requests_in job start) p asked count
+
+-- ---- turn after turn
+
+-- the processors below this come before the k-th of those that run
+abbrev pub bound : JobData → List ℕ → ℕ → ℕ
+bound job running k = slice_index_or running k job.procs
+
+-- these are processors, in order, and there is room for what those that are left may ask for
+pub record IsUnderWay (job : JobData) (running : List ℕ) (now : State) (asked : List Store)
+    (turns : Turns) : Type 0 where
+  pub within : All (λ i. i < job.procs) running
+  pub rises : IsStrictlyIncreasing running
+  pub places : length now ≡ place_count job
+  pub room : length asked ≡ job.procs
+  pub inside : turns.taken ≤ length running
+  pub few : turns.stores ≤ bound job running turns.taken
+
+-- Where the turns before were taken from some start, so are those up to here.
+abbrev pub GoesOn : JobData → List ℕ → State → List Store → Turns → State → List Store → Turns →
+    Type 0
+GoesOn job running now asked turns now' asked' turns' =
+    (start : State) → length start ≡ place_count job → AreRunning job start running
+    → IsPassed job start (bound job running turns.taken) now asked turns.stores
+    → IsPassed job start (bound job running turns'.taken) now' asked' turns'.stores
 
 -- ---- a step
 

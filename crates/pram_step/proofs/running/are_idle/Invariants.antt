@@ -1,6 +1,6 @@
 use Rattle.std.proofs.Common.{ℕ, ◌<◌}
 use Rattle.pram_step.specs.Inner.Passes.{IsIdle}
-use Rattle.pram_step.proofs.Passing.{bound}
+use Rattle.pram_step.specs.Inner.Passes.{bound}
 use Rattle.pram_step.proofs.running.are_idle.Given as goal
 
 abbrev pub invariant-loop-processor : goal.invariant-loop-processor

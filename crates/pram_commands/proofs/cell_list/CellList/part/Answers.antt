@@ -1,10 +1,10 @@
 use Rattle.std.proofs.Common.{◌≡◌, ◌∙◌, ℕ, List, [], Option, None, Some, lit<, ap, refl, option_map}
-use Rattle.std.specs.Prelude.{slice_get, unwrap_or}
+use Rattle.std.specs.Prelude.{unwrap_or}
 use Rattle.std.specs.Borrow.{Bor}
 use Rattle.std.proofs.lemmas.Iterator.Consumers.{nth_from_yields_List}
 use Rattle.std.proofs.lemmas.Iterator.Splits.{YieldsList-from_str_split}
 use Rattle.std.proofs.lemmas.Option.{unwrap_or-slice_get}
-use Rattle.pram_commands.specs.CellLists.{part_at, parts_of}
+use Rattle.pram_commands.specs.CellLists.{parts_of}
 use Rattle.pram_commands.proofs.cell_list.CellList.part.Goals as goal
 
 -- what is there, or nothing
