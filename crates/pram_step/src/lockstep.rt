@@ -1,12 +1,10 @@
 //! The turns of a step. Processors that stand at the same instruction take theirs together, as far
 //! as no other stands between them: it is looked up once for all of them. Registers and counters
 //! are each one processor's own, so they are written at once; stores to cells wait for the end.
-ghost use Rattle.std.specs.Prelude.{◌≡◌, ◌<◌, ◌≤◌, length, IfSome};
-ghost use Rattle.std.specs.Prelude.{slice_index};
+ghost use Rattle.std.specs.Prelude.{◌≡◌, ◌<◌, ◌≤◌, length, slice_index, IfSome};
 ghost use Rattle.pram_step.specs.Machine.{IsDataPlace, counter, counter_place, place_count};
 ghost use Rattle.pram_step.specs.Inner.Turns.{put_of, request_of, IsSorted};
-ghost use Rattle.pram_step.specs.Inner.Passes.{AreRunning, IsMove, IsPassed};
-ghost use Rattle.pram_step.specs.Inner.Passes.{IsUnderWay, GoesOn};
+ghost use Rattle.pram_step.specs.Inner.Passes.{AreRunning, GoesOn, IsMove, IsPassed, IsUnderWay};
 
 use crate::requests::Fetched;
 use crate::stores::{Store, take_up};
@@ -56,10 +54,7 @@ fn take_next(
 ) -> Turns
     requires left { turns.taken < length running.now }
     requires begun { IsUnderWay job.now running.now places.old asked.old turns }
-    ensures later { turns.taken < result.taken }
-    ensures begun { IsUnderWay job.now running.now places.new asked.new result }
-    ensures taken { GoesOn job.now running.now places.old asked.old turns
-        places.new asked.new result }
+    ensures { GoesOn job.now running.now places.old asked.old turns places.new asked.new result }
 {
     job.limits_hold();
     let counter = places[job.counter_place(running[turns.taken]) as usize];
@@ -137,9 +132,7 @@ fn take(
     requires begun { IsUnderWay fetched.job.now running.now places.old asked.old turns }
     requires here { counter fetched.job.now places.old (slice_index running.now turns.taken)
         ≡ fetched.counter }
-    ensures later { turns.taken < result.taken }
-    ensures begun { IsUnderWay fetched.entry.job.now running.now places.new asked.new result }
-    ensures taken { GoesOn fetched.entry.job.now running.now places.old asked.old turns
+    ensures { GoesOn fetched.entry.job.now running.now places.old asked.old turns
         places.new asked.new result }
 {
     let job = fetched.job;

@@ -80,13 +80,14 @@ pub record IsUnderWay (job : JobData) (running : List ℕ) (now : State) (asked 
   pub inside : turns.taken ≤ length running
   pub few : turns.stores ≤ bound job running turns.taken
 
--- Where the turns before were taken from some start, so are those up to here.
-abbrev pub GoesOn : JobData → List ℕ → State → List Store → Turns → State → List Store → Turns →
-    Type 0
-GoesOn job running now asked turns now' asked' turns' =
-    (start : State) → length start ≡ place_count job → AreRunning job start running
-    → IsPassed job start (bound job running turns.taken) now asked turns.stores
-    → IsPassed job start (bound job running turns'.taken) now' asked' turns'.stores
+-- Some turns more have been taken. Where those before were taken from some start, so are these.
+pub record GoesOn (job : JobData) (running : List ℕ) (now : State) (asked : List Store)
+    (turns : Turns) (now' : State) (asked' : List Store) (turns' : Turns) : Type 0 where
+  pub later : turns.taken < turns'.taken
+  pub begun : IsUnderWay job running now' asked' turns'
+  pub passed : (start : State) → length start ≡ place_count job → AreRunning job start running →
+      IsPassed job start (bound job running turns.taken) now asked turns.stores →
+      IsPassed job start (bound job running turns'.taken) now' asked' turns'.stores
 
 -- ---- a step
 

@@ -21,7 +21,7 @@ loop-turns-init c = record {
 pub loop-turns-preserved : goal.loop-turns-preserved
 loop-turns-preserved c = record {
   begun = c.take_next-turns.ensures.begun;
-  passed = c.take_next-turns.ensures.taken c.args.places.now c.requires.places
+  passed = c.take_next-turns.ensures.passed c.args.places.now c.requires.places
       c.requires.running c.loop-turns.invariant.passed;
 }
 

@@ -41,10 +41,10 @@ loop-taken-preserved c =
             count_after job running begun.rises begun.within k c.take_up-stores.result inside
             (omega arith);
       };
-      goes = λ start places are passed.
+      passed = λ start places are passed.
           let e : bound job running k ≡ p = bound_inside job start running are k inside in
           let before = subst (λ n. IsPassed job start n c.loop-taken.places c.loop-taken.asked
-          c.loop-taken.stores) e (c.loop-taken.invariant.goes start places are passed) in
+          c.loop-taken.stores) e (c.loop-taken.invariant.passed start places are passed) in
           passed_next job is_job start places running are k inside c.move_on.new.places
           c.take_up-stores.new.asked c.take_up-stores.result
           (passed_turn job is_job start places p low c.loop-taken.places before.own
