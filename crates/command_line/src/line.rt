@@ -1,13 +1,13 @@
 //! The command line.
 ghost use Rattle.std.specs.Prelude.{◌≡◌, ◌≢◌, ◌-◌, ◌^◌, Some, codes};
-ghost use Rattle.std.specs.Prelude.{false, map, IfOk, IfErr, IfSome};
-ghost use Rattle.clap.specs.Words.{app_of, first_of, found_of, kind_of};
+ghost use Rattle.std.specs.Prelude.{true, false, map, IfOk, IfErr, IfSome};
+ghost use Rattle.clap.specs.Words.{App, app_of, first_of, found_of, kind_of, with_subcommand};
 ghost use Rattle.clap.specs.Words.{rows_of, rule_of, subcommand_of, subcommand_rows_of};
 ghost use Rattle.pram_commands.specs.Progress.{is_told};
 ghost use Rattle.command_line.specs.CommandLine.{AreRefused, FailsByWords, HasBadBlock, HasBadCells};
 ghost use Rattle.command_line.specs.CommandLine.{HasBadValue, HasBadWindow, IsAsked};
 ghost use Rattle.command_line.specs.CommandLine.{HasManner, IsBlockIfSet, IsMet, IsNumberIfSet};
-ghost use Rattle.command_line.specs.CommandLine.{IsNumberOf, IsNumberOr, flag_rule, pramx};
+ghost use Rattle.command_line.specs.CommandLine.{IsNumberOf, IsNumberOr, bare, flag_rule, pramx};
 ghost use Rattle.command_line.specs.CommandLine.{needed, on_file, on_machine, on_plain, on_replay, on_run};
 ghost use Rattle.command_line.specs.CommandLine.{on_steps, on_watch};
 ghost use Rattle.command_line.specs.CommandLine.{option_rule, with_manner, with_progress, with_workers};
@@ -213,47 +213,46 @@ fn refused(mut command: Command<'_>, message: &str) -> Result<Error, AllocError>
 fn command<'a>(alloc: Global) -> Result<Command<'a>, AllocError>
     ensures { IfOk result (λ command. app_of command ≡ pramx) }
 {
-    let machine = machine_command(alloc)?;
-    let run = run_command(alloc)?;
-    let watch = watch_command(alloc)?;
-    let replay = replay_command(alloc)?;
-    machine
-        .subcommand(run)?
-        .subcommand(watch)?
-        .subcommand(replay)
+    let command = with(machine_command(alloc)?, run_command(alloc))?;
+    let command = with(command, watch_command(alloc))?;
+    with(command, replay_command(alloc))
 }
 
 // The program with the subcommands of the plain machine alone.
 fn machine_command<'a>(alloc: Global) -> Result<Command<'a>, AllocError>
     ensures { IfOk result (λ command. app_of command ≡ on_machine) }
 {
-    let check = file_command(
-        alloc,
-        "check",
-        "Say whether a text spells a job, and how large it is",
-    )?;
-    let compile = file_command(
-        alloc,
-        "compile",
-        "Print the job of a program as a text of the machine",
-    )?;
-    let plain = plain_command(alloc)?;
-    let cost = file_command(
-        alloc,
-        "cost",
-        "Say what the run of a job costs, and which model of the PRAM it needs",
-    )?;
-    let steps = steps_command(alloc)?;
+    let check = "Say whether a text spells a job, and how large it is";
+    let compile = "Print the job of a program as a text of the machine";
+    let cost = "Say what the run of a job costs, and which model of the PRAM it needs";
+    let command = with(bare_command(alloc), file_command(alloc, "check", check))?;
+    let command = with(command, file_command(alloc, "compile", compile))?;
+    let command = with(command, plain_command(alloc))?;
+    let command = with(command, file_command(alloc, "cost", cost))?;
+    with(command, steps_command(alloc))
+}
+
+// The program without subcommands.
+fn bare_command<'a>(alloc: Global) -> Command<'a>
+    ensures { app_of result ≡ bare }
+{
     Command::new(alloc, "pramx")
         .version("0.2.0")
         .about("Runs programs of a synchronous parallel machine with shared memory.")
         .after_help(EXAMPLES)
         .subcommand_required(true)
-        .subcommand(check)?
-        .subcommand(compile)?
-        .subcommand(plain)?
-        .subcommand(cost)?
-        .subcommand(steps)
+}
+
+// The command with this subcommand, if it was made. Nothing else waits for it meanwhile: so few
+// values are there to be given back where memory is out.
+fn with<'a>(
+    command: Command<'a>,
+    made: Result<Command<'a>, AllocError>,
+) -> Result<Command<'a>, AllocError>
+    ensures { (sub : App) → sub.top.is_plain ≡ true → IfOk made.entry (λ it. app_of it ≡ sub)
+        → IfOk result (λ it. app_of it ≡ with_subcommand (app_of command.entry) sub.top) }
+{
+    command.subcommand(made?)
 }
 
 fn plain_command<'a>(alloc: Global) -> Result<Command<'a>, AllocError>
@@ -350,11 +349,10 @@ fn file_command<'a>(alloc: Global, name: &'a str, about: &'a str) -> Result<Comm
         .value_name("FILE")
         .help(FILE)
         .action(ArgAction::Set);
-    let explain = flag(alloc, "explain", EXPLAIN);
     Command::new(alloc, name)
         .about(about)
         .arg(needed(file))?
-        .arg(explain)
+        .arg(flag(alloc, "explain", EXPLAIN))
 }
 
 // An option with a value.

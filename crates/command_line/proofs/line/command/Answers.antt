@@ -1,12 +1,15 @@
-use Rattle.std.proofs.Common.{refl}
+use Rattle.std.proofs.Common.{◌∙◌, ap, refl}
 use Rattle.std.proofs.lemmas.Result.{IfOk-weaker}
-use Rattle.command_line.proofs.Subcommands.{added}
+use Rattle.clap.specs.Words.{with_subcommand}
+use Rattle.command_line.specs.CommandLine.{on_replay, on_run, on_watch}
 use Rattle.command_line.proofs.line.command.Goals as goal
 
 pub returns : goal.returns
 returns c =
-    let one = added _ _ _ _ _ c.in_ok-subcommand.ensures.shape
-    c.in_ok-machine.ensures c.in_ok-run.ensures refl in
-    let two = added _ _ _ _ _ c.in_ok-subcommand-2.ensures.shape one c.in_ok-watch.ensures refl in
-    IfOk-weaker c.subcommand-3.result _ _
-    (λ r last. added _ _ _ _ _ last.shape two c.in_ok-replay.ensures refl) c.subcommand-3.ensures
+    let one = c.in_ok-command.ensures on_run refl c.run_command.ensures
+    ∙ ap (λ a. with_subcommand a on_run.top) c.in_ok-machine_command.ensures in
+    let two = c.in_ok-command-2.ensures on_watch refl c.watch_command.ensures
+    ∙ ap (λ a. with_subcommand a on_watch.top) one in
+    IfOk-weaker c.with-3.result _ _ (λ r last. last
+    ∙ ap (λ a. with_subcommand a on_replay.top) two)
+    (c.with-3.ensures on_replay refl c.replay_command.ensures)
