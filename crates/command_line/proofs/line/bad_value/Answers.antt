@@ -1,6 +1,6 @@
-use Rattle.std.proofs.Common.{◌≡◌, List, Option, Some, codes, inl, inr, subst, sym}
+use Rattle.std.proofs.Common.{◌≡◌, Some, inl, inr}
 use Rattle.std.proofs.lemmas.Option.{IfSome_then}
-use Rattle.clap.specs.Words.{Row, Text, found_of, rows_of, subcommand_rows_of}
+use Rattle.clap.specs.Words.{Text, found_of, rows_of, subcommand_rows_of}
 use Rattle.clap.specs.declared.ArgMatches.{ArgMatches}
 use Rattle.command_line.specs.CommandLine.{HasBadValue, IsBadIn}
 use Rattle.command_line.proofs.Matches.{met_with, pair_of}

@@ -1,8 +1,8 @@
-use Rattle.std.proofs.Common.{◌≡◌, ◌≢◌, ◌∙◌, ◌&&◌, ◌⊎◌, ℕ, map, Bool, true, false, Result}
+use Rattle.std.proofs.Common.{◌≡◌, ◌≢◌, ◌&&◌, ◌⊎◌, ℕ, map, Bool, true, false, Result}
 use Rattle.std.proofs.Common.{Ok, Err, IsErrAnd, IfErr, List, [], inl, inr, refl, subst, sym}
 use Rattle.clap.proofs.OnLiterals.{clap_on_literals}
 use Rattle.clap.specs.Words.{App, FailsBy, HasKind, HasMatchesOf, IsAmong, Kinds}
-use Rattle.clap.specs.Words.{Text, fault_of, is_simple, is_simple_and_free}
+use Rattle.clap.specs.Words.{Text, fault_of, is_simple_and_free}
 use Rattle.clap.specs.Words.{kind_of, subcommand_of, subcommand_rows_of, takes}
 use Rattle.clap.specs.declared.ArgMatches.{ArgMatches}
 use Rattle.clap.specs.declared.error.Error.{Error}
