@@ -31,14 +31,25 @@ fn run_by(count: u32) -> Line<'static>
     }
 }
 
+// The line prints this of the text, and nothing on standard error.
+fn expect_answer<R: AllocGlobal + Abort + Threads + Wait + Clock + Eprint + Sync>(
+    rt: &R,
+    line: &Line<'_>,
+    text: &str,
+    answer: &str,
+    status: u8,
+) {
+    let served = serve_text(rt, rt.alloc(), line, text.as_bytes());
+    assert!(rt; served.out.as_slice() == answer.as_bytes(), "{text}");
+    assert!(rt; served.err.is_empty(), "{text}");
+    assert!(rt; served.status == status, "{text}");
+}
+
 #[test]
 fn programs_are_answered_by_names(rt: HostRuntime) {
     for (text, answer, _, status) in PROGRAMS {
         for line in [PLAIN, run_by(1), run_by(3)] {
-            let served = serve_text(&rt, rt.alloc(), &line, text.as_bytes());
-            assert!(rt; served.out.as_slice() == answer.as_bytes(), "{text}");
-            assert!(rt; served.err.is_empty(), "{text}");
-            assert!(rt; served.status == status, "{text}");
+            expect_answer(&rt, &line, text, answer, status);
         }
     }
 }
@@ -47,10 +58,7 @@ fn programs_are_answered_by_names(rt: HostRuntime) {
 #[test]
 fn programs_say_what_they_cost(rt: HostRuntime) {
     for (text, _, cost, status) in PROGRAMS {
-        let served = serve_text(&rt, rt.alloc(), &COST, text.as_bytes());
-        assert!(rt; served.out.as_slice() == cost.as_bytes(), "{text}");
-        assert!(rt; served.err.is_empty(), "{text}");
-        assert!(rt; served.status == status, "{text}");
+        expect_answer(&rt, &COST, text, cost, status);
     }
 }
 
