@@ -1,24 +1,23 @@
 -- The table of instructions: what a text calls each of them, and what it has after the name.
 use Rattle.std.specs.Prelude.{ℕ, ◌+◌, ◌<◌, ◌≤◌, ◌^◌, Bool, if◌then◌else◌, List, [], ◌∷◌, codes}
-use Rattle.pram_text.specs.declared.instr.Array.{Array}
-use Rattle.pram_text.specs.declared.instr.Instr.{Instr}
-use Rattle.pram_text.specs.declared.instr.Instr.TheVariants.{Set, Pid, Add, Sub, Mul, And, Or, Xor}
-use Rattle.pram_text.specs.declared.instr.Instr.TheVariants.{Lt, Eq, Shl, Shr, Ld, St, Jz, Jmp}
-use Rattle.pram_text.specs.declared.instr.Instr.TheVariants.{Halt}
-use Rattle.pram_text.specs.declared.instr.Operand.{Operand}
-use Rattle.pram_text.specs.declared.instr.Operand.TheVariants.{Register, Number}
-use Rattle.pram_text.specs.declared.instr.Operands.{Operands}
-use Rattle.pram_text.specs.declared.instr.Operands.TheVariants.{Bare, Target, TargetNumber}
-use Rattle.pram_text.specs.declared.instr.Operands.TheVariants.{TargetPlace, TargetTwo, PlaceValue}
-use Rattle.pram_text.specs.declared.instr.Operands.TheVariants.{RegisterIndex, Index}
-use Rattle.pram_text.specs.declared.instr.Place.{Place}
-use Rattle.pram_text.specs.declared.instr.Place.TheVariants.{Cell, Named}
-use Rattle.pram_text.specs.declared.limits.TheConstants.{REGISTERS}
-use Rattle.pram_text.specs.Lines.{Word}
+use Rattle.pram_job.specs.declared.instr.Array.{Array}
+use Rattle.pram_job.specs.declared.instr.Instr.{Instr}
+use Rattle.pram_job.specs.declared.instr.Instr.TheVariants.{Set, Pid, Add, Sub, Mul, And, Or, Xor}
+use Rattle.pram_job.specs.declared.instr.Instr.TheVariants.{Lt, Eq, Shl, Shr, Ld, St, Jz, Jmp}
+use Rattle.pram_job.specs.declared.instr.Instr.TheVariants.{Halt}
+use Rattle.pram_job.specs.declared.instr.Operand.{Operand}
+use Rattle.pram_job.specs.declared.instr.Operand.TheVariants.{Register, Number}
+use Rattle.pram_job.specs.declared.instr.Operands.{Operands}
+use Rattle.pram_job.specs.declared.instr.Operands.TheVariants.{Bare, Target, TargetNumber}
+use Rattle.pram_job.specs.declared.instr.Operands.TheVariants.{TargetPlace, TargetTwo, PlaceValue}
+use Rattle.pram_job.specs.declared.instr.Operands.TheVariants.{RegisterIndex, Index}
+use Rattle.pram_job.specs.declared.instr.Place.{Place}
+use Rattle.pram_job.specs.declared.instr.Place.TheVariants.{Cell, Named}
+use Rattle.pram_job.specs.declared.limits.TheConstants.{REGISTERS}
 
 -- ---- from an instruction to its text
 
-abbrev pub row_of : Instr → Word × Operands
+abbrev pub row_of : Instr → List ℕ × Operands
 row_of (Set target number) = (codes "set", TargetNumber target number)
 row_of (Pid target) = (codes "pid", Target target)
 row_of (Add target first second) = (codes "add", TargetTwo target first second)
@@ -50,14 +49,14 @@ pub data Form : Type 0 where
   register_index : (ℕ → ℕ → Instr) → Form
   only_index : (ℕ → Instr) → Form
 
-abbrev pub shifts : List (Word × Form)
+abbrev pub shifts : List (List ℕ × Form)
 shifts =
     (codes "shl", target_two (λ target first second. Shl target first second))
     ∷ (codes "shr", target_two (λ target first second. Shr target first second))
     ∷ []
 
 -- those of all versions, and where they are wanted those of version 3 alone
-abbrev pub table : Bool → List (Word × Form)
+abbrev pub table : Bool → List (List ℕ × Form)
 table later =
     (codes "set", target_number (λ target number. Set target number))
     ∷ (codes "pid", only_target (λ target. Pid target))

@@ -1,9 +1,9 @@
 -- What a job is.
 use Rattle.std.specs.Prelude.{◌≡◌, ℕ, ◌<◌, ◌≤◌, ◌^◌, List, length, All}
-use Rattle.pram_text.specs.declared.instr.Instr.{Instr}
-use Rattle.pram_text.specs.declared.instr.Rule.{Rule}
-use Rattle.pram_text.specs.declared.limits.TheConstants.{MAX_CELLS, MAX_PROCS, MAX_CODE}
-use Rattle.pram_text.specs.Instructions.{AreOperands, row_of}
+use Rattle.pram_job.specs.declared.instr.Instr.{Instr}
+use Rattle.pram_job.specs.declared.instr.Rule.{Rule}
+use Rattle.pram_job.specs.declared.limits.TheConstants.{MAX_CELLS, MAX_PROCS, MAX_CODE}
+use Rattle.pram_job.specs.Instructions.{AreOperands, row_of}
 
 -- M cells, N processors, T steps, a start value for each cell, and the code
 pub record JobData : Type 0 where

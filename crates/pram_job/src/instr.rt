@@ -1,6 +1,6 @@
 //! The table of the seventeen instructions, and the rules of writing.
 ghost use Rattle.std.specs.Prelude.{◌≡◌};
-ghost use Rattle.pram_text.specs.Instructions.{row_of};
+ghost use Rattle.pram_job.specs.Instructions.{row_of};
 
 /// What a processor does in a step. Registers have the numbers 0 to 3, indices are those of
 /// instructions, counted from 0. On the right, a register stands for what it holds. Arithmetic is

@@ -1,10 +1,8 @@
 //! Jobs.
-ghost use Rattle.std.specs.Prelude.{◌≡◌, ℕ, ◌+◌, ◌<◌, vec_len, IfOk};
-ghost use Rattle.pram_text.specs.Job.{JobData, IsJob, job_data};
-ghost use Rattle.pram_text.specs.Places.{register_at, counters_at};
-ghost use Rattle.pram_text.specs.Inner.Reading.{job_of};
+ghost use Rattle.std.specs.Prelude.{◌≡◌, ◌+◌, ◌<◌, vec_len, IfOk};
+ghost use Rattle.pram_job.specs.Job.{JobData, IsJob, job_data};
+ghost use Rattle.pram_job.specs.Places.{register_at, counters_at};
 
-use crate::head::Head;
 use crate::instr::{Instr, Rule};
 use crate::places::{counters_at, register_at};
 use std::alloc::AllocError;
@@ -31,21 +29,6 @@ impl Model for Job {
 }
 
 impl Job {
-    /// The job of a header, of start values and of instructions.
-    pub(crate) fn new(head: &Head, init: Vec<u32>, code: Vec<Instr>) -> Self
-        requires { IsJob (job_of head.now init.items code.items) }
-        ensures { result ≡ job_of head.now init.items code.items }
-    {
-        Job {
-            rule: head.rule,
-            cells: head.cells,
-            procs: head.procs,
-            steps: head.steps,
-            init,
-            code,
-        }
-    }
-
     /// The job of these parts, with a cell for each start value.
     pub fn of_parts(rule: Rule, procs: u32, steps: u32, init: Vec<u32>, code: Vec<Instr>) -> Self
         requires { IsJob (job_data rule (vec_len init) procs steps init.items code.items) }

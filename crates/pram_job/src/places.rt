@@ -1,6 +1,6 @@
 //! The places of the machine: cells, then four registers of each processor, then the counters.
 ghost use Rattle.std.specs.Prelude.{◌≡◌, ◌+◌, ◌*◌, ◌<◌, ◌^◌};
-ghost use Rattle.pram_text.specs.Places.{register_at, counters_at};
+ghost use Rattle.pram_job.specs.Places.{register_at, counters_at};
 
 /// The place of a register, where there are so many cells.
 #[inline(always)]

@@ -11,24 +11,22 @@ use Rattle.std.proofs.lemmas.Nat.{and_le_l, or_lt, xor_lt}
 use Rattle.std.proofs.Math.Nat.{div-le_self}
 use Rattle.std.proofs.lemmas.Option.{none-some, same_Some, some_pair_parts, slice_get_within}
 use Rattle.std.proofs.lemmas.Option.{slice_get-get_or, get_or_from_slice_get}
-use Rattle.pram_text.specs.declared.instr.Instr.{Instr}
-use Rattle.pram_text.specs.declared.instr.Instr.TheVariants.{Set, Pid, And, Or, Xor, Lt}
-use Rattle.pram_text.specs.declared.instr.Instr.TheVariants.{Eq, Shl, Shr, Ld, St, Jz, Jmp, Halt}
-use Rattle.pram_text.specs.declared.instr.Operand.{Operand}
-use Rattle.pram_text.specs.declared.instr.Operand.TheVariants.{Register, Number}
-use Rattle.pram_text.specs.declared.instr.Place.{Place}
-use Rattle.pram_text.specs.declared.instr.Place.TheVariants.{Cell, Named}
-use Rattle.pram_text.specs.Instructions.{IsOperand, IsPlace}
-use Rattle.pram_text.specs.Job.{JobData, IsJob, IsInstr}
-use Rattle.pram_step.specs.declared.requests.Request.{Request}
-use Rattle.pram_step.specs.Machine.{State, IsDataPlace, register_place}
-use Rattle.pram_step.specs.Machine.{counter_place, register, counter, out_of_range}
-use Rattle.pram_step.specs.Instructions.{value_of, held_after, index_of, reached, cell_of}
-use Rattle.pram_step.specs.Instructions.{sources_of, cell_read, gives, goes_to, within, shifted}
-use Rattle.pram_step.specs.Instructions.{decided, HasShape, operand_held, decided_in, request_in}
-use Rattle.pram_step.specs.Instructions.{requests_in}
-use Rattle.pram_step.specs.Inner.Passes.{IsIdle}
-use Rattle.pram_step.proofs.RequestList.{request_at}
+use Rattle.pram_job.specs.declared.instr.Instr.{Instr}
+use Rattle.pram_job.specs.declared.instr.Instr.TheVariants.{Set, Pid, And, Or, Xor, Lt}
+use Rattle.pram_job.specs.declared.instr.Instr.TheVariants.{Eq, Shl, Shr, Ld, St, Jz, Jmp, Halt}
+use Rattle.pram_job.specs.declared.instr.Operand.{Operand}
+use Rattle.pram_job.specs.declared.instr.Operand.TheVariants.{Register, Number}
+use Rattle.pram_job.specs.declared.instr.Place.{Place}
+use Rattle.pram_job.specs.declared.instr.Place.TheVariants.{Cell, Named}
+use Rattle.pram_job.specs.Instructions.{IsOperand, IsPlace}
+use Rattle.pram_job.specs.Job.{JobData, IsJob, IsInstr}
+use Rattle.pram_machine.specs.declared.requests.Request.{Request}
+use Rattle.pram_machine.specs.Machine.{State, IsDataPlace, register_place}
+use Rattle.pram_machine.specs.Machine.{counter_place, register, counter, out_of_range}
+use Rattle.pram_machine.specs.Instructions.{value_of, held_after, index_of, reached, cell_of}
+use Rattle.pram_machine.specs.Instructions.{sources_of, cell_read, gives, goes_to, within, shifted}
+use Rattle.pram_machine.specs.Instructions.{decided, HasShape, operand_held, decided_in, request_in}
+use Rattle.pram_machine.specs.Instructions.{requests_in}
 
 -- ---- the request of each processor
 
@@ -62,12 +60,6 @@ instr_is job k instr is_job e =
     subst (λ (x : Instr). IsInstr job.cells (length job.code) x)
     (get_or_from_slice_get job.code k instr instr e)
     (is_job.code_fits k instr (slice_get_within job.code k instr e))
-
--- as code reads it
-pub asked_at : (job : JobData) (s : State) (i : ℕ) → i < job.procs →
-    request_at (requests_in job s) i ≡ request_in job s i
-asked_at job s i low = get_or_from_slice_get (requests_in job s) i (request_in job s i)
-    (record { put = None; next = 0 }) (asks job s i low)
 
 pub request_by :
     (P : Request → Type 0) (job : JobData) (s : State) (i : ℕ) → P (goes_to (counter job s i)) →
@@ -242,12 +234,6 @@ place_fits s p fits = elim (cases_lt p (length s)) [
   | inl within ↦ fits p 0 within
   | inr past ↦ (let zero_there : slice_index s p ≡ 0 = get_or_past s p 0 past in omega arith)
 ]
-
-pub request_idle : (job : JobData) (s : State) (i : ℕ) →
-    (request_in job s i).next ≡ counter job s i → IsIdle job s i
-request_idle job s i =
-    request_by (λ r. r.next ≡ counter job s i → r ≡ goes_to (counter job s i)) job s i
-    (λ e. refl) (λ instr e. decided_idle job i _ _ _ _ instr)
 
 pub request_place : (job : JobData) (s : State) (i place value : ℕ) → IsJob job →
     (request_in job s i).put ≡ Some (place, value) → IsDataPlace job i place

@@ -1,8 +1,8 @@
 -- The machine's places, and what they hold at the start.
 use Rattle.std.specs.Prelude.{ℕ, ◌+◌, ◌*◌, ◌<◌, ◌≤◌, ◌⊎◌}
 use Rattle.std.specs.Prelude.{List, ◌++◌, length, replicate, slice_index}
-use Rattle.pram_text.specs.Job.{JobData}
-use Rattle.pram_text.specs.Places.{register_at, counters_at, places_in}
+use Rattle.pram_job.specs.Job.{JobData}
+use Rattle.pram_job.specs.Places.{register_at, counters_at, places_in}
 
 -- The places: M cells, then four registers of each processor, then the counter of each.
 abbrev pub State : Type 0

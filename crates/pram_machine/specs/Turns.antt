@@ -1,10 +1,10 @@
 -- The request that a turn is.
 use Rattle.std.specs.Prelude.{◌≡◌, ℕ, ◌<◌, ◌≤◌, Option, Some, None}
-use Rattle.pram_text.specs.Job.{JobData}
-use Rattle.pram_step.specs.declared.requests.Request.{Request}
-use Rattle.pram_step.specs.declared.turn.Put.{Put}
-use Rattle.pram_step.specs.declared.turn.Put.TheVariants.{Nothing, Register, Cell}
-use Rattle.pram_step.specs.declared.turn.Turn.{Turn}
+use Rattle.pram_job.specs.Job.{JobData}
+use Rattle.pram_machine.specs.declared.requests.Request.{Request}
+use Rattle.pram_machine.specs.declared.turn.Put.{Put}
+use Rattle.pram_machine.specs.declared.turn.Put.TheVariants.{Nothing, Register, Cell}
+use Rattle.pram_machine.specs.declared.turn.Turn.{Turn}
 
 abbrev pub put_of : Put → Option (ℕ × ℕ)
 put_of Nothing = None

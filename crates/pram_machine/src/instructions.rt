@@ -1,18 +1,18 @@
 //! The table of the seventeen instructions: what each reads, and what it asks for.
 ghost use Rattle.std.specs.Prelude.{◌≡◌, ℕ, ◌+◌, ◌^◌, ◌<◌, List, [], ◌∷◌, length, slice_index};
 ghost use Rattle.std.specs.Prelude.{◌++◌, All, IfSome, Option, Some};
-ghost use Rattle.pram_text.specs.Instructions.{IsOperand, IsPlace};
-ghost use Rattle.pram_text.specs.Job.{IsInstr};
-ghost use Rattle.pram_step.specs.Machine.{out_of_range, register_place};
-ghost use Rattle.pram_step.specs.Instructions.{registers_in, value_of, held_after, index_of};
-ghost use Rattle.pram_step.specs.Instructions.{reached, sources_of, listed, cell_read};
-ghost use Rattle.pram_step.specs.Instructions.{goes_to, decided, HasShape};
-ghost use Rattle.pram_step.specs.Inner.Turns.{IsTurnOf};
-ghost use Rattle.pram_step.specs.declared.turn.Put.TheVariants.{Nothing, Register, Cell};
+ghost use Rattle.pram_job.specs.Instructions.{IsOperand, IsPlace};
+ghost use Rattle.pram_job.specs.Job.{IsInstr};
+ghost use Rattle.pram_machine.specs.Machine.{out_of_range, register_place};
+ghost use Rattle.pram_machine.specs.Instructions.{registers_in, value_of, held_after, index_of};
+ghost use Rattle.pram_machine.specs.Instructions.{reached, sources_of, listed, cell_read};
+ghost use Rattle.pram_machine.specs.Instructions.{goes_to, decided, HasShape};
+ghost use Rattle.pram_machine.specs.Turns.{IsTurnOf};
+ghost use Rattle.pram_machine.specs.declared.turn.Put.TheVariants.{Nothing, Register, Cell};
 
 use crate::requests::Request;
 use crate::turn::{Put, Turn};
-use pram_text::{Instr, Job, Operand, Operands, Place};
+use pram_job::{Instr, Job, Operand, Operands, Place};
 
 /// The registers that an instruction reads, in the order in which it is written.
 #[derive(Clone, Copy, Debug, PartialEq, Eq)]

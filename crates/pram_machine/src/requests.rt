@@ -1,14 +1,14 @@
 //! What a processor asks for in a step.
 ghost use Rattle.std.specs.Prelude.{◌≡◌, ◌+◌, ◌^◌, ◌<◌, ◌≤◌, length, map, None, Some};
 ghost use Rattle.std.specs.Prelude.{slice_get, slice_index, MatchOption};
-ghost use Rattle.pram_step.specs.Machine.{counter, counter_place, place_count, register};
-ghost use Rattle.pram_step.specs.Machine.{register_place};
-ghost use Rattle.pram_step.specs.Instructions.{place_part, value_part, request_in};
-ghost use Rattle.pram_step.specs.Inner.Turns.{IsTurnOf};
+ghost use Rattle.pram_machine.specs.Machine.{counter, counter_place, place_count, register};
+ghost use Rattle.pram_machine.specs.Machine.{register_place};
+ghost use Rattle.pram_machine.specs.Instructions.{place_part, value_part, request_in};
+ghost use Rattle.pram_machine.specs.Turns.{IsTurnOf};
 
 use crate::instructions::{Held, decide, jumps};
 use crate::turn::Turn;
-use pram_text::{Instr, Job};
+use pram_job::{Instr, Job};
 
 /// What a processor asks for in a step: at most one data write, and the index of its next
 /// instruction.
@@ -42,7 +42,7 @@ pub fn value_part(request: Request) -> u32
 }
 
 /// What a processor asks for where the machine's places hold this, its counter being there.
-pub(crate) fn request_in(job: &Job, places: &[u32], processor: u32, at: u32) -> Request
+pub fn request_in(job: &Job, places: &[u32], processor: u32, at: u32) -> Request
     requires processor { processor < job.now.procs }
     requires places { length places.now ≡ place_count job.now }
     requires counter { at ≡ counter_place job.now processor }
@@ -69,7 +69,7 @@ fn turn_in(job: &Job, places: &[u32], processor: u32, at: u32) -> Turn
 
 /// An instruction of a job, and its index.
 #[derive(Clone, Copy)]
-pub(crate) struct Fetched<'m> {
+pub struct Fetched<'m> {
     pub job: &'m Job,
     pub counter: u32,
     pub instr: &'m Instr,
@@ -79,7 +79,7 @@ pub(crate) struct Fetched<'m> {
 impl<'m> Fetched<'m> {
     /// The instruction with this index, if there is one.
     #[inline(always)]
-    pub(crate) fn at(job: &'m Job, counter: u32) -> Option<Self>
+    pub fn at(job: &'m Job, counter: u32) -> Option<Self>
         ensures { MatchOption result (length job.now.code ≤ counter)
             (λ fetched. (fetched.job ≡ job.entry) × (fetched.counter ≡ counter)) }
     {
@@ -93,7 +93,7 @@ impl<'m> Fetched<'m> {
 
     /// The same instruction, by a name that tells its form.
     #[inline(always)]
-    pub(crate) fn with(self, instr: &'m Instr) -> Self
+    pub fn with(self, instr: &'m Instr) -> Self
         requires { instr.now ≡ self.instr.now }
         ensures job { result.job ≡ self.entry.job }
         ensures counter { result.counter ≡ self.entry.counter }
@@ -108,7 +108,7 @@ impl<'m> Fetched<'m> {
     /// The turn of a processor that stands there.
     #[inline(always)]
     #[tactic(auto, unfolding(crate::specs::Instructions::request_in))]
-    pub(crate) fn turn(self, places: &[u32], processor: u32) -> Turn
+    pub fn turn(self, places: &[u32], processor: u32) -> Turn
         requires processor { processor < self.job.now.procs }
         requires places { length places.now ≡ place_count self.job.now }
         requires counter { counter self.job.now places.now processor ≡ self.counter }

@@ -1,13 +1,13 @@
 //! A processor's turn: what it asks for, its data told apart by where they go.
 ghost use Rattle.std.specs.Prelude.{◌≡◌};
-ghost use Rattle.pram_step.specs.Inner.Turns.{put_of, request_of, IsSorted};
+ghost use Rattle.pram_machine.specs.Turns.{put_of, request_of, IsSorted};
 
 use crate::requests::Request;
-use pram_text::Job;
+use pram_job::Job;
 
 /// A place and its new value, if there is one.
 #[derive(Clone, Copy, Debug, PartialEq, Eq)]
-pub(crate) enum Put {
+pub enum Put {
     Nothing,
     /// A register of the processor.
     Register(u32, u32),
@@ -17,7 +17,7 @@ pub(crate) enum Put {
 
 impl Put {
     /// The data of a request.
-    pub(crate) fn of(job: &Job, put: Option<(u32, u32)>) -> Put
+    pub fn of(job: &Job, put: Option<(u32, u32)>) -> Put
         ensures value { put_of result ≡ put }
         ensures sorted { IsSorted job.now result }
     {
@@ -31,7 +31,7 @@ impl Put {
 
 /// What a processor asks for. Whether its data go to a cell is known without a comparison.
 #[derive(Clone, Copy, Debug, PartialEq, Eq)]
-pub(crate) struct Turn {
+pub struct Turn {
     pub put: Put,
     /// The processor's counter after the step.
     pub next: u32,
@@ -40,7 +40,7 @@ pub(crate) struct Turn {
 impl Turn {
     /// The same as a request.
     #[inline(always)]
-    pub(crate) fn request(self) -> Request
+    pub fn request(self) -> Request
         ensures { result ≡ request_of self }
     {
         let put = match self.put {

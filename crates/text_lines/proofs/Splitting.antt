@@ -7,7 +7,7 @@ use Rattle.std.proofs.lemmas.List.Splits.{slice_split-cons_no, length-slice_spli
 use Rattle.std.proofs.lemmas.List.Sums.{count_by-le-length}
 use Rattle.std.proofs.lemmas.List.{take_all, drop-drop, length-drop}
 use Rattle.std.specs.List.{onto_first}
-use Rattle.pram_text.specs.Lines.{lines_of}
+use Rattle.text_lines.specs.Lines.{lines_of}
 
 abbrev pub is_feed : ℕ → Bool
 is_feed b = b == 10

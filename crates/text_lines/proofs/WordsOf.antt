@@ -6,8 +6,8 @@ use Rattle.std.specs.List.{position, position_or_len, before_first, slice_split,
 use Rattle.std.proofs.lemmas.Grind.{common_steps}
 use Rattle.std.proofs.lemmas.List.Sums.{prefix_len-le-length}
 use Rattle.std.proofs.lemmas.List.Splits.{slice_split-cons_yes, slice_split-cons_no}
-use Rattle.pram_text.specs.Lines.{Line, is_blank, is_filled, words_of}
-use Rattle.pram_text.specs.Inner.Words.{ends_word}
+use Rattle.text_lines.specs.Lines.{Line, is_blank, is_filled, words_of}
+use Rattle.text_lines.specs.Words.{ends_word}
 
 -- the parts between the blanks before the first semicolon, empty ones too
 abbrev pub parts_of : List ℕ → Line

@@ -1,6 +1,6 @@
 -- The lines of a text, and the words of a line.
-use Rattle.std.specs.Prelude.{ℕ, Bool, true, false, ◌&&◌, ◌||◌, ◌==◌}
-use Rattle.std.specs.Prelude.{nat_le, List, [], ◌∷◌, filter, map}
+use Rattle.std.specs.Prelude.{◌≡◌, ℕ, Bool, true, false, ◌&&◌, ◌||◌, ◌==◌}
+use Rattle.std.specs.Prelude.{nat_le, List, [], ◌∷◌, ◌++◌, filter, map}
 use Rattle.std.specs.List.{slice_split, before_first, enumerate_from}
 
 abbrev pub Word : Type 0
@@ -40,3 +40,10 @@ worded lines = filter is_filled (map words_of lines)
 -- the same lines, each with its number among all lines, counted from 1
 abbrev pub numbered : List (List ℕ) → List (ℕ × Line)
 numbered lines = filter (λ entry. is_filled entry.1) (enumerate_from 1 (map words_of lines))
+
+-- `other` is `text` with another line in the place of this one
+pub record HasOtherLine (text other line other_line : List ℕ) : Type 0 where
+  pub before : List (List ℕ)
+  pub after : List (List ℕ)
+  pub lines : lines_of text ≡ before ++ line ∷ after
+  pub other_lines : lines_of other ≡ before ++ other_line ∷ after

@@ -1,8 +1,8 @@
 -- The lines of a text, taken one after another.
 use Rattle.std.specs.Prelude.{◌≡◌, ℕ, ◌+◌, List, [], ◌∷◌, Option, Some, None}
 use Rattle.std.specs.Borrow.{Bor}
-use Rattle.pram_text.specs.declared.text_lines.TextLines.{TextLines}
-use Rattle.pram_text.specs.LinesAfter.{lines_after}
+use Rattle.text_lines.specs.declared.text_lines.TextLines.{TextLines}
+use Rattle.text_lines.specs.LinesAfter.{lines_after}
 
 -- the lines that are left
 abbrev pub left_of : TextLines → List (List ℕ)

@@ -1,6 +1,6 @@
 -- Where a word ends, and lines of so many words.
 use Rattle.std.specs.Prelude.{ℕ, Bool, ◌||◌, ◌==◌, [], ◌∷◌, Option, Some, None}
-use Rattle.pram_text.specs.Lines.{Word, Line, is_blank}
+use Rattle.text_lines.specs.Lines.{Word, Line, is_blank}
 
 -- a word ends before such a byte
 abbrev pub ends_word : ℕ → Bool

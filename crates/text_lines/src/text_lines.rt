@@ -1,7 +1,7 @@
 //! The lines of a text, one after another.
 ghost use Rattle.std.specs.Prelude.{◌≡◌, ◌∷◌, ◌+◌, ◌<◌, ◌^◌, length, IfSome};
-ghost use Rattle.pram_text.specs.Lines.{lines_of};
-ghost use Rattle.pram_text.specs.LinesAfter.{lines_after};
+ghost use Rattle.text_lines.specs.Lines.{lines_of};
+ghost use Rattle.text_lines.specs.LinesAfter.{lines_after};
 
 use memchr::memchr;
 
@@ -14,7 +14,7 @@ pub struct TextLines<'t> {
 }
 
 impl<'t> TextLines<'t> {
-    ghost use Rattle.pram_text.specs.TextLines.{left_of, taken_of, TakesLine};
+    ghost use Rattle.text_lines.specs.TextLines.{left_of, taken_of, TakesLine};
 
     /// The lines of this text, none of them taken.
     pub fn new(text: &'t [u8]) -> Self

@@ -2,9 +2,9 @@
 ghost use Rattle.std.specs.Prelude.{◌≡◌, ◌∷◌, [], not, None, MatchOption};
 ghost use Rattle.std.specs.List.{position, list_all};
 ghost use Rattle.std.specs.Str.{bytes_eq};
-ghost use Rattle.pram_text.specs.Lines.{is_allowed, is_blank, is_filled, words_of};
-ghost use Rattle.pram_text.specs.Inner.Words.{ends_word, one_of, two_of, three_of, four_of};
-ghost use Rattle.pram_text.specs.Inner.Words.{two_first_of};
+ghost use Rattle.text_lines.specs.Lines.{is_allowed, is_blank, is_filled, words_of};
+ghost use Rattle.text_lines.specs.Words.{ends_word, one_of, two_of, three_of, four_of};
+ghost use Rattle.text_lines.specs.Words.{two_first_of};
 
 /// Whether the byte is a blank, which stands between words.
 pub fn is_blank(byte: u8) -> bool
@@ -51,14 +51,14 @@ pub fn next_word(line: &[u8]) -> Option<(&[u8], &[u8])>
 }
 
 /// Whether the line has a word.
-pub(crate) fn has_words(line: &[u8]) -> bool
+pub fn has_words(line: &[u8]) -> bool
     ensures { result ≡ is_filled (words_of line.now) }
 {
     next_word(line).is_some()
 }
 
 /// The word of a line of one word.
-pub(crate) fn one_word(line: &[u8]) -> Option<&[u8]>
+pub fn one_word(line: &[u8]) -> Option<&[u8]>
     ensures { MatchOption result (one_of (words_of line.now) ≡ None)
         (λ x. words_of line.now ≡ x.now ∷ []) }
 {
@@ -67,7 +67,7 @@ pub(crate) fn one_word(line: &[u8]) -> Option<&[u8]>
 }
 
 /// The words of a line of two.
-pub(crate) fn two_words(line: &[u8]) -> Option<(&[u8], &[u8])>
+pub fn two_words(line: &[u8]) -> Option<(&[u8], &[u8])>
     ensures { MatchOption result (two_of (words_of line.now) ≡ None)
         (λ x. words_of line.now ≡ x.0.now ∷ x.1.now ∷ []) }
 {
@@ -77,7 +77,7 @@ pub(crate) fn two_words(line: &[u8]) -> Option<(&[u8], &[u8])>
 }
 
 /// The words of a line of three.
-pub(crate) fn three_words(line: &[u8]) -> Option<(&[u8], &[u8], &[u8])>
+pub fn three_words(line: &[u8]) -> Option<(&[u8], &[u8], &[u8])>
     ensures { MatchOption result (three_of (words_of line.now) ≡ None)
         (λ x. words_of line.now ≡ x.0.now ∷ x.1.now ∷ x.2.now ∷ []) }
 {
@@ -87,7 +87,7 @@ pub(crate) fn three_words(line: &[u8]) -> Option<(&[u8], &[u8], &[u8])>
 }
 
 /// The words of a line of four.
-pub(crate) fn four_words(line: &[u8]) -> Option<(&[u8], &[u8], &[u8], &[u8])>
+pub fn four_words(line: &[u8]) -> Option<(&[u8], &[u8], &[u8], &[u8])>
     ensures { MatchOption result (four_of (words_of line.now) ≡ None)
         (λ x. words_of line.now ≡ x.0.now ∷ x.1.now ∷ x.2.now ∷ x.3.now ∷ []) }
 {
@@ -97,7 +97,7 @@ pub(crate) fn four_words(line: &[u8]) -> Option<(&[u8], &[u8], &[u8], &[u8])>
 }
 
 /// The first two words of a line, and the rest of the line after them.
-pub(crate) fn two_first_words(line: &[u8]) -> Option<(&[u8], &[u8], &[u8])>
+pub fn two_first_words(line: &[u8]) -> Option<(&[u8], &[u8], &[u8])>
     ensures { MatchOption result (two_first_of (words_of line.now) ≡ None)
         (λ x. words_of line.now ≡ x.0.now ∷ x.1.now ∷ words_of x.2.now) }
 {

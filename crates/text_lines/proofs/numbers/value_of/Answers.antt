@@ -1,6 +1,6 @@
 use Rattle.std.proofs.Common.{rules, ◌-◌, ◌^◌}
-use Rattle.pram_text.proofs.WordsNumbers.{digits_value_saturated}
-use Rattle.pram_text.proofs.numbers.value_of.Goals as goal
+use Rattle.text_lines.proofs.WordsNumbers.{digits_value_saturated}
+use Rattle.text_lines.proofs.numbers.value_of.Goals as goal
 
 pub loop-digit-preserved : goal.loop-digit-preserved
 loop-digit-preserved c = digits_value_saturated c.args.digits.now c.loop-digit.digit-index

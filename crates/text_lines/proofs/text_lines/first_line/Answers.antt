@@ -1,6 +1,6 @@
 use Rattle.std.proofs.Common.{arith}
-use Rattle.pram_text.proofs.Splitting.{lines_none, lines_some, after_feed}
-use Rattle.pram_text.proofs.text_lines.first_line.Goals as goal
+use Rattle.text_lines.proofs.Splitting.{lines_none, lines_some, after_feed}
+use Rattle.text_lines.proofs.text_lines.first_line.Goals as goal
 
 pub returns-in-None-clause-lines : goal.returns-in-None-clause-lines
 returns-in-None-clause-lines c = lines_none _ (λ k low. c.in-None.ensures k (omega arith) low)

@@ -1,7 +1,7 @@
 use Rattle.std.proofs.Common.{◌≡◌, [], rules, sym, ◌∙◌}
-use Rattle.pram_text.specs.Lines.{words_of}
-use Rattle.pram_text.proofs.WordsOf.{words_of-all_blank, words_of-no_first, words_of-first}
-use Rattle.pram_text.proofs.words.next_word.Goals as goal
+use Rattle.text_lines.specs.Lines.{words_of}
+use Rattle.text_lines.proofs.WordsOf.{words_of-all_blank, words_of-no_first, words_of-first}
+use Rattle.text_lines.proofs.words.next_word.Goals as goal
 
 pub returns-in_err-start : goal.returns-in_err-start
 returns-in_err-start c =

@@ -1,6 +1,6 @@
 use Rattle.std.proofs.Common.{◌<◌, ◌^◌, length, arith, rules}
-use Rattle.pram_text.proofs.Splitting.{lines_few}
-use Rattle.pram_text.proofs.text_lines.TextLines.new.Goals as goal
+use Rattle.text_lines.proofs.Splitting.{lines_few}
+use Rattle.text_lines.proofs.text_lines.TextLines.new.Goals as goal
 
 pub invariant_of-result : goal.invariant_of-result
 invariant_of-result c =
