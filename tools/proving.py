@@ -59,7 +59,7 @@ def sum_of(file):
 def costs():
     """The processor seconds of each crate's proof, by the first table of docs/COSTS.md."""
     file = TOP / "docs/COSTS.md"
-    table = re.search(r"(?m)^\|(.*\n\|)*", file.read_text() if file.is_file() else "")
+    table = re.search(r"(?m)^\|(?:.*\n\|)*.*", file.read_text() if file.is_file() else "")
     rows = re.findall(r"\| `(\w+)` \| ([\d.]+) ", table[0] if table else "")
     return {name: float(seconds) for name, seconds in rows}
 
