@@ -31,11 +31,22 @@ class NotBuilt(Exception):
     """Why the program was not built."""
 
 
+FAULTS = (OSError, subprocess.SubprocessError, NotBuilt)
+
+
 def say(text):
     # Standard error may be closed, and print would then take standard output.
     with contextlib.suppress(OSError, AttributeError):
         sys.stderr.write(f"{NAME}: {text}\n")
         sys.stderr.flush()
+
+
+def fail(error, status):
+    """Says why nothing was built, and ends. An error that has many others tells the first."""
+    if isinstance(error, shutil.Error):
+        error = error.args[0][0][-1]
+    say(error if isinstance(error, NotBuilt) else f"it was not built: {error}"[:400])
+    sys.exit(status)
 
 
 def sources(*words):
@@ -189,7 +200,7 @@ def run(words, folder, program, room, look=lambda said: None):
 
 @contextlib.contextmanager
 def built(*words):
-    """The program, proved and built by rt ci, and the sum of its sources. It goes with the block."""
+    """The program, proved and built by rt ci, and the sum of its sources, while the block lasts."""
     with scratch() as room:
         free = shutil.disk_usage(room).free / 1e9
         if free < ROOM:
