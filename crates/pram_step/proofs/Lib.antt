@@ -12,6 +12,7 @@ pub mod LawNext
 pub mod LawStopped
 pub mod LawAnswer
 pub mod Arriving
+pub mod Computing
 pub mod LawRules
 pub mod LawAnswers
 pub mod LawOrders

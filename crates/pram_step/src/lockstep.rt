@@ -107,13 +107,25 @@ fn take_place(stand: Stand<'_>, places: &mut [u32], running: &[u32], asked: &mut
             take_as(stand, Instr::Ld(r, Place::Cell(a)), places, running, asked)
         }
         Instr::Ld(r, Place::Named(array, a)) => {
-            take_as(stand, Instr::Ld(r, Place::Named(array, a)), places, running, asked)
+            take_as(
+                stand,
+                Instr::Ld(r, Place::Named(array, a)),
+                places,
+                running,
+                asked,
+            )
         }
         Instr::St(Place::Cell(a), b) => {
             take_as(stand, Instr::St(Place::Cell(a), b), places, running, asked)
         }
         Instr::St(Place::Named(array, a), b) => {
-            take_as(stand, Instr::St(Place::Named(array, a), b), places, running, asked)
+            take_as(
+                stand,
+                Instr::St(Place::Named(array, a), b),
+                places,
+                running,
+                asked,
+            )
         }
         _ => take_number(stand, places, running, asked),
     }
@@ -170,13 +182,7 @@ fn take_as(
     ensures { GoesOn stand.entry.at.job.now running.now places.old asked.old stand.entry.turns
         places.new asked.new result }
 {
-    take(
-        stand.at.with(&instr),
-        places,
-        running,
-        asked,
-        stand.turns,
-    )
+    take(stand.at.with(&instr), places, running, asked, stand.turns)
 }
 
 /// Takes the turns of the next processors that stand at this instruction, up to one that does not.
