@@ -13,7 +13,7 @@ use pram_text::places::counters_at;
 use pram_text::{Instr, Job, Place};
 
 /// How far the turns of a step are.
-#[derive(Clone, Copy, Debug, PartialEq, Eq)]
+#[derive(Clone, Copy)]
 pub(crate) struct Turns {
     /// How many of the processors that run have had theirs.
     pub taken: usize,
