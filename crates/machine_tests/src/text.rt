@@ -1,7 +1,6 @@
 //! Texts that are read, and each kind of fault.
-use pram_text::{
-    Array, Instr, Operand, Operands, Place, Rule, TextFault, TextKind, read_job,
-};
+use pram_job::{Array, Instr, Operand, Operands, Place, Rule};
+use pram_text::{TextFault, TextKind, read_job};
 use std::alloc::{AllocError, Global};
 use std::process::Abort;
 use std::test::Fail;
@@ -134,9 +133,7 @@ fn a_label_of_many_letters(rt: HostRuntime) -> Result<(), Fail> {
 fn is_place(found: Place, wanted: Place) -> bool {
     match (found, wanted) {
         (Place::Cell(a), Place::Cell(b)) => a == b,
-        (Place::Named(a, i), Place::Named(b, j)) => {
-            a.base == b.base && a.len == b.len && i == j
-        }
+        (Place::Named(a, i), Place::Named(b, j)) => { a.base == b.base && a.len == b.len && i == j }
         _ => false,
     }
 }

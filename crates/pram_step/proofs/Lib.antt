@@ -4,7 +4,6 @@ pub mod Marking
 pub mod Passing
 pub mod Turning
 pub mod Applying
-pub mod Shapes
 pub mod LawFixed
 pub mod LawWriters
 pub mod LawPlaces
@@ -12,7 +11,6 @@ pub mod LawNext
 pub mod LawStopped
 pub mod LawAnswer
 pub mod Arriving
-pub mod Computing
 pub mod LawRules
 pub mod LawAnswers
 pub mod LawOrders
