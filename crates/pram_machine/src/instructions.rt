@@ -198,7 +198,7 @@ pub(crate) fn decide<H: Held>(
 
 // What an instruction that computes makes of two numbers.
 #[inline(always)]
-#[tactic(auto, unfolding(crate::specs::Inner::Turns::computed))]
+#[tactic(auto, unfolding(crate::specs::Turns::computed))]
 fn computed(instr: &Instr, a: u32, b: u32) -> u32
     ensures { result ≡ computed instr.now a b }
 {
