@@ -1,6 +1,7 @@
 pub mod Postfix
 pub mod Runs
 pub mod Turns
+pub mod Marks
 pub mod Left
 pub mod Chains
 pub mod Depths
