@@ -7,8 +7,8 @@ ghost use Rattle.pram_page.specs.Moments.{IsAnswerFound};
 
 use crate::finding::{Finding, Told, tell};
 use crate::text::{Refusal, take_job};
+use pram_job::Job;
 use pram_step::{Arrival, go_to, laws};
-use pram_text::Job;
 use std::alloc::{AllocError, Global};
 
 /// Tells the answer of a text: the cells after the last step, or the first conflict. At most

@@ -11,8 +11,8 @@ use crate::finding::{Finding, Told, tell};
 use crate::machine::copy;
 use crate::requests::{RequestRow, requests};
 use crate::text::{Refusal, take_job};
+use pram_job::Job;
 use pram_step::{Arrival, State, go_to, laws};
-use pram_text::Job;
 use std::alloc::Global;
 
 /// Tells the state after so many steps: the cells, then four registers a processor, then a counter
