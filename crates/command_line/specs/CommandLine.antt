@@ -20,10 +20,13 @@ use Rattle.command_line.specs.declared.line.Asked.{Asked}
 use Rattle.command_data.specs.declared.line.Line.TheVariants.{Check, Compile, Plain, Cost}
 use Rattle.command_data.specs.declared.line.Line.TheVariants.{Steps, Run, Watch, Replay}
 
+-- an argument that is known by its place
+abbrev pub placed_rule : Text → Rule
+placed_rule name = record (new_rule name) { value_names = 1; action = Some Set }
+
 -- an option with a value
 abbrev pub option_rule : Text → Rule
-option_rule name =
-    record (new_rule name) { long = Some name; value_names = 1; action = Some Set }
+option_rule name = record (placed_rule name) { long = Some name }
 
 -- one whose value is a number from one to another
 abbrev pub number_rule : Text → (least most : ℕ) → Rule
@@ -38,13 +41,9 @@ needed rule = record rule { required = true }
 abbrev pub flag_rule : Text → Rule
 flag_rule name = record (new_rule name) { long = Some name; action = Some SetTrue }
 
--- the file
-abbrev pub file_rule : Rule
-file_rule = record (new_rule (codes "file")) { value_names = 1; action = Some Set }
-
 -- NAME FILE [--explain]
 abbrev pub on_file : Text → App
-on_file name = with_rule (with_rule (new_app name) (needed file_rule))
+on_file name = with_rule (with_rule (new_app name) (needed (placed_rule (codes "file"))))
     (flag_rule (codes "explain"))
 
 -- plain FILE [--why]

@@ -2,15 +2,17 @@
 ghost use Rattle.std.specs.Prelude.{◌≡◌, ◌≢◌, ◌-◌, ◌^◌, Some, codes};
 ghost use Rattle.std.specs.Prelude.{true, false, map, IfOk, IfErr, IfSome};
 ghost use Rattle.clap.specs.Words.{App, Rule, app_of, first_of, found_of, kind_of, with_rule};
-ghost use Rattle.clap.specs.Words.{with_subcommand, rows_of, rule_of, subcommand_of, subcommand_rows_of};
+ghost use Rattle.clap.specs.Words.{rows_of, rule_of, subcommand_of, subcommand_rows_of};
+ghost use Rattle.clap.specs.Words.{with_subcommand};
 ghost use Rattle.command_data.specs.Manner.{is_told};
-ghost use Rattle.command_line.specs.CommandLine.{AreRefused, FailsByWords, HasBadBlock, HasBadCells};
-ghost use Rattle.command_line.specs.CommandLine.{HasBadValue, HasBadWindow, IsAsked};
-ghost use Rattle.command_line.specs.CommandLine.{HasManner, IsBlockIfSet, IsMet, IsNumberIfSet};
-ghost use Rattle.command_line.specs.CommandLine.{IsNumberOf, IsNumberOr, bare, file_rule, flag_rule};
-ghost use Rattle.command_line.specs.CommandLine.{needed, number_rule, on_file, on_machine, on_plain};
-ghost use Rattle.command_line.specs.CommandLine.{on_replay, on_run, on_steps, on_watch, pramx};
-ghost use Rattle.command_line.specs.CommandLine.{option_rule, with_manner, with_progress, with_workers};
+ghost use Rattle.command_line.specs.CommandLine.{AreRefused, FailsByWords, HasBadBlock};
+ghost use Rattle.command_line.specs.CommandLine.{HasBadCells, HasBadValue, HasBadWindow};
+ghost use Rattle.command_line.specs.CommandLine.{HasManner, IsAsked, IsBlockIfSet, IsMet};
+ghost use Rattle.command_line.specs.CommandLine.{IsNumberIfSet, IsNumberOf, IsNumberOr, bare};
+ghost use Rattle.command_line.specs.CommandLine.{flag_rule, needed, number_rule, on_file};
+ghost use Rattle.command_line.specs.CommandLine.{on_machine, on_plain, on_replay, on_run, on_steps};
+ghost use Rattle.command_line.specs.CommandLine.{on_watch, option_rule, placed_rule, pramx};
+ghost use Rattle.command_line.specs.CommandLine.{with_manner, with_progress, with_workers};
 
 use clap::builder::ValueParser;
 use clap::error::ErrorKind;
@@ -100,7 +102,7 @@ pub fn read_line<'a>(
 }
 
 /// A value that the command takes, and that makes no line.
-#[derive(Clone, Copy, Debug, PartialEq, Eq)]
+#[derive(Clone, Copy)]
 enum BadValue<'a> {
     /// This stands for the cells of a watch, and names none.
     Cells(&'a str),
@@ -243,8 +245,8 @@ fn bare_command<'a>(alloc: Global) -> Command<'a>
         .subcommand_required(true)
 }
 
-// The command with this subcommand, if it was made. Nothing else waits for it meanwhile: so few
-// values are there to be given back where memory is out.
+// The command with this subcommand, if it was made; else the command is let go at once, and not
+// part by part, as a `?` would.
 fn with<'a>(
     command: Command<'a>,
     made: Result<Command<'a>, AllocError>,
@@ -252,7 +254,13 @@ fn with<'a>(
     ensures { (sub : App) → sub.top.is_plain ≡ true → IfOk made.entry (λ it. app_of it ≡ sub)
         → IfOk result (λ it. app_of it ≡ with_subcommand (app_of command.entry) sub.top) }
 {
-    command.subcommand(made?)
+    match made {
+        Ok(subcommand) => command.subcommand(subcommand),
+        Err(error) => {
+            drop(command);
+            Err(error)
+        }
+    }
 }
 
 // The command with this argument, if it was made.
@@ -399,18 +407,19 @@ fn file_command<'a>(alloc: Global, name: &'a str, about: &'a str) -> Result<Comm
     ensures { IfOk result (λ command. app_of command ≡ on_file name.entry.now) }
 {
     let command = Command::new(alloc, name).about(about);
-    let command = with_arg(Ok(command), needed(file(alloc)));
+    let file = placed(alloc, "file", "FILE", FILE);
+    let command = with_arg(Ok(command), needed(file));
     with_arg(command, flag(alloc, "explain", EXPLAIN))
 }
 
-// The argument for the job's file.
-fn file<'a>(alloc: Global) -> Arg<'a>
-    ensures rule { rule_of result ≡ file_rule }
+// An argument that is known by its place.
+fn placed<'a>(alloc: Global, name: &'a str, value: &'a str, help: &'a str) -> Arg<'a>
+    ensures rule { rule_of result ≡ placed_rule name.entry.now }
     ensures local { result.global ≡ false }
 {
-    Arg::new(alloc, "file")
-        .value_name("FILE")
-        .help(FILE)
+    Arg::new(alloc, name)
+        .value_name(value)
+        .help(help)
         .action(ArgAction::Set)
 }
 
@@ -419,11 +428,7 @@ fn option<'a>(alloc: Global, name: &'a str, value: &'a str, help: &'a str) -> Ar
     ensures rule { rule_of result ≡ option_rule name.entry.now }
     ensures local { result.global ≡ false }
 {
-    Arg::new(alloc, name)
-        .long(name)
-        .value_name(value)
-        .help(help)
-        .action(ArgAction::Set)
+    placed(alloc, name, value, help).long(name)
 }
 
 // An option without a value, that stands or does not.

@@ -2,7 +2,7 @@ use Rattle.std.proofs.Common.{◌∙◌, Bool, Some, ap}
 use Rattle.clap.specs.Words.{Rule, rule_of}
 use Rattle.clap.specs.declared.builder.action.ArgAction.TheVariants.{Set}
 use Rattle.clap.specs.declared.builder.arg.Arg.{Arg}
-use Rattle.command_line.proofs.line.file.Goals as goal
+use Rattle.command_line.proofs.line.placed.Goals as goal
 
 abbrev settled : Rule → Rule
 settled rule = record rule { action = Some Set }
