@@ -1,9 +1,9 @@
 -- Cells named by a text, parted by commas: by their numbers, or as places of a program.
-use Rattle.std.specs.Prelude.{◌≡◌, ◌⊎◌, ◌==◌, ◌||◌, ◌<◌, ◌^◌, ℕ, Bool, false, List, [], ◌∷◌}
+use Rattle.std.specs.Prelude.{◌⊎◌, ◌==◌, ◌<◌, ◌^◌, ℕ, Bool, false, List, [], ◌∷◌}
 use Rattle.std.specs.Prelude.{IsTrue, slice_index_or}
-use Rattle.std.specs.Char.{is_ascii_alphabetic}
 use Rattle.std.specs.List.{All, slice_split}
 use Rattle.std.specs.Str.Parse.{IsNumeral, digits_value, without_leading_plus}
+use Rattle.pardo_text.specs.Tokens.{begins_name}
 
 -- the parts of a text between its commas
 abbrev pub parts_of : List ℕ → List (List ℕ)
@@ -20,10 +20,10 @@ cell_of part = digits_value 10 (without_leading_plus part)
 abbrev pub SpellsCell : List ℕ → Type 0
 SpellsCell part = IsNumeral 10 (without_leading_plus part) × (cell_of part < 2 ^ 32)
 
--- whether it begins with a letter or `_`, as a name does
+-- whether it begins as a name does
 abbrev pub begins_place : List ℕ → Bool
 begins_place [] = false
-begins_place (byte ∷ bytes) = is_ascii_alphabetic byte || (byte == 95)
+begins_place (byte ∷ bytes) = begins_name byte
 
 -- each part is such a number, or begins as a name does
 abbrev pub SpellsPart : List ℕ → Type 0
