@@ -1,8 +1,8 @@
 mod Buffers
-mod Playing
+pub mod Playing
 mod Fitting
 mod Loads
 mod Counting
 mod Lasts
-mod ReadCells
+pub mod ReadCells
 mod Telling

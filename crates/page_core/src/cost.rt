@@ -41,19 +41,18 @@ pub struct CostTold {
     pub other_value: MeetingRow,
 }
 
-/// Tells what the run of a text's job costs: all of its steps, or those up to its first conflict.
-/// None is made after one that changes nothing.
-#[unsafe(no_mangle)]
-pub extern "C" fn pram_page_cost(alloc: Global, text: &[u8], told: &mut CostTold)
-    ensures { IsCostTold text.now told.new }
+/// What the run of a text's job costs: all of its steps, or those up to its first conflict. None is
+/// made after one that changes nothing.
+pub fn cost(alloc: Global, text: &[u8]) -> CostTold
+    ensures { IsCostTold text.now result }
 {
-    *told = match cost(alloc, text) {
+    match cost_of_run(alloc, text) {
         Ok(cost) => tell_cost(cost),
         Err(refusal) => refused_cost(refusal),
-    };
+    }
 }
 
-fn cost(alloc: Global, text: &[u8]) -> Result<Cost, Refusal>
+fn cost_of_run(alloc: Global, text: &[u8]) -> Result<Cost, Refusal>
     ensures cost { IfOk result (λ cost. OfJob text.now (λ job. IsCost job cost)) }
     ensures refused { IfErr result (λ refusal. IsRefused text.now refusal) }
 {

@@ -56,19 +56,18 @@ const NONE_LOST: LostRow = LostRow {
     processor: 0,
 };
 
-/// Tells what became of the processors in all steps of a text's job. It makes them up to three
-/// times, and none after one that changes nothing.
-#[unsafe(no_mangle)]
-pub extern "C" fn pram_page_fates(alloc: Global, text: &[u8], told: &mut FatesTold)
-    ensures { AreFatesTold text.now told.new }
+/// What became of the processors in all steps of a text's job. It makes them up to three times, and
+/// none after one that changes nothing.
+pub fn fates(alloc: Global, text: &[u8]) -> FatesTold
+    ensures { AreFatesTold text.now result }
 {
-    *told = match fates(alloc, text) {
+    match fates_of_run(alloc, text) {
         Ok(fates) => tell_fates(text, fates),
         Err(refusal) => refused_fates(refusal),
-    };
+    }
 }
 
-fn fates(alloc: Global, text: &[u8]) -> Result<Fates, Refusal>
+fn fates_of_run(alloc: Global, text: &[u8]) -> Result<Fates, Refusal>
     ensures fates { IfOk result (λ fates. OfJob text.now (λ job. AreFates job job.steps fates)) }
     ensures refused { IfErr result (λ refusal. IsRefused text.now refusal) }
 {

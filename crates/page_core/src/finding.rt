@@ -54,7 +54,7 @@ const NOTHING: Told = Told {
 };
 
 /// A finding in numbers.
-pub(crate) fn tell(finding: Finding) -> Told
+pub fn tell(finding: Finding) -> Told
     ensures { result ≡ told_of finding }
 {
     match finding {

@@ -1,11 +1,10 @@
 //! What each processor executed last.
-ghost use Rattle.std.specs.Prelude.{◌≡◌, ◌≢◌, ◌+◌, ◌<◌, ◌≤◌, ◌^◌, length};
+ghost use Rattle.std.specs.Prelude.{◌≡◌, ◌+◌, ◌<◌, ◌≤◌, ◌^◌, length};
 ghost use Rattle.pram_step.specs.Runs.{IsStateAfter};
-ghost use Rattle.page_core.specs.declared.codes.TheConstants.{MEMORY};
-ghost use Rattle.page_core.specs.Findings.{IsKeptAsFound, IsKeptBehind, IsToldOf, told_written};
+ghost use Rattle.page_core.specs.Findings.{IsKeptAsFound, IsKeptBehind};
 ghost use Rattle.page_core.specs.Last.{AreLast, AreLastAfter, AreLastFound};
 
-use crate::finding::{Finding, Told, tell};
+use crate::finding::Finding;
 use crate::text::{Refusal, take_job};
 use pram_cost::is_running;
 use pram_step::{State, counter, laws, make_step};
@@ -23,25 +22,9 @@ pub struct LastRow {
 
 const NEVER: LastRow = LastRow { step: 0, index: 0 };
 
-/// Tells what each processor executed last in so many steps, or in those up to the first conflict,
-/// that one too. No more than `most` steps are made.
-#[unsafe(no_mangle)]
-pub extern "C" fn pram_page_last(
-    alloc: Global,
-    text: &[u8],
-    step: u32,
-    most: u32,
-    rows: &mut [LastRow],
-    told: &mut Told,
-)
-    ensures told { IsToldOf (AreLastFound text.now step most rows.old rows.new) told.new }
-    ensures behind { told.new.status.code ≢ MEMORY
-        → IsKeptBehind (told_written told.new) rows.old rows.new }
-{
-    *told = tell(last(alloc, text, step, most, rows));
-}
-
-fn last(alloc: Global, text: &[u8], step: u32, most: u32, rows: &mut [LastRow]) -> Finding
+/// What each processor executed last in so many steps, or in those up to the first conflict, that
+/// one too. No more than `most` steps are made.
+pub fn last(alloc: Global, text: &[u8], step: u32, most: u32, rows: &mut [LastRow]) -> Finding
     ensures found { AreLastFound text.now step most rows.old rows.new result }
     ensures behind { IsKeptAsFound rows.old rows.new result }
 {

@@ -2,32 +2,19 @@
 ghost use Rattle.std.specs.Bool.{OnFalse};
 ghost use Rattle.std.specs.Prelude.{◌≡◌, ◌≤◌, ◌↔◌, IfOk, IsTrue, length, take};
 ghost use Rattle.pram_step.specs.Arrivals.{IsArrival};
-ghost use Rattle.page_core.specs.Findings.{IsKeptBehind, IsToldOf, count_written, told_written};
+ghost use Rattle.page_core.specs.Findings.{IsKeptBehind, count_written};
 ghost use Rattle.page_core.specs.Moments.{IsAnswerFound};
 
-use crate::finding::{Finding, Told, tell};
+use crate::finding::Finding;
 use crate::text::{Refusal, take_job};
 use pram_step::{Arrival, go_to, laws};
 use pram_text::Job;
 use std::alloc::{AllocError, Global};
 
-/// Tells the answer of a text: the cells after the last step, or the first conflict. At most
-/// `most` steps are made; a machine whose processors have all stopped makes none.
-#[unsafe(no_mangle)]
-pub extern "C" fn pram_page_answer(
-    alloc: Global,
-    text: &[u8],
-    most: u32,
-    cells: &mut [u32],
-    told: &mut Told,
-)
-    ensures told { IsToldOf (IsAnswerFound text.now most cells.old cells.new) told.new }
-    ensures behind { IsKeptBehind (told_written told.new) cells.old cells.new }
-{
-    *told = tell(answer(alloc, text, most, cells));
-}
-
-fn answer(alloc: Global, text: &[u8], most: u32, cells: &mut [u32]) -> Finding
+/// The answer of a text: the cells after the last step are written to the front of the buffer; or
+/// the first conflict. At most `most` steps are made; a machine whose processors have all stopped
+/// makes none.
+pub fn answer(alloc: Global, text: &[u8], most: u32, cells: &mut [u32]) -> Finding
     ensures found { IsAnswerFound text.now most cells.old cells.new result }
     ensures behind { IsKeptBehind (count_written result) cells.old cells.new }
 {

@@ -4,13 +4,12 @@ ghost use Rattle.std.specs.List.{flat_map, range_with_len};
 ghost use Rattle.pardo_text.specs.Lawful.{AreArrays, IsProgram};
 ghost use Rattle.pardo_text.specs.declared.limits.TheConstants.{MAX_CELLS};
 ghost use Rattle.pardo_text.specs.Program.{shared_cells};
-ghost use Rattle.page_core.specs.Findings.{IsKeptBehind};
-ghost use Rattle.page_core.specs.Programs.{AreNamesOf, AreToldOf, IsNoProgram, all_names, all_rows};
-ghost use Rattle.page_core.specs.Programs.{bytes_told, own_count, own_kind, own_name, own_row};
-ghost use Rattle.page_core.specs.Programs.{rows_told, shared_row};
+ghost use Rattle.page_core.specs.Programs.{AreNamesOf, IsNoProgram, all_names, all_rows};
+ghost use Rattle.page_core.specs.Programs.{own_count, own_kind, own_name, own_row};
+ghost use Rattle.page_core.specs.Programs.{shared_row};
 
 use crate::codes::{ARRAY, LOOP, MASK, PRIVATE, SCALAR};
-use crate::program::{NoProgram, ProgramTold, put, take_program, tell_none};
+use crate::program::{NoProgram, take_program};
 use pardo_text::{Array, Private, Program};
 use std::alloc::{AllocError, Global};
 
@@ -26,36 +25,16 @@ pub struct CellsRow {
     pub kind: u64,
 }
 
-/// Tells the names of the cells of the program that a text spells: the names one after the other,
-/// and a row for each array and for each row of cells, in their order.
-#[unsafe(no_mangle)]
-pub extern "C" fn pram_page_names(
-    alloc: Global,
-    text: &[u8],
-    names: &mut [u8],
-    cells: &mut [CellsRow],
-    told: &mut ProgramTold,
-)
-    ensures told { AreToldOf (IsNoProgram text.now) (AreNamesOf text.now) names.old cells.old
-        names.new cells.new told.new }
-    ensures names { IsKeptBehind (bytes_told told.new) names.old names.new }
-    ensures cells { IsKeptBehind (rows_told told.new) cells.old cells.new }
-{
-    *told = match take_names(alloc, text) {
-        Ok(found) => put(found.names.as_slice(), found.rows.as_slice(), names, cells),
-        Err(why) => tell_none(why),
-    };
-}
-
-// Names, and the rows of the cells that have them.
+/// Names, one after the other, and the rows of the cells that have them.
 #[derive(Drop)]
-struct Named {
-    names: Vec<u8>,
-    rows: Vec<CellsRow>,
+pub struct Named {
+    pub names: Vec<u8>,
+    pub rows: Vec<CellsRow>,
 }
 
-// The names of the program that a text spells.
-fn take_names(alloc: Global, text: &[u8]) -> Result<Named, NoProgram>
+/// The names of the cells of the program that a text spells: a row for each array and for each row
+/// of cells, in their order.
+pub fn take_names(alloc: Global, text: &[u8]) -> Result<Named, NoProgram>
     ensures names { IfOk result (λ named. AreNamesOf text.now named.names.items named.rows.items) }
     ensures none { IfErr result (IsNoProgram text.now) }
 {

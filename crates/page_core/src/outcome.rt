@@ -1,35 +1,25 @@
 //! What a board answers.
 ghost use Rattle.std.specs.Prelude.{◌≡◌};
 ghost use Rattle.page_core.specs.Answers.{IsOutcomeFound, finding_of};
-ghost use Rattle.page_core.specs.Findings.{IsKeptBehind, IsToldOf, count_written, told_written};
+ghost use Rattle.page_core.specs.Findings.{IsKeptBehind, count_written};
 
 use crate::board::{Event, Hindrance};
-use crate::finding::{Finding, Told, tell};
+use crate::finding::Finding;
 use crate::machine::copy;
 use crate::scene::after;
 use crate::text::Refusal;
 use pram_step::RunAnswer;
 use std::alloc::Global;
 
-/// Tells what the board answers after the events: the cells, or the conflict, or how many steps are
+/// What the board answers after the events: the cells, or the conflict, or how many steps are
 /// finished.
-#[unsafe(no_mangle)]
-pub extern "C" fn pram_page_outcome(
+pub fn outcome(
     alloc: Global,
     text: &[u8],
     workers: u32,
     events: &[Event],
     cells: &mut [u32],
-    told: &mut Told,
-)
-    ensures told { IsToldOf (IsOutcomeFound text.now workers events.now cells.old cells.new)
-        told.new }
-    ensures behind { IsKeptBehind (told_written told.new) cells.old cells.new }
-{
-    *told = tell(outcome(alloc, text, workers, events, cells));
-}
-
-fn outcome(alloc: Global, text: &[u8], workers: u32, events: &[Event], cells: &mut [u32]) -> Finding
+) -> Finding
     ensures found { IsOutcomeFound text.now workers events.now cells.old cells.new result }
     ensures behind { IsKeptBehind (count_written result) cells.old cells.new }
 {
@@ -56,7 +46,7 @@ fn outcome(alloc: Global, text: &[u8], workers: u32, events: &[Event], cells: &m
 }
 
 /// Why there is no board.
-pub(crate) fn no_board(hindrance: Hindrance) -> Finding
+pub fn no_board(hindrance: Hindrance) -> Finding
     ensures { result ≡ finding_of hindrance }
 {
     match hindrance {

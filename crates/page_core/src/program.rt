@@ -6,7 +6,7 @@ ghost use Rattle.pardo_text.specs.Lawful.{IsProgram};
 ghost use Rattle.pardo_text.specs.Reading.{program_of};
 ghost use Rattle.pardo_job.specs.Compiled.{IsCompiled};
 ghost use Rattle.page_core.specs.Findings.{IsKeptBehind};
-ghost use Rattle.page_core.specs.Programs.{AreLinesOf, ArePut, AreToldOf, IsJobOf, IsNoProgram};
+ghost use Rattle.page_core.specs.Programs.{AreLinesOf, ArePut, IsJobOf, IsNoProgram};
 ghost use Rattle.page_core.specs.Programs.{bytes_told, fault_told, job_kind_code, line_row};
 ghost use Rattle.page_core.specs.Programs.{no_program_told, rows_told, sizes_told, text_kind_code};
 ghost use Rattle.page_core.specs.Programs.{why_told};
@@ -54,56 +54,17 @@ pub enum NoProgram {
     Memory,
 }
 
-/// Tells the job of the program that a text spells: a text of the machine that spells the job, and
-/// the number of the line that each of its instructions came from.
-#[unsafe(no_mangle)]
-pub extern "C" fn pram_page_compile(
-    alloc: Global,
-    text: &[u8],
-    job: &mut [u8],
-    lines: &mut [u64],
-    told: &mut ProgramTold,
-)
-    ensures told { AreToldOf (IsNoProgram text.now) (IsJobOf text.now) job.old lines.old job.new
-        lines.new told.new }
-    ensures job { IsKeptBehind (bytes_told told.new) job.old job.new }
-    ensures lines { IsKeptBehind (rows_told told.new) lines.old lines.new }
-{
-    *told = match compiled(alloc, text) {
-        Ok(made) => put(made.text.as_bytes(), made.numbers.as_slice(), job, lines),
-        Err(why) => tell_none(why),
-    };
-}
-
-/// Tells the lines of code of the program that a text spells.
-#[unsafe(no_mangle)]
-pub extern "C" fn pram_page_lines(
-    alloc: Global,
-    text: &[u8],
-    lines: &mut [LineRow],
-    told: &mut ProgramTold,
-)
-    ensures told { AreToldOf (IsNoProgram text.now) (AreLinesOf text.now) [] lines.old []
-        lines.new told.new }
-    ensures lines { IsKeptBehind (rows_told told.new) lines.old lines.new }
-{
-    *told = match lines_of(alloc, text) {
-        Ok(rows) => put_rows(rows.as_slice(), lines),
-        Err(why) => tell_none(why),
-    };
-}
-
 // ---- programs
 
-// The text of a job, and the numbers of the lines that its instructions came from.
+/// The text of a job, and the numbers of the lines that its instructions came from.
 #[derive(Drop)]
-struct Made {
-    text: String,
-    numbers: Vec<u64>,
+pub struct Made {
+    pub text: String,
+    pub numbers: Vec<u64>,
 }
 
-// The job of the program that a text spells, as a text.
-fn compiled(alloc: Global, text: &[u8]) -> Result<Made, NoProgram>
+/// The job of the program that a text spells, as a text.
+pub fn compiled(alloc: Global, text: &[u8]) -> Result<Made, NoProgram>
     ensures made { IfOk result
         (λ made. IsJobOf text.now (string_bytes made.text) made.numbers.items) }
     ensures none { IfErr result (IsNoProgram text.now) }
@@ -159,8 +120,8 @@ pub(crate) fn take_program(alloc: Global, text: &[u8]) -> Result<Program, NoProg
     }
 }
 
-// The lines of code of the program that a text spells.
-fn lines_of(alloc: Global, text: &[u8]) -> Result<Vec<LineRow>, NoProgram>
+/// The lines of code of the program that a text spells.
+pub fn lines_of(alloc: Global, text: &[u8]) -> Result<Vec<LineRow>, NoProgram>
     ensures lines { IfOk result (λ rows. AreLinesOf text.now [] rows.items) }
     ensures none { IfErr result (IsNoProgram text.now) }
 {
@@ -187,12 +148,7 @@ fn line_rows(alloc: Global, lines: &[Line]) -> Result<Vec<LineRow>, AllocError>
 // ---- what is told
 
 /// Both are written to the fronts of their buffers, if there is room for both.
-pub(crate) fn put<T: Copy>(
-    bytes: &[u8],
-    rows: &[T],
-    bytes_to: &mut [u8],
-    rows_to: &mut [T],
-) -> ProgramTold
+pub fn put<T: Copy>(bytes: &[u8], rows: &[T], bytes_to: &mut [u8], rows_to: &mut [T]) -> ProgramTold
     ensures put { ArePut bytes.now rows.now bytes_to.old rows_to.old bytes_to.new rows_to.new
         result }
     ensures bytes { IsKeptBehind (bytes_told result) bytes_to.old bytes_to.new }
@@ -207,8 +163,8 @@ pub(crate) fn put<T: Copy>(
     sizes(DONE, count, more)
 }
 
-// The rows are written to the front of the buffer, if there is room for them.
-fn put_rows(rows: &[LineRow], to: &mut [LineRow]) -> ProgramTold
+/// The rows are written to the front of the buffer, if there is room for them.
+pub fn put_rows(rows: &[LineRow], to: &mut [LineRow]) -> ProgramTold
     ensures put { ArePut [] rows.now [] to.old [] to.new result }
     ensures rows { IsKeptBehind (rows_told result) to.old to.new }
 {
@@ -231,7 +187,7 @@ fn sizes(code: u32, bytes: usize, rows: usize) -> ProgramTold
 }
 
 /// Why nothing is told, in numbers.
-pub(crate) fn tell_none(why: NoProgram) -> ProgramTold
+pub fn tell_none(why: NoProgram) -> ProgramTold
     ensures told { result ≡ no_program_told why }
     ensures bytes { bytes_told result ≡ 0 }
     ensures rows { rows_told result ≡ 0 }

@@ -17,7 +17,7 @@ pub struct ReadRow {
 
 /// Tells what a reader of each cell answers that makes its loads on this board, before any further
 /// event.
-pub(crate) fn reads(world: &World, cells: &mut [ReadRow]) -> Finding
+pub fn reads(world: &World, cells: &mut [ReadRow]) -> Finding
     ensures read { AreReadsTold world.now cells.old cells.new result }
     ensures behind { IsKeptBehind (count_written result) cells.old cells.new }
 {

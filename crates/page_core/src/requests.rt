@@ -43,7 +43,7 @@ pub struct Target {
 
 /// Tells what each processor asks for in a state that the job reaches, and whether the next step is
 /// against the rule.
-pub(crate) fn requests(alloc: Global, reached: Reached, rows: &mut [RequestRow]) -> Finding
+pub fn requests(alloc: Global, reached: Reached, rows: &mut [RequestRow]) -> Finding
     ensures requests { AreRequestsTold reached.job reached.step rows.old rows.new result }
     ensures behind { IsKeptAsFound rows.old rows.new result }
 {

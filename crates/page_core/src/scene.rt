@@ -2,17 +2,14 @@
 ghost use Rattle.std.specs.Prelude.{◌≡◌, ℕ, ◌-◌, ◌≤◌, IfErr, IfOk, OnErr, length};
 ghost use Rattle.pram_world.specs.Runs.{Run};
 ghost use Rattle.page_core.specs.Events.{IsBoardAfter, IsHindered, IsHinderedFrom, IsRunFrom};
-ghost use Rattle.page_core.specs.Answers.{AreReadsFound};
-ghost use Rattle.page_core.specs.Findings.{IsKeptBehind, IsToldOf, told_written};
-ghost use Rattle.page_core.specs.Scenes.{AreShown, IsBoardTold, IsNoted, IsScene, IsWatched};
-ghost use Rattle.page_core.specs.Scenes.{bodies_told, glance_of, hindered_as, row_with, words_told};
+ghost use Rattle.page_core.specs.Findings.{IsKeptBehind};
+ghost use Rattle.page_core.specs.Scenes.{AreShown, IsBoardTold, IsNoted, IsWatched};
+ghost use Rattle.page_core.specs.Scenes.{bodies_told, count_shown, glance_of, hindered_as};
+ghost use Rattle.page_core.specs.Scenes.{row_with, words_told};
 
 use crate::board::{Event, Hindrance, make, open};
 use crate::bodies::{BodyRow, write_bodies};
 use crate::codes::{BAD_EVENT, BAD_WORKERS, NO_ROOM, Status, TOLD, coded};
-use crate::finding::{Told, tell};
-use crate::outcome::no_board;
-use crate::reads::{ReadRow, reads};
 use crate::rows::{EventRow, event_row};
 use crate::text::{Refusal, tell_refusal};
 use crate::words::{WordRow, write_words};
@@ -37,54 +34,6 @@ pub struct Scene {
     pub conflict: u32,
 }
 
-/// Tells the board after the events: its words, its bodies, and, from event `from` on, what as many
-/// events did as `rows` has room for. And tells what a reader of each cell answers that makes its
-/// loads then: each is a lawful read.
-#[unsafe(no_mangle)]
-pub extern "C" fn pram_page_scene(
-    alloc: Global,
-    text: &[u8],
-    workers: u32,
-    events: &[Event],
-    from: usize,
-    rows: &mut [EventRow],
-    words: &mut [WordRow],
-    bodies: &mut [BodyRow],
-    told: &mut Scene,
-    cells: &mut [ReadRow],
-    read: &mut Told,
-)
-    ensures scene { IsScene text.now workers events.now from rows.new words.new bodies.new
-        told.new }
-    ensures rows { IsKeptBehind (length events.now - from) rows.old rows.new }
-    ensures words { IsKeptBehind (words_told told.new) words.old words.new }
-    ensures bodies { IsKeptBehind (bodies_told told.new) bodies.old bodies.new }
-    ensures read { IsToldOf (AreReadsFound text.now workers events.now cells.old cells.new)
-        read.new }
-    ensures cells { IsKeptBehind (told_written read.new) cells.old cells.new }
-{
-    let query = Query {
-        text,
-        workers,
-        events,
-        from,
-    };
-    match watched(alloc, &query, rows) {
-        Err(hindrance) => {
-            *told = hindered(hindrance);
-            *read = tell(no_board(hindrance));
-        }
-        Ok(world) => {
-            let shown = rows.len().min(events.len().saturating_sub(from));
-            *read = tell(reads(&world, cells));
-            *told = match tell_board(&world, shown, words, bodies) {
-                Ok(scene) => scene,
-                Err(hindrance) => hindered(hindrance),
-            };
-        }
-    }
-}
-
 const NO_SCENE: Scene = Scene {
     status: TOLD,
     root: 0,
@@ -97,7 +46,8 @@ const NO_SCENE: Scene = Scene {
     conflict: 0,
 };
 
-fn hindered(hindrance: Hindrance) -> Scene
+/// The scene where there is no board.
+pub fn hindered(hindrance: Hindrance) -> Scene
     ensures { result ≡ hindered_as hindrance }
 {
     match hindrance {
@@ -117,18 +67,25 @@ fn hindered(hindrance: Hindrance) -> Scene
     }
 }
 
-// What a scene has to show: the board of a job and so many workers after events, and what the
-// events did from `from` on.
+/// What a scene has to show: the board of a job and so many workers after events, and what the
+/// events did from `from` on.
 #[derive(Drop)]
-struct Query<'a> {
-    text: &'a [u8],
-    workers: u32,
-    events: &'a [Event],
-    from: usize,
+pub struct Query<'a> {
+    pub text: &'a [u8],
+    pub workers: u32,
+    pub events: &'a [Event],
+    pub from: usize,
 }
 
-// The board that is asked for, and what its events did.
-fn watched(alloc: Global, query: &Query<'_>, rows: &mut [EventRow]) -> Result<World, Hindrance>
+/// How many events are told where there are so many rows.
+pub fn shown(query: &Query<'_>, rows: usize) -> usize
+    ensures { result ≡ count_shown (length query.now.events.now) query.now.from rows }
+{
+    rows.min(query.events.len().saturating_sub(query.from))
+}
+
+/// The board that is asked for; and what as many events did as `rows` has room for.
+pub fn watched(alloc: Global, query: &Query<'_>, rows: &mut [EventRow]) -> Result<World, Hindrance>
     ensures watched { IfOk result (λ world. IsWatched query.now.text.now query.now.workers
         query.now.events.now query.now.from rows.new world) }
     ensures hindered { IfErr result
@@ -146,8 +103,8 @@ fn watched(alloc: Global, query: &Query<'_>, rows: &mut [EventRow]) -> Result<Wo
     }
 }
 
-// The words and the bodies of a board, so many rows being written.
-fn tell_board(
+/// The words and the bodies of a board, so many rows being written.
+pub fn tell_board(
     world: &World,
     shown: usize,
     words: &mut [WordRow],

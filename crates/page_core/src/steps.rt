@@ -1,11 +1,10 @@
 //! What steps do: how many processors run, and how many go to cells.
-ghost use Rattle.std.specs.Prelude.{◌≡◌, ◌≢◌, ℕ, if◌then◌else◌};
+ghost use Rattle.std.specs.Prelude.{◌≡◌, ℕ, if◌then◌else◌};
 ghost use Rattle.pram_step.specs.Runs.{IsStateAfter};
-ghost use Rattle.page_core.specs.declared.codes.TheConstants.{MEMORY};
-ghost use Rattle.page_core.specs.Findings.{IsKeptAsFound, IsKeptBehind, IsToldOf, told_written};
+ghost use Rattle.page_core.specs.Findings.{IsKeptAsFound, IsKeptBehind};
 ghost use Rattle.page_core.specs.Steps.{AreStepsAfter, AreStepsFound, first_counter, step_row};
 
-use crate::finding::{Finding, Told, tell};
+use crate::finding::Finding;
 use crate::moment::{Reached, go};
 use crate::text::Refusal;
 use pram_cost::{is_running, read_of, write_of};
@@ -24,25 +23,9 @@ pub struct StepRow {
     pub at: u32,
 }
 
-/// Tells what the steps after these do, a row each: as many as there is room for, up to the last
-/// one, or up to the first conflict, that one too. At most `most` steps are made before them.
-#[unsafe(no_mangle)]
-pub extern "C" fn pram_page_steps(
-    alloc: Global,
-    text: &[u8],
-    from: u32,
-    most: u32,
-    rows: &mut [StepRow],
-    told: &mut Told,
-)
-    ensures told { IsToldOf (AreStepsFound text.now from most rows.old rows.new) told.new }
-    ensures behind { told.new.status.code ≢ MEMORY
-        → IsKeptBehind (told_written told.new) rows.old rows.new }
-{
-    *told = tell(steps(alloc, text, from, most, rows));
-}
-
-fn steps(alloc: Global, text: &[u8], from: u32, most: u32, rows: &mut [StepRow]) -> Finding
+/// What the steps after these do, a row each: as many as there is room for, up to the last one, or
+/// up to the first conflict, that one too. At most `most` steps are made before them.
+pub fn steps(alloc: Global, text: &[u8], from: u32, most: u32, rows: &mut [StepRow]) -> Finding
     ensures found { AreStepsFound text.now from most rows.old rows.new result }
     ensures behind { IsKeptAsFound rows.old rows.new result }
 {

@@ -33,15 +33,8 @@ pub enum Refusal {
     Memory,
 }
 
-/// Judges a text: tells the sizes of the job that it spells, or the first line that is wrong.
-#[unsafe(no_mangle)]
-pub extern "C" fn pram_page_judge(alloc: Global, text: &[u8], told: &mut Judgement)
-    ensures { IsJudged text.now told.new }
-{
-    *told = judge(alloc, text);
-}
-
-fn judge(alloc: Global, text: &[u8]) -> Judgement
+/// Judges a text: the sizes of the job that it spells, or the first line that is wrong.
+pub fn judge(alloc: Global, text: &[u8]) -> Judgement
     ensures { IsJudged text.now result }
 {
     match take_job(alloc, text) {

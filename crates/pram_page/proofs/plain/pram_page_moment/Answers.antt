@@ -1,5 +1,5 @@
 use Rattle.std.proofs.Common.{inr}
-use Rattle.page_core.proofs.moment.pram_page_moment.Goals as goal
+use Rattle.pram_page.proofs.plain.pram_page_moment.Goals as goal
 
 pub returns-in-Err-clause-state : goal.returns-in-Err-clause-state
 returns-in-Err-clause-state c =

@@ -2,8 +2,8 @@ use Rattle.std.proofs.Common.{rules, ◌≡◌, length, inr, subst, sym, ◌∙�
 use Rattle.page_core.specs.Scenes.{IsBoardTold, IsScene, count_shown}
 use Rattle.page_core.proofs.Playing.{board_watched, memory_out, scene_watched}
 use Rattle.page_core.proofs.ReadCells.{reads_found}
-use Rattle.page_core.proofs.scene.pram_page_scene.Goals as goal
-use Rattle.page_core.proofs.scene.pram_page_scene.Goals.{in-Ok-tell_board, in-Err-tell_board}
+use Rattle.pram_page.proofs.boards.pram_page_scene.Goals as goal
+use Rattle.pram_page.proofs.boards.pram_page_scene.Goals.{in-Ok-tell_board, in-Err-tell_board}
 
 pub returns-after-tell_board-clause-scene : goal.returns-after-tell_board-clause-scene
 returns-after-tell_board-clause-scene c =

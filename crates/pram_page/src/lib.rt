@@ -1,0 +1,8 @@
+//! The calls of the page of the playground: a static library over `page_core`, whose functions they
+//! put together.
+#![tactic(auto)]
+
+mod boards;
+mod plain;
+mod programs;
+mod runs;
