@@ -3,8 +3,9 @@ ghost use Rattle.std.specs.Prelude.{◌≡◌, ◌<◌, ◌≤◌, IfOk};
 ghost use Rattle.pram_board.specs.Worked.{Works};
 
 use pram_board::{Board, Progress, Seat, Stay};
+use pram_job::Job;
 use pram_step::{Cells, Fault, RunAnswer, plain_answer};
-use pram_text::{Job, read_job};
+use pram_text::read_job;
 use std::process::Abort;
 use std::sync::atomic::{AtomicU64, Ordering};
 use std::test::Fail;

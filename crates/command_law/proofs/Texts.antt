@@ -6,9 +6,9 @@ use Rattle.std.specs.Prelude.{slice_index}
 use Rattle.std.specs.List.{flat_map}
 use Rattle.std.proofs.lemmas.Bool.{cases_Bool, false≢true}
 use Rattle.std.proofs.lemmas.Slice.Eq.{bytes_eq-Decides}
-use Rattle.pram_text.specs.Job.{JobData}
+use Rattle.pram_job.specs.Job.{JobData}
 use Rattle.pram_text.specs.Judgement.{version_of}
-use Rattle.pram_text.specs.Lines.{Line, Word, is_filled, lines_of, words_of, worded}
+use Rattle.text_lines.specs.Lines.{Line, Word, is_filled, lines_of, words_of, worded}
 use Rattle.pram_text.specs.Text.{Spells, code_line}
 use Rattle.pram_text.proofs.LawOneJob.{spells_once}
 use Rattle.pram_text.proofs.Lawful.{spells_lawful}

@@ -1,6 +1,6 @@
 -- The laws of answers of programs, and of printed jobs, from bytes to bytes.
 use Rattle.std.specs.Prelude.{◌≡◌, ◌⊎◌, ℕ, List, Option, Some, Ok, true, false}
-use Rattle.pram_text.specs.Job.{JobData}
+use Rattle.pram_job.specs.Job.{JobData}
 use Rattle.pram_step.specs.declared.answer.RunAnswer.{RunAnswer}
 use Rattle.pram_step.specs.declared.answer.RunAnswer.TheVariants.{Unfinished}
 use Rattle.stop_plan.specs.Plan.{PlanData, StopsAll}

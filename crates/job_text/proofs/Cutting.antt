@@ -5,7 +5,7 @@ use Rattle.std.proofs.Common.{refl, sym, ap, ap₂, ◌∙◌, ⊎_elim, arith}
 use Rattle.std.specs.List.{onto_first, position, position_or_len, slice_split}
 use Rattle.std.proofs.lemmas.Bool.{cases_Bool, ltb-true, ltb-false}
 use Rattle.std.proofs.lemmas.List.Splits.{slice_split-cons_no, slice_split_first}
-use Rattle.pram_text.proofs.Splitting.{after_feed}
+use Rattle.text_lines.proofs.Splitting.{after_feed}
 
 record FoundAt (cells : List ℕ) (end : ℕ) : Type 0 where
   low : end < length cells

@@ -11,10 +11,10 @@ use Rattle.std.proofs.lemmas.Bool.{or_from, cases_Bool}
 use Rattle.std.proofs.lemmas.List.{map-append}
 use Rattle.std.proofs.lemmas.List.Splits.{slice_split-cons_yes, slice_split-cons_no}
 use Rattle.std.proofs.lemmas.List.Splits.{join_with_byte-slice_split}
-use Rattle.pram_text.specs.declared.instr.Array.{Array}
-use Rattle.pram_text.specs.Instructions.{IsArray}
+use Rattle.pram_job.specs.declared.instr.Array.{Array}
+use Rattle.pram_job.specs.Instructions.{IsArray}
 use Rattle.pram_text.specs.Judgement.{Entry, names, gives, entry_of}
-use Rattle.pram_text.specs.Lines.{Word}
+use Rattle.text_lines.specs.Lines.{Word}
 use Rattle.pram_text.specs.Text.{array_in, array_by, value_in, value_by, gives_values, is_taken}
 use Rattle.pram_text.specs.Text.{SaysEntries, SpellsInit}
 use Rattle.job_text.specs.Printed.{array_word, array_line, once, run_lines}

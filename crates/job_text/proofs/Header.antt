@@ -2,12 +2,12 @@
 use Rattle.std.proofs.Common.{◌≡◌, ℕ, ◌<◌, ◌≤◌, ◌^◌, true, [], ◌∷◌, Ok, refl, arith}
 use Rattle.std.proofs.Common.{codes, bytes_eq}
 use Rattle.std.proofs.lemmas.Slice.Eq.{bytes_eq-Decides}
-use Rattle.pram_text.specs.declared.instr.Rule.{Rule}
-use Rattle.pram_text.specs.declared.instr.Rule.TheVariants.{Common, Priority, Crew}
-use Rattle.pram_text.specs.declared.limits.TheConstants.{MAX_CELLS, MAX_PROCS}
-use Rattle.pram_text.specs.Job.{JobData, IsJob}
+use Rattle.pram_job.specs.declared.instr.Rule.{Rule}
+use Rattle.pram_job.specs.declared.instr.Rule.TheVariants.{Common, Priority, Crew}
+use Rattle.pram_job.specs.declared.limits.TheConstants.{MAX_CELLS, MAX_PROCS}
+use Rattle.pram_job.specs.Job.{JobData, IsJob}
 use Rattle.pram_text.specs.Judgement.{version_of, named_number, rule_of, most}
-use Rattle.pram_text.specs.Lines.{Word}
+use Rattle.text_lines.specs.Lines.{Word}
 use Rattle.pram_text.specs.Text.{SpellsHeader}
 use Rattle.pram_text.proofs.Stages.{rule_named}
 use Rattle.job_text.specs.Printed.{header_lines, number_line, rule_word}

@@ -10,7 +10,7 @@ use Rattle.std.proofs.lemmas.List.{get_or_append_left, get_or-append_right}
 use Rattle.std.proofs.lemmas.Option.{slice_get-get_or, slice_get_past, unwrap_or-slice_get}
 use Rattle.pram_text.specs.Judgement.{Entry, gives, entry_of, init_of, values_of, number_in}
 use Rattle.pram_text.specs.Judgement.{says_array, most}
-use Rattle.pram_text.specs.Lines.{is_filled}
+use Rattle.text_lines.specs.Lines.{is_filled}
 use Rattle.pram_text.specs.Text.{value_in, value_by}
 use Rattle.job_text.specs.Printed.{run_line, run_lines}
 use Rattle.job_text.proofs.Lines.{PlainLines}

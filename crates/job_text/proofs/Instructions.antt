@@ -2,23 +2,23 @@
 use Rattle.std.proofs.Common.{◌≡◌, ℕ, ◌<◌, ◌≤◌, ◌^◌, true, List, [], ◌∷◌, ◌++◌}
 use Rattle.std.proofs.Common.{Ok, Option, Some, refl, arith, codes, decimal}
 use Rattle.std.specs.List.{AllByRecursion}
-use Rattle.pram_text.specs.declared.instr.Array.{Array}
-use Rattle.pram_text.specs.declared.instr.Instr.{Instr}
-use Rattle.pram_text.specs.declared.instr.Instr.TheVariants.{Set, Pid, Add, Sub, Mul, And, Or, Xor}
-use Rattle.pram_text.specs.declared.instr.Instr.TheVariants.{Lt, Eq, Shl, Shr, Ld, St, Jz, Jmp}
-use Rattle.pram_text.specs.declared.instr.Instr.TheVariants.{Halt}
-use Rattle.pram_text.specs.declared.instr.Operand.{Operand}
-use Rattle.pram_text.specs.declared.instr.Operands.{Operands}
-use Rattle.pram_text.specs.declared.instr.Operands.TheVariants as o
-use Rattle.pram_text.specs.declared.instr.Place.{Place}
-use Rattle.pram_text.specs.declared.instr.Place.TheVariants.{Cell, Named}
-use Rattle.pram_text.specs.declared.limits.TheConstants.{REGISTERS}
-use Rattle.pram_text.specs.Instructions.{IsOperand, IsPlace, AreOperands, row_of}
-use Rattle.pram_text.specs.Job.{IsInstr}
+use Rattle.pram_job.specs.declared.instr.Array.{Array}
+use Rattle.pram_job.specs.declared.instr.Instr.{Instr}
+use Rattle.pram_job.specs.declared.instr.Instr.TheVariants.{Set, Pid, Add, Sub, Mul, And, Or, Xor}
+use Rattle.pram_job.specs.declared.instr.Instr.TheVariants.{Lt, Eq, Shl, Shr, Ld, St, Jz, Jmp}
+use Rattle.pram_job.specs.declared.instr.Instr.TheVariants.{Halt}
+use Rattle.pram_job.specs.declared.instr.Operand.{Operand}
+use Rattle.pram_job.specs.declared.instr.Operands.{Operands}
+use Rattle.pram_job.specs.declared.instr.Operands.TheVariants as o
+use Rattle.pram_job.specs.declared.instr.Place.{Place}
+use Rattle.pram_job.specs.declared.instr.Place.TheVariants.{Cell, Named}
+use Rattle.pram_job.specs.declared.limits.TheConstants.{REGISTERS}
+use Rattle.pram_job.specs.Instructions.{IsOperand, IsPlace, AreOperands, row_of}
+use Rattle.pram_job.specs.Job.{IsInstr}
 use Rattle.pram_text.specs.Judgement.{Scope, instr_of, most, one_register, two_operands}
 use Rattle.pram_text.specs.Judgement.{register_place, place_operand, register_number, one_label}
 use Rattle.pram_text.specs.Judgement.{register_label, number_in}
-use Rattle.pram_text.specs.Lines.{Word, Line}
+use Rattle.text_lines.specs.Lines.{Word, Line}
 use Rattle.job_text.specs.Printed.{operand_words, operand_word, register_word, array_word, label}
 use Rattle.job_text.specs.Printed.{operand_arrays, place_arrays, place_words}
 use Rattle.job_text.proofs.Naming.{SmallArray, array_plain}

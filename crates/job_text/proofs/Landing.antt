@@ -10,21 +10,21 @@ use Rattle.std.proofs.lemmas.List.Elements.{All-from_recursion}
 use Rattle.pram_text.specs.declared.fault.TextKind.{TextKind}
 use Rattle.pram_text.specs.declared.fault.TextKind.TheVariants.{UnknownInstruction, WrongOperands}
 use Rattle.pram_text.specs.declared.fault.TextKind.TheVariants.{UnknownLabel}
-use Rattle.pram_text.specs.declared.instr.Instr.{Instr}
-use Rattle.pram_text.specs.declared.instr.Operand.{Operand}
-use Rattle.pram_text.specs.declared.instr.Operands.{Operands}
-use Rattle.pram_text.specs.declared.instr.Operands.TheVariants as o
-use Rattle.pram_text.specs.declared.instr.Place.{Place}
-use Rattle.pram_text.specs.declared.instr.Place.TheVariants.{Cell, Named}
-use Rattle.pram_text.specs.Instructions.{Form, bare, only_target, target_number, target_place}
-use Rattle.pram_text.specs.Instructions.{target_two, place_value, register_index, only_index}
-use Rattle.pram_text.specs.Instructions.{row_of, table}
+use Rattle.pram_job.specs.declared.instr.Instr.{Instr}
+use Rattle.pram_job.specs.declared.instr.Operand.{Operand}
+use Rattle.pram_job.specs.declared.instr.Operands.{Operands}
+use Rattle.pram_job.specs.declared.instr.Operands.TheVariants as o
+use Rattle.pram_job.specs.declared.instr.Place.{Place}
+use Rattle.pram_job.specs.declared.instr.Place.TheVariants.{Cell, Named}
+use Rattle.pram_job.specs.Instructions.{Form, bare, only_target, target_number, target_place}
+use Rattle.pram_job.specs.Instructions.{target_two, place_value, register_index, only_index}
+use Rattle.pram_job.specs.Instructions.{row_of, table}
 use Rattle.pram_text.specs.Judgement.{◌>>=◌, Scope, made_of, instr_by, instr_of, index_in}
 use Rattle.pram_text.specs.Judgement.{no_operand, one_register, two_operands, register_place}
 use Rattle.pram_text.specs.Judgement.{place_operand, register_number, one_label, register_label}
 use Rattle.pram_text.specs.Judgement.{unlabelled, is_later, register_of, number_in, most}
 use Rattle.pram_text.specs.Judgement.{operand_of, array_at}
-use Rattle.pram_text.specs.Lines.{Word, Line}
+use Rattle.text_lines.specs.Lines.{Word, Line}
 use Rattle.pram_text.specs.Text.{defines, index_of, scope_of}
 use Rattle.pram_text.proofs.Table.{IsRow, table_is}
 use Rattle.job_text.specs.Laws.{LandsWithin, SpelledJumpsLand}

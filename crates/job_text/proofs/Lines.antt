@@ -5,8 +5,8 @@ use Rattle.std.specs.List.{AllByRecursion, flat_map, join_with_byte, list_all, f
 use Rattle.std.proofs.lemmas.Bool.{cond-true}
 use Rattle.std.proofs.lemmas.List.Elements.{All-cons, All-nil}
 use Rattle.std.proofs.lemmas.List.Splits.{slice_split_at}
-use Rattle.pram_text.specs.Lines.{Line, is_allowed, is_filled, lines_of, words_of, worded}
-use Rattle.pram_text.proofs.WordsOf.{words_of-nil}
+use Rattle.text_lines.specs.Lines.{Line, is_allowed, is_filled, lines_of, words_of, worded}
+use Rattle.text_lines.proofs.WordsOf.{words_of-nil}
 use Rattle.job_text.specs.Printed.{line_text}
 use Rattle.job_text.proofs.Plain.{PlainLine, joined_without_feed, words_joined, joined_allowed}
 

@@ -12,11 +12,11 @@ use Rattle.std.proofs.lemmas.Bool.{not_from_false, not_from_true, both_ways}
 use Rattle.std.proofs.lemmas.Fmt.{decimal_injective}
 use Rattle.std.proofs.lemmas.List.Folds.{list_all-append}
 use Rattle.std.proofs.lemmas.Slice.Eq.{bytes_eq-Decides}
-use Rattle.pram_text.specs.declared.instr.Array.{Array}
-use Rattle.pram_text.specs.Instructions.{IsArray}
+use Rattle.pram_job.specs.declared.instr.Array.{Array}
+use Rattle.pram_job.specs.Instructions.{IsArray}
 use Rattle.pram_text.specs.Judgement.{Entry, names, entry_of, array_of, is_array_name, is_name}
 use Rattle.pram_text.specs.Judgement.{number_in, says_array}
-use Rattle.pram_text.specs.Lines.{Word}
+use Rattle.text_lines.specs.Lines.{Word}
 use Rattle.pram_text.specs.Text.{array_in, array_by}
 use Rattle.pram_text.proofs.Lists.{NonePasses, cut_once}
 use Rattle.job_text.specs.Printed.{array_word, array_line, is_same, once}

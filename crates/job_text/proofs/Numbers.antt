@@ -7,13 +7,13 @@ use Rattle.std.specs.List.{list_all}
 use Rattle.std.specs.Str.Parse.{AllDigits}
 use Rattle.std.proofs.lemmas.Bool.{and_from, le-leb}
 use Rattle.std.proofs.lemmas.Fmt.{decimal_is_IsNumeral, decimal_digit}
-use Rattle.pram_text.specs.declared.instr.Operand.{Operand}
-use Rattle.pram_text.specs.declared.instr.Operand.TheVariants.{Register, Number}
-use Rattle.pram_text.specs.declared.limits.TheConstants.{REGISTERS}
-use Rattle.pram_text.specs.Instructions.{IsOperand}
+use Rattle.pram_job.specs.declared.instr.Operand.{Operand}
+use Rattle.pram_job.specs.declared.instr.Operand.TheVariants.{Register, Number}
+use Rattle.pram_job.specs.declared.limits.TheConstants.{REGISTERS}
+use Rattle.pram_job.specs.Instructions.{IsOperand}
 use Rattle.pram_text.specs.Judgement.{is_number, number_of, number_in, register_of, most}
 use Rattle.pram_text.specs.Judgement.{operand_of}
-use Rattle.pram_text.specs.Lines.{Word, is_filled}
+use Rattle.text_lines.specs.Lines.{Word, is_filled}
 use Rattle.job_text.specs.Printed.{operand_word, register_word}
 use Rattle.job_text.proofs.Plain.{PlainWord, is_plain, word_after}
 

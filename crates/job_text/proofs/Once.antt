@@ -14,10 +14,10 @@ use Rattle.std.proofs.lemmas.Grind.{flat_map-append}
 use Rattle.std.proofs.lemmas.List.{take_more}
 use Rattle.std.proofs.lemmas.List.Elements.{filter-append}
 use Rattle.std.proofs.lemmas.List.Folds.{list_any-append}
-use Rattle.pram_text.specs.declared.instr.Array.{Array}
+use Rattle.pram_job.specs.declared.instr.Array.{Array}
 use Rattle.job_text.specs.Inner.Printing.{with_array}
-use Rattle.pram_text.specs.declared.instr.Instr.{Instr}
-use Rattle.pram_text.specs.Instructions.{row_of}
+use Rattle.pram_job.specs.declared.instr.Instr.{Instr}
+use Rattle.pram_job.specs.Instructions.{row_of}
 use Rattle.job_text.specs.Printed.{arrays_in, is_same, once, operand_arrays}
 use Rattle.job_text.proofs.Naming.{is_same-true, other_than}
 

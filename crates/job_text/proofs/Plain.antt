@@ -8,7 +8,7 @@ use Rattle.std.proofs.lemmas.Bool.{ne_eqb, not-true, cond-true}
 use Rattle.std.proofs.lemmas.List.Elements.{All-nil, All-cons, All-append, All-head, All-tail}
 use Rattle.std.proofs.lemmas.List.Folds.{list_all-append}
 use Rattle.std.proofs.lemmas.List.Splits.{slice_split_at, slice_split_none}
-use Rattle.pram_text.specs.Lines.{Word, Line, is_allowed, is_blank, is_filled, words_of}
+use Rattle.text_lines.specs.Lines.{Word, Line, is_allowed, is_blank, is_filled, words_of}
 use Rattle.pram_text.proofs.Lists.{before_first_skip}
 
 -- allowed, and neither a blank nor a `;`

@@ -7,16 +7,16 @@ use Rattle.std.specs.List.{AllByRecursion, flat_map, list_any, list_all}
 use Rattle.std.proofs.lemmas.Bool.{eq-eqb}
 use Rattle.std.proofs.lemmas.List.Elements.{All-from_recursion, recursion_from_All}
 use Rattle.std.proofs.lemmas.List.Folds.{list_any_at}
-use Rattle.pram_text.specs.declared.instr.Array.{Array}
-use Rattle.pram_text.specs.declared.instr.Instr.{Instr}
-use Rattle.pram_text.specs.declared.instr.Operands.{Operands}
-use Rattle.pram_text.specs.declared.instr.Operands.TheVariants as o
-use Rattle.pram_text.specs.declared.instr.Place.{Place}
-use Rattle.pram_text.specs.declared.instr.Place.TheVariants.{Cell, Named}
-use Rattle.pram_text.specs.Instructions.{IsArray, IsPlace, AreOperands, row_of}
-use Rattle.pram_text.specs.Job.{JobData, IsJob, IsInstr}
+use Rattle.pram_job.specs.declared.instr.Array.{Array}
+use Rattle.pram_job.specs.declared.instr.Instr.{Instr}
+use Rattle.pram_job.specs.declared.instr.Operands.{Operands}
+use Rattle.pram_job.specs.declared.instr.Operands.TheVariants as o
+use Rattle.pram_job.specs.declared.instr.Place.{Place}
+use Rattle.pram_job.specs.declared.instr.Place.TheVariants.{Cell, Named}
+use Rattle.pram_job.specs.Instructions.{IsArray, IsPlace, AreOperands, row_of}
+use Rattle.pram_job.specs.Job.{JobData, IsJob, IsInstr}
 use Rattle.pram_text.specs.Judgement.{Entry, instr_of, unlabelled}
-use Rattle.pram_text.specs.Lines.{Word, Line, is_allowed, worded}
+use Rattle.text_lines.specs.Lines.{Word, Line, is_allowed, worded}
 use Rattle.pram_text.specs.Text.{array_in, code_line, index_of, scope_of, SpellsCode, SpellsLines}
 use Rattle.job_text.specs.Laws.{JumpsLand, LandsWithin, PrintedIsReadBack}
 use Rattle.job_text.specs.Printed.{aims_at, array_line, array_word, arrays_in, header_lines}

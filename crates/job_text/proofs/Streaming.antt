@@ -10,16 +10,16 @@ use Rattle.std.proofs.lemmas.List.{drop_more, take_all}
 use Rattle.std.proofs.lemmas.Grind.{flat_map-append}
 use Rattle.std.proofs.lemmas.List.FromFn.{length-map-range_with_len, get_or-map-range_with_len}
 use Rattle.std.proofs.lemmas.List.Folds.{list_any_more}
-use Rattle.pram_text.specs.declared.instr.Instr.{Instr}
-use Rattle.pram_text.specs.Instructions.{row_of}
-use Rattle.pram_text.specs.Lines.{Word, Line}
+use Rattle.pram_job.specs.declared.instr.Instr.{Instr}
+use Rattle.pram_job.specs.Instructions.{row_of}
+use Rattle.text_lines.specs.Lines.{Word, Line}
 use Rattle.job_text.specs.Inner.Printing.{aims_of, spaced}
 use Rattle.job_text.specs.Printed.{aims_at, instruction_line, instruction_lines, is_aim}
 use Rattle.job_text.specs.Printed.{line_if_any}
 use Rattle.job_text.specs.Printed.{line_text, lines_text, run_lines, array_line, arrays_in, once}
 use Rattle.job_text.specs.Printed.{header_lines, init_lines, text_of}
-use Rattle.pram_text.specs.declared.instr.Array.{Array}
-use Rattle.pram_text.specs.Job.{JobData}
+use Rattle.pram_job.specs.declared.instr.Array.{Array}
+use Rattle.pram_job.specs.Job.{JobData}
 use Rattle.pram_text.specs.Text.{code_line}
 
 -- ---- words after another one

@@ -1,9 +1,9 @@
 -- What is printed of a job is read back as that job.
 use Rattle.std.specs.Prelude.{ℕ, ◌<◌, List, length, All}
-use Rattle.pram_text.specs.declared.instr.Operands.{Operands}
-use Rattle.pram_text.specs.declared.instr.Operands.TheVariants.{RegisterIndex, Index}
-use Rattle.pram_text.specs.Instructions.{row_of}
-use Rattle.pram_text.specs.Job.{JobData, IsJob}
+use Rattle.pram_job.specs.declared.instr.Operands.{Operands}
+use Rattle.pram_job.specs.declared.instr.Operands.TheVariants.{RegisterIndex, Index}
+use Rattle.pram_job.specs.Instructions.{row_of}
+use Rattle.pram_job.specs.Job.{JobData, IsJob}
 use Rattle.pram_text.specs.Text.{Spells}
 use Rattle.job_text.specs.Printed.{text_of}
 

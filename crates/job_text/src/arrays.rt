@@ -4,9 +4,9 @@ ghost use Rattle.std.specs.Option.{option_to_list};
 ghost use Rattle.job_text.specs.Inner.Printing.{with_array};
 ghost use Rattle.job_text.specs.Printed.{array_line, arrays_in, line_text, lines_text, once};
 ghost use Rattle.job_text.specs.Printed.{operand_arrays};
-ghost use Rattle.pram_text.specs.Instructions.{row_of};
+ghost use Rattle.pram_job.specs.Instructions.{row_of};
 
-use pram_text::{Array, Instr, Operands, Place};
+use pram_job::{Array, Instr, Operands, Place};
 use std::alloc::{AllocError, Global};
 use std::collections::BTreeSet;
 use std::marker::Model;
@@ -23,7 +23,7 @@ impl Model for Arrays {
     ghost use Rattle.std.specs.Ordering.{nat_cmp, ordering_then};
     ghost use Rattle.std.specs.BTreeSet as set;
     ghost use Rattle.std.specs.List.{list_any};
-    ghost use Rattle.pram_text.specs.declared.instr.Array.{Array};
+    ghost use Rattle.pram_job.specs.declared.instr.Array.{Array};
     ghost use Rattle.job_text.specs.Printed.{is_same};
 
     ghost Value = { List Array };

@@ -5,9 +5,9 @@ ghost use Rattle.job_text.specs.Inner.Printing.{aims_of, spaced};
 ghost use Rattle.job_text.specs.Printed.{aims_at, instruction_line, instruction_lines, is_aim};
 ghost use Rattle.job_text.specs.Printed.{line_text, lines_text, operand_word, operand_words};
 ghost use Rattle.job_text.specs.Printed.{place_words};
-ghost use Rattle.pram_text.specs.Instructions.{row_of};
+ghost use Rattle.pram_job.specs.Instructions.{row_of};
 
-use pram_text::{Array, Instr, Operand, Operands, Place};
+use pram_job::{Array, Instr, Operand, Operands, Place};
 use std::alloc::{AllocError, Global};
 
 /// For each instruction, whether one jumps to it.

@@ -8,8 +8,8 @@ ghost use Rattle.job_text.specs.Printed.{header_lines, lines_text, rule_word, te
 use crate::arrays::{arrays_of, push_arrays};
 use crate::code::{aims_of, push_code};
 use crate::runs::push_runs;
+use pram_job::{Job, Rule};
 use pram_streams::{PrintFault, Sink, put};
-use pram_text::{Job, Rule};
 use std::alloc::{AllocError, Global};
 
 /// Prints a job as a text of version 3, or a beginning of it where the sink fails. Nothing is

@@ -3,10 +3,11 @@
 #![tactic(auto)]
 
 pub use pram_board::{Board, Progress, Seat, Stay};
+pub use pram_job::{Job, Rule};
 pub use pram_run::{
     Assignment, Listener, Observation, Reads, Sight, run, run_heard, watch, watch_heard,
 };
 pub use pram_step::{Cells, Fault, RunAnswer};
-pub use pram_text::{Job, Rule, TextFault, TextKind, read_job};
+pub use pram_text::{TextFault, TextKind, read_job};
 pub use stop_plan::{Act, Gate, Open, Paced, Plan, PlanFault, PlanKind, Row, read_plan};
 pub use walkx::{Ended, Reading, Worker};

@@ -1,6 +1,6 @@
 -- What standing words answer is admitted.
 use Rattle.std.proofs.Common.{ℕ, ◌<◌, List, slice_index, subst}
-use Rattle.pram_text.specs.Job.{JobData}
+use Rattle.pram_job.specs.Job.{JobData}
 use Rattle.pram_words.proofs.Numbering.{numbering}
 use Rattle.pram_words.specs.Words.{LayoutData, IsInRange, Admits, length_of, number_of, word_at}
 use Rattle.walkx.specs.declared.operation.Op.{Op}

@@ -1,6 +1,6 @@
 -- What a worker of a backed record hears may be heard: the premise of the bound on its own steps.
 use Rattle.std.proofs.Common.{sym, subst, ℕ, ◌<◌, List, [], ◌∷◌, refl, inl, lit<, arith}
-use Rattle.pram_text.specs.Job.{JobData}
+use Rattle.pram_job.specs.Job.{JobData}
 use Rattle.pram_words.proofs.Numbering.{numbering}
 use Rattle.pram_words.specs.declared.words.Word.TheVariants.{Node, Position}
 use Rattle.pram_words.specs.Words.{LayoutData}

@@ -3,10 +3,10 @@ use Rattle.std.proofs.Common.{◌≡◌, ℕ, zero, suc, ◌+◌, ◌*◌, ◌<�
 use Rattle.std.proofs.Common.{map, length, slice_get, slice_index, Option, Some, None}
 use Rattle.std.proofs.Common.{append_assoc, append-nil, refl, sym, subst, lit<, arith}
 use Rattle.std.specs.List.{AllByRecursion}
-use Rattle.pram_text.specs.declared.instr.Instr.{Instr}
-use Rattle.pram_text.specs.Job.{JobData}
-use Rattle.pram_step.specs.declared.requests.Request.{Request}
-use Rattle.pram_step.specs.Machine.{State, register, register_place, counter, counter_place}
+use Rattle.pram_job.specs.declared.instr.Instr.{Instr}
+use Rattle.pram_job.specs.Job.{JobData}
+use Rattle.pram_machine.specs.declared.requests.Request.{Request}
+use Rattle.pram_machine.specs.Machine.{State, register, register_place, counter, counter_place}
 use Rattle.pram_step.specs.Runs.{state_after}
 use Rattle.pram_words.specs.declared.phases.Kind.TheVariants.{Compute}
 use Rattle.pram_words.specs.declared.words.Word.TheVariants.{Asked}
@@ -19,9 +19,9 @@ use Rattle.walkx.specs.Scripts.{Script, asks}
 use Rattle.walkx.specs.Tasks.{reads_registers, reads_cell, raises_request, executes, compute_task}
 use Rattle.walkx.specs.Walk.{Then, IsBoard}
 use Rattle.walkx.proofs.Boards.{same_cells, same_procs}
-use Rattle.pram_step.specs.Instructions.{request_in, sources_of, cell_read, decided}
-use Rattle.pram_step.specs.Instructions.{goes_to, operand_held, decided_in}
-use Rattle.pram_step.proofs.Shapes.{instr_is}
+use Rattle.pram_machine.specs.Instructions.{request_in, sources_of, cell_read, decided}
+use Rattle.pram_machine.specs.Instructions.{goes_to, operand_held, decided_in}
+use Rattle.pram_machine.proofs.Shapes.{instr_is}
 use Rattle.walkx.proofs.Asking.{sources_fit}
 use Rattle.walkx.proofs.Cells.{cell_is}
 use Rattle.pram_step.specs.History.{part_after}

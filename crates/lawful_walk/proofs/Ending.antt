@@ -2,7 +2,7 @@
 use Rattle.std.proofs.Common.{◌≡◌, ◌≢◌, ℕ, zero, suc, ◌*◌, ◌≤◌, List, []}
 use Rattle.std.proofs.Common.{◌∷◌, refl, sym, subst, inl, inr, lit<, arith}
 use Rattle.std.proofs.lemmas.Bool.{cases_lt}
-use Rattle.pram_text.specs.Job.{JobData}
+use Rattle.pram_job.specs.Job.{JobData}
 use Rattle.pram_step.specs.Runs.{IsReached, AgreesAfter}
 use Rattle.pram_step.proofs.LawAnswer.{conflict_ends}
 use Rattle.pram_step.proofs.LawDisputes.{reached_or_conflict}

@@ -2,10 +2,10 @@
 use Rattle.std.proofs.Common.{◌≡◌, ◌≢◌, ◌⊎◌, ℕ, zero, suc, ◌+◌, ◌-◌, ◌*◌, ◌<◌, ◌≤◌, ◌^◌, IsTrue}
 use Rattle.std.proofs.Common.{List, slice_index, refl, sym, ap, subst, ◌∙◌, inl, inr, arith}
 use Rattle.std.proofs.lemmas.Bool.{cases_eq, cases_lt, cases_order}
-use Rattle.pram_text.specs.Job.{JobData, IsJob}
-use Rattle.pram_text.specs.declared.instr.Rule.{Rule}
-use Rattle.pram_text.specs.declared.instr.Rule.TheVariants.{Common, Priority, Crew}
-use Rattle.pram_step.specs.Machine.{place_count}
+use Rattle.pram_job.specs.Job.{JobData, IsJob}
+use Rattle.pram_job.specs.declared.instr.Rule.{Rule}
+use Rattle.pram_job.specs.declared.instr.Rule.TheVariants.{Common, Priority, Crew}
+use Rattle.pram_machine.specs.Machine.{place_count}
 use Rattle.pram_step.specs.Steps.{Counts, Forbids}
 use Rattle.pram_step.specs.Runs.{IsReached, AgreesAfter, state_after, requests_after}
 use Rattle.pram_step.proofs.LawWriters.{writer_cases}

@@ -3,7 +3,7 @@ use Rattle.std.proofs.Common.{◌≡◌, ℕ, suc, ◌==◌, ◌<◌, ◌≤◌,
 use Rattle.std.proofs.Common.{sym, ap, subst, ◌∙◌, inl, inr, get_or-set_same, arith}
 use prog.Atomic.{either}
 use Rattle.std.proofs.lemmas.Bool.{cases_lt}
-use Rattle.pram_text.specs.Job.{JobData}
+use Rattle.pram_job.specs.Job.{JobData}
 use Rattle.pram_step.proofs.LawFixed.{reached_down}
 use Rattle.pram_step.proofs.Past.{last_most, before_most, written_value}
 use Rattle.pram_step.specs.History.{Asks, last_write, write_before}

@@ -2,7 +2,7 @@
 -- word 0 was heard.
 use Rattle.std.proofs.Common.{◌≡◌, ℕ, suc, ◌<◌, ◌≤◌, false, List}
 use Rattle.std.proofs.Common.{slice_index, sym, ap, ◌∙◌, lit<, arith}
-use Rattle.pram_text.specs.Job.{JobData}
+use Rattle.pram_job.specs.Job.{JobData}
 use Rattle.pram_step.specs.Runs.{state_after}
 use Rattle.pram_words.specs.declared.words.Word.TheVariants.{Conflict, Asked, Stored}
 use Rattle.pram_words.specs.Stamps.{stamp_of, payload_of}

@@ -2,7 +2,7 @@
 use Rattle.std.proofs.Common.{◌≡◌, ℕ, suc, ◌+◌, ◌-◌, ◌*◌, ◌%◌, ◌≤◌, ◌==◌}
 use Rattle.std.proofs.Common.{List, [], ◌∷◌, ◌++◌, inl, inr, lit<, arith}
 use Rattle.std.proofs.lemmas.Bool.{cond_both, cases_lt, eqb-false}
-use Rattle.pram_text.specs.Job.{JobData}
+use Rattle.pram_job.specs.Job.{JobData}
 use Rattle.pram_words.specs.Phases.{step_at}
 use Rattle.pram_words.specs.declared.words.Word.TheVariants.{Conflict, Node}
 use Rattle.pram_words.specs.Words.{LayoutData, number_of}

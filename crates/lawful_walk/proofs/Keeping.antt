@@ -3,9 +3,9 @@
 use Rattle.std.proofs.Common.{◌≡◌, ◌≢◌, ◌⊎◌, ℕ, zero, suc, ◌+◌, ◌*◌, ◌<◌, ◌≤◌, IsTrue, List}
 use Rattle.std.proofs.Common.{slice_index, refl, sym, ap, subst, ◌∙◌, inl, inr, lit<, arith}
 use Rattle.std.proofs.lemmas.Bool.{cases_eq}
-use Rattle.pram_text.specs.Job.{JobData, IsJob}
-use Rattle.pram_text.specs.declared.instr.Rule.{Rule}
-use Rattle.pram_text.specs.declared.instr.Rule.TheVariants.{Common, Priority, Crew}
+use Rattle.pram_job.specs.Job.{JobData, IsJob}
+use Rattle.pram_job.specs.declared.instr.Rule.{Rule}
+use Rattle.pram_job.specs.declared.instr.Rule.TheVariants.{Common, Priority, Crew}
 use Rattle.pram_step.specs.Runs.{AgreesAfter, state_after}
 use Rattle.pram_words.specs.declared.phases.Kind.{Kind}
 use Rattle.pram_words.specs.declared.phases.Kind.TheVariants.{Compute, Apply, Verify}

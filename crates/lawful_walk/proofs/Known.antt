@@ -1,7 +1,7 @@
 -- What a script may take for known at its head: a fact without words that its history shows, and
 -- that job and board are within their limits.
 use Rattle.std.proofs.Common.{◌≡◌, ℕ, ◌+◌, ◌<◌, ◌≤◌, max, List, ◌∷◌, get_or-set_same, length, arith}
-use Rattle.pram_text.specs.Job.{JobData}
+use Rattle.pram_job.specs.Job.{JobData}
 use Rattle.pram_words.specs.declared.words.Word.{Word}
 use Rattle.pram_words.specs.Words.{LayoutData, IsWord, number_of}
 use Rattle.pram_words.proofs.Numbering.{numbering}

@@ -1,7 +1,7 @@
 -- Growth, and records that the words bear out. Nothing here knows the walk.
 use Rattle.std.proofs.Common.{ℕ, zero, suc, ◌≤◌, List, ◌∷◌, refl, sym, subst}
 use Rattle.std.proofs.Common.{◌∙◌, inl, inr, le_refl, le_trans, lit<, arith}
-use Rattle.pram_text.specs.Job.{JobData}
+use Rattle.pram_job.specs.Job.{JobData}
 use Rattle.pram_words.specs.declared.words.Word.TheVariants.{Conflict, Node, Asked}
 use Rattle.pram_words.specs.declared.words.Word.TheVariants.{Position, Stored, Claim, Spare}
 use Rattle.pram_words.specs.Stamps.{stamp_of}

@@ -2,7 +2,7 @@
 use Rattle.std.proofs.Common.{◌≡◌, ℕ, suc, ◌<◌, ◌≤◌, ◌⊎◌, nat_le, false, List}
 use Rattle.std.proofs.Common.{slice_index, refl, sym, ap, ◌∙◌, inl, inr, lit<, arith}
 use Rattle.std.proofs.lemmas.Bool.{lt-leb, or_from}
-use Rattle.pram_text.specs.Job.{IsJob, JobData}
+use Rattle.pram_job.specs.Job.{IsJob, JobData}
 use Rattle.pram_step.specs.Runs.{IsReached, state_after}
 use Rattle.pram_step.specs.History.{last_write, write_before}
 use Rattle.pram_step.proofs.LawFixed.{reached_down}

@@ -1,6 +1,6 @@
 -- What the words must be after a history: a row of moments, whatever record they come from.
 use Rattle.std.proofs.Common.{ℕ, List, [], ◌∷◌}
-use Rattle.pram_text.specs.Job.{JobData}
+use Rattle.pram_job.specs.Job.{JobData}
 use Rattle.pram_words.specs.Words.{LayoutData}
 use Rattle.walkx.specs.declared.operation.Op.{Op}
 use Rattle.walkx.specs.Operations.{words_after}

@@ -4,9 +4,9 @@ use Rattle.std.proofs.Common.{◌≡◌, ◌≢◌, ◌⊎◌, ℕ, zero, suc, �
 use Rattle.std.proofs.Common.{Some, None, refl, sym, ap, subst, ◌∙◌, inl, inr, lit<, arith}
 use Rattle.std.proofs.lemmas.Bool.{cases_eq, cases_lt, cases_Bool, eq-eqb}
 use Rattle.std.proofs.lemmas.Bool.{leb-true, leb-false, lt-ltb, le-ltb}
-use Rattle.pram_text.specs.Job.{JobData, IsJob}
-use Rattle.pram_step.specs.declared.requests.Request.{Request}
-use Rattle.pram_step.specs.Machine.{counter_place}
+use Rattle.pram_job.specs.Job.{JobData, IsJob}
+use Rattle.pram_machine.specs.declared.requests.Request.{Request}
+use Rattle.pram_machine.specs.Machine.{counter_place}
 use Rattle.pram_step.specs.Steps.{written}
 use Rattle.pram_step.specs.Runs.{IsReached, AgreesAfter, state_after}
 use Rattle.pram_step.proofs.LawFits.{state_fits}
@@ -26,8 +26,8 @@ use Rattle.pram_words.specs.Stamps.{first_is_older, older, older_word}
 use Rattle.walkx.specs.Tasks.{claim_of}
 use Rattle.walkx.specs.declared.operation.Op.TheVariants.{Max, Store, Swap}
 use Rattle.walkx.proofs.Boards.{same_cells, same_procs}
-use Rattle.pram_step.specs.Instructions.{request_in, place_part, value_part, HasShape}
-use Rattle.pram_step.proofs.Shapes.{request_shape}
+use Rattle.pram_machine.specs.Instructions.{request_in, place_part, value_part, HasShape}
+use Rattle.pram_machine.proofs.Shapes.{request_shape}
 use Rattle.pram_step.specs.History.{Asks, Wins, last_write, write_before, part_after}
 use Rattle.pram_step.proofs.Past.{last_most, last_least, conflict_above, before_most, asks_fit}
 use Rattle.lawful_walk.specs.Writes.{PlaceAsHeard, Floor, Does}

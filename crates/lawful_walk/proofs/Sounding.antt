@@ -1,6 +1,6 @@
 -- What a sound record promises: each part of it was borne out by standing words.
 use Rattle.std.proofs.Common.{◌≡◌, ◌≢◌, ℕ, ◌*◌, ◌<◌, List, [], ◌∷◌, refl, subst, inl, inr}
-use Rattle.pram_text.specs.Job.{JobData}
+use Rattle.pram_job.specs.Job.{JobData}
 use Rattle.pram_words.specs.declared.words.Word.TheVariants.{Conflict}
 use Rattle.pram_words.specs.Words.{LayoutData, number_of}
 use Rattle.walkx.specs.declared.operation.Ended.TheVariants as ended

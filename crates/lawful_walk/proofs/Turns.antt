@@ -6,9 +6,9 @@ use Rattle.std.proofs.Common.{IsTrue, refl, sym, ap, subst, ◌∙◌, inl, inr,
 use Rattle.std.proofs.Math.Nat.{div-add-mod, mul-div-le}
 use Rattle.std.proofs.lemmas.Nat.{mod_below}
 use Rattle.std.proofs.lemmas.Bool.{cond_both, cases_Bool, cases_lt, eqb-false, leb-true, leb-false}
-use Rattle.pram_text.specs.Job.{JobData}
-use Rattle.pram_text.specs.declared.instr.Rule.{Rule}
-use Rattle.pram_text.specs.declared.instr.Rule.TheVariants.{Common, Priority, Crew}
+use Rattle.pram_job.specs.Job.{JobData}
+use Rattle.pram_job.specs.declared.instr.Rule.{Rule}
+use Rattle.pram_job.specs.declared.instr.Rule.TheVariants.{Common, Priority, Crew}
 use Rattle.pram_words.specs.declared.phases.Kind.{Kind}
 use Rattle.pram_words.specs.declared.phases.Kind.TheVariants.{Compute, Apply, Verify}
 use Rattle.pram_words.specs.declared.words.Word.TheVariants.{Node}

@@ -4,9 +4,9 @@ use Rattle.std.proofs.Common.{◌≡◌, ◌≢◌, ℕ, zero, suc, ◌+◌, ◌
 use Rattle.std.proofs.Common.{◌==◌, nat_lt, if◌then◌else◌, false, List, ◌∷◌}
 use Rattle.std.proofs.Common.{IsTrue, refl, sym, ap, subst, ◌∙◌, inl, inr, arith}
 use Rattle.std.proofs.lemmas.Bool.{cond_both, cases_lt, eqb-true, eqb-false, ltb-true, ltb-false}
-use Rattle.pram_text.specs.Job.{JobData}
-use Rattle.pram_text.specs.declared.instr.Rule.TheVariants.{Priority}
-use Rattle.pram_step.specs.Machine.{counter_place}
+use Rattle.pram_job.specs.Job.{JobData}
+use Rattle.pram_job.specs.declared.instr.Rule.TheVariants.{Priority}
+use Rattle.pram_machine.specs.Machine.{counter_place}
 use Rattle.pram_words.specs.declared.words.Word.TheVariants.{Claim}
 use Rattle.pram_words.specs.Phases.{step_at}
 use Rattle.pram_words.specs.Stamps.{stamp_of, payload_of, stamped_word}

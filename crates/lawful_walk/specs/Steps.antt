@@ -1,8 +1,8 @@
 -- The words of a place by the machine's steps. Step t + 1 is the step after t steps.
 use Rattle.std.specs.Prelude.{ℕ, ◌+◌, ◌*◌, slice_index}
-use Rattle.pram_text.specs.Job.{JobData}
-use Rattle.pram_text.specs.declared.instr.Rule.{Rule}
-use Rattle.pram_text.specs.declared.instr.Rule.TheVariants.{Common, Priority, Crew}
+use Rattle.pram_job.specs.Job.{JobData}
+use Rattle.pram_job.specs.declared.instr.Rule.{Rule}
+use Rattle.pram_job.specs.declared.instr.Rule.TheVariants.{Common, Priority, Crew}
 use Rattle.pram_step.specs.History.{last_write, write_before}
 use Rattle.pram_step.specs.Runs.{state_after}
 use Rattle.pram_words.specs.Stamps.{stamped_word}

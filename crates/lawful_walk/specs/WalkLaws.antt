@@ -1,6 +1,6 @@
 -- What the laws of workers, readers and their records say.
 use Rattle.std.specs.Prelude.{◌≡◌, ◌≢◌, ℕ, suc, ◌<◌, ◌≤◌, List, length, slice_index}
-use Rattle.pram_text.specs.Job.{JobData}
+use Rattle.pram_job.specs.Job.{JobData}
 use Rattle.pram_step.specs.History.{part_after}
 use Rattle.pram_step.specs.Runs.{IsReached, state_after}
 use Rattle.pram_words.specs.declared.words.Word.{Word}

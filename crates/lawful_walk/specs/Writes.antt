@@ -1,6 +1,6 @@
 -- What a worker may write while the words stand: its phase is of the step after t steps.
 use Rattle.std.specs.Prelude.{◌≡◌, ◌≢◌, ℕ, suc, ◌+◌, ◌*◌, ◌≤◌, ◌<◌, List, slice_index}
-use Rattle.pram_text.specs.Job.{JobData}
+use Rattle.pram_job.specs.Job.{JobData}
 use Rattle.pram_step.specs.Runs.{IsReached, AgreesAfter, state_after}
 use Rattle.pram_words.specs.declared.phases.Kind.TheVariants.{Compute, Apply, Verify}
 use Rattle.pram_words.specs.declared.words.Word.{Word}

@@ -1,11 +1,13 @@
 //! Worked rows of steps and of runs.
 ghost use Rattle.std.specs.Prelude.{◌≡◌};
 
+use pram_job::Job;
+use pram_machine::Request;
 use pram_step::{
-    Arrival, Dispute, Fault, Outcome, Request, RunAnswer, State, StepFault, counter, dispute,
-    go_to, laws, make_step, plain_answer, request, request_after, run_plain, step,
+    Arrival, Dispute, Fault, Outcome, RunAnswer, State, StepFault, counter, dispute, go_to, laws,
+    make_step, plain_answer, request, request_after, run_plain, step,
 };
-use pram_text::{Job, read_job};
+use pram_text::read_job;
 use std::process::Abort;
 use std::test::Fail;
 

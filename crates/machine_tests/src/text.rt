@@ -1,5 +1,6 @@
 //! Texts that are read, and each kind of fault.
-use pram_text::{Array, Instr, Operand, Place, Rule, TextFault, TextKind, read_job};
+use pram_job::{Array, Instr, Operand, Place, Rule};
+use pram_text::{TextFault, TextKind, read_job};
 use std::alloc::{AllocError, Global};
 use std::process::Abort;
 use std::test::Fail;

@@ -1,7 +1,8 @@
 //! Words of boards, worked out by hand.
 ghost use Rattle.std.specs.Prelude.{◌≡◌, IfOk};
 
-use pram_text::{Job, Rule, read_job};
+use pram_job::{Job, Rule};
+use pram_text::read_job;
 use pram_words::{
     Form, Kind, Layout, Word, first_leaf, goes_right, height, kind_of, leaves, left, parent,
     payload, phase, right, stamp, stamped, step_of,

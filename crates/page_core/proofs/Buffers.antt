@@ -4,9 +4,9 @@ use Rattle.std.proofs.Common.{List, [], ◌∷◌, length, take, drop, slice_get
 use Rattle.std.proofs.Common.{Some, refl, sym, ap, subst, ◌∙◌, inl, inr, ◌==◌}
 use Rattle.std.proofs.lemmas.Bool.{cases_Bool, cases_lt, eqb-true, eqb-false}
 use Rattle.std.proofs.lemmas.List.{drop-set-lt, length-take-le}
-use Rattle.pram_text.specs.Job.{JobData, IsJob}
+use Rattle.pram_job.specs.Job.{JobData, IsJob}
 use Rattle.pram_step.specs.Laws.{StatesHaveAllPlaces}
-use Rattle.pram_step.specs.Machine.{State, place_count}
+use Rattle.pram_machine.specs.Machine.{State, place_count}
 use Rattle.pram_step.specs.Runs.{IsStateAfter}
 use Rattle.page_core.specs.declared.codes.TheConstants.{MEMORY}
 use Rattle.page_core.specs.declared.board.Hindrance.{Hindrance}

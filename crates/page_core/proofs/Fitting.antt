@@ -1,7 +1,7 @@
 -- The phases of bodies are those of their job.
 use Rattle.std.proofs.Common.{arith, ◌≡◌, ℕ, slice_get, Option, Some, None, refl, subst}
 use Rattle.std.specs.Option.{option_map}
-use Rattle.pram_text.specs.Job.{JobData, IsJob}
+use Rattle.pram_job.specs.Job.{JobData, IsJob}
 use Rattle.walkx.specs.Activities.{activity_of}
 use Rattle.walkx.specs.Doing.{Doing}
 use Rattle.walkx.specs.Doing as doing

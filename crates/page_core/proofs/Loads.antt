@@ -2,7 +2,7 @@
 use Rattle.std.proofs.Common.{arith, ◌≡◌, ℕ, ◌%◌, ◌==◌, ◌<◌, nat_le, List, [], ◌∷◌}
 use Rattle.std.proofs.Common.{◌++◌, slice_index, Some, refl, sym, ap, subst, ◌∙◌}
 use Rattle.std.proofs.lemmas.Bool.{cond_both}
-use Rattle.pram_text.specs.Job.{JobData}
+use Rattle.pram_job.specs.Job.{JobData}
 use Rattle.pram_words.specs.Stamps.{stamp_of}
 use Rattle.pram_words.specs.Words.{LayoutData}
 use Rattle.walkx.specs.declared.operation.Op.{Op}

@@ -7,7 +7,7 @@ use Rattle.walkx.specs.Operations as operations
 use Rattle.walkx.specs.Reads.{reader_script}
 use Rattle.walkx.specs.Records.{Record, after}
 use Rattle.walkx.specs.Scripts.{Script, asks, ends}
-use Rattle.pram_text.specs.Job.{JobData}
+use Rattle.pram_job.specs.Job.{JobData}
 use Rattle.lawful_walk.specs.Walks.{IsLawfulRead}
 use Rattle.pram_world.specs.Outcomes.{IsOutcome}
 use Rattle.pram_world.specs.Worlds.{WorldData}

@@ -6,7 +6,7 @@ use Rattle.pram_cost.specs.declared.pram.Pram.{Pram}
 use Rattle.pram_cost.specs.declared.pram.Pram.TheVariants.{Erew}
 use Rattle.pram_cost.specs.Costs.{IsCost}
 use Rattle.pram_cost.specs.Models.{IsNeeded, strength}
-use Rattle.pram_text.specs.Job.{JobData}
+use Rattle.pram_job.specs.Job.{JobData}
 use Rattle.page_core.specs.declared.codes.TheConstants.{DONE}
 use Rattle.page_core.specs.declared.cost.CostTold.{CostTold}
 use Rattle.page_core.specs.declared.cost.MeetingRow.{MeetingRow}

@@ -1,8 +1,8 @@
 -- What is told of what each processor executed last.
 use Rattle.std.specs.Prelude.{◌≡◌, ℕ, zero, suc, ◌<◌, ◌≤◌, if◌then◌else◌}
 use Rattle.std.specs.Prelude.{List, length, slice_get, Some}
-use Rattle.pram_text.specs.Job.{JobData}
-use Rattle.pram_step.specs.Machine.{counter}
+use Rattle.pram_job.specs.Job.{JobData}
+use Rattle.pram_machine.specs.Machine.{counter}
 use Rattle.pram_step.specs.Runs.{IsReached, IsFirstConflict, state_after}
 use Rattle.pram_cost.specs.Accesses.{is_running}
 use Rattle.page_core.specs.declared.finding.Finding.{Finding}

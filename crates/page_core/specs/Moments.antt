@@ -1,8 +1,8 @@
 -- What is told of the plain machine.
 use Rattle.std.specs.Prelude.{◌≡◌, ◌⊎◌, ℕ, ◌<◌, ◌≤◌, List, length, take}
-use Rattle.pram_text.specs.Job.{JobData}
+use Rattle.pram_job.specs.Job.{JobData}
 use Rattle.pram_step.specs.declared.answer.RunAnswer.TheVariants as answer
-use Rattle.pram_step.specs.Machine.{place_count}
+use Rattle.pram_machine.specs.Machine.{place_count}
 use Rattle.pram_step.specs.Runs.{IsReached, IsStateAfter, IsFirstConflict, IsAnswer}
 use Rattle.page_core.specs.declared.finding.Finding.{Finding}
 use Rattle.page_core.specs.declared.finding.Finding.TheVariants.{Done, Conflict, NoRoom}

@@ -1,10 +1,10 @@
 -- What is told of the requests of a step.
 use Rattle.std.specs.Prelude.{◌≡◌, ◌⊎◌, ℕ, ◌+◌, ◌-◌, ◌*◌, ◌<◌, ◌≤◌, ◌==◌, nat_lt, if◌then◌else◌}
 use Rattle.std.specs.Prelude.{List, length, slice_get, slice_index, Option, Some, None}
-use Rattle.pram_text.specs.declared.instr.Instr.{Instr}
-use Rattle.pram_text.specs.Job.{JobData}
-use Rattle.pram_step.specs.Instructions.{cell_read, operand_held, request_in}
-use Rattle.pram_step.specs.Machine.{State, counter}
+use Rattle.pram_job.specs.declared.instr.Instr.{Instr}
+use Rattle.pram_job.specs.Job.{JobData}
+use Rattle.pram_machine.specs.Instructions.{cell_read, operand_held, request_in}
+use Rattle.pram_machine.specs.Machine.{State, counter}
 use Rattle.pram_step.specs.Runs.{AgreesAfter, IsReached, IsFirstConflict, state_after}
 use Rattle.page_core.specs.declared.finding.Finding.{Finding}
 use Rattle.page_core.specs.declared.finding.Finding.TheVariants.{Done, Conflict, NoRoom}

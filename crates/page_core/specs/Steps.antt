@@ -2,8 +2,8 @@
 use Rattle.std.specs.Prelude.{◌≡◌, ◌⊎◌, ℕ, ◌+◌, ◌<◌, ◌≤◌, List, length, slice_get, Some}
 use Rattle.std.specs.Prelude.{count_by, find, is_some, None}
 use Rattle.std.specs.List.{range_with_len}
-use Rattle.pram_text.specs.Job.{JobData}
-use Rattle.pram_step.specs.Machine.{State, counter, halted}
+use Rattle.pram_job.specs.Job.{JobData}
+use Rattle.pram_machine.specs.Machine.{State, counter, halted}
 use Rattle.pram_step.specs.Runs.{IsReached, IsFirstConflict, state_after}
 use Rattle.pram_cost.specs.Accesses.{is_running, read_by, write_by}
 use Rattle.pram_cost.specs.Costs.{at_work}

@@ -7,11 +7,11 @@ use Rattle.pram_text.specs.declared.fault.TextKind.TheVariants.{WrongOperands, B
 use Rattle.pram_text.specs.declared.fault.TextKind.TheVariants.{DuplicateLabel, UnknownLabel}
 use Rattle.pram_text.specs.declared.fault.TextKind.TheVariants.{NoCode, TooLong}
 use Rattle.pram_text.specs.declared.fault.TextKind.TheVariants as kind
-use Rattle.pram_text.specs.declared.instr.Rule.{Rule}
-use Rattle.pram_text.specs.declared.instr.Rule.TheVariants.{Common, Priority, Crew}
-use Rattle.pram_text.specs.Job.{JobData}
+use Rattle.pram_job.specs.declared.instr.Rule.{Rule}
+use Rattle.pram_job.specs.declared.instr.Rule.TheVariants.{Common, Priority, Crew}
+use Rattle.pram_job.specs.Job.{JobData}
 use Rattle.pram_text.specs.Text.{Spells, Bears}
-use Rattle.pram_step.specs.Machine.{place_count}
+use Rattle.pram_machine.specs.Machine.{place_count}
 use Rattle.page_core.specs.declared.codes.Status.{Status}
 use Rattle.page_core.specs.declared.codes.TheConstants.{DONE, NO_JOB, MEMORY, TEXT_TOO_LONG}
 use Rattle.page_core.specs.declared.codes.TheConstants.{TEXT_MOST}

@@ -2,7 +2,7 @@
 ghost use Rattle.std.specs.Prelude.{◌≡◌, IfErr, IfOk};
 ghost use Rattle.pram_cost.specs.Costs.{IsCost};
 ghost use Rattle.pram_cost.specs.Models.{strength};
-ghost use Rattle.pram_text.specs.Job.{JobData};
+ghost use Rattle.pram_job.specs.Job.{JobData};
 ghost use Rattle.page_core.specs.Costs.{IsCostOfRun, IsCostTold, meeting_row, no_cost};
 ghost use Rattle.page_core.specs.Texts.{IsRefused, OfJob};
 

@@ -7,8 +7,8 @@ ghost use Rattle.page_core.specs.Last.{AreLast, AreLastAfter, AreLastFound};
 use crate::finding::Finding;
 use crate::text::{Refusal, take_job};
 use pram_cost::is_running;
+use pram_job::Job;
 use pram_step::{State, counter, laws, make_step};
-use pram_text::Job;
 use std::alloc::Global;
 
 /// The last step in which a processor ran, and the index of the instruction that it executed then.

@@ -7,8 +7,8 @@ ghost use Rattle.page_core.specs.Moments.{IsAnswerFound};
 
 use crate::finding::Finding;
 use crate::text::{Refusal, take_job};
+use pram_job::Job;
 use pram_step::{Arrival, go_to, laws};
-use pram_text::Job;
 use std::alloc::{AllocError, Global};
 
 /// The answer of a text: the cells after the last step are written to the front of the buffer; or

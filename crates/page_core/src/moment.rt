@@ -8,8 +8,8 @@ ghost use Rattle.page_core.specs.Moments.{IsNotReached, IsStateTold};
 use crate::finding::Finding;
 use crate::machine::copy;
 use crate::text::{Refusal, take_job};
+use pram_job::Job;
 use pram_step::{Arrival, State, go_to, laws};
-use pram_text::Job;
 use std::alloc::Global;
 
 /// A job, and its state after so many of its steps.

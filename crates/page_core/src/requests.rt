@@ -1,7 +1,7 @@
 //! What the processors ask for in a step.
 ghost use Rattle.std.specs.Prelude.{◌≡◌, ℕ, ◌<◌, ◌≤◌, IfSome, length};
-ghost use Rattle.pram_step.specs.Machine.{IsDataPlace, counter as counter_of, place_count};
-ghost use Rattle.pram_step.specs.Machine.{register as register_of};
+ghost use Rattle.pram_machine.specs.Machine.{IsDataPlace, counter as counter_of, place_count};
+ghost use Rattle.pram_machine.specs.Machine.{register as register_of};
 ghost use Rattle.pram_step.specs.Runs.{IsStateAfter};
 ghost use Rattle.page_core.specs.Findings.{IsKeptAsFound, IsKeptBehind};
 ghost use Rattle.page_core.specs.Requests.{AreRequestsAfter, AreRequestsTold, AreRows};
@@ -11,8 +11,9 @@ ghost use Rattle.page_core.specs.Requests.{target_of};
 use crate::finding::Finding;
 use crate::moment::Reached;
 use crate::text::Refusal;
-use pram_step::{Sources, State, cell_read, counter, laws, make_step, request_after, sources_of};
-use pram_text::Job;
+use pram_job::Job;
+use pram_machine::{Sources, cell_read, sources_of};
+use pram_step::{State, counter, laws, make_step, request_after};
 use std::alloc::Global;
 
 /// What a processor asks for. `status` is 0 where `counter` is the number of its instruction, 1 if

@@ -8,8 +8,8 @@ use crate::finding::Finding;
 use crate::moment::{Reached, go};
 use crate::text::Refusal;
 use pram_cost::{is_running, read_of, write_of};
+use pram_job::Job;
 use pram_step::{State, counter, laws, make_step};
-use pram_text::Job;
 use std::alloc::Global;
 
 /// How many processors run in a step, how many of them read a cell, and how many write one. `at` is

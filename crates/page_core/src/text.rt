@@ -5,7 +5,8 @@ ghost use Rattle.page_core.specs.Texts.{IsJudged, IsRefused, fault_code, judgeme
 ghost use Rattle.page_core.specs.Texts.{rule_code, sizes_of};
 
 use crate::codes::{MEMORY, NO_JOB, Status, TEXT_MOST, TEXT_TOO_LONG, TOLD, coded};
-use pram_text::{Job, Rule, TextFault, TextKind, read_job};
+use pram_job::{Job, Rule};
+use pram_text::{TextFault, TextKind, read_job};
 use std::alloc::Global;
 
 /// The sizes of the job that a text spells, or its fault. The rule is 0 for common, 1 for priority

@@ -1,11 +1,11 @@
 -- How a job ends, and in which lines.
 use Rattle.std.proofs.Common.{◌≡◌, ℕ, ◌-◌, sym, subst, arith}
-use Rattle.pram_text.specs.Job.{JobData}
+use Rattle.pram_job.specs.Job.{JobData}
 use Rattle.pram_step.specs.declared.answer.Fault.{Fault}
 use Rattle.pram_step.specs.declared.arrival.Arrival.{Arrival}
 use Rattle.pram_step.specs.declared.arrival.Arrival.TheVariants.{Reached}
 use Rattle.pram_step.specs.Arrivals.{IsArrival}
-use Rattle.pram_step.specs.Machine.{State, counter}
+use Rattle.pram_machine.specs.Machine.{State, counter}
 use Rattle.pram_step.specs.Runs.{IsFault, IsFirstConflict, IsReached, IsStateAfter, state_after}
 use Rattle.pram_step.proofs.LawAnswer.{conflict_ends, one_conflict}
 use Rattle.pardo_answers.specs.declared.ended.Lines.{Lines}

@@ -5,11 +5,11 @@ use Rattle.std.specs.List.{All, AllByRecursion, slice_get, sum_by}
 use Rattle.std.proofs.lemmas.List.{take_all}
 use Rattle.std.proofs.lemmas.List.Elements.{All-from_recursion}
 use Rattle.std.proofs.lemmas.List.Sums.{sum_by-cons, sum_by-take-le}
-use Rattle.pram_text.specs.declared.instr.Instr.{Instr}
-use Rattle.pram_text.specs.declared.instr.Operands.{Operands}
-use Rattle.pram_text.specs.declared.instr.Operands.TheVariants as o
-use Rattle.pram_text.specs.Instructions.{AreOperands, row_of}
-use Rattle.pram_text.specs.Job.{JobData}
+use Rattle.pram_job.specs.declared.instr.Instr.{Instr}
+use Rattle.pram_job.specs.declared.instr.Operands.{Operands}
+use Rattle.pram_job.specs.declared.instr.Operands.TheVariants as o
+use Rattle.pram_job.specs.Instructions.{AreOperands, row_of}
+use Rattle.pram_job.specs.Job.{JobData}
 use Rattle.pardo_text.specs.declared.statement.Line.{Line}
 use Rattle.pardo_text.specs.Lawful.{IsLine, IsProgram, bounds_of}
 use Rattle.pardo_text.specs.Program.{ProgramData}

@@ -7,10 +7,10 @@ use Rattle.std.specs.Prelude.{slice_index}
 use Rattle.std.proofs.lemmas.List.{get_or-take}
 use Rattle.std.proofs.lemmas.List.Sums.{sum_by-cons}
 use Rattle.std.proofs.lemmas.Bool.{cases_order}
-use Rattle.pram_text.specs.Job.{JobData, IsJob}
+use Rattle.pram_job.specs.Job.{JobData, IsJob}
 use Rattle.pram_step.specs.declared.answer.Fault.{Fault}
 use Rattle.pram_step.specs.declared.answer.RunAnswer.TheVariants.{Final, Conflict, Unfinished}
-use Rattle.pram_step.specs.Machine.{State, IsStopped, counter, out_of_range}
+use Rattle.pram_machine.specs.Machine.{State, IsStopped, counter, out_of_range}
 use Rattle.pram_step.specs.Runs.{IsFault, IsStateAfter, state_after}
 use Rattle.pram_step.proofs.LawCounters.{stopped_processor}
 use Rattle.pram_step.proofs.LawAnswer.{conflict_ends, one_conflict}

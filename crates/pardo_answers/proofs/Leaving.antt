@@ -3,15 +3,15 @@ use Rattle.std.proofs.Common.{◌≡◌, ℕ, suc, ap, ◌+◌, ◌-◌, ◌*◌
 use Rattle.std.proofs.Common.{◌++◌, length, replicate, take, ◌∙◌, subst, sym, arith}
 use Rattle.std.proofs.lemmas.List.{get_or-append_right, get_or-replicate, length-replicate}
 use Rattle.std.proofs.lemmas.List.{take-append-le, take_all}
-use Rattle.pram_text.specs.Job.{JobData, IsJob}
+use Rattle.pram_job.specs.Job.{JobData, IsJob}
 use Rattle.pram_step.specs.declared.answer.Fault.{Fault}
-use Rattle.pram_step.specs.declared.requests.Request.{Request}
-use Rattle.pram_step.specs.Machine.{State, counter, counter_place, out_of_range, start}
-use Rattle.pram_step.specs.Instructions.{request_in}
+use Rattle.pram_machine.specs.declared.requests.Request.{Request}
+use Rattle.pram_machine.specs.Machine.{State, counter, counter_place, out_of_range, start}
+use Rattle.pram_machine.specs.Instructions.{request_in}
 use Rattle.pram_step.specs.Runs.{state_after, IsFirstConflict, IsStateAfter}
 use Rattle.pram_step.proofs.LawCounters.{next_counter}
 use Rattle.pram_step.proofs.LawFixed.{length-state_after}
-use Rattle.pram_step.proofs.Shapes.{asked_by}
+use Rattle.pram_machine.proofs.Shapes.{asked_by}
 use Rattle.pardo_job.specs.Leaving.{GoneIn, Leaves}
 use Rattle.pardo_answers.specs.Inner.Leaving.{AreNoted, IsLeaving, SomeIsGone}
 

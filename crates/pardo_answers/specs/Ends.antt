@@ -1,6 +1,6 @@
 -- In which lines of a program's text its job ends.
 use Rattle.std.specs.Prelude.{◌≡◌, ℕ, ◌+◌, ◌<◌, List, Option, None, slice_index_or}
-use Rattle.pram_text.specs.Job.{JobData}
+use Rattle.pram_job.specs.Job.{JobData}
 use Rattle.pram_step.specs.declared.answer.Fault.{Fault}
 use Rattle.pram_step.specs.Runs.{IsAnswer, IsFault, IsReached}
 use Rattle.pardo_job.specs.Carries.{ComesFrom}

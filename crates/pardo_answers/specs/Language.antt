@@ -2,7 +2,7 @@
 use Rattle.std.specs.Prelude.{ℕ, Bool, false, List, [], ◌∷◌, codes}
 use Rattle.std.specs.List.{flat_map}
 use Rattle.std.specs.Str.{bytes_eq}
-use Rattle.pram_text.specs.Lines.{Word, lines_of, words_of}
+use Rattle.text_lines.specs.Lines.{Word, lines_of, words_of}
 
 abbrev pub begins_program : List Word → Bool
 begins_program [] = false

@@ -1,6 +1,6 @@
 -- The law of answers.
 use Rattle.std.specs.Prelude.{◌≡◌, ℕ, ◌⊎◌, List}
-use Rattle.pram_text.specs.Job.{JobData}
+use Rattle.pram_job.specs.Job.{JobData}
 use Rattle.pram_step.specs.declared.answer.RunAnswer.{RunAnswer}
 use Rattle.pram_step.specs.Runs.{IsAnswer}
 use Rattle.pardo_text.specs.Lawful.{IsProgram}

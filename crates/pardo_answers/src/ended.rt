@@ -1,15 +1,15 @@
 //! How the job of a program ends, and in which lines of the program's text.
 ghost use Rattle.std.specs.Prelude.{◌≡◌, ◌+◌, ◌<◌, ◌↔◌, slice_index, IfOk, IsTrue};
-ghost use Rattle.pram_step.specs.Machine.{counter as counter_of, out_of_range};
+ghost use Rattle.pram_machine.specs.Machine.{counter as counter_of, out_of_range};
 ghost use Rattle.pram_step.specs.Runs.{IsFirstConflict, IsStateAfter, state_after};
 ghost use Rattle.pardo_answers.specs.Ends.{HasEnded, IsDisputedIn};
 ghost use Rattle.pardo_answers.specs.Inner.Leaving.{AreNoted, IsLeaving, SomeIsGone};
 
+use pram_job::Job;
 use pram_step::{
     Arrival, Fault, Moment, RunAnswer, State, counter, go_on, go_to, laws, request_after,
     state_after,
 };
-use pram_text::Job;
 use std::alloc::{AllocError, Global};
 
 /// In which lines of a program's text its job ended. Lines count from 1.

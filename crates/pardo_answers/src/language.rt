@@ -2,7 +2,7 @@
 ghost use Rattle.std.specs.Prelude.{◌≡◌};
 ghost use Rattle.pardo_answers.specs.Language.{is_program};
 
-use pram_text::{TextLines, is_word, next_word};
+use text_lines::{TextLines, is_word, next_word};
 
 /// Whether the first word of the lines of a text is `pardo`. Where it is not, the text is one of
 /// the machine's, or none.

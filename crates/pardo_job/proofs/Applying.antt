@@ -6,9 +6,9 @@ use Rattle.std.proofs.Common.{nat_le}
 use Rattle.std.specs.Prelude.{bit_or, bit_and}
 use Rattle.std.proofs.lemmas.Nat.{le_or_l, le_or_r}
 use Rattle.std.proofs.lemmas.Bool.{lt-ltb, le-ltb, cases_lt}
-use Rattle.pram_text.specs.declared.instr.Instr.{Instr}
-use Rattle.pram_text.specs.declared.instr.Operand.{Operand}
-use Rattle.pram_text.specs.declared.instr.Operand.TheVariants.{Register, Number}
+use Rattle.pram_job.specs.declared.instr.Instr.{Instr}
+use Rattle.pram_job.specs.declared.instr.Operand.{Operand}
+use Rattle.pram_job.specs.declared.instr.Operand.TheVariants.{Register, Number}
 use Rattle.pardo_text.specs.declared.operation.Op.{Op}
 use Rattle.pardo_text.specs.declared.operation.Op.TheVariants.{Add, Sub, Mul, Div, Rem, Shl, Shr}
 use Rattle.pardo_text.specs.declared.operation.Op.TheVariants.{BitAnd, BitOr, BitXor, Eq, Ne}

@@ -1,13 +1,13 @@
 -- How a run ends, for the job that has as many steps.
 use Rattle.std.proofs.Common.{◌≡◌, ℕ, ◌<◌, List, Option, None, Some, IfNone, is_some}
 use Rattle.std.proofs.Common.{true, false, refl, sym, subst, ◌∙◌, inl, inr}
-use Rattle.pram_text.specs.Job.{JobData}
+use Rattle.pram_job.specs.Job.{JobData}
 use Rattle.pram_step.specs.declared.answer.Dispute.{Dispute}
 use Rattle.pram_step.specs.declared.answer.Fault.{Fault}
-use Rattle.pram_step.specs.declared.requests.Request.{Request}
+use Rattle.pram_machine.specs.declared.requests.Request.{Request}
 use Rattle.pram_step.specs.Arrivals.{IsStepMade}
-use Rattle.pram_step.specs.Machine.{AllStopped}
-use Rattle.pram_step.specs.Machine.{State}
+use Rattle.pram_machine.specs.Machine.{AllStopped}
+use Rattle.pram_machine.specs.Machine.{State}
 use Rattle.pram_step.specs.Runs.{IsFirstConflict, IsReached, IsStateAfter}
 use Rattle.pram_step.specs.Runs.{dispute_of, requests_after, state_after}
 use Rattle.pram_step.specs.Steps.{IsDispute}

@@ -2,14 +2,14 @@
 use Rattle.std.proofs.Common.{◌≡◌, ℕ, ◌+◌, ◌-◌, ◌^◌, ◌<◌, ◌≤◌, Bool, true, false, ◌&&◌, ◌==◌}
 use Rattle.std.proofs.Common.{if◌then◌else◌, nat_lt}
 use Rattle.std.proofs.Common.{List, [], ◌∷◌, ◌++◌, length, refl, arith}
-use Rattle.pram_text.specs.declared.instr.Array.{Array}
-use Rattle.pram_text.specs.declared.instr.Instr.{Instr}
-use Rattle.pram_text.specs.declared.instr.Instr.TheVariants as instr
-use Rattle.pram_text.specs.declared.instr.Operand.{Operand}
-use Rattle.pram_text.specs.declared.instr.Operand.TheVariants.{Register, Number}
-use Rattle.pram_text.specs.declared.instr.Place.TheVariants.{Named}
-use Rattle.pram_text.specs.Instructions.{IsArray, IsOperand, IsPlace}
-use Rattle.pram_text.specs.Job.{IsInstr}
+use Rattle.pram_job.specs.declared.instr.Array.{Array}
+use Rattle.pram_job.specs.declared.instr.Instr.{Instr}
+use Rattle.pram_job.specs.declared.instr.Instr.TheVariants as instr
+use Rattle.pram_job.specs.declared.instr.Operand.{Operand}
+use Rattle.pram_job.specs.declared.instr.Operand.TheVariants.{Register, Number}
+use Rattle.pram_job.specs.declared.instr.Place.TheVariants.{Named}
+use Rattle.pram_job.specs.Instructions.{IsArray, IsOperand, IsPlace}
+use Rattle.pram_job.specs.Job.{IsInstr}
 use Rattle.pardo_text.specs.declared.operation.Op.{Op}
 use Rattle.pardo_text.specs.declared.operation.Op.TheVariants.{Add, Sub, Mul, Div, Rem, Shl, Shr}
 use Rattle.pardo_text.specs.declared.operation.Op.TheVariants.{BitAnd, BitOr, BitXor, Eq, Ne}

@@ -1,8 +1,8 @@
 -- Values at hand, one more and one less.
 use Rattle.std.proofs.Common.{Result, Ok, Err, OnOk, subst}
-use Rattle.pram_text.specs.declared.instr.Array.{Array}
-use Rattle.pram_text.specs.declared.instr.Instr.TheVariants.{Ld}
-use Rattle.pram_text.specs.declared.instr.Place.TheVariants.{Named}
+use Rattle.pram_job.specs.declared.instr.Array.{Array}
+use Rattle.pram_job.specs.declared.instr.Instr.TheVariants.{Ld}
+use Rattle.pram_job.specs.declared.instr.Place.TheVariants.{Named}
 use Rattle.pardo_text.specs.declared.expression.Node.TheVariants.{Place, Apply}
 use Rattle.pardo_text.specs.Expression.{with_node}
 use Rattle.pardo_job.specs.declared.fault.JobKind.{JobKind}
@@ -16,10 +16,10 @@ use Rattle.std.proofs.Common.{refl, ap, sym, ◌∙◌, append_assoc, arith}
 use Rattle.std.proofs.Common.{if◌then◌else◌, Bool, false}
 use Rattle.std.proofs.lemmas.List.{length-append}
 use Rattle.std.proofs.lemmas.List.Sums.{sum_by-cons}
-use Rattle.pram_text.specs.declared.instr.Instr.{Instr}
-use Rattle.pram_text.specs.declared.instr.Instr.TheVariants as instr
-use Rattle.pram_text.specs.declared.instr.Operand.{Operand}
-use Rattle.pram_text.specs.declared.instr.Operand.TheVariants.{Register, Number}
+use Rattle.pram_job.specs.declared.instr.Instr.{Instr}
+use Rattle.pram_job.specs.declared.instr.Instr.TheVariants as instr
+use Rattle.pram_job.specs.declared.instr.Operand.{Operand}
+use Rattle.pram_job.specs.declared.instr.Operand.TheVariants.{Register, Number}
 use Rattle.pardo_text.specs.declared.operation.Op.{Op}
 use Rattle.pardo_text.specs.declared.operation.Op.TheVariants as op
 use Rattle.pardo_text.specs.Expression.{Tree, number, own, loop, private, place, apply}

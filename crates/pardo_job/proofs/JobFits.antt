@@ -10,10 +10,10 @@ use Rattle.std.proofs.lemmas.List.Elements.{All-append, All-from_recursion, All-
 use Rattle.std.proofs.lemmas.List.Elements.{recursion_from_All}
 use Rattle.std.proofs.lemmas.List.Sums.{sum_by-cons, sum_by-take-le}
 use Rattle.std.specs.List.{AllByRecursion}
-use Rattle.pram_text.specs.declared.instr.Instr.{Instr}
-use Rattle.pram_text.specs.declared.limits.TheConstants.{MAX_CODE}
-use Rattle.pram_text.specs.Instructions.{IsArray}
-use Rattle.pram_text.specs.Job.{IsInstr, IsJob}
+use Rattle.pram_job.specs.declared.instr.Instr.{Instr}
+use Rattle.pram_job.specs.declared.limits.TheConstants.{MAX_CODE}
+use Rattle.pram_job.specs.Instructions.{IsArray}
+use Rattle.pram_job.specs.Job.{IsInstr, IsJob}
 use Rattle.pardo_text.specs.declared.statement.Line.{Line}
 use Rattle.pardo_text.specs.Lawful.{AreArrays, IsLine, IsPrivate, IsProgram, bounds_of}
 use Rattle.pardo_text.specs.Program.{ArrayData, PrivateData, ProgramData, shared_cells}

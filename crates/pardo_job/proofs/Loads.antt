@@ -1,9 +1,9 @@
 -- A register that code may give a value is one for values.
 use Rattle.std.proofs.Common.{◌≡◌, ℕ, ◌<◌, true, [], ◌∷◌, ap, if◌then◌else◌}
 use Rattle.std.proofs.lemmas.Bool.{lt-ltb}
-use Rattle.pram_text.specs.declared.instr.Instr.TheVariants.{Ld}
-use Rattle.pram_text.specs.declared.instr.Operand.TheVariants.{Register}
-use Rattle.pram_text.specs.declared.instr.Place.{Place}
+use Rattle.pram_job.specs.declared.instr.Instr.TheVariants.{Ld}
+use Rattle.pram_job.specs.declared.instr.Operand.TheVariants.{Register}
+use Rattle.pram_job.specs.declared.instr.Place.{Place}
 use Rattle.pardo_job.specs.Operations.{is_shallow, taken_by}
 use Rattle.pardo_job.proofs.Shallow.{shallow_target}
 

@@ -2,9 +2,9 @@
 use Rattle.std.proofs.Common.{◌≡◌, ℕ, ◌+◌, subst, ◌&&◌, List, [], ◌∷◌, ◌++◌, refl, sym, ap, ◌∙◌}
 use Rattle.std.proofs.Common.{append_assoc, append-nil, arith}
 use Rattle.std.proofs.lemmas.List.Sums.{sum_by-cons}
-use Rattle.pram_text.specs.declared.instr.Instr.{Instr}
-use Rattle.pram_text.specs.declared.instr.Instr.TheVariants.{Ld}
-use Rattle.pram_text.specs.declared.instr.Place.TheVariants.{Named}
+use Rattle.pram_job.specs.declared.instr.Instr.{Instr}
+use Rattle.pram_job.specs.declared.instr.Instr.TheVariants.{Ld}
+use Rattle.pram_job.specs.declared.instr.Place.TheVariants.{Named}
 use Rattle.pardo_text.specs.declared.expression.Node.{Node}
 use Rattle.pardo_text.specs.declared.expression.Node.TheVariants.{Place, Apply}
 use Rattle.pardo_text.specs.Expression.{Tree, number, own, loop, private, place, apply, postfix}

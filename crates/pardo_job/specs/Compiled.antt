@@ -1,8 +1,8 @@
 -- What the compiler makes of a program: the job of the definitions, with the steps of its run.
 use Rattle.std.specs.Prelude.{◌≡◌, ℕ, ◌+◌, ◌<◌, ◌⊎◌, true, List, slice_get, Some}
-use Rattle.pram_text.specs.Job.{JobData, IsJob}
+use Rattle.pram_job.specs.Job.{JobData, IsJob}
 use Rattle.pram_step.specs.declared.answer.Fault.{Fault}
-use Rattle.pram_step.specs.Machine.{AllStopped}
+use Rattle.pram_machine.specs.Machine.{AllStopped}
 use Rattle.pram_step.specs.Runs.{state_after, IsReached, IsFirstConflict}
 use Rattle.pardo_text.specs.declared.statement.Line.{Line}
 use Rattle.pardo_text.specs.Program.{ProgramData}

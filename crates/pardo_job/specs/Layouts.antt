@@ -3,7 +3,7 @@
 use Rattle.std.specs.Prelude.{ℕ, ◌+◌, ◌-◌, ◌*◌, List, ◌++◌, length, map, max}
 use Rattle.std.specs.Prelude.{replicate, slice_get, Some, None}
 use Rattle.std.specs.List.{flat_map}
-use Rattle.pram_text.specs.declared.instr.Array.{Array}
+use Rattle.pram_job.specs.declared.instr.Array.{Array}
 use Rattle.pardo_text.specs.Program.{ProgramData, ArrayData, shared_cells}
 
 pub record LayoutData : Type 0 where

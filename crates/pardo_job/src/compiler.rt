@@ -1,6 +1,6 @@
 //! The compiler.
 ghost use Rattle.std.specs.Prelude.{◌≡◌, Ok, IfOk, IfErr, slice_index};
-ghost use Rattle.pram_text.specs.Job.{IsJob};
+ghost use Rattle.pram_job.specs.Job.{IsJob};
 ghost use Rattle.pardo_text.specs.Lawful.{IsProgram};
 ghost use Rattle.pardo_text.specs.Reading.{program_of};
 ghost use Rattle.pardo_job.specs.Compiled.{IsCompiled};
@@ -14,7 +14,7 @@ use crate::layout::Layout;
 use crate::lines::Listing;
 use crate::run::{Ending, ending_of};
 use pardo_text::{Program, Rule, laws, read_program};
-use pram_text::Job;
+use pram_job::Job;
 use std::alloc::{AllocError, Global};
 use std::marker::Model;
 
@@ -133,12 +133,12 @@ fn start_values(alloc: Global, program: &Program, layout: &Layout) -> Result<Vec
 }
 
 // The machine's name of a rule.
-fn machine_rule(rule: Rule) -> pram_text::Rule
+fn machine_rule(rule: Rule) -> pram_job::Rule
     ensures { result ≡ machine_rule rule }
 {
     match rule {
-        Rule::Common => pram_text::Rule::Common,
-        Rule::Priority => pram_text::Rule::Priority,
-        Rule::Crew => pram_text::Rule::Crew,
+        Rule::Common => pram_job::Rule::Common,
+        Rule::Priority => pram_job::Rule::Priority,
+        Rule::Crew => pram_job::Rule::Crew,
     }
 }

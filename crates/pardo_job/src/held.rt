@@ -2,7 +2,7 @@
 ghost use Rattle.std.specs.Prelude.{◌≡◌, ◌+◌, ◌<◌, ◌≤◌, ◌++◌, ◌∷◌, [], sum_by, vec_len, OnOk};
 ghost use Rattle.pardo_job.specs.Operations.{taken_by};
 
-use pram_text::Operand;
+use pram_job::Operand;
 use std::alloc::{AllocError, Global};
 
 /// The register that holds a processor's own number throughout. Those below it are for values.

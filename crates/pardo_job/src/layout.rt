@@ -7,7 +7,7 @@ ghost use Rattle.pardo_job.specs.Layouts.{array_cells, cell_count, layout_of, lo
 ghost use Rattle.pardo_job.specs.Layouts.{mask_cells, private_cells, row};
 
 use pardo_text::Program;
-use pram_text::Array;
+use pram_job::Array;
 use std::alloc::{AllocError, Global};
 use std::marker::Model;
 
@@ -25,7 +25,7 @@ pub(crate) struct Layout {
 impl Model for Layout {
     ghost use Rattle.std.specs.Prelude.{◌+◌, ◌*◌, ◌≤◌};
     ghost use Rattle.std.specs.Coded.{codes};
-    ghost use Rattle.pram_text.specs.contracts.instr.Array as a;
+    ghost use Rattle.pram_job.specs.contracts.instr.Array as a;
     ghost use Rattle.pardo_job.specs.Layouts.{LayoutData};
 
     ghost Value = { LayoutData };

@@ -1,8 +1,8 @@
 //! The code of lines. After each line all processors that are not gone stand at one place.
 ghost use Rattle.std.specs.Prelude.{◌≡◌, ◌+◌, ◌<◌, ◌≤◌, ◌^◌, ◌∷◌, [], ◌++◌, true, length};
 ghost use Rattle.std.specs.Prelude.{slice_index, vec_len};
-ghost use Rattle.pram_text.specs.declared.limits.TheConstants.{MAX_CODE as MOST};
-ghost use Rattle.pram_text.specs.declared.instr.Instr.TheVariants.{Jz as JzTo, Jmp as JmpTo};
+ghost use Rattle.pram_job.specs.declared.limits.TheConstants.{MAX_CODE as MOST};
+ghost use Rattle.pram_job.specs.declared.instr.Instr.TheVariants.{Jz as JzTo, Jmp as JmpTo};
 ghost use Rattle.pardo_text.specs.Lawful.{IsLine, IsProgram, IsStatement, bounds_of};
 ghost use Rattle.pardo_job.specs.Inner.Emitting.{Puts};
 ghost use Rattle.pardo_job.specs.Inner.Pieces.{PutsLine, choice_code, rest_code, under};
@@ -20,8 +20,8 @@ use crate::pieces::{
 };
 use crate::values::put_value;
 use pardo_text::{Line, Program, Statement};
-use pram_text::limits::MAX_CODE;
-use pram_text::{Instr, Operand};
+use pram_job::limits::MAX_CODE;
+use pram_job::{Instr, Operand};
 use std::alloc::Global;
 
 /// A program with the layout of its cells, and the places of its lines in the code, as far as they

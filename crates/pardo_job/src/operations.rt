@@ -11,7 +11,7 @@ ghost use Rattle.pardo_job.specs.Operations.{gives_truth, chosen_of, is_max};
 use crate::fault::JobKind;
 use crate::held::{Held, OWN, taken_by};
 use pardo_text::Op;
-use pram_text::{Instr, Operand, Operands};
+use pram_job::{Instr, Operand, Operands};
 
 /// The code of an operation of two values at hand.
 #[tactic(auto, unfolding(crate::specs::Operations::operation_code))]

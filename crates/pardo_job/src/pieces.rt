@@ -2,8 +2,8 @@
 //! from the first one on.
 ghost use Rattle.std.specs.Prelude.{◌≡◌, ◌<◌, if◌then◌else◌, ◌∷◌, [], true};
 ghost use Rattle.std.specs.Prelude.{IfErr, IfOk, OnOk};
-ghost use Rattle.pram_text.specs.declared.instr.Operand.TheVariants.{Register};
-ghost use Rattle.pram_text.specs.declared.instr.Instr.TheVariants.{St};
+ghost use Rattle.pram_job.specs.declared.instr.Operand.TheVariants.{Register};
+ghost use Rattle.pram_job.specs.declared.instr.Instr.TheVariants.{St};
 ghost use Rattle.pardo_text.specs.declared.operation.Op.TheVariants as op;
 ghost use Rattle.pardo_job.specs.Inner.Emitting.{IsFaultOf, Puts};
 ghost use Rattle.pardo_job.specs.Inner.Pieces.{IsLawfulTarget};
@@ -20,7 +20,7 @@ use crate::layout::Layout;
 use crate::operations::{put, put_native, put_register};
 use crate::values::put_value;
 use pardo_text::{Expr, Op, Target};
-use pram_text::{Array, Instr, Operand, Place};
+use pram_job::{Array, Instr, Operand, Place};
 use std::alloc::Global;
 
 /// An assignment: the value, then the index, and last the store.

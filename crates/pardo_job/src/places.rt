@@ -1,6 +1,6 @@
 //! The places of lines in the code, and the whole code.
 ghost use Rattle.std.specs.Prelude.{◌≡◌, ◌≢◌, ◌<◌, [], IfOk, IfErr};
-ghost use Rattle.pram_text.specs.declared.limits.TheConstants.{MAX_CODE as MOST};
+ghost use Rattle.pram_job.specs.declared.limits.TheConstants.{MAX_CODE as MOST};
 ghost use Rattle.pardo_text.specs.Lawful.{IsLine, IsProgram, bounds_of};
 ghost use Rattle.pardo_job.specs.Inner.Listings.{AreAllPlaces, IsFaultAt, IsPlaceAfter};
 ghost use Rattle.pardo_job.specs.Lines.{code_of};
@@ -11,8 +11,8 @@ use crate::held::OWN;
 use crate::layout::Layout;
 use crate::lines::Listing;
 use pardo_text::{Line, Program};
-use pram_text::Instr;
-use pram_text::limits::MAX_CODE;
+use pram_job::Instr;
+use pram_job::limits::MAX_CODE;
 use std::alloc::{AllocError, Global};
 
 impl<'p> Listing<'p> {

@@ -1,13 +1,13 @@
 //! After how many steps a job is over.
 ghost use Rattle.std.specs.Prelude.{◌≡◌, length, IfOk, IfNone, IfSome};
-ghost use Rattle.pram_step.specs.Machine.{AllStopped};
-ghost use Rattle.pram_step.specs.Machine.{place_count};
+ghost use Rattle.pram_machine.specs.Machine.{AllStopped};
+ghost use Rattle.pram_machine.specs.Machine.{place_count};
 ghost use Rattle.pardo_job.specs.Inner.Endings.{IsEnding};
 ghost use Rattle.pardo_job.specs.Refusals.{IsFirstRunning};
 
 use crate::limits::MAX_STEPS;
+use pram_job::Job;
 use pram_step::{State, counter, laws, make_step};
-use pram_text::Job;
 use std::alloc::{AllocError, Global};
 
 /// How a job ends.

@@ -1,8 +1,8 @@
 //! The code of expressions.
 ghost use Rattle.std.specs.Prelude.{◌≡◌, ◌+◌, ◌≤◌, ◌++◌, ◌∷◌, [], OnOk, IfOk, false};
-ghost use Rattle.pram_text.specs.declared.instr.Instr.TheVariants.{Ld};
-ghost use Rattle.pram_text.specs.declared.instr.Operand.TheVariants.{Register};
-ghost use Rattle.pram_text.specs.declared.instr.Place.TheVariants.{Named};
+ghost use Rattle.pram_job.specs.declared.instr.Instr.TheVariants.{Ld};
+ghost use Rattle.pram_job.specs.declared.instr.Operand.TheVariants.{Register};
+ghost use Rattle.pram_job.specs.declared.instr.Place.TheVariants.{Named};
 ghost use Rattle.pardo_job.specs.Inner.Emitting.{Puts};
 ghost use Rattle.pardo_job.specs.Inner.Nodes.{CanTake, Takes, held_of};
 ghost use Rattle.pardo_job.specs.Lawful.{IsLawful};
@@ -14,7 +14,7 @@ use crate::held::{Held, OWN, Stack};
 use crate::layout::Layout;
 use crate::operations::{gives_truth, put, put_operation};
 use pardo_text::{Expr, Node};
-use pram_text::{Array, Instr, Operand, Place};
+use pram_job::{Array, Instr, Operand, Place};
 use std::alloc::Global;
 
 /// The code of an expression, by the registers from `at` on: where its value is.

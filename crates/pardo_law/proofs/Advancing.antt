@@ -8,12 +8,12 @@ use Rattle.std.proofs.Math.Seq.{take-length}
 use Rattle.std.specs.Option.{is_none, option_map, option_and_then}
 use Rattle.std.proofs.lemmas.Bool.{ne_eqb, eq-eqb, cases_Bool, cases_lt}
 use Rattle.std.proofs.lemmas.Option.{none-some, some_pair_parts}
-use Rattle.pram_text.specs.declared.instr.Instr.{Instr}
-use Rattle.pram_text.specs.declared.instr.Instr.TheVariants.{St, Jz, Jmp, Eq, Lt}
-use Rattle.pram_text.specs.declared.instr.Operand.TheVariants.{Register, Number}
-use Rattle.pram_text.specs.declared.instr.Place.TheVariants.{Named}
-use Rattle.pram_text.specs.Job.{JobData}
-use Rattle.pram_step.specs.Machine.{counter, out_of_range}
+use Rattle.pram_job.specs.declared.instr.Instr.{Instr}
+use Rattle.pram_job.specs.declared.instr.Instr.TheVariants.{St, Jz, Jmp, Eq, Lt}
+use Rattle.pram_job.specs.declared.instr.Operand.TheVariants.{Register, Number}
+use Rattle.pram_job.specs.declared.instr.Place.TheVariants.{Named}
+use Rattle.pram_job.specs.Job.{JobData}
+use Rattle.pram_machine.specs.Machine.{counter, out_of_range}
 use Rattle.pram_step.specs.Runs.{state_after}
 use Rattle.pardo_text.specs.declared.statement.Statement.{Statement}
 use Rattle.pardo_text.specs.declared.statement.Statement.TheVariants.{Assign, If, Else, EndIf, For}

@@ -6,12 +6,12 @@ use Rattle.std.proofs.Common.{length-append}
 use Rattle.std.specs.Prelude.{slice_get}
 use Rattle.std.specs.Option.{option_map}
 use Rattle.std.proofs.lemmas.Bool.{lt-ltb}
-use Rattle.pram_text.specs.declared.instr.Array.{Array}
-use Rattle.pram_text.specs.declared.instr.Instr.{Instr}
-use Rattle.pram_text.specs.declared.instr.Instr.TheVariants.{St, Jz, Jmp}
-use Rattle.pram_text.specs.declared.instr.Operand.{Operand}
-use Rattle.pram_text.specs.declared.instr.Operand.TheVariants.{Register}
-use Rattle.pram_text.specs.Job.{JobData}
+use Rattle.pram_job.specs.declared.instr.Array.{Array}
+use Rattle.pram_job.specs.declared.instr.Instr.{Instr}
+use Rattle.pram_job.specs.declared.instr.Instr.TheVariants.{St, Jz, Jmp}
+use Rattle.pram_job.specs.declared.instr.Operand.{Operand}
+use Rattle.pram_job.specs.declared.instr.Operand.TheVariants.{Register}
+use Rattle.pram_job.specs.Job.{JobData}
 use Rattle.pardo_job.specs.Layouts.{LayoutData, mask_cells}
 use Rattle.pardo_job.specs.Lines.{idle, own_store}
 use Rattle.pardo_job.specs.Straight.{Registers, put, operand_in, after_one, after_all}

@@ -6,11 +6,11 @@ use Rattle.std.proofs.Common.{append_assoc, unwrap_or}
 use Rattle.std.specs.Prelude.{slice_get, is_some}
 use Rattle.std.specs.List.{All}
 use Rattle.std.proofs.lemmas.Option.{slice_get_within, unwrap_or-slice_get}
-use Rattle.pram_text.specs.declared.instr.Instr.{Instr}
-use Rattle.pram_text.specs.declared.instr.Instr.TheVariants.{St, Jz, Jmp}
-use Rattle.pram_text.specs.declared.instr.Rule.{Rule}
-use Rattle.pram_text.specs.declared.instr.Place.TheVariants.{Named}
-use Rattle.pram_text.specs.Job.{JobData}
+use Rattle.pram_job.specs.declared.instr.Instr.{Instr}
+use Rattle.pram_job.specs.declared.instr.Instr.TheVariants.{St, Jz, Jmp}
+use Rattle.pram_job.specs.declared.instr.Rule.{Rule}
+use Rattle.pram_job.specs.declared.instr.Place.TheVariants.{Named}
+use Rattle.pram_job.specs.Job.{JobData}
 use Rattle.pram_step.specs.Steps as machine
 use Rattle.pardo_text.specs.declared.program.Rule.{Rule as SourceRule}
 use Rattle.pardo_text.specs.declared.program.Rule.TheVariants.{Common, Priority, Crew}

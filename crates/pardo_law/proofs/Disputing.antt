@@ -3,10 +3,10 @@ use Rattle.std.proofs.Common.{◌≡◌, ℕ, suc, ◌+◌, ◌-◌, ◌<◌, �
 use Rattle.std.proofs.Common.{refl, sym, ap, ◌∙◌, subst, inl, inr, ⊎_elim, arith, length}
 use Rattle.std.specs.Prelude.{slice_get, is_some}
 use Rattle.std.proofs.lemmas.Option.{none-some, slice_get_within}
-use Rattle.pram_text.specs.Job.{JobData}
+use Rattle.pram_job.specs.Job.{JobData}
 use Rattle.pram_step.specs.declared.answer.Dispute.{Dispute as Disputed}
-use Rattle.pram_step.specs.Instructions.{requests_in}
-use Rattle.pram_step.specs.Machine.{counter}
+use Rattle.pram_machine.specs.Instructions.{requests_in}
+use Rattle.pram_machine.specs.Machine.{counter}
 use Rattle.pram_step.specs.Runs.{state_after, IsReached, AgreesAfter, IsFirstConflict}
 use Rattle.pram_step.specs.Steps as machine
 use Rattle.pram_step.proofs.LawDisputes.{agrees_or_dispute}

@@ -1,8 +1,8 @@
 -- Steps that do nothing.
 use Rattle.std.proofs.Common.{◌≡◌, ℕ, zero, suc, ◌+◌, Some}
 use Rattle.std.proofs.Common.{refl, ap, subst, arith}
-use Rattle.pram_text.specs.declared.instr.Instr.TheVariants.{Jmp}
-use Rattle.pram_text.specs.Job.{JobData}
+use Rattle.pram_job.specs.declared.instr.Instr.TheVariants.{Jmp}
+use Rattle.pram_job.specs.Job.{JobData}
 use Rattle.pardo_job.specs.Lines.{idle}
 use Rattle.pardo_law.specs.Locals.{StandsAt, IdlingStays}
 use Rattle.pardo_job.specs.Straight.{Registers}

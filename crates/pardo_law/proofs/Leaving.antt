@@ -5,8 +5,8 @@ use Rattle.std.proofs.Common.{refl, sym, ap, ◌∙◌, subst, inl, inr, ⊎_eli
 use Rattle.std.specs.Prelude.{slice_get, is_some}
 use Rattle.std.proofs.lemmas.Bool.{cases_eq, cases_Bool}
 use Rattle.std.proofs.lemmas.Option.{none-some, same_Some}
-use Rattle.pram_text.specs.Job.{JobData}
-use Rattle.pram_step.specs.Machine.{counter, out_of_range}
+use Rattle.pram_job.specs.Job.{JobData}
+use Rattle.pram_machine.specs.Machine.{counter, out_of_range}
 use Rattle.pram_step.specs.Runs.{state_after}
 use Rattle.pardo_text.specs.declared.statement.Line.{Line}
 use Rattle.pardo_text.specs.declared.statement.Statement.{Statement}

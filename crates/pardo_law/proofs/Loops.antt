@@ -5,10 +5,10 @@ use Rattle.std.proofs.Common.{refl, sym, ap, ◌∙◌, subst, arith, if◌then�
 use Rattle.std.proofs.Common.{length-append}
 use Rattle.std.specs.Option.{option_map, is_none}
 use Rattle.std.proofs.lemmas.Bool.{eqb-true, eq-eqb, ne_eqb}
-use Rattle.pram_text.specs.declared.instr.Instr.{Instr}
-use Rattle.pram_text.specs.declared.instr.Instr.TheVariants.{St, Jz, Jmp}
-use Rattle.pram_text.specs.declared.instr.Operand.TheVariants.{Register}
-use Rattle.pram_text.specs.Job.{JobData}
+use Rattle.pram_job.specs.declared.instr.Instr.{Instr}
+use Rattle.pram_job.specs.declared.instr.Instr.TheVariants.{St, Jz, Jmp}
+use Rattle.pram_job.specs.declared.instr.Operand.TheVariants.{Register}
+use Rattle.pram_job.specs.Job.{JobData}
 use Rattle.pardo_text.specs.Expression.{Tree}
 use Rattle.pardo_text.specs.Lawful.{IsCommonTree, IsProgram, bounds_of}
 use Rattle.pardo_text.specs.Operations.{bit, value_of}

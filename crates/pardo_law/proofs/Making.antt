@@ -2,8 +2,8 @@
 use Rattle.std.proofs.Common.{◌≡◌, ℕ, zero, suc, ◌+◌, ◌<◌, List, [], ◌∷◌, ◌++◌, Option, Some, None}
 use Rattle.std.proofs.Common.{refl, sym, ap, ◌∙◌, subst, length}
 use Rattle.std.specs.Prelude.{slice_get, unwrap_or}
-use Rattle.pram_text.specs.declared.instr.Instr.{Instr}
-use Rattle.pram_text.specs.Job.{JobData, IsJob}
+use Rattle.pram_job.specs.declared.instr.Instr.{Instr}
+use Rattle.pram_job.specs.Job.{JobData, IsJob}
 use Rattle.pardo_job.specs.Straight.{Registers, after_all}
 use Rattle.pardo_law.specs.Locals.{Local, after_instr, next_local, store_by, store_of}
 use Rattle.pardo_law.specs.Locals.{IsNamed, IsNamedAt, AreStraight, StandsAt, Standing, StoresAgree}

@@ -7,11 +7,11 @@ use Rattle.std.specs.Prelude.{is_some}
 use Rattle.std.specs.Option.{option_map, option_and_then, is_none}
 use Rattle.std.proofs.Math.Bool.{and-false, and-true}
 use Rattle.std.proofs.lemmas.Bool.{eqb-true}
-use Rattle.pram_text.specs.declared.instr.Array.{Array}
-use Rattle.pram_text.specs.declared.instr.Instr.{Instr}
-use Rattle.pram_text.specs.declared.instr.Instr.TheVariants.{Jmp, Eq, Lt}
-use Rattle.pram_text.specs.declared.instr.Operand.TheVariants.{Register, Number}
-use Rattle.pram_text.specs.Job.{JobData}
+use Rattle.pram_job.specs.declared.instr.Array.{Array}
+use Rattle.pram_job.specs.declared.instr.Instr.{Instr}
+use Rattle.pram_job.specs.declared.instr.Instr.TheVariants.{Jmp, Eq, Lt}
+use Rattle.pram_job.specs.declared.instr.Operand.TheVariants.{Register, Number}
+use Rattle.pram_job.specs.Job.{JobData}
 use Rattle.pardo_text.specs.Expression.{Tree}
 use Rattle.pardo_text.specs.Lawful.{IsTree, IsProgram, bounds_of}
 use Rattle.pardo_text.specs.Operations.{bit}

@@ -4,19 +4,19 @@ use Rattle.std.proofs.Common.{refl, sym, ap, ◌∙◌, subst, inl, inr, ⊎_eli
 use Rattle.std.proofs.Common.{if◌then◌else◌}
 use Rattle.std.proofs.lemmas.Bool.{cases_lt, cases_eq, lt-ltb, le-ltb}
 use Rattle.std.proofs.lemmas.Option.{none-some, some_pair_parts}
-use Rattle.pram_text.specs.Job.{JobData, IsJob}
-use Rattle.pram_step.specs.declared.requests.Request.{Request}
-use Rattle.pram_step.specs.Machine.{State, register_place, register, counter_place, counter}
-use Rattle.pram_step.specs.Machine.{place_count}
-use Rattle.pram_step.specs.Machine.{out_of_range, IsDataPlace}
-use Rattle.pram_step.specs.Instructions.{request_in, requests_in, gives, goes_to}
+use Rattle.pram_job.specs.Job.{JobData, IsJob}
+use Rattle.pram_machine.specs.declared.requests.Request.{Request}
+use Rattle.pram_machine.specs.Machine.{State, register_place, register, counter_place, counter}
+use Rattle.pram_machine.specs.Machine.{place_count}
+use Rattle.pram_machine.specs.Machine.{out_of_range, IsDataPlace}
+use Rattle.pram_machine.specs.Instructions.{request_in, requests_in, gives, goes_to}
 use Rattle.pram_step.specs.Steps.{Writes, written, next_state}
 use Rattle.pram_step.proofs.LawWriters.{HasFirst, HasNone, writer_cases}
 use Rattle.pram_step.proofs.LawPlaces.{one_writer_value, writer_is, writes_place}
 use Rattle.pram_step.proofs.LawNext.{after_first, after_none}
 use Rattle.pram_step.proofs.LawCounters.{next_counter}
 use Rattle.pram_step.proofs.RequestList.{written_of_put, written_cases}
-use Rattle.pram_step.proofs.Shapes.{asks}
+use Rattle.pram_machine.proofs.Shapes.{asks}
 use Rattle.pardo_job.specs.Straight.{Registers, put}
 use Rattle.pardo_law.specs.Locals.{registers_of, Follows}
 use Rattle.pardo_job.proofs.Straight.{put_same, put_other}

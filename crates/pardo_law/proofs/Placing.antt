@@ -4,10 +4,10 @@ use Rattle.std.proofs.Common.{refl, sym, ap, ◌∙◌, subst, arith, length, ap
 use Rattle.std.specs.Prelude.{slice_get}
 use Rattle.std.specs.Option.{option_and_then}
 use Rattle.std.proofs.lemmas.Option.{same_Some}
-use Rattle.pram_text.specs.declared.instr.Instr.{Instr}
-use Rattle.pram_text.specs.declared.instr.Instr.TheVariants.{Ld, St, Jz, Jmp, Halt}
-use Rattle.pram_text.specs.declared.instr.Place.TheVariants.{Cell, Named}
-use Rattle.pram_text.specs.Job.{JobData}
+use Rattle.pram_job.specs.declared.instr.Instr.{Instr}
+use Rattle.pram_job.specs.declared.instr.Instr.TheVariants.{Ld, St, Jz, Jmp, Halt}
+use Rattle.pram_job.specs.declared.instr.Place.TheVariants.{Cell, Named}
+use Rattle.pram_job.specs.Job.{JobData}
 use Rattle.pardo_job.specs.Straight.{Registers, after_one, after_all}
 use Rattle.pardo_law.specs.Locals.{Local, standing_at, after_instr, after_fetched, next_local}
 use Rattle.pardo_law.specs.Locals.{store_by, store_at, IsNamed}

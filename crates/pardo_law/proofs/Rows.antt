@@ -8,10 +8,10 @@ use Rattle.std.specs.Option.{option_map}
 use Rattle.std.proofs.Math.Nat.{mul-le-mul_left}
 use Rattle.std.proofs.lemmas.Bool.{cases_order, cases_lt, lt-ltb, le-ltb}
 use Rattle.std.proofs.lemmas.Option.{none-some, same_Some, some_pair_parts, slice_get-map}
-use Rattle.pram_text.specs.declared.instr.Array.{Array}
-use Rattle.pram_text.specs.declared.instr.Rule.{Rule}
-use Rattle.pram_text.specs.declared.instr.Rule.TheVariants.{Common, Priority, Crew}
-use Rattle.pram_text.specs.Job.{JobData}
+use Rattle.pram_job.specs.declared.instr.Array.{Array}
+use Rattle.pram_job.specs.declared.instr.Rule.{Rule}
+use Rattle.pram_job.specs.declared.instr.Rule.TheVariants.{Common, Priority, Crew}
+use Rattle.pram_job.specs.Job.{JobData}
 use Rattle.pram_step.specs.Steps.{Forbids}
 use Rattle.pardo_text.specs.Lawful.{AreArrays}
 use Rattle.pardo_text.specs.Program.{ProgramData, ArrayData, shared_cells}

@@ -7,9 +7,9 @@ use Rattle.std.specs.Prelude.{slice_index, unwrap_or}
 use Rattle.std.specs.Option.{option_or}
 use Rattle.std.proofs.lemmas.Bool.{cases_lt, cases_Bool, le-ltb, eqb-true, eq-eqb}
 use Rattle.std.proofs.lemmas.Option.{none-some, same_Some}
-use Rattle.pram_text.specs.Job.{JobData, IsJob}
-use Rattle.pram_step.specs.Machine.{State, place_count}
-use Rattle.pram_step.specs.Instructions.{request_in, requests_in}
+use Rattle.pram_job.specs.Job.{JobData, IsJob}
+use Rattle.pram_machine.specs.Machine.{State, place_count}
+use Rattle.pram_machine.specs.Instructions.{request_in, requests_in}
 use Rattle.pram_step.specs.Steps.{Writes, written, next_state}
 use Rattle.pram_step.specs.Runs.{state_after, AgreesAfter}
 use Rattle.pram_step.proofs.LawFixed.{length-state_after, reached_more}
@@ -17,7 +17,7 @@ use Rattle.pram_step.proofs.LawWriters.{HasFirst, HasNone, writer_cases}
 use Rattle.pram_step.proofs.LawPlaces.{writer_is}
 use Rattle.pram_step.proofs.LawNext.{after_first, after_none}
 use Rattle.pram_step.proofs.RequestList.{put_of_written, written_of_put}
-use Rattle.pram_step.proofs.Shapes.{asks}
+use Rattle.pram_machine.proofs.Shapes.{asks}
 use Rattle.pardo_job.specs.Meaning.{first_below, given_to}
 use Rattle.pardo_law.specs.Locals.{Local, memory_of, IsLocal, next_local, store_of, IsNamedAt}
 use Rattle.pardo_law.specs.Locals.{Follows}

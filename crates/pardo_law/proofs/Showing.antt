@@ -4,10 +4,10 @@ use Rattle.std.proofs.Common.{refl, sym, ap, ◌∙◌, subst, inl, inr, ⊎_eli
 use Rattle.std.specs.Prelude.{IsTrue, slice_index, is_some}
 use Rattle.std.specs.Option.{is_none}
 use Rattle.std.proofs.lemmas.Bool.{cases_lt, cases_order}
-use Rattle.pram_text.specs.declared.instr.Instr.TheVariants.{Halt}
-use Rattle.pram_text.specs.Job.{JobData}
-use Rattle.pram_step.specs.Machine.{AllStopped}
-use Rattle.pram_step.specs.Machine.{State, register, counter, halted, out_of_range, IsStopped}
+use Rattle.pram_job.specs.declared.instr.Instr.TheVariants.{Halt}
+use Rattle.pram_job.specs.Job.{JobData}
+use Rattle.pram_machine.specs.Machine.{AllStopped}
+use Rattle.pram_machine.specs.Machine.{State, register, counter, halted, out_of_range, IsStopped}
 use Rattle.pram_step.specs.Runs.{state_after, IsStateAfter, IsFirstConflict, AgreesAfter}
 use Rattle.pram_step.specs.Runs as machine
 use Rattle.pram_step.proofs.LawStopped.{stopped_stays, stopped_later}

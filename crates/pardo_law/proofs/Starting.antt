@@ -11,9 +11,9 @@ use Rattle.std.proofs.Math.Seq.{get_or-append_right}
 use Rattle.std.proofs.lemmas.Bool.{cases_lt, lt-ltb, le-ltb}
 use Rattle.std.proofs.lemmas.List.{get_or_append_left, get_or-append-add, get_or_past}
 use Rattle.std.proofs.lemmas.List.Concat.{length-flat_map}
-use Rattle.pram_text.specs.declared.instr.Instr.TheVariants.{Pid}
-use Rattle.pram_text.specs.Job.{JobData}
-use Rattle.pram_step.specs.Machine.{start, register}
+use Rattle.pram_job.specs.declared.instr.Instr.TheVariants.{Pid}
+use Rattle.pram_job.specs.Job.{JobData}
+use Rattle.pram_machine.specs.Machine.{start, register}
 use Rattle.pram_step.specs.Runs.{state_after}
 use Rattle.pardo_text.specs.Lawful.{IsPrivate}
 use Rattle.pardo_text.specs.Operations.{bit}

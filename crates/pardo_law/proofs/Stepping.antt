@@ -4,21 +4,21 @@ use Rattle.std.proofs.Common.{true, false, ◌∷◌, Option, Some, None}
 use Rattle.std.proofs.Common.{refl, sym, ap, ◌∙◌, arith, if◌then◌else◌, length, map, ⊎_elim}
 use Rattle.std.specs.Prelude.{slice_get, slice_index, bit_and, bit_or, bit_xor}
 use Rattle.std.proofs.lemmas.Bool.{lt-ltb, le-ltb, cases_lt}
-use Rattle.pram_text.specs.declared.instr.Array.{Array}
-use Rattle.pram_text.specs.declared.instr.Instr.{Instr}
-use Rattle.pram_text.specs.declared.instr.Instr.TheVariants.{Set, Pid, Add, Sub, Mul, And, Or, Xor}
-use Rattle.pram_text.specs.declared.instr.Instr.TheVariants.{Lt, Eq, Shl, Shr, Ld, St, Jz, Jmp}
-use Rattle.pram_text.specs.declared.instr.Instr.TheVariants.{Halt}
-use Rattle.pram_text.specs.declared.instr.Operand.{Operand}
-use Rattle.pram_text.specs.declared.instr.Operand.TheVariants.{Register, Number}
-use Rattle.pram_text.specs.declared.instr.Place.TheVariants.{Cell, Named}
-use Rattle.pram_text.specs.Instructions.{IsOperand, IsArray}
-use Rattle.pram_text.specs.Job.{JobData, IsJob, IsInstr}
-use Rattle.pram_step.specs.declared.requests.Request.{Request}
-use Rattle.pram_step.specs.Instructions.{decided, decided_in, gives, goes_to, within, request_in}
-use Rattle.pram_step.specs.Instructions.{value_of, registers_in, shifted}
-use Rattle.pram_step.specs.Machine.{State, register, counter, out_of_range, halted, place_count}
-use Rattle.pram_step.proofs.Shapes.{instr_is}
+use Rattle.pram_job.specs.declared.instr.Array.{Array}
+use Rattle.pram_job.specs.declared.instr.Instr.{Instr}
+use Rattle.pram_job.specs.declared.instr.Instr.TheVariants.{Set, Pid, Add, Sub, Mul, And, Or, Xor}
+use Rattle.pram_job.specs.declared.instr.Instr.TheVariants.{Lt, Eq, Shl, Shr, Ld, St, Jz, Jmp}
+use Rattle.pram_job.specs.declared.instr.Instr.TheVariants.{Halt}
+use Rattle.pram_job.specs.declared.instr.Operand.{Operand}
+use Rattle.pram_job.specs.declared.instr.Operand.TheVariants.{Register, Number}
+use Rattle.pram_job.specs.declared.instr.Place.TheVariants.{Cell, Named}
+use Rattle.pram_job.specs.Instructions.{IsOperand, IsArray}
+use Rattle.pram_job.specs.Job.{JobData, IsJob, IsInstr}
+use Rattle.pram_machine.specs.declared.requests.Request.{Request}
+use Rattle.pram_machine.specs.Instructions.{decided, decided_in, gives, goes_to, within, request_in}
+use Rattle.pram_machine.specs.Instructions.{value_of, registers_in, shifted}
+use Rattle.pram_machine.specs.Machine.{State, register, counter, out_of_range, halted, place_count}
+use Rattle.pram_machine.proofs.Shapes.{instr_is}
 use Rattle.pram_step.proofs.LawStopped.{stopped_request}
 use Rattle.pardo_text.specs.Operations.{bit}
 use Rattle.pardo_job.specs.Straight.{Registers, put, operand_in}

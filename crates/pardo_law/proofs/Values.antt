@@ -5,13 +5,13 @@ use Rattle.std.proofs.Common.{refl, sym, ap, ◌∙◌, subst, inl, inr, arith, 
 use Rattle.std.proofs.Common.{append_assoc, unwrap_or}
 use Rattle.std.specs.Option.{option_map, option_and_then}
 use Rattle.std.proofs.lemmas.Bool.{lt-ltb, le-ltb}
-use Rattle.pram_text.specs.declared.instr.Array.{Array}
-use Rattle.pram_text.specs.declared.instr.Instr.{Instr}
-use Rattle.pram_text.specs.declared.instr.Instr.TheVariants.{St, Sub}
-use Rattle.pram_text.specs.declared.instr.Operand.{Operand}
-use Rattle.pram_text.specs.declared.instr.Operand.TheVariants.{Register}
-use Rattle.pram_text.specs.declared.instr.Place.TheVariants.{Named}
-use Rattle.pram_text.specs.Job.{JobData}
+use Rattle.pram_job.specs.declared.instr.Array.{Array}
+use Rattle.pram_job.specs.declared.instr.Instr.{Instr}
+use Rattle.pram_job.specs.declared.instr.Instr.TheVariants.{St, Sub}
+use Rattle.pram_job.specs.declared.instr.Operand.{Operand}
+use Rattle.pram_job.specs.declared.instr.Operand.TheVariants.{Register}
+use Rattle.pram_job.specs.declared.instr.Place.TheVariants.{Named}
+use Rattle.pram_job.specs.Job.{JobData}
 use Rattle.pardo_text.specs.Expression.{Tree, number, own, loop, private, place, apply}
 use Rattle.pardo_text.specs.Lawful.{IsTree, IsCommonTree, IsProgram, bounds_of}
 use Rattle.pardo_text.specs.Operations.{bit, value_of}

@@ -3,12 +3,12 @@ use Rattle.std.specs.Prelude.{◌≡◌, ℕ, suc, ◌+◌, ◌<◌, ◌==◌, n
 use Rattle.std.specs.Prelude.{List, [], ◌∷◌, unwrap_or}
 use Rattle.std.specs.Option.{option_and_then}
 use Rattle.std.specs.Prelude.{length, slice_get, slice_index, Option, Some, None}
-use Rattle.pram_text.specs.declared.instr.Instr.{Instr}
-use Rattle.pram_text.specs.declared.instr.Instr.TheVariants.{Ld, St, Jz, Jmp, Halt}
-use Rattle.pram_text.specs.declared.instr.Place.TheVariants.{Cell, Named}
-use Rattle.pram_text.specs.Job.{JobData, IsJob}
-use Rattle.pram_step.specs.Instructions.{request_in}
-use Rattle.pram_step.specs.Machine.{State, register, counter, out_of_range, halted, place_count}
+use Rattle.pram_job.specs.declared.instr.Instr.{Instr}
+use Rattle.pram_job.specs.declared.instr.Instr.TheVariants.{Ld, St, Jz, Jmp, Halt}
+use Rattle.pram_job.specs.declared.instr.Place.TheVariants.{Cell, Named}
+use Rattle.pram_job.specs.Job.{JobData, IsJob}
+use Rattle.pram_machine.specs.Instructions.{request_in}
+use Rattle.pram_machine.specs.Machine.{State, register, counter, out_of_range, halted, place_count}
 use Rattle.pram_step.specs.Runs.{state_after, IsReached}
 use Rattle.pram_step.specs.Steps.{Forbids, next_state}
 use Rattle.pardo_text.specs.Expression.{Tree}

@@ -10,7 +10,7 @@ use mathlib.Core.Path.{fun_ext}
 use Rattle.pardo_text.specs.declared.names.Named.{Named}
 use Rattle.pardo_text.specs.Inner.Drafts.{loops_in}
 use Rattle.pardo_text.specs.Inner.Names.{names_in}
-use Rattle.pram_text.specs.Lines.{Word}
+use Rattle.text_lines.specs.Lines.{Word}
 use Rattle.pardo_text.specs.Names.{named, unnamed}
 
 pub names_in-insert : (old new : BTreeMap (Bor Word) Named) (word : Word) (thing : Named) →

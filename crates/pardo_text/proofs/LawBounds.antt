@@ -15,7 +15,7 @@ use Rattle.pardo_text.specs.declared.statement.Target.TheVariants as target
 use Rattle.pardo_text.specs.Expression.{Tree, number, own, loop, private, place, apply}
 use Rattle.pardo_text.specs.Expressions.{applied, joined, constant_of, is_zero}
 use Rattle.pardo_text.specs.Lawful.{Bounds, IsTree, IsCommonTree, IsTarget, IsStatement, IsLine}
-use Rattle.pram_text.specs.Lines.{Word}
+use Rattle.text_lines.specs.Lines.{Word}
 use Rattle.pardo_text.specs.Names.{Names, admits, divides, tree_from}
 use Rattle.pardo_text.specs.Operations.{level_of, is_division, value_of}
 use Rattle.pardo_text.proofs.Ifs.{ok_if}

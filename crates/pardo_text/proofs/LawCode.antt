@@ -25,7 +25,7 @@ use Rattle.pardo_text.specs.Expression.{Tree}
 use Rattle.pardo_text.specs.Expressions.{new_name, rest_after}
 use Rattle.pardo_text.specs.Expressions.{indexed, expression_at}
 use Rattle.pardo_text.specs.Lawful.{Bounds, IsTree, IsCommonTree, IsTarget, IsStatement, masks_of}
-use Rattle.pram_text.specs.Lines.{Word}
+use Rattle.text_lines.specs.Lines.{Word}
 use Rattle.pardo_text.specs.Names.{Names, divides}
 use Rattle.pardo_text.specs.Program.{shared_cells}
 use Rattle.pardo_text.specs.Tokens.{Token, name, symbol}

@@ -26,7 +26,7 @@ use Rattle.pardo_text.specs.Drafts.{with_line, with_block, with_loop, without, e
 use Rattle.pardo_text.specs.Drafts.{with_end, thing_of}
 use Rattle.pardo_text.specs.Lawful.{Bounds, IsStatement, IsLine, AreNumbers, AreArrays, IsPrivate}
 use Rattle.pardo_text.specs.Lawful.{masks_of}
-use Rattle.pram_text.specs.Lines.{Word}
+use Rattle.text_lines.specs.Lines.{Word}
 use Rattle.pardo_text.specs.Names.{Names, named, unnamed}
 use Rattle.pardo_text.specs.Program.{ArrayData, shared_cells, array_after}
 use Rattle.pardo_text.proofs.Ifs.{ok_if}

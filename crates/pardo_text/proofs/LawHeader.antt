@@ -18,7 +18,7 @@ use Rattle.pardo_text.specs.Header.{length_at, shared_line, private_start, priva
 use Rattle.pardo_text.specs.Header.{header_line}
 use Rattle.pardo_text.specs.declared.program.Rule.{Rule}
 use Rattle.pardo_text.specs.Lawful.{AreNumbers}
-use Rattle.pram_text.specs.Lines.{Word}
+use Rattle.text_lines.specs.Lines.{Word}
 use Rattle.pardo_text.specs.Names.{Names}
 use Rattle.pardo_text.specs.Program.{shared_cells}
 use Rattle.pardo_text.specs.Tokens.{Token, name, number as literal, symbol}

@@ -12,7 +12,7 @@ use Rattle.pardo_text.specs.declared.statement.Line.{Line}
 use Rattle.pardo_text.specs.Drafts.{Draft, empty}
 use Rattle.pardo_text.specs.Laws.{ProgramsAreLawful}
 use Rattle.pardo_text.specs.Lawful.{IsProgram, IsPrivate, IsLine}
-use Rattle.pram_text.specs.Lines.{lines_of, is_allowed, said_in}
+use Rattle.text_lines.specs.Lines.{lines_of, is_allowed, said_in}
 use Rattle.pardo_text.specs.Reading.{line_at, with_tokens, with_text_line, finished, program_in}
 use Rattle.pardo_text.specs.Reading.{on_line, and_then, program_after, program_of}
 use Rattle.pardo_text.specs.Tokens.{Token, tokens_of}

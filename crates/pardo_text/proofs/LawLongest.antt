@@ -11,7 +11,7 @@ use Rattle.std.proofs.lemmas.List.{take-append-le, length-take, length-drop, len
 use Rattle.std.proofs.lemmas.Slice.Eq.{bytes_eq-Decides}
 use Rattle.pardo_text.specs.declared.symbol.Symbol.{Symbol}
 use Rattle.pardo_text.specs.Laws.{TokensAreLongest}
-use Rattle.pram_text.specs.Lines.{Word}
+use Rattle.text_lines.specs.Lines.{Word}
 use Rattle.pardo_text.specs.Tokens.{Token, symbol, marks, mark_by, run_len, begins_name}
 use Rattle.pardo_text.specs.Tokens.{is_of_name, token_at}
 use Rattle.pardo_text.proofs.Runs.{unwrap_or-position}

@@ -29,7 +29,7 @@ use Rattle.pardo_text.specs.Header.{version_line, rule_named, rule_line, const_l
 use Rattle.pardo_text.specs.Header.{length_at, shared_line, private_start, private_line, code_line}
 use Rattle.pardo_text.specs.Header.{header_line}
 use Rattle.pardo_text.specs.Laws.{ProgramsAreNested}
-use Rattle.pram_text.specs.Lines.{Word, lines_of, is_allowed, said_in}
+use Rattle.text_lines.specs.Lines.{Word, lines_of, is_allowed, said_in}
 use Rattle.pardo_text.specs.Names.{Names}
 use Rattle.pardo_text.specs.Nested.{IsNested, Stands, opened_by, around, loop_begin, loop_end}
 use Rattle.pardo_text.specs.Nested.{loops_of, EndsAreTied, Leads}

@@ -6,7 +6,7 @@ use Rattle.std.proofs.lemmas.Bool.{cases_Bool, and_parts}
 use Rattle.std.proofs.lemmas.List.Folds.{list_all-append}
 use Rattle.pardo_text.specs.Laws.{SayTheSame, CommentsSayNothing, IndentationSaysNothing}
 use Rattle.pardo_text.specs.Laws.{EmptyLinesSayNothing}
-use Rattle.pram_text.specs.Lines.{is_allowed, is_blank, said_in}
+use Rattle.text_lines.specs.Lines.{is_allowed, is_blank, said_in}
 use Rattle.pardo_text.specs.Reading.{with_text_line}
 use Rattle.pardo_text.specs.Tokens.{tokens_of}
 

@@ -16,7 +16,7 @@ use Rattle.pardo_text.specs.Expressions.{indexed, applied, joined}
 use Rattle.pardo_text.specs.Expressions.{pair_at, used_at, place_at}
 use Rattle.pardo_text.specs.Expressions.{named_at, operand_at, operator_at, chained, turns_at}
 use Rattle.pardo_text.specs.Expressions.{level_at, within_at, expression_at, log_of, fixed_value}
-use Rattle.pram_text.specs.Lines.{Word}
+use Rattle.text_lines.specs.Lines.{Word}
 use Rattle.pardo_text.specs.Names.{Names, admits, tree_from}
 use Rattle.pardo_text.specs.Operations.{level_of, loosest}
 use Rattle.pardo_text.specs.Reads.{◌>>=◌}

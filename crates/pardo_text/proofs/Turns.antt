@@ -5,7 +5,7 @@ use Rattle.std.proofs.Common.{arith, append_assoc}
 use Rattle.std.proofs.lemmas.List.{map-append}
 use Rattle.pardo_text.specs.declared.fault.PardoKind.{PardoKind}
 use Rattle.pardo_text.specs.declared.fault.PardoKind.TheVariants.{BadSymbol}
-use Rattle.pram_text.specs.Lines.{is_blank}
+use Rattle.text_lines.specs.Lines.{is_blank}
 use Rattle.pardo_text.specs.Tokens.{Token, token_at, tokens_in, onto}
 use Rattle.pardo_text.specs.Inner.Tokens.{plain, plain_all, preceded}
 use Rattle.pardo_text.specs.declared.token.Token.{Token as Held}

@@ -20,7 +20,7 @@ use Rattle.pardo_text.specs.Drafts.{with_end}
 use Rattle.pardo_text.specs.Expression.{Tree, number as constant}
 use Rattle.pardo_text.specs.Expressions.{Read, rest_after}
 use Rattle.pardo_text.specs.Expressions.{indexed, ended, new_name, expression_at}
-use Rattle.pram_text.specs.Lines.{Word}
+use Rattle.text_lines.specs.Lines.{Word}
 use Rattle.pardo_text.specs.Names.{Names}
 use Rattle.pardo_text.specs.Reads.{◌>>=◌}
 use Rattle.pardo_text.specs.Tokens.{Token, name, symbol}

@@ -15,7 +15,7 @@ use Rattle.pardo_text.specs.declared.draft.Stage.TheVariants as stage
 use Rattle.pardo_text.specs.declared.statement.Line.{Line}
 use Rattle.pardo_text.specs.declared.statement.Statement.{Statement}
 use Rattle.pardo_text.specs.declared.statement.Statement.TheVariants as statement
-use Rattle.pram_text.specs.Lines.{Word}
+use Rattle.text_lines.specs.Lines.{Word}
 use Rattle.pardo_text.specs.Blocks.{depth_of}
 use Rattle.pardo_text.specs.Names.{Names, no_names, named, unnamed}
 use Rattle.pardo_text.specs.Program.{ArrayData, PrivateData, shared_cells, array_after}

@@ -15,7 +15,7 @@ use Rattle.pardo_text.specs.Drafts.{Draft, with_name, with_array, with_private, 
 use Rattle.pardo_text.specs.Expression.{Tree, number}
 use Rattle.pardo_text.specs.Expressions.{Read, rest_after}
 use Rattle.pardo_text.specs.Expressions.{indexed, ended, new_name, expression_at, fixed_at}
-use Rattle.pram_text.specs.Lines.{Word}
+use Rattle.text_lines.specs.Lines.{Word}
 use Rattle.pardo_text.specs.Names.{Names}
 use Rattle.pardo_text.specs.Reads.{◌>>=◌}
 use Rattle.pardo_text.specs.Tokens.{Token, name, number as literal, symbol}

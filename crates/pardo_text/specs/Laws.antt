@@ -10,8 +10,8 @@ use Rattle.pardo_text.specs.Drafts.{Draft, empty}
 use Rattle.pardo_text.specs.Expression.{number}
 use Rattle.pardo_text.specs.Expressions.{expression_at, log_of}
 use Rattle.pardo_text.specs.Lawful.{IsProgram}
-use Rattle.pram_text.specs.Laws.{HasOtherLine}
-use Rattle.pram_text.specs.Lines.{lines_of, is_allowed, is_blank, said_in}
+use Rattle.text_lines.specs.Lines.{HasOtherLine}
+use Rattle.text_lines.specs.Lines.{lines_of, is_allowed, is_blank, said_in}
 use Rattle.pardo_text.specs.Names.{Names}
 use Rattle.pardo_text.specs.Nested.{IsNested}
 use Rattle.pardo_text.specs.Program.{ProgramData}

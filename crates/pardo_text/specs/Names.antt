@@ -7,7 +7,7 @@ use Rattle.pardo_text.specs.declared.names.Named.TheVariants.{Private, Loop}
 use Rattle.pardo_text.specs.declared.names.Scope.{Scope}
 use Rattle.pardo_text.specs.declared.names.Scope.TheVariants.{Fixed, Start, Bound, Uniform, Any}
 use Rattle.pardo_text.specs.Expression.{Tree, number, own, loop, private, place}
-use Rattle.pram_text.specs.Lines.{Word}
+use Rattle.text_lines.specs.Lines.{Word}
 
 abbrev pub Names : Type 0
 Names = Word → Option Named

@@ -2,7 +2,7 @@
 use Rattle.std.specs.Prelude.{ℕ, Bool, List, length, sum_by}
 use Rattle.pardo_text.specs.declared.program.Rule.{Rule}
 use Rattle.pardo_text.specs.declared.statement.Line.{Line}
-use Rattle.pram_text.specs.Lines.{Word}
+use Rattle.text_lines.specs.Lines.{Word}
 
 -- A shared array: its cells are those from `base` on, as many as it has start values. A scalar
 -- is an array of one place.

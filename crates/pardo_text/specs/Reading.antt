@@ -13,7 +13,7 @@ use Rattle.pardo_text.specs.declared.statement.Line.{Line}
 use Rattle.pardo_text.specs.Code.{statement_line}
 use Rattle.pardo_text.specs.Drafts.{Draft, empty}
 use Rattle.pardo_text.specs.Header.{version_line, rule_line, header_line}
-use Rattle.pram_text.specs.Lines.{lines_of, said_in, is_allowed}
+use Rattle.text_lines.specs.Lines.{lines_of, said_in, is_allowed}
 use Rattle.pardo_text.specs.Program.{ProgramData}
 use Rattle.pardo_text.specs.Reads.{◌>>=◌}
 use Rattle.pardo_text.specs.Tokens.{Token, tokens_of}

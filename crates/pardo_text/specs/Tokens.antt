@@ -11,7 +11,7 @@ use Rattle.pardo_text.specs.declared.fault.PardoKind.TheVariants.{BadSymbol}
 use Rattle.pardo_text.specs.declared.operation.Op.TheVariants as op
 use Rattle.pardo_text.specs.declared.symbol.Symbol.{Symbol}
 use Rattle.pardo_text.specs.declared.symbol.Symbol.TheVariants as the
-use Rattle.pram_text.specs.Lines.{Word, is_blank}
+use Rattle.text_lines.specs.Lines.{Word, is_blank}
 
 pub data Token : Type 0 where
   name : Word → Token

@@ -17,8 +17,8 @@ use crate::program::Rule;
 use crate::symbol::Symbol;
 use crate::token::Token;
 use crate::value::{start_values, values_for};
-use pram_text::is_word;
 use std::alloc::Global;
+use text_lines::is_word;
 
 impl<'t> Draft<'t> {
     ghost use Rattle.pardo_text.specs.Header.{version_line, rule_line, const_line, procs_line};

@@ -9,8 +9,8 @@ use crate::draft::{Draft, Stage};
 use crate::fault::{PardoFault, PardoKind};
 use crate::program::Program;
 use crate::token::{Token, take_tokens};
-use pram_text::{TextLines, is_lawful};
 use std::alloc::Global;
+use text_lines::{TextLines, is_lawful};
 
 /// The program that a text spells, or the first line that is wrong, and what is wrong with it.
 ///

@@ -3,7 +3,7 @@ ghost use Rattle.std.specs.Prelude.{◌≡◌, ◌<◌, ◌||◌, ◌==◌, not,
 ghost use Rattle.std.specs.Char.{is_ascii_digit, is_ascii_alphabetic, is_ascii_alphanumeric};
 ghost use Rattle.std.specs.List.{position};
 ghost use Rattle.std.specs.Option.{option_map};
-ghost use Rattle.pram_text.specs.Lines.{said_in};
+ghost use Rattle.text_lines.specs.Lines.{said_in};
 ghost use Rattle.pardo_text.specs.Tokens.{begins_name, is_of_name, run_len, keywords, marks};
 ghost use Rattle.pardo_text.specs.Tokens.{word_by, mark_by, token_at, tokens_of};
 ghost use Rattle.pardo_text.specs.Inner.Tokens.{plain, plain_all, Gives};
@@ -11,7 +11,7 @@ ghost use Rattle.pardo_text.specs.Inner.Tokens.{plain, plain_all, Gives};
 use crate::fault::PardoKind;
 use crate::operation::Op;
 use crate::symbol::Symbol;
-use pram_text::{is_blank, is_word, value_of};
+use text_lines::{is_blank, is_word, value_of};
 
 /// The next part of a line.
 #[derive(Clone, Copy)]

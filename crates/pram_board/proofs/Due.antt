@@ -8,7 +8,7 @@ use Rattle.walkx.specs.Walk.{node_of, phase_begun, rest_of, script_of}
 use Rattle.walkx.proofs.Asking.{all_ask, going_steps}
 use Rattle.walkx.proofs.Going.{matches_of, next_of}
 use Rattle.walkx.proofs.Knowing.{block_more}
-use Rattle.pram_text.specs.Job.{JobData}
+use Rattle.pram_job.specs.Job.{JobData}
 use Rattle.pram_words.specs.Words.{LayoutData}
 use Rattle.walkx.specs.Doing.{Doing}
 use Rattle.lawful_walk.specs.Moments.{afters}

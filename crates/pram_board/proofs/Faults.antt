@@ -3,10 +3,10 @@ use Rattle.std.proofs.Common.{◌≡◌, ◌≢◌, ℕ, suc, ◌+◌, ◌^◌, 
 use Rattle.std.proofs.Common.{◌++◌, map, sym, ap, ap₂, subst, ◌∙◌, arith}
 use Rattle.std.specs.List.{range_with_len}
 use Rattle.std.proofs.lemmas.List.FromFn.{map-range_with_len_more}
-use Rattle.pram_text.specs.Job.{JobData}
-use Rattle.pram_step.specs.declared.requests.Request.{Request}
+use Rattle.pram_job.specs.Job.{JobData}
+use Rattle.pram_machine.specs.declared.requests.Request.{Request}
 use Rattle.pram_step.specs.History.{part_after}
-use Rattle.pram_step.specs.Instructions.{request_in, requests_in}
+use Rattle.pram_machine.specs.Instructions.{request_in, requests_in}
 use Rattle.pram_step.specs.Runs.{AreConflicting, requests_after, state_after}
 use Rattle.pram_words.specs.declared.words.Word.TheVariants.{Asked, Conflict}
 use Rattle.pram_words.specs.Stamps.{stamped_word, stamp_of, payload_of}

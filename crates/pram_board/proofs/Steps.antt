@@ -1,6 +1,6 @@
 -- Which steps a seat may make, and what their answers are.
 use Rattle.std.proofs.Common.{◌≡◌, ℕ, ◌*◌, ◌^◌, ◌<◌, ◌≤◌, List, sym, subst, arith}
-use Rattle.pram_text.specs.Job.{JobData, IsJob}
+use Rattle.pram_job.specs.Job.{JobData, IsJob}
 use Rattle.pram_words.proofs.Numbering.{numbering}
 use Rattle.pram_words.specs.declared.words.Word.TheVariants.{Conflict, Node}
 use Rattle.pram_words.specs.Start.{start_words}

@@ -3,8 +3,8 @@ use Rattle.std.specs.Prelude.{◌≡◌, ℕ, true, false, List, []}
 use mathlib.Core.Option.{some}
 use lib.ListN.{get_elem?}
 use Rattle.atomic_table.specs.Table.{State, Step, Me}
-use Rattle.pram_text.specs.declared.instr.Rule.TheVariants.{Common}
-use Rattle.pram_text.specs.Job.{JobData}
+use Rattle.pram_job.specs.declared.instr.Rule.TheVariants.{Common}
+use Rattle.pram_job.specs.Job.{JobData}
 use Rattle.pram_words.specs.declared.layout.Form.TheVariants.{Compact}
 use Rattle.pram_words.specs.Words.{layout_of}
 use Rattle.walkx.specs.declared.operation.Op.{Op}

@@ -5,7 +5,7 @@ use crate::plays::{Law, Loads, Raises, Shares, Stores, Swaps, Unites};
 use crate::seat::Seat;
 use crate::task::{Task, View};
 use atomic_table::Table;
-use pram_text::Job;
+use pram_job::Job;
 use pram_words::Layout;
 use std::alloc::{AllocError, Global};
 use std::marker::Model;

@@ -3,7 +3,8 @@ ghost use Rattle.std.specs.Prelude.{◌≡◌};
 
 use crate::board::Board;
 use crate::seat::Seat;
-use pram_step::{Fault, Request, fault_of};
+use pram_machine::Request;
+use pram_step::{Fault, fault_of};
 use pram_words::newer_payload;
 use std::alloc::{AllocError, Global};
 use walkx::{Op, request_of};
@@ -11,7 +12,7 @@ use walkx::{Op, request_of};
 impl Board {
     ghost use Rattle.std.specs.Prelude.{◌≡◌, ◌≢◌, ℕ, suc, ◌<◌, ◌+◌, ◌*◌, slice_index, IfOk, IfErr};
     ghost use Rattle.pram_step.specs.History.{part_after};
-    ghost use Rattle.pram_step.specs.Instructions.{request_in};
+    ghost use Rattle.pram_machine.specs.Instructions.{request_in};
     ghost use Rattle.pram_step.specs.Runs.{IsAnswer, IsFault, state_after};
     ghost use Rattle.pram_step.specs.declared.answer.RunAnswer.TheVariants.{Final};
     ghost use Rattle.pram_words.specs.Words.{length_of, number_of, places_of};

@@ -1,5 +1,5 @@
 //! What a board is about, and what a seat knows.
-use pram_text::Job;
+use pram_job::Job;
 use pram_words::Layout;
 use walkx::Recorded;
 

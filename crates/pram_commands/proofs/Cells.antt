@@ -3,7 +3,7 @@ use Rattle.std.proofs.Common.{◌≡◌, ◌∙◌, ◌⊎◌, ℕ, zero, suc, �
 use Rattle.std.proofs.Common.{Option, None, Some, MatchOption, sym, subst, ap, inl, inr, refl, arith}
 use Rattle.std.proofs.Common.{length, take, get_or}
 use Rattle.std.proofs.lemmas.List.{get_or-take, get_or_default}
-use Rattle.pram_text.specs.Job.{JobData}
+use Rattle.pram_job.specs.Job.{JobData}
 use Rattle.pram_commands.specs.CellLists.{AreCellsOf, HasCell, IsCellOf, IsFirstOutside, IsOutside}
 use Rattle.pram_commands.specs.CellLists.{SpellsCell, SpellsPart, cell_of, part_at}
 use Rattle.pram_commands.specs.Names.{NamingData}

@@ -3,7 +3,7 @@ use Rattle.std.proofs.Common.{Result, Ok, Err, IfOk, IfErr, IsTrue, ap, ◌≡�
 use Rattle.std.proofs.Common.{◌≤◌, ℕ, Option, Some, None, refl, sym, subst, inl, inr, arith}
 use Rattle.std.specs.Prelude.{is_some}
 use Rattle.std.specs.Option.{option_map}
-use Rattle.pram_text.specs.Job.{JobData}
+use Rattle.pram_job.specs.Job.{JobData}
 use Rattle.pram_step.specs.Runs.{IsAnswer}
 use Rattle.pram_step.specs.declared.answer.Fault.{Fault}
 use Rattle.pram_step.specs.declared.answer.RunAnswer.{RunAnswer}

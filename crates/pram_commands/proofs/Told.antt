@@ -1,7 +1,7 @@
 -- An answer that was told with what follows it.
 use Rattle.std.proofs.Common.{◌≡◌, ℕ, Bool, List, ◌++◌, Option, Some, Result, Ok, Err}
 use Rattle.std.proofs.Common.{refl, sym, ap₂, subst, inl, inr}
-use Rattle.pram_text.specs.Job.{JobData}
+use Rattle.pram_job.specs.Job.{JobData}
 use Rattle.pram_step.specs.declared.answer.RunAnswer.{RunAnswer}
 use Rattle.pram_streams.specs.declared.print.PrintFault.{PrintFault}
 use Rattle.pram_streams.specs.declared.print.PrintFault.TheVariants.{Device, Memory}

@@ -3,7 +3,7 @@ use Rattle.std.specs.Prelude.{◌≡◌, ◌⊎◌, ◌==◌, ◌<◌, ◌≤◌
 use Rattle.std.specs.Prelude.{Option, None, Some, IsTrue, slice_index_or, ⊤}
 use Rattle.std.specs.List.{All, slice_split}
 use Rattle.std.specs.Str.Parse.{IsNumeral, digits_value, without_leading_plus}
-use Rattle.pram_text.specs.Job.{JobData}
+use Rattle.pram_job.specs.Job.{JobData}
 use Rattle.pardo_text.specs.Tokens.{begins_name}
 use Rattle.pardo_job.specs.Printed.{cell_text}
 use Rattle.pram_commands.specs.Names.{NamingData}

@@ -3,7 +3,7 @@ use Rattle.std.specs.Prelude.{◌≡◌, ◌⊎◌, ◌++◌, ◌↔◌, ℕ, Bo
 use Rattle.std.specs.Prelude.{Some, Result, ⊤}
 use Rattle.std.specs.Prelude.{IfOk, IfErr, IfSome, MatchOption, IsErrOf, IsTrue}
 use Rattle.std.specs.Io.KnownBytes.{Appends}
-use Rattle.pram_text.specs.Job.{JobData}
+use Rattle.pram_job.specs.Job.{JobData}
 use Rattle.pram_step.specs.declared.answer.RunAnswer.{RunAnswer}
 use Rattle.pram_step.specs.declared.answer.RunAnswer.TheVariants.{Final, Conflict, Unfinished}
 use Rattle.pram_streams.specs.Transfer.{AppendsBeginning, GivesMoreThan, GivesSome}

@@ -2,7 +2,7 @@
 use Rattle.std.specs.Prelude.{◌≡◌, ◌≢◌, ◌↔◌, ℕ, Bool, true, false, List, Option, Result, ⊤}
 use Rattle.std.specs.Prelude.{IfOk, IfErr, IsErrOf, IsTrue, nat_lt, ◌&&◌}
 use Rattle.std.specs.Prelude.{if◌then◌else◌, None, Some}
-use Rattle.pram_text.specs.Job.{JobData}
+use Rattle.pram_job.specs.Job.{JobData}
 use Rattle.pram_text.specs.Text.{Bears}
 use Rattle.pram_text.specs.declared.fault.TextKind.TheVariants as text_kind
 use Rattle.pardo_text.specs.declared.fault.PardoKind.TheVariants as pardo_kind

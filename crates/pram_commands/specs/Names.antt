@@ -1,7 +1,7 @@
 -- What a text is: one of the machine, or a program; and how answers are told by it.
 use Rattle.std.specs.Prelude.{◌≡◌, ℕ, true, false, List, Option, Some, None, Ok, slice_index}
 use Rattle.pram_text.specs.InstructionLines.{line_of}
-use Rattle.pram_text.specs.Job.{JobData}
+use Rattle.pram_job.specs.Job.{JobData}
 use Rattle.pram_text.specs.Text.{Spells}
 use Rattle.pram_step.specs.declared.answer.RunAnswer.{RunAnswer}
 use Rattle.pram_streams.specs.Printed.{printed}

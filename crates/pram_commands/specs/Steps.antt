@@ -1,6 +1,6 @@
 -- What the command comes to that prints the steps of a window.
 use Rattle.std.specs.Prelude.{◌≡◌, ℕ, Bool, List, [], Option, Some, None, ⊤}
-use Rattle.pram_text.specs.Job.{JobData}
+use Rattle.pram_job.specs.Job.{JobData}
 use Rattle.pram_step.specs.Runs.{IsAnswer}
 use Rattle.pram_step.specs.declared.answer.RunAnswer.{RunAnswer}
 use Rattle.pram_rows.specs.Rows.{rows_text}

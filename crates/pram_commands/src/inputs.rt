@@ -11,8 +11,8 @@ use crate::fault::CommandFault;
 use crate::names::{Naming, read_text};
 use crate::sources::{Inputs, Sources};
 use crate::workers::Workers;
+use pram_job::Job;
 use pram_streams::{Source, TakeFault, take};
-use pram_text::Job;
 use std::alloc::Global;
 use stop_plan::{Plan, PlanFault, PlanKind, read_plan};
 

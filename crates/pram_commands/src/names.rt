@@ -20,10 +20,11 @@ use pardo_job::{JobFault, JobKind, Refusal as ProgramRefusal, compile};
 use pardo_text::{PardoFault, PardoKind, Program};
 use pram_cost::{ByCells, CostNames, Meeting};
 use pram_fates::Origin;
+use pram_job::Job;
 use pram_run::{CellNames, Numbers};
 use pram_step::{Cells, Fault, RunAnswer};
 use pram_streams::{PrintFault, Sink, print_answer};
-use pram_text::{Job, TextFault, TextKind, read_job};
+use pram_text::{TextFault, TextKind, read_job};
 use std::alloc::{AllocError, Global};
 use std::marker::Model;
 

@@ -2,7 +2,7 @@
 ghost use Rattle.std.specs.Prelude.{◌≤◌};
 
 use crate::names::Naming;
-use pram_text::Job;
+use pram_job::Job;
 use stop_plan::Plan;
 
 /// The sources of a job and of its plan. Where a line names no plan, that is `Empty`.

@@ -7,9 +7,9 @@ ghost use Rattle.pram_commands.specs.Why.{Follows, told_steps};
 
 use crate::names::{Naming, Words, origin_of, print_told};
 use pram_fates::{fates_after, fates_text};
+use pram_job::Job;
 use pram_step::RunAnswer;
 use pram_streams::{PrintFault, Sink, put};
-use pram_text::Job;
 use std::alloc::{AllocError, Global};
 
 /// A job with its text and what its answers are told by, and whether what became of the processors

@@ -8,15 +8,15 @@ use Rattle.std.proofs.lemmas.Bool.{cases_Bool, ltb-true, ltb-false, lt-ltb}
 use Rattle.std.proofs.lemmas.List.Folds.{list_any_at, list_any_none}
 use Rattle.std.proofs.lemmas.List.FromFn.{length-range_with_len, get_or-range_with_len}
 use Rattle.std.proofs.lemmas.Option.{none-some, slice_get_past, cond_some}
-use Rattle.pram_text.specs.declared.instr.Instr.{Instr}
-use Rattle.pram_text.specs.Job.{JobData}
+use Rattle.pram_job.specs.declared.instr.Instr.{Instr}
+use Rattle.pram_job.specs.Job.{JobData}
 use Rattle.pram_cost.specs.declared.meeting.Sharing.{Sharing}
 use Rattle.pram_cost.specs.declared.meeting.Sharing.TheVariants.{SameRead, SameWrite, OtherValue}
-use Rattle.pram_step.specs.declared.requests.Request.{Request}
+use Rattle.pram_machine.specs.declared.requests.Request.{Request}
 use Rattle.pram_cost.specs.Accesses.{is_running, running_in, cell_by, put_to_cell, write_by}
 use Rattle.pram_cost.specs.Costs.{has_access}
-use Rattle.pram_step.specs.Instructions.{goes_to, request_in}
-use Rattle.pram_step.specs.Machine.{State, counter, halted}
+use Rattle.pram_machine.specs.Instructions.{goes_to, request_in}
+use Rattle.pram_machine.specs.Machine.{State, counter, halted}
 use Rattle.pram_cost.specs.Meetings.{access_by}
 use Rattle.pram_step.proofs.LawStopped.{stopped_request}
 use Rattle.pram_cost.proofs.Runners.{runner_at, range_below, running_below, front, front_next}

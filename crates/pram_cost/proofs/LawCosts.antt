@@ -10,13 +10,13 @@ use Rattle.std.proofs.lemmas.List.Sums.{count_by-le-length, length-filter, sum_b
 use Rattle.std.proofs.lemmas.Nat.{mul-le}
 use Rattle.std.proofs.lemmas.Option.{none-some}
 use Rattle.std.proofs.Math.Nat.{mul-le-mul_left}
-use Rattle.pram_text.specs.Job.{JobData, IsJob}
+use Rattle.pram_job.specs.Job.{JobData, IsJob}
 use Rattle.pram_cost.specs.declared.meeting.Sharing.{Sharing}
 use Rattle.pram_cost.specs.declared.pram.Pram.TheVariants.{Erew}
 use Rattle.pram_cost.specs.Accesses.{is_running, running_in}
 use Rattle.pram_cost.specs.Costs.{at_work, has_access, first_states, executed, steps_with}
-use Rattle.pram_step.specs.Machine.{AllStopped}
-use Rattle.pram_step.specs.Machine.{State, counter, halted}
+use Rattle.pram_machine.specs.Machine.{AllStopped}
+use Rattle.pram_machine.specs.Machine.{State, counter, halted}
 use Rattle.pram_cost.specs.Models.{Accepts}
 use Rattle.pram_step.specs.Runs.{state_after}
 use Rattle.pram_cost.proofs.Accessing.{idle_access, has_access_none}

@@ -2,16 +2,16 @@
 use Rattle.std.proofs.Common.{◌≡◌, ◌≢◌, ◌↔◌, ℕ, ◌<◌, ◌≤◌, List, Some, refl, sym}
 use Rattle.std.proofs.Common.{subst, ◌∙◌, arith}
 use Rattle.std.proofs.lemmas.Option.{some_pair_parts}
-use Rattle.pram_text.specs.declared.instr.Rule.{Rule}
-use Rattle.pram_text.specs.declared.instr.Rule.TheVariants as rule
-use Rattle.pram_text.specs.Job.{JobData}
+use Rattle.pram_job.specs.declared.instr.Rule.{Rule}
+use Rattle.pram_job.specs.declared.instr.Rule.TheVariants as rule
+use Rattle.pram_job.specs.Job.{JobData}
 use Rattle.pram_cost.specs.declared.meeting.Sharing.TheVariants.{SameRead, SameWrite, OtherValue}
 use Rattle.pram_cost.specs.declared.pram.Pram.{Pram}
 use Rattle.pram_cost.specs.declared.pram.Pram.TheVariants.{Erew, Crew, CommonCrcw, PriorityCrcw}
-use Rattle.pram_step.specs.declared.requests.Request.{Request}
+use Rattle.pram_machine.specs.declared.requests.Request.{Request}
 use Rattle.pram_cost.specs.Accesses.{write_by}
-use Rattle.pram_step.specs.Instructions.{request_in, requests_in}
-use Rattle.pram_step.specs.Machine.{State}
+use Rattle.pram_machine.specs.Instructions.{request_in, requests_in}
+use Rattle.pram_machine.specs.Machine.{State}
 use Rattle.pram_cost.specs.Meetings.{MeetIn}
 use Rattle.pram_cost.specs.Models.{strength, Accepts, AcceptsSteps, IsNeeded}
 use Rattle.pram_step.specs.Runs.{IsReached, state_after}
@@ -20,7 +20,7 @@ use Rattle.pram_cost.proofs.Accessing.{write_is, write_from}
 use Rattle.pram_step.proofs.LawPlaces.{writer_is}
 use Rattle.pram_step.proofs.LawRules.{asked_same, writes_same}
 use Rattle.pram_step.proofs.RequestList.{put_of_written, written_of_put}
-use Rattle.pram_step.proofs.Shapes.{asks}
+use Rattle.pram_machine.proofs.Shapes.{asks}
 
 -- ---- the order of the models
 

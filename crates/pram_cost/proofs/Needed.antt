@@ -1,7 +1,7 @@
 -- The weakest model that accepts the steps of a run, by the first meetings in it.
 use Rattle.std.proofs.Common.{◌≡◌, ℕ, ◌<◌, ◌≤◌, true, false, Option, Some, None, arith}
 use Rattle.std.specs.Prelude.{is_some}
-use Rattle.pram_text.specs.Job.{JobData}
+use Rattle.pram_job.specs.Job.{JobData}
 use Rattle.pram_cost.specs.declared.meeting.Meeting.{Meeting}
 use Rattle.pram_cost.specs.declared.meeting.Meetings.{Meetings}
 use Rattle.pram_cost.specs.declared.meeting.Sharing.{Sharing}

@@ -6,7 +6,7 @@ use Rattle.std.proofs.lemmas.Bool.{cases_lt}
 use Rattle.std.proofs.lemmas.List.FromFn.{sum_by-map-range_with_len_more}
 use Rattle.std.proofs.lemmas.Option.{none-some, same_Some}
 use Rattle.std.proofs.Math.Nat.{le-max_left, le-max_right, max-eq_left, max-eq_right}
-use Rattle.pram_text.specs.Job.{JobData}
+use Rattle.pram_job.specs.Job.{JobData}
 use Rattle.pram_cost.specs.declared.meeting.Meeting.{Meeting}
 use Rattle.pram_cost.specs.declared.meeting.Sharing.{Sharing}
 use Rattle.pram_cost.specs.declared.meeting.Sharing.TheVariants.{SameRead, SameWrite}
@@ -15,7 +15,7 @@ use Rattle.pram_cost.specs.Costs.{at_work, has_access, executed, steps_with, fir
 use Rattle.pram_cost.specs.Costs.{IsMost, IsWork}
 use Rattle.pram_cost.specs.Inner.Repeats.{Repeats}
 use Rattle.pram_cost.specs.Inner.Seen.{IsOfStep}
-use Rattle.pram_step.specs.Machine.{State, counter}
+use Rattle.pram_machine.specs.Machine.{State, counter}
 use Rattle.pram_cost.specs.Meetings.{access_by, NoneMeetIn, IsLeastOrNone}
 use Rattle.pram_cost.specs.Meetings.{IsFirstMeeting, IsFirstOrNone}
 use Rattle.pram_step.specs.Runs.{state_after}

@@ -4,11 +4,11 @@ use Rattle.std.proofs.Common.{inl, inr, ⊎_elim, arith, length}
 use Rattle.std.specs.Prelude.{slice_index}
 use Rattle.std.proofs.lemmas.List.{ext_get_or}
 use Rattle.std.proofs.lemmas.Option.{none-some}
-use Rattle.pram_text.specs.Job.{JobData}
-use Rattle.pram_step.specs.declared.requests.Request.{Request}
+use Rattle.pram_job.specs.Job.{JobData}
+use Rattle.pram_machine.specs.declared.requests.Request.{Request}
 use Rattle.pram_cost.specs.Inner.Repeats.{AllStay, Repeats}
-use Rattle.pram_step.specs.Instructions.{goes_to, request_in, requests_in}
-use Rattle.pram_step.specs.Machine.{State, counter_place, counter}
+use Rattle.pram_machine.specs.Instructions.{goes_to, request_in, requests_in}
+use Rattle.pram_machine.specs.Machine.{State, counter_place, counter}
 use Rattle.pram_step.specs.Runs.{IsStateAfter, state_after}
 use Rattle.pram_step.specs.Steps.{Writes, written, Agrees, next_state}
 use Rattle.pram_step.proofs.LawFixed.{length-after, unchanged_later}

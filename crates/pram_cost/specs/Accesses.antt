@@ -2,10 +2,10 @@
 use Rattle.std.specs.Prelude.{ℕ, Bool, nat_lt, if◌then◌else◌, List, slice_get}
 use Rattle.std.specs.Prelude.{filter, Option, Some, None}
 use Rattle.std.specs.List.{range_with_len}
-use Rattle.pram_text.specs.declared.instr.Instr.{Instr}
-use Rattle.pram_text.specs.Job.{JobData}
-use Rattle.pram_step.specs.Machine.{State, counter, halted}
-use Rattle.pram_step.specs.Instructions.{cell_read, operand_held, request_in}
+use Rattle.pram_job.specs.declared.instr.Instr.{Instr}
+use Rattle.pram_job.specs.Job.{JobData}
+use Rattle.pram_machine.specs.Machine.{State, counter, halted}
+use Rattle.pram_machine.specs.Instructions.{cell_read, operand_held, request_in}
 
 -- processor i runs: its counter is an instruction's index, and it executes that one in the step
 abbrev pub is_running : JobData → State → ℕ → Bool

@@ -2,7 +2,7 @@
 use Rattle.std.specs.Prelude.{◌≡◌, ◌⊎◌, ℕ, ◌<◌, ◌≤◌, Bool, List, length, map}
 use Rattle.std.specs.Prelude.{sum_by, count_by, Option, is_some, MatchOption}
 use Rattle.std.specs.List.{range_with_len, list_any}
-use Rattle.pram_text.specs.Job.{JobData}
+use Rattle.pram_job.specs.Job.{JobData}
 use Rattle.pram_step.specs.declared.answer.Fault.{Fault}
 use Rattle.pram_cost.specs.declared.cost.Cost.{Cost}
 use Rattle.pram_cost.specs.declared.meeting.Meetings.{Meetings}
@@ -10,7 +10,7 @@ use Rattle.pram_cost.specs.declared.meeting.Sharing.{Sharing}
 use Rattle.pram_cost.specs.declared.meeting.Sharing.TheVariants.{SameRead, SameWrite, OtherValue}
 use Rattle.pram_cost.specs.declared.work.Work.{Work}
 use Rattle.pram_cost.specs.Accesses.{running_in}
-use Rattle.pram_step.specs.Machine.{State}
+use Rattle.pram_machine.specs.Machine.{State}
 use Rattle.pram_cost.specs.Meetings.{access_by, IsFirstOrNone}
 use Rattle.pram_step.specs.Runs.{state_after, IsReached, IsFault}
 

@@ -1,15 +1,15 @@
 -- The laws of costs and models.
 use Rattle.std.specs.Prelude.{◌≡◌, ◌↔◌, ℕ, ◌*◌, ◌≤◌, false}
-use Rattle.pram_text.specs.declared.instr.Rule.TheVariants as rule
-use Rattle.pram_text.specs.Job.{JobData}
+use Rattle.pram_job.specs.declared.instr.Rule.TheVariants as rule
+use Rattle.pram_job.specs.Job.{JobData}
 use Rattle.pram_cost.specs.declared.cost.Cost.{Cost}
 use Rattle.pram_cost.specs.declared.meeting.Sharing.{Sharing}
 use Rattle.pram_cost.specs.declared.pram.Pram.{Pram}
 use Rattle.pram_cost.specs.declared.pram.Pram.TheVariants.{Erew, Crew, CommonCrcw, PriorityCrcw}
 use Rattle.pram_cost.specs.Costs.{at_work, has_access, executed, steps_with, IsCost}
-use Rattle.pram_step.specs.Instructions.{requests_in}
-use Rattle.pram_step.specs.Machine.{AllStopped}
-use Rattle.pram_step.specs.Machine.{State}
+use Rattle.pram_machine.specs.Instructions.{requests_in}
+use Rattle.pram_machine.specs.Machine.{AllStopped}
+use Rattle.pram_machine.specs.Machine.{State}
 use Rattle.pram_cost.specs.Models.{strength, Accepts, AcceptsSteps, IsNeeded}
 use Rattle.pram_step.specs.Runs.{IsReached}
 use Rattle.pram_step.specs.Steps.{Agrees}

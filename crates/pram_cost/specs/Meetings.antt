@@ -2,11 +2,11 @@
 -- meet: in a step all reads come before all writes.
 use Rattle.std.specs.Prelude.{◌≡◌, ◌≢◌, ℕ, ◌+◌, ◌<◌, ◌≤◌, Option, Some, MatchOption}
 use Rattle.std.specs.Option.{option_map}
-use Rattle.pram_text.specs.Job.{JobData}
+use Rattle.pram_job.specs.Job.{JobData}
 use Rattle.pram_cost.specs.declared.meeting.Meeting.{Meeting}
 use Rattle.pram_cost.specs.declared.meeting.Sharing.{Sharing}
 use Rattle.pram_cost.specs.declared.meeting.Sharing.TheVariants.{SameRead, SameWrite, OtherValue}
-use Rattle.pram_step.specs.Machine.{State, counter}
+use Rattle.pram_machine.specs.Machine.{State, counter}
 use Rattle.pram_cost.specs.Accesses.{read_by, write_by}
 use Rattle.pram_step.specs.Runs.{state_after}
 

@@ -1,10 +1,11 @@
 //! Which processors run in a state, and which cells they read and write in the step after it.
 ghost use Rattle.std.specs.Prelude.{◌≡◌, ◌<◌, length, IfSome};
 ghost use Rattle.pram_cost.specs.Accesses.{is_running, read_by, write_by};
-ghost use Rattle.pram_step.specs.Machine.{place_count};
+ghost use Rattle.pram_machine.specs.Machine.{place_count};
 
-use pram_step::{Sources, State, cell_read, counter, request, sources_of};
-use pram_text::Job;
+use pram_job::Job;
+use pram_machine::{Sources, cell_read, sources_of};
+use pram_step::{State, counter, request};
 
 /// Whether a processor runs: its counter is the index of an instruction, which it executes in the
 /// step.

@@ -3,18 +3,18 @@ ghost use Rattle.std.specs.Prelude.{◌≡◌, ℕ, ◌+◌, ◌*◌, ◌<◌, �
 ghost use Rattle.pram_cost.specs.Accesses.{running_in};
 ghost use Rattle.pram_cost.specs.Costs.{IsCost, IsCostOf};
 ghost use Rattle.pram_cost.specs.Inner.Repeats.{AllStay, Repeats, Stays};
-ghost use Rattle.pram_step.specs.Machine.{place_count};
+ghost use Rattle.pram_machine.specs.Machine.{place_count};
 ghost use Rattle.pram_cost.specs.Models.{IsNeeded};
 ghost use Rattle.pram_step.specs.Runs.{IsStateAfter, state_after};
-ghost use Rattle.pram_text.specs.Job.{JobData};
+ghost use Rattle.pram_job.specs.Job.{JobData};
 
 use crate::access::is_running;
 use crate::meeting::Meetings;
 use crate::moment::Moment;
 use crate::pram::Pram;
 use crate::work::Work;
+use pram_job::Job;
 use pram_step::{Fault, State, counter, laws, make_step, request_after};
-use pram_text::Job;
 use std::alloc::{AllocError, Global};
 
 /// What a run costs: all steps of a job, or those up to its first conflict, that one counted too.

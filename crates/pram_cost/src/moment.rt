@@ -3,8 +3,8 @@ ghost use Rattle.std.specs.Prelude.{◌≡◌, ◌<◌};
 ghost use Rattle.pram_cost.specs.Accesses.{running_in};
 ghost use Rattle.pram_step.specs.Runs.{IsStateAfter};
 
+use pram_job::Job;
 use pram_step::State;
-use pram_text::Job;
 
 /// A job in the state after so many steps, with the processors that run in it.
 #[derive(Drop)]

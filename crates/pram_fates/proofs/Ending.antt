@@ -1,6 +1,6 @@
 -- What became of processors, put together.
 use Rattle.std.proofs.Common.{◌≡◌, ℕ, ◌-◌, ◌≤◌, Option, Some, None, refl, subst, arith}
-use Rattle.pram_text.specs.Job.{JobData}
+use Rattle.pram_job.specs.Job.{JobData}
 use Rattle.pram_step.specs.declared.answer.Fault.{Fault}
 use Rattle.pram_step.specs.Runs.{AgreesAfter, IsFirstConflict, IsReached}
 use Rattle.pram_fates.specs.declared.fates.End.{End}

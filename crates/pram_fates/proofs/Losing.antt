@@ -1,7 +1,7 @@
 -- A processor that named no cell, at later moments.
 use Rattle.std.proofs.Common.{◌≡◌, ℕ, suc, ◌+◌, ◌-◌, ◌<◌, ap, subst, ◌∙◌, arith}
-use Rattle.pram_text.specs.Job.{JobData, IsJob}
-use Rattle.pram_step.specs.Machine.{counter, out_of_range}
+use Rattle.pram_job.specs.Job.{JobData, IsJob}
+use Rattle.pram_machine.specs.Machine.{counter, out_of_range}
 use Rattle.pram_step.specs.Runs.{state_after}
 use Rattle.pram_step.proofs.LawCounters.{next_counter, stopped_processor}
 use Rattle.pram_step.proofs.LawFixed.{length-state_after}

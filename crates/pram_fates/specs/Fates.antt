@@ -1,9 +1,9 @@
 -- What becomes of the processors in the steps of a job.
 use Rattle.std.specs.Prelude.{◌≡◌, ℕ, ◌+◌, ◌<◌, ◌≤◌, Bool, nat_lt, count_by, Option, MatchOption}
 use Rattle.std.specs.List.{range_with_len}
-use Rattle.pram_text.specs.Job.{JobData}
-use Rattle.pram_step.specs.Instructions.{request_in}
-use Rattle.pram_step.specs.Machine.{State, counter, halted, out_of_range, IsStopped}
+use Rattle.pram_job.specs.Job.{JobData}
+use Rattle.pram_machine.specs.Instructions.{request_in}
+use Rattle.pram_machine.specs.Machine.{State, counter, halted, out_of_range, IsStopped}
 use Rattle.pram_step.specs.Runs.{AgreesAfter, IsReached, state_after}
 use Rattle.pram_fates.specs.declared.fates.End.{End}
 use Rattle.pram_fates.specs.declared.fates.End.TheVariants.{Running, Stopped}

@@ -1,7 +1,7 @@
 -- The laws of what becomes of processors.
 use Rattle.std.specs.Prelude.{◌≡◌, ℕ, ◌+◌}
-use Rattle.pram_text.specs.Job.{JobData, IsJob}
-use Rattle.pram_step.specs.Machine.{counter, out_of_range}
+use Rattle.pram_job.specs.Job.{JobData, IsJob}
+use Rattle.pram_machine.specs.Machine.{counter, out_of_range}
 use Rattle.pram_step.specs.Runs.{state_after}
 use Rattle.pram_fates.specs.declared.fates.Fates.{Fates}
 use Rattle.pram_fates.specs.Fates.{AreFates, NamesNone}

@@ -2,12 +2,12 @@
 ghost use Rattle.std.specs.Prelude.{IfOk};
 ghost use Rattle.pram_fates.specs.Fates.{AreFates, HaveStopped, IsEnd, IsFirstLostOrNone};
 ghost use Rattle.pram_fates.specs.Fates.{NoneRuns};
-ghost use Rattle.pram_step.specs.Machine.{start};
+ghost use Rattle.pram_machine.specs.Machine.{start};
 ghost use Rattle.pram_step.specs.Runs.{state_after};
 
 use crate::looks::{count_running, counter_in, first_naming_none, first_running, some_is_lost};
+use pram_job::Job;
 use pram_step::{Arrival, Moment, State, go_on, go_to, laws, state_after};
-use pram_text::Job;
 use std::alloc::{AllocError, Global};
 
 /// What became of the processors.

@@ -4,7 +4,7 @@ ghost use Rattle.std.specs.List.{range_with_len};
 ghost use Rattle.pram_fates.specs.Fates.{AllName, IsFirstNaming, IsFirstRunning, NamesNone};
 ghost use Rattle.pram_fates.specs.Fates.{NoneRuns, is_running};
 ghost use Rattle.pram_fates.specs.Inner.Losses.{SomeIsLost};
-ghost use Rattle.pram_step.specs.Machine.{out_of_range, counter as counter_of};
+ghost use Rattle.pram_machine.specs.Machine.{out_of_range, counter as counter_of};
 ghost use Rattle.pram_step.specs.Runs.{state_after};
 
 use pram_step::{Moment, counter, laws, request_after};

@@ -13,19 +13,19 @@ use Rattle.std.specs.Option.{is_some}
 use Rattle.std.specs.Str.Parse.{AllDigits}
 use Rattle.csv.specs.Writing.{default_writer, field_text, fields_text}
 use Rattle.csv.specs.Writing.{is_blank, needs_byte, needs_quotes, row_text}
-use Rattle.pram_text.specs.Job.{JobData, IsInstr, IsJob}
-use Rattle.pram_text.specs.declared.instr.Instr.{Instr}
-use Rattle.pram_text.specs.declared.instr.Operands.{Operands}
-use Rattle.pram_text.specs.declared.instr.Operands.TheVariants.{Bare, Target, TargetNumber}
-use Rattle.pram_text.specs.declared.instr.Operands.TheVariants.{TargetPlace, TargetTwo, PlaceValue}
-use Rattle.pram_text.specs.declared.instr.Operands.TheVariants.{RegisterIndex, Index}
-use Rattle.pram_text.specs.declared.instr.Operand.{Operand}
-use Rattle.pram_text.specs.declared.instr.Operand.TheVariants.{Register, Number}
-use Rattle.pram_text.specs.declared.instr.Place.{Place}
-use Rattle.pram_text.specs.declared.instr.Place.TheVariants.{Cell, Named}
-use Rattle.pram_text.specs.Instructions.{IsOperand, IsPlace, AreOperands, row_of}
-use Rattle.pram_step.specs.Instructions.{request_in}
-use Rattle.pram_step.specs.Machine.{IsDataPlace, State, counter, halted, register_place}
+use Rattle.pram_job.specs.Job.{JobData, IsInstr, IsJob}
+use Rattle.pram_job.specs.declared.instr.Instr.{Instr}
+use Rattle.pram_job.specs.declared.instr.Operands.{Operands}
+use Rattle.pram_job.specs.declared.instr.Operands.TheVariants.{Bare, Target, TargetNumber}
+use Rattle.pram_job.specs.declared.instr.Operands.TheVariants.{TargetPlace, TargetTwo, PlaceValue}
+use Rattle.pram_job.specs.declared.instr.Operands.TheVariants.{RegisterIndex, Index}
+use Rattle.pram_job.specs.declared.instr.Operand.{Operand}
+use Rattle.pram_job.specs.declared.instr.Operand.TheVariants.{Register, Number}
+use Rattle.pram_job.specs.declared.instr.Place.{Place}
+use Rattle.pram_job.specs.declared.instr.Place.TheVariants.{Cell, Named}
+use Rattle.pram_job.specs.Instructions.{IsOperand, IsPlace, AreOperands, row_of}
+use Rattle.pram_machine.specs.Instructions.{request_in}
+use Rattle.pram_machine.specs.Machine.{IsDataPlace, State, counter, halted, register_place}
 use Rattle.pram_rows.specs.Inner.Printing.{told_fields}
 use Rattle.pram_rows.specs.Instructions.{operand_text, array_text, place_text, and_then}
 use Rattle.pram_rows.specs.Instructions.{instruction_text, one_register, register_number, spelled}

@@ -1,7 +1,7 @@
 -- The steps of a job up to the last one that is told, and the rows of the states between.
 use Rattle.std.proofs.Common.{◌≡◌, ◌+◌, ◌-◌, ◌≤◌, ℕ, ◌⊎◌, List, Option, inl, inr, arith, ap}
-use Rattle.pram_text.specs.Job.{JobData}
-use Rattle.pram_step.specs.Machine.{State}
+use Rattle.pram_job.specs.Job.{JobData}
+use Rattle.pram_machine.specs.Machine.{State}
 use Rattle.pram_step.specs.Arrivals.{IsArrival}
 use Rattle.pram_step.specs.Runs.{IsAnswer, IsFirstConflict, IsReached, IsStateAfter}
 use Rattle.pram_step.specs.declared.answer.Fault.{Fault}

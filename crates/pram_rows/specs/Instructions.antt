@@ -1,17 +1,17 @@
 -- Instructions as a text spells them. A jump names a label there, whose index the job keeps: here
 -- it names that index. So it is with an array: here its cells stand for its name.
 use Rattle.std.specs.Prelude.{ℕ, ◌+◌, ◌-◌, List, ◌++◌, codes, decimal}
-use Rattle.pram_text.specs.declared.instr.Array.{Array}
-use Rattle.pram_text.specs.declared.instr.Instr.{Instr}
-use Rattle.pram_text.specs.declared.instr.Operand.{Operand}
-use Rattle.pram_text.specs.declared.instr.Operand.TheVariants.{Register, Number}
-use Rattle.pram_text.specs.declared.instr.Operands.{Operands}
-use Rattle.pram_text.specs.declared.instr.Operands.TheVariants.{Bare, Target, TargetNumber}
-use Rattle.pram_text.specs.declared.instr.Operands.TheVariants.{TargetPlace, TargetTwo, PlaceValue}
-use Rattle.pram_text.specs.declared.instr.Operands.TheVariants.{RegisterIndex, Index}
-use Rattle.pram_text.specs.declared.instr.Place.{Place}
-use Rattle.pram_text.specs.declared.instr.Place.TheVariants.{Cell, Named}
-use Rattle.pram_text.specs.Instructions.{row_of}
+use Rattle.pram_job.specs.declared.instr.Array.{Array}
+use Rattle.pram_job.specs.declared.instr.Instr.{Instr}
+use Rattle.pram_job.specs.declared.instr.Operand.{Operand}
+use Rattle.pram_job.specs.declared.instr.Operand.TheVariants.{Register, Number}
+use Rattle.pram_job.specs.declared.instr.Operands.{Operands}
+use Rattle.pram_job.specs.declared.instr.Operands.TheVariants.{Bare, Target, TargetNumber}
+use Rattle.pram_job.specs.declared.instr.Operands.TheVariants.{TargetPlace, TargetTwo, PlaceValue}
+use Rattle.pram_job.specs.declared.instr.Operands.TheVariants.{RegisterIndex, Index}
+use Rattle.pram_job.specs.declared.instr.Place.{Place}
+use Rattle.pram_job.specs.declared.instr.Place.TheVariants.{Cell, Named}
+use Rattle.pram_job.specs.Instructions.{row_of}
 
 -- a register, or a number
 abbrev pub operand_text : Operand → List ℕ

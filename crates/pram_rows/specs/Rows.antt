@@ -3,10 +3,10 @@ use Rattle.std.specs.Prelude.{ℕ, ◌+◌, ◌-◌, ◌==◌, ◌&&◌, nat_lt,
 use Rattle.std.specs.Prelude.{[], ◌++◌, Option, Some, None, slice_get, slice_index}
 use Rattle.std.specs.Prelude.{codes, decimal}
 use Rattle.std.specs.List.{flat_map, range_with_len}
-use Rattle.pram_text.specs.declared.instr.Instr.{Instr}
-use Rattle.pram_text.specs.Job.{JobData}
-use Rattle.pram_step.specs.Machine.{State, counter, halted, register_place}
-use Rattle.pram_step.specs.Instructions.{request_in}
+use Rattle.pram_job.specs.declared.instr.Instr.{Instr}
+use Rattle.pram_job.specs.Job.{JobData}
+use Rattle.pram_machine.specs.Machine.{State, counter, halted, register_place}
+use Rattle.pram_machine.specs.Instructions.{request_in}
 use Rattle.pram_step.specs.Runs.{state_after}
 use Rattle.pram_rows.specs.Instructions.{instruction_text}
 

@@ -1,11 +1,11 @@
 //! Instructions as a text spells them.
 ghost use Rattle.std.specs.Prelude.{◌≡◌, string_bytes, IfOk};
-ghost use Rattle.pram_text.specs.declared.instr.Operand.TheVariants.{Register};
+ghost use Rattle.pram_job.specs.declared.instr.Operand.TheVariants.{Register};
 ghost use Rattle.pram_rows.specs.Instructions.{instruction_text, operand_text, array_text};
 ghost use Rattle.pram_rows.specs.Instructions.{place_text, and_then, one_register};
 ghost use Rattle.pram_rows.specs.Instructions.{register_number};
 
-use pram_text::{Array, Instr, Operand, Operands, Place};
+use pram_job::{Array, Instr, Operand, Operands, Place};
 use std::alloc::{AllocError, Global};
 
 /// The instruction as a text spells it, with one blank between its words. A jump names the index

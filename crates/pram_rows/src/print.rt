@@ -11,9 +11,9 @@ ghost use Rattle.pram_rows.specs.Shown.{BeginsSteps, TakesSteps, last_step, show
 
 use crate::row::push_rows;
 use crate::window::Shown;
+use pram_job::Job;
 use pram_step::{Arrival, Moment, RunAnswer, State, go_to, make_step, plain_answer};
 use pram_streams::{PrintFault, Sink, put};
-use pram_text::Job;
 use std::alloc::{AllocError, Global};
 
 /// The fields of a row.

@@ -4,7 +4,7 @@ ghost use Rattle.std.specs.Prelude.{map, string_bytes, IfOk, IfSome, OnOk};
 ghost use Rattle.std.specs.Io.KnownBytes.{Appends};
 ghost use Rattle.std.specs.Option.{option_copied};
 ghost use Rattle.csv.specs.Writing.{default_writer, field_text, row_text, text_written};
-ghost use Rattle.pram_step.specs.Machine.{IsDataPlace};
+ghost use Rattle.pram_machine.specs.Machine.{IsDataPlace};
 ghost use Rattle.pram_rows.specs.Inner.Printing.{IsBetweenRecords, told_fields};
 ghost use Rattle.pram_rows.specs.Rows.{instruction_at, line_text, row_line, rows_in};
 ghost use Rattle.pram_rows.specs.Rows.{stop_word, target_text, value_text};
@@ -12,8 +12,8 @@ ghost use Rattle.pram_rows.specs.Rows.{stop_word, target_text, value_text};
 use crate::instruction::instruction_text;
 use csv::{Error, Writer};
 use itoa::Buffer;
+use pram_job::Job;
 use pram_step::{Moment, counter, laws, request_after};
-use pram_text::Job;
 use std::alloc::{AllocError, Global};
 use std::io::Write;
 

@@ -4,7 +4,7 @@ use Rattle.std.proofs.Common.{false, if◌then◌else◌, List, [], ◌∷◌, �
 use Rattle.std.proofs.Common.{Result, Ok, Err, OnOk, refl}
 use Rattle.std.proofs.Common.{sym, ap, ap₂, subst, ◌∙◌, append_assoc, arith}
 use Rattle.std.proofs.lemmas.List.{append-nil}
-use Rattle.pram_text.specs.Job.{JobData}
+use Rattle.pram_job.specs.Job.{JobData}
 use Rattle.stop_plan.specs.Schedule.{after_turns, after_rounds}
 use Rattle.pram_world.specs.declared.event.Effect.{Effect}
 use Rattle.pram_world.specs.declared.event.Event.{Event}

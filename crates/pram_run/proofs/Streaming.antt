@@ -5,7 +5,7 @@ use Rattle.std.proofs.lemmas.List.{append-nil, length-append}
 use Rattle.std.proofs.KnownBytes.{Appends-nil, Appends-trans}
 use Rattle.std.specs.Io.KnownBytes.{Appends}
 use Rattle.std.specs.Prelude.{◌↔◌, IsErrOf, IsTrue, OnErr, codes}
-use Rattle.pram_text.specs.Job.{JobData, IsJob}
+use Rattle.pram_job.specs.Job.{JobData, IsJob}
 use Rattle.pram_step.specs.declared.answer.RunAnswer.{RunAnswer}
 use Rattle.pram_world.specs.Outcomes.{IsOutcome}
 use Rattle.pram_streams.specs.Transfer.{AppendsBeginning}

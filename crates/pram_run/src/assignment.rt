@@ -2,7 +2,7 @@
 ghost use Rattle.std.specs.Prelude.{◌≡◌, ◌<◌, All};
 
 use pram_board::Board;
-use pram_text::Job;
+use pram_job::Job;
 use stop_plan::Plan;
 
 /// What the workers of a run go over: a board that was opened for the job, and a plan for all of

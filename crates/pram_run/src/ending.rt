@@ -5,8 +5,8 @@ ghost use Rattle.pram_run.specs.Running.{Tells};
 ghost use Rattle.pram_step.specs.declared.answer.RunAnswer.{RunAnswer};
 
 use pram_board::{Board, Seat};
+use pram_job::Job;
 use pram_step::{Cells, RunAnswer};
-use pram_text::Job;
 use std::alloc::{AllocError, Global};
 
 /// The job's answer, as far as the board tells it.

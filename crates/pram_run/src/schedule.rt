@@ -9,9 +9,9 @@ ghost use Rattle.pram_run.specs.declared.trace.TraceRow.{TraceRow};
 
 use crate::print::{HEADER, pass_on, put_rows};
 use crate::trace::{PART, Trace};
+use pram_job::Job;
 use pram_step::RunAnswer;
 use pram_streams::{PrintFault, Sink, put};
-use pram_text::Job;
 use pram_world::{Event, World};
 use std::alloc::{AllocError, Global};
 use stop_plan::{Act, Plan, Row};

@@ -7,12 +7,12 @@ use Rattle.std.specs.Prelude.{unwrap_or}
 use Rattle.std.proofs.lemmas.Bool.{cases_eq, cases_lt, eq-eqb}
 use Rattle.std.proofs.lemmas.List.{ext_get_or, get_or-take, take-append-drop}
 use Rattle.std.proofs.lemmas.Option.{none-some, some_pair_parts}
-use Rattle.pram_text.specs.Job.{JobData, IsJob}
-use Rattle.pram_step.specs.declared.requests.Request.{Request}
+use Rattle.pram_job.specs.Job.{JobData, IsJob}
+use Rattle.pram_machine.specs.declared.requests.Request.{Request}
 use Rattle.pram_step.specs.declared.stores.Store.{Store}
-use Rattle.pram_step.specs.Machine.{State, IsDataPlace, IsStopped, place_count, counter_place}
-use Rattle.pram_step.specs.Machine.{register_place, register, counter, halted}
-use Rattle.pram_step.specs.Instructions.{goes_to, request_in, requests_in}
+use Rattle.pram_machine.specs.Machine.{State, IsDataPlace, IsStopped, place_count, counter_place}
+use Rattle.pram_machine.specs.Machine.{register_place, register, counter, halted}
+use Rattle.pram_machine.specs.Instructions.{goes_to, request_in, requests_in}
 use Rattle.pram_step.specs.Steps.{Writes, written, Agrees, IsNext}
 use Rattle.pram_step.specs.Steps.{first_written, next_state}
 use Rattle.pram_step.specs.Inner.Marks.{Puts, AreAsked, AreStored}
@@ -32,7 +32,8 @@ use Rattle.pram_step.proofs.Passing.{bound_inside, run_first, run_next}
 use Rattle.pram_step.specs.Inner.Passes.{bound}
 use Rattle.pram_step.proofs.RequestList.{written_of_put, written_cases}
 use Rattle.pram_step.proofs.RequestList.{Puts-from_Writes, Puts_at, Puts_inside, Writes-from_Puts}
-use Rattle.pram_step.proofs.Shapes.{asks, asked_at, length-requests_in}
+use Rattle.pram_machine.proofs.Shapes.{asks, length-requests_in}
+use Rattle.pram_step.proofs.RequestList.{asked_at}
 
 pub none_unless : (o : Option ℕ) → ((v : ℕ) → o ≡ Some v → ⊥) → o ≡ None
 none_unless None h = refl

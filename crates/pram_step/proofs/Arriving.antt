@@ -1,11 +1,11 @@
 -- What going from the start comes to, taken apart.
 use Rattle.std.proofs.Common.{◌≡◌, ℕ, ◌+◌, ◌-◌, ◌≤◌, Option, Some, sym, subst, arith}
-use Rattle.pram_text.specs.Job.{JobData}
+use Rattle.pram_job.specs.Job.{JobData}
 use Rattle.pram_step.specs.declared.answer.Fault.{Fault}
 use Rattle.pram_step.specs.declared.arrival.Arrival.{Arrival}
 use Rattle.pram_step.specs.declared.arrival.Arrival.TheVariants.{Disputed}
 use Rattle.pram_step.specs.Arrivals.{IsArrival, IsStepMade}
-use Rattle.pram_step.specs.Machine.{State}
+use Rattle.pram_machine.specs.Machine.{State}
 use Rattle.pram_step.specs.Runs.{IsFirstConflict, IsReached}
 
 pub arrived_disputed : (job : JobData) (t most : ℕ) (arrival : Arrival) (fault : Fault) →

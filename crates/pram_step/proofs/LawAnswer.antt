@@ -2,16 +2,16 @@
 use Rattle.std.proofs.Common.{◌≡◌, ℕ, ◌<◌, ◌≤◌, List, take, inl, inr}
 use Rattle.std.proofs.Common.{sym, ap, subst, ◌∙◌, ⊎_elim, arith}
 use Rattle.std.proofs.lemmas.Bool.{cases_lt, cases_order}
-use Rattle.pram_text.specs.Job.{JobData}
+use Rattle.pram_job.specs.Job.{JobData}
 use Rattle.pram_step.specs.declared.answer.Dispute.{Dispute}
 use Rattle.pram_step.specs.declared.answer.Fault.{Fault}
 use Rattle.pram_step.specs.declared.answer.RunAnswer.{RunAnswer}
 use Rattle.pram_step.specs.declared.answer.RunAnswer.TheVariants.{Final, Conflict, Unfinished}
-use Rattle.pram_step.specs.declared.requests.Request.{Request}
+use Rattle.pram_machine.specs.declared.requests.Request.{Request}
 use Rattle.pram_step.specs.Steps.{Writes, Clashes, IsDispute}
 use Rattle.pram_step.specs.Runs.{requests_after, IsReached, IsStateAfter}
 use Rattle.pram_step.specs.Runs.{dispute_of, IsFirstConflict, IsAnswer}
-use Rattle.pram_step.specs.Machine.{State}
+use Rattle.pram_machine.specs.Machine.{State}
 use Rattle.pram_step.proofs.LawFixed.{one_state}
 
 -- ---- the details of a conflict

@@ -1,16 +1,16 @@
 -- What answers jobs have in common that differ in their rule or their number of steps alone.
 use Rattle.std.proofs.Common.{◌≡◌, ◌↔◌, ℕ, ◌≤◌, List, sym, subst, ◌∙◌, arith}
-use Rattle.pram_text.specs.declared.instr.Rule.{Rule}
-use Rattle.pram_text.specs.declared.instr.Rule.TheVariants.{Priority, Crew}
-use Rattle.pram_text.specs.Job.{JobData}
+use Rattle.pram_job.specs.declared.instr.Rule.{Rule}
+use Rattle.pram_job.specs.declared.instr.Rule.TheVariants.{Priority, Crew}
+use Rattle.pram_job.specs.Job.{JobData}
 use Rattle.pram_step.specs.declared.answer.Dispute.{Dispute}
 use Rattle.pram_step.specs.declared.answer.Fault.{Fault}
 use Rattle.pram_step.specs.declared.answer.RunAnswer.TheVariants.{Final, Conflict}
-use Rattle.pram_step.specs.declared.requests.Request.{Request}
+use Rattle.pram_machine.specs.declared.requests.Request.{Request}
 use Rattle.pram_step.specs.Steps.{Agrees, Forbids, IsDispute}
 use Rattle.pram_step.specs.Runs.{state_after, requests_after, IsReached}
 use Rattle.pram_step.specs.Runs.{IsStateAfter, dispute_of, IsFirstConflict, IsAnswer}
-use Rattle.pram_step.specs.Machine.{State}
+use Rattle.pram_machine.specs.Machine.{State}
 use Rattle.pram_step.proofs.LawRules.{state_same, asked_same, writes_same, clash_same}
 use Rattle.pram_step.proofs.LawRules.{crew_agrees, priority_agrees, steps_agree}
 

@@ -4,16 +4,16 @@ use Rattle.std.proofs.Common.{cond, Some, None, refl, ap, ◌∙◌, ⊎_elim, a
 use Rattle.std.specs.Prelude.{◌==◌, if◌then◌else◌}
 use Rattle.std.proofs.lemmas.Bool.{eq-eqb}
 use Rattle.std.proofs.lemmas.List.{get_or-append_right, get_or-replicate}
-use Rattle.pram_text.specs.Job.{JobData, IsJob}
-use Rattle.pram_step.specs.declared.requests.Request.{Request}
-use Rattle.pram_step.specs.Machine.{State, place_count, counter_place}
-use Rattle.pram_step.specs.Machine.{counter, out_of_range, IsStopped, start}
-use Rattle.pram_step.specs.Instructions.{request_in, requests_in}
+use Rattle.pram_job.specs.Job.{JobData, IsJob}
+use Rattle.pram_machine.specs.declared.requests.Request.{Request}
+use Rattle.pram_machine.specs.Machine.{State, place_count, counter_place}
+use Rattle.pram_machine.specs.Machine.{counter, out_of_range, IsStopped, start}
+use Rattle.pram_machine.specs.Instructions.{request_in, requests_in}
 use Rattle.pram_step.specs.Steps.{Writes, written, next_state}
 use Rattle.pram_step.specs.Runs.{state_after}
 use Rattle.pram_step.proofs.LawWriters.{HasFirst, HasNone, writer_cases}
 use Rattle.pram_step.proofs.LawPlaces.{one_writer_value}
-use Rattle.pram_step.proofs.Shapes.{asks, request_within}
+use Rattle.pram_machine.proofs.Shapes.{asks, request_within}
 use Rattle.pram_step.proofs.LawNext.{after_first}
 use Rattle.pram_step.proofs.LawStopped.{stopped_request}
 use Rattle.pram_step.proofs.LawFixed.{length-state_after}

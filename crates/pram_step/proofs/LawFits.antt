@@ -6,15 +6,15 @@ use Rattle.std.specs.List.{All}
 use Rattle.std.proofs.lemmas.Bool.{cases_lt}
 use Rattle.std.proofs.lemmas.List.{get_or_default, get_or_append_left, get_or-append_right}
 use Rattle.std.proofs.lemmas.List.{get_or-replicate, length-append, length-replicate}
-use Rattle.pram_text.specs.Job.{JobData, IsJob}
-use Rattle.pram_step.specs.Machine.{State, place_count, counter, start}
-use Rattle.pram_step.specs.Instructions.{request_in, requests_in}
+use Rattle.pram_job.specs.Job.{JobData, IsJob}
+use Rattle.pram_machine.specs.Machine.{State, place_count, counter, start}
+use Rattle.pram_machine.specs.Instructions.{request_in, requests_in}
 use Rattle.pram_step.specs.Steps.{Writes, next_state}
 use Rattle.pram_step.specs.Runs.{state_after}
 use Rattle.pram_step.proofs.LawWriters.{HasFirst, HasNone, writer_cases}
 use Rattle.pram_step.proofs.RequestList.{written_cases}
 use Rattle.pram_step.proofs.LawPlaces.{writer_is}
-use Rattle.pram_step.proofs.Shapes.{place_fits, request_value, request_next_fits}
+use Rattle.pram_machine.proofs.Shapes.{place_fits, request_value, request_next_fits}
 use Rattle.pram_step.proofs.LawNext.{after_first, after_none}
 use Rattle.pram_step.proofs.LawFixed.{length-after, length-state_after}
 

@@ -5,10 +5,10 @@ use Rattle.std.proofs.lemmas.List.{length-replicate}
 use Rattle.std.proofs.lemmas.Bool.{cases_order}
 use Rattle.std.proofs.lemmas.List.FromFn.{length-map-range_with_len}
 use Rattle.std.proofs.Math.Nat.{add-zero}
-use Rattle.pram_text.specs.Job.{JobData, IsJob}
-use Rattle.pram_step.specs.declared.requests.Request.{Request}
-use Rattle.pram_step.specs.Machine.{State, place_count, start}
-use Rattle.pram_step.specs.Instructions.{requests_in}
+use Rattle.pram_job.specs.Job.{JobData, IsJob}
+use Rattle.pram_machine.specs.declared.requests.Request.{Request}
+use Rattle.pram_machine.specs.Machine.{State, place_count, start}
+use Rattle.pram_machine.specs.Instructions.{requests_in}
 use Rattle.pram_step.specs.Steps.{Agrees, next_state, after_requests}
 use Rattle.pram_step.specs.Runs.{state_after, AgreesAfter, IsReached, IsStateAfter}
 

@@ -4,21 +4,21 @@ use Rattle.std.proofs.Common.{length, Option, Some, None, refl, sym, ap, ap₂, 
 use Rattle.std.specs.Prelude.{slice_get, slice_index}
 use Rattle.std.proofs.lemmas.List.{map-append}
 use Rattle.std.proofs.lemmas.Option.{none-some}
-use Rattle.pram_text.specs.declared.instr.Instr.{Instr}
-use Rattle.pram_text.specs.declared.instr.Instr.TheVariants.{Set, Pid, Ld, St, Jz, Jmp, Halt}
-use Rattle.pram_text.specs.declared.instr.Operand.{Operand}
-use Rattle.pram_text.specs.declared.instr.Operand.TheVariants.{Register, Number}
-use Rattle.pram_text.specs.declared.instr.Place.{Place}
-use Rattle.pram_text.specs.declared.instr.Place.TheVariants.{Cell, Named}
-use Rattle.pram_text.specs.Instructions.{IsOperand, IsPlace}
-use Rattle.pram_text.specs.Job.{JobData, IsJob, IsInstr}
-use Rattle.pram_step.specs.declared.requests.Request.{Request}
-use Rattle.pram_step.specs.Machine.{State, register, counter}
-use Rattle.pram_step.specs.Instructions.{registers_in, index_of, sources_of, cell_read, goes_to}
-use Rattle.pram_step.specs.Instructions.{decided}
-use Rattle.pram_step.specs.Instructions.{operand_held, cell_held, decided_in, request_in}
+use Rattle.pram_job.specs.declared.instr.Instr.{Instr}
+use Rattle.pram_job.specs.declared.instr.Instr.TheVariants.{Set, Pid, Ld, St, Jz, Jmp, Halt}
+use Rattle.pram_job.specs.declared.instr.Operand.{Operand}
+use Rattle.pram_job.specs.declared.instr.Operand.TheVariants.{Register, Number}
+use Rattle.pram_job.specs.declared.instr.Place.{Place}
+use Rattle.pram_job.specs.declared.instr.Place.TheVariants.{Cell, Named}
+use Rattle.pram_job.specs.Instructions.{IsOperand, IsPlace}
+use Rattle.pram_job.specs.Job.{JobData, IsJob, IsInstr}
+use Rattle.pram_machine.specs.declared.requests.Request.{Request}
+use Rattle.pram_machine.specs.Machine.{State, register, counter}
+use Rattle.pram_machine.specs.Instructions.{registers_in, index_of, sources_of, cell_read, goes_to}
+use Rattle.pram_machine.specs.Instructions.{decided}
+use Rattle.pram_machine.specs.Instructions.{operand_held, cell_held, decided_in, request_in}
 use Rattle.pram_step.specs.Laws.{SameOwn}
-use Rattle.pram_step.proofs.Shapes.{instr_is, reached_below}
+use Rattle.pram_machine.proofs.Shapes.{instr_is, reached_below}
 
 -- what processor i asks for in s it asks for in each state that holds the same in its own places
 -- and in one cell

@@ -6,12 +6,12 @@ use Rattle.std.specs.Option.{unwrap_or}
 use Rattle.std.proofs.lemmas.Bool.{cases_lt, cases_eq}
 use Rattle.std.proofs.lemmas.List.{ext_get_or}
 use Rattle.std.proofs.lemmas.List.FromFn.{get_or-map-range_with_len}
-use Rattle.pram_text.specs.declared.instr.Rule.{Rule}
-use Rattle.pram_text.specs.declared.instr.Rule.TheVariants.{Common, Priority, Crew}
-use Rattle.pram_text.specs.Job.{JobData, IsJob}
-use Rattle.pram_step.specs.declared.requests.Request.{Request}
-use Rattle.pram_step.specs.Machine.{State}
-use Rattle.pram_step.specs.Instructions.{requests_in}
+use Rattle.pram_job.specs.declared.instr.Rule.{Rule}
+use Rattle.pram_job.specs.declared.instr.Rule.TheVariants.{Common, Priority, Crew}
+use Rattle.pram_job.specs.Job.{JobData, IsJob}
+use Rattle.pram_machine.specs.declared.requests.Request.{Request}
+use Rattle.pram_machine.specs.Machine.{State}
+use Rattle.pram_machine.specs.Instructions.{requests_in}
 use Rattle.pram_step.specs.Steps.{Writes, Forbids, Agrees, Counts, IsNext}
 use Rattle.pram_step.specs.Steps.{first_written, after_requests, next_state}
 use Rattle.pram_step.proofs.LawWriters.{written_once, IsFirstWriter}

@@ -1,11 +1,11 @@
 -- Which places the processors of a job write to.
 use Rattle.std.proofs.Common.{◌≡◌, ℕ, ◌<◌, ◌≤◌, ◌⊎◌, Some, sym, subst, inl, inr, arith}
-use Rattle.pram_text.specs.Job.{JobData, IsJob}
-use Rattle.pram_step.specs.declared.requests.Request.{Request}
-use Rattle.pram_step.specs.Machine.{State, IsDataPlace, counter_place}
-use Rattle.pram_step.specs.Instructions.{request_in, requests_in}
+use Rattle.pram_job.specs.Job.{JobData, IsJob}
+use Rattle.pram_machine.specs.declared.requests.Request.{Request}
+use Rattle.pram_machine.specs.Machine.{State, IsDataPlace, counter_place}
+use Rattle.pram_machine.specs.Instructions.{request_in, requests_in}
 use Rattle.pram_step.specs.Steps.{Writes, written}
-use Rattle.pram_step.proofs.Shapes.{asked_by, asked_is, request_place}
+use Rattle.pram_machine.proofs.Shapes.{asked_by, asked_is, request_place}
 use Rattle.pram_step.proofs.RequestList.{written_cases}
 use Rattle.pram_step.proofs.LawWriters.{written_once}
 

@@ -4,16 +4,16 @@ use Rattle.std.proofs.Common.{Some, None, length, map, refl, sym, ap, subst, ◌
 use Rattle.std.specs.Prelude.{slice_get, slice_index}
 use Rattle.std.specs.List.{range_with_len}
 use Rattle.std.specs.Option.{option_or, unwrap_or}
-use Rattle.pram_text.specs.declared.instr.Instr.{Instr}
-use Rattle.pram_text.specs.declared.instr.Instr.TheVariants.{Ld, St, Halt}
-use Rattle.pram_text.specs.declared.instr.Place.TheVariants.{Cell, Named}
-use Rattle.pram_text.specs.declared.instr.Rule.{Rule}
-use Rattle.pram_text.specs.declared.instr.Rule.TheVariants.{Common, Priority, Crew}
-use Rattle.pram_text.specs.Job.{JobData}
-use Rattle.pram_step.specs.declared.requests.Request.{Request}
-use Rattle.pram_step.specs.Machine.{State, counter}
-use Rattle.pram_step.specs.Instructions.{cell_read, goes_to, decided, operand_held}
-use Rattle.pram_step.specs.Instructions.{decided_in, request_in, requests_in}
+use Rattle.pram_job.specs.declared.instr.Instr.{Instr}
+use Rattle.pram_job.specs.declared.instr.Instr.TheVariants.{Ld, St, Halt}
+use Rattle.pram_job.specs.declared.instr.Place.TheVariants.{Cell, Named}
+use Rattle.pram_job.specs.declared.instr.Rule.{Rule}
+use Rattle.pram_job.specs.declared.instr.Rule.TheVariants.{Common, Priority, Crew}
+use Rattle.pram_job.specs.Job.{JobData}
+use Rattle.pram_machine.specs.declared.requests.Request.{Request}
+use Rattle.pram_machine.specs.Machine.{State, counter}
+use Rattle.pram_machine.specs.Instructions.{cell_read, goes_to, decided, operand_held}
+use Rattle.pram_machine.specs.Instructions.{decided_in, request_in, requests_in}
 use Rattle.pram_step.specs.Steps.{Writes, Counts, IsNext, Clashes, Agrees, Forbids}
 use Rattle.pram_step.specs.Steps.{written, first_written, after_requests, next_state}
 use Rattle.pram_step.specs.Runs.{state_after, AgreesAfter}

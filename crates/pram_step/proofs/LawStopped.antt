@@ -5,13 +5,13 @@ use Rattle.std.specs.Prelude.{slice_index, ◌==◌}
 use Rattle.std.proofs.lemmas.Bool.{eqb-true}
 use Rattle.std.proofs.lemmas.List.{ext_get_or}
 use Rattle.std.proofs.lemmas.Option.{none-some, same_Some, slice_get_past}
-use Rattle.pram_text.specs.Job.{JobData}
-use Rattle.pram_step.specs.declared.requests.Request.{Request}
-use Rattle.pram_step.specs.Machine.{State, counter_place, counter, IsStopped}
-use Rattle.pram_step.specs.Instructions.{goes_to, request_in, requests_in}
+use Rattle.pram_job.specs.Job.{JobData}
+use Rattle.pram_machine.specs.declared.requests.Request.{Request}
+use Rattle.pram_machine.specs.Machine.{State, counter_place, counter, IsStopped}
+use Rattle.pram_machine.specs.Instructions.{goes_to, request_in, requests_in}
 use Rattle.pram_step.specs.Steps.{Writes, written, Agrees, next_state}
 use Rattle.pram_step.specs.Runs.{IsStateAfter}
-use Rattle.pram_step.specs.Machine.{AllStopped}
+use Rattle.pram_machine.specs.Machine.{AllStopped}
 use Rattle.pram_step.specs.Inner.Passes.{AllIdle}
 use Rattle.pram_step.proofs.LawWriters.{HasFirst, HasNone, writer_cases}
 use Rattle.pram_step.proofs.LawPlaces.{writer_is}

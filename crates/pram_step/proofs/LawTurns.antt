@@ -5,11 +5,11 @@ use Rattle.std.specs.Prelude.{slice_index}
 use Rattle.std.specs.Option.{option_or, unwrap_or}
 use Rattle.std.proofs.lemmas.List.{ext_get_or}
 use Rattle.std.proofs.lemmas.List.FromFn.{length-map-range_with_len, get_or-map-range_with_len}
-use Rattle.pram_text.specs.declared.instr.Rule.TheVariants.{Priority}
-use Rattle.pram_text.specs.Job.{JobData, IsJob}
-use Rattle.pram_step.specs.declared.requests.Request.{Request}
-use Rattle.pram_step.specs.Machine.{State}
-use Rattle.pram_step.specs.Instructions.{requests_in}
+use Rattle.pram_job.specs.declared.instr.Rule.TheVariants.{Priority}
+use Rattle.pram_job.specs.Job.{JobData, IsJob}
+use Rattle.pram_machine.specs.declared.requests.Request.{Request}
+use Rattle.pram_machine.specs.Machine.{State}
+use Rattle.pram_machine.specs.Instructions.{requests_in}
 use Rattle.pram_step.specs.Steps.{Writes, Agrees, next_state}
 use Rattle.pram_step.specs.Orders.{HasAll, written_by, first_found, after_writes_of, after_in_turn}
 use Rattle.pram_step.proofs.LawNext.{after_at}

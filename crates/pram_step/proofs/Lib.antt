@@ -4,7 +4,6 @@ pub mod Marking
 pub mod Passing
 pub mod Turning
 pub mod Applying
-pub mod Shapes
 pub mod LawFixed
 pub mod LawWriters
 pub mod LawPlaces

@@ -10,14 +10,14 @@ use Rattle.std.proofs.lemmas.List.{get_or_default, get_or_past, get_or-take, tak
 use Rattle.std.proofs.lemmas.List.{take_all}
 use Rattle.std.proofs.lemmas.List.Elements.{All-from_get_or}
 use Rattle.std.proofs.lemmas.Option.{none-some, some_pair_parts, slice_get-get_or}
-use Rattle.pram_text.specs.declared.instr.Rule.TheVariants.{Priority}
-use Rattle.pram_text.specs.Job.{JobData}
+use Rattle.pram_job.specs.declared.instr.Rule.TheVariants.{Priority}
+use Rattle.pram_job.specs.Job.{JobData}
 use Rattle.pram_step.specs.declared.answer.Dispute.{Dispute}
-use Rattle.pram_step.specs.declared.requests.Request.{Request}
+use Rattle.pram_machine.specs.declared.requests.Request.{Request}
 use Rattle.pram_step.specs.declared.stores.Store.{Store}
 use Rattle.pram_step.specs.Inner.Marks.{Puts, PutsFirst, PutsNone, PutsStore, IsMark, AreMarked}
 use Rattle.pram_step.specs.Inner.Marks.{AreJudged, AreStoredFrom, store_at}
-use Rattle.pram_step.specs.Machine.{State}
+use Rattle.pram_machine.specs.Machine.{State}
 use Rattle.pram_step.specs.Inner.Marks.{JudgesStore}
 use Rattle.pram_step.specs.Steps.{Forbids, IsVerdict}
 use Rattle.pram_step.specs.Inner.Marks.{AreAsked}

@@ -2,7 +2,7 @@
 -- listed.
 use Rattle.std.proofs.Common.{◌≡◌, ℕ, zero, suc, ◌+◌, ◌-◌, ◌<◌, ◌≤◌, ◌⊎◌, List, [], ◌∷◌}
 use Rattle.std.proofs.Common.{◌++◌, length, take, get_or, set, sym, subst, ◌∙◌, inl, inr}
-use Rattle.std.proofs.Common.{arith, add-zero}
+use Rattle.std.proofs.Common.{arith, add-zero, refl}
 use Rattle.std.specs.List.{Contains}
 use Rattle.std.specs.List.Sorted.{IsStrictlyIncreasing}
 use Rattle.std.specs.Prelude.{All}
@@ -12,9 +12,11 @@ use Rattle.std.proofs.lemmas.List.{length_push, take_more_set}
 use Rattle.std.proofs.lemmas.List.Elements.{All-push, All-weaker, All-nil}
 use Rattle.std.proofs.lemmas.List.Elements.{Contains-append_left, Contains-push}
 use Rattle.std.proofs.lemmas.List.Kept.{AllPairs-from_increasing}
-use Rattle.pram_text.specs.Job.{JobData}
-use Rattle.pram_step.specs.Machine.{State, counter, halted, IsStopped}
-use Rattle.pram_step.specs.Inner.Passes.{AreRunning, AreRunningBelow, bound}
+use Rattle.pram_job.specs.Job.{JobData}
+use Rattle.pram_machine.specs.Instructions.{goes_to, request_in}
+use Rattle.pram_machine.specs.Machine.{State, counter, halted, IsStopped}
+use Rattle.pram_machine.proofs.Shapes.{decided_idle, request_by}
+use Rattle.pram_step.specs.Inner.Passes.{AreRunning, AreRunningBelow, IsIdle, bound}
 
 -- ---- from a number to a later one
 
@@ -210,3 +212,11 @@ AreRunningBelow_none job s list = record {
   rises = λ k inside. absurd (omega arith);
   all = λ i low runs. absurd (omega arith);
 }
+
+-- ---- who stands still
+
+pub request_idle : (job : JobData) (s : State) (i : ℕ) →
+    (request_in job s i).next ≡ counter job s i → IsIdle job s i
+request_idle job s i =
+    request_by (λ r. r.next ≡ counter job s i → r ≡ goes_to (counter job s i)) job s i
+    (λ e. refl) (λ instr e. decided_idle job i _ _ _ _ instr)

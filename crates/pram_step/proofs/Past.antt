@@ -2,15 +2,15 @@
 use Rattle.std.proofs.Common.{◌≡◌, ◌≢◌, ◌⊎◌, ◌↔◌, ℕ, zero, suc, ◌+◌, ◌<◌, ◌≤◌, ◌^◌, slice_index}
 use Rattle.std.proofs.Common.{Option, Some, None, refl, sym, ap, subst, ◌∙◌, inl, inr, arith}
 use Rattle.std.proofs.lemmas.Bool.{cases_order, cases_lt}
-use Rattle.pram_text.specs.Job.{JobData, IsJob}
-use Rattle.pram_step.specs.Machine.{place_count, counter_place}
-use Rattle.pram_step.specs.Instructions.{request_in}
+use Rattle.pram_job.specs.Job.{JobData, IsJob}
+use Rattle.pram_machine.specs.Machine.{place_count, counter_place}
+use Rattle.pram_machine.specs.Instructions.{request_in}
 use Rattle.pram_step.specs.Runs.{IsReached, AgreesAfter, state_after, requests_after}
 use Rattle.pram_step.specs.History.{Asks, Wins, IsWritten, last_by}
 use Rattle.pram_step.specs.History.{last_write, write_before, part_after}
 use Rattle.pram_step.proofs.LawWriters.{writer_cases}
 use Rattle.pram_step.proofs.RequestList.{written_of_put, written_cases}
-use Rattle.pram_step.proofs.Shapes.{asks, place_fits, request_place}
+use Rattle.pram_machine.proofs.Shapes.{asks, place_fits, request_place}
 use Rattle.pram_step.proofs.LawPlaces.{writer_is, writes_place}
 use Rattle.pram_step.proofs.LawNext.{next_is_next, after_none}
 use Rattle.pram_step.proofs.LawFixed.{length-state_after}

@@ -6,9 +6,11 @@ use Rattle.std.specs.Prelude.{slice_get}
 use Rattle.std.proofs.lemmas.Bool.{cases_eq, eq-eqb, ne_eqb, eqb-true, cases_Bool}
 use Rattle.std.proofs.lemmas.Option.{none-some, same_Some, slice_get-get_or, slice_get_within}
 use Rattle.std.proofs.lemmas.Option.{get_or_from_slice_get}
-use Rattle.pram_text.specs.Job.{JobData}
-use Rattle.pram_step.specs.declared.requests.Request.{Request}
-use Rattle.pram_step.specs.Machine.{counter_place}
+use Rattle.pram_job.specs.Job.{JobData}
+use Rattle.pram_machine.specs.declared.requests.Request.{Request}
+use Rattle.pram_machine.specs.Instructions.{request_in, requests_in}
+use Rattle.pram_machine.specs.Machine.{State, counter_place}
+use Rattle.pram_machine.proofs.Shapes.{asks}
 use Rattle.pram_step.specs.Steps.{written, Writes}
 use Rattle.pram_step.specs.Inner.Marks.{Puts}
 
@@ -24,6 +26,11 @@ slice_get-take (suc n) (x ∷ xs) (suc i) h = slice_get-take n xs i (omega arith
 -- as code reads it
 abbrev pub request_at : List Request → ℕ → Request
 request_at requests i = get_or requests i (record { put = None; next = 0 })
+
+pub asked_at : (job : JobData) (s : State) (i : ℕ) → i < job.procs →
+    request_at (requests_in job s) i ≡ request_in job s i
+asked_at job s i low = get_or_from_slice_get (requests_in job s) i (request_in job s i)
+    (record { put = None; next = 0 }) (asks job s i low)
 
 module _ (requests : List Request) (m : ℕ) (inside : m < length requests) where
   pub slice_get_below : (i : ℕ) (r : Request) → slice_get (take m requests) i ≡ Some r → i < m

@@ -1,10 +1,10 @@
 -- What a turn's data are, by where they go.
 use Rattle.std.proofs.Common.{◌≡◌, ℕ, ◌<◌, ◌≤◌, Some, arith, refl}
 use Rattle.std.proofs.lemmas.Option.{none-some, some_pair_parts}
-use Rattle.pram_text.specs.Job.{JobData}
-use Rattle.pram_step.specs.declared.turn.Put.{Put}
-use Rattle.pram_step.specs.declared.turn.Put.TheVariants.{Nothing, Register, Cell}
-use Rattle.pram_step.specs.Inner.Turns.{put_of, IsSorted}
+use Rattle.pram_job.specs.Job.{JobData}
+use Rattle.pram_machine.specs.declared.turn.Put.{Put}
+use Rattle.pram_machine.specs.declared.turn.Put.TheVariants.{Nothing, Register, Cell}
+use Rattle.pram_machine.specs.Turns.{put_of, IsSorted}
 
 -- data that are not for a cell are for no cell
 pub no_cell : (job : JobData) (put : Put) → IsSorted job put →

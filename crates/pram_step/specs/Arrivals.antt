@@ -1,10 +1,10 @@
 -- What going from the start comes to.
 use Rattle.std.specs.Prelude.{◌≡◌, ℕ, ◌+◌, ◌<◌, ◌≤◌, Option, Some, None}
-use Rattle.pram_text.specs.Job.{JobData}
+use Rattle.pram_job.specs.Job.{JobData}
 use Rattle.pram_step.specs.declared.answer.Fault.{Fault}
 use Rattle.pram_step.specs.declared.arrival.Arrival.{Arrival}
 use Rattle.pram_step.specs.declared.arrival.Arrival.TheVariants.{Reached, Disputed, TooFar}
-use Rattle.pram_step.specs.Machine.{State}
+use Rattle.pram_machine.specs.Machine.{State}
 use Rattle.pram_step.specs.Runs.{IsReached, IsStateAfter, IsFirstConflict}
 
 -- what is there after t steps: the state, or the first conflict up to them, or as many steps were

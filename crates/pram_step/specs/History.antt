@@ -1,7 +1,7 @@
 -- What the steps of a job write, and when. Step t + 1 is the step after t steps.
 use Rattle.std.specs.Prelude.{ℕ, zero, suc, Option, Some, None}
-use Rattle.pram_text.specs.Job.{JobData}
-use Rattle.pram_step.specs.Instructions.{part_of, request_in}
+use Rattle.pram_job.specs.Job.{JobData}
+use Rattle.pram_machine.specs.Instructions.{part_of, request_in}
 use Rattle.pram_step.specs.Steps.{Writes, Counts, first_written}
 use Rattle.pram_step.specs.Runs.{state_after, requests_after}
 

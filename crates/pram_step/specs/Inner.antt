@@ -1,4 +1,3 @@
 -- What private contracts alone cite.
 pub mod Marks
 pub mod Passes
-pub mod Turns

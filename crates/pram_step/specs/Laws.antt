@@ -1,18 +1,18 @@
 -- The laws of the machine.
 use Rattle.std.specs.Prelude.{◌≡◌, ◌≢◌, ◌⊎◌, ◌↔◌, ℕ, suc, ◌+◌, ◌^◌}
 use Rattle.std.specs.Prelude.{◌<◌, ◌≤◌, List, length, slice_index, All, None}
-use Rattle.pram_text.specs.declared.instr.Rule.{Rule}
-use Rattle.pram_text.specs.declared.instr.Rule.TheVariants.{Priority, Crew}
-use Rattle.pram_text.specs.declared.instr.Instr.{Instr}
-use Rattle.pram_text.specs.Job.{JobData, IsJob, IsInstr}
+use Rattle.pram_job.specs.declared.instr.Rule.{Rule}
+use Rattle.pram_job.specs.declared.instr.Rule.TheVariants.{Priority, Crew}
+use Rattle.pram_job.specs.declared.instr.Instr.{Instr}
+use Rattle.pram_job.specs.Job.{JobData, IsJob, IsInstr}
 use Rattle.pram_step.specs.declared.answer.Dispute.{Dispute}
 use Rattle.pram_step.specs.declared.answer.Fault.{Fault}
 use Rattle.pram_step.specs.declared.answer.RunAnswer.{RunAnswer}
 use Rattle.pram_step.specs.declared.answer.RunAnswer.TheVariants.{Final, Conflict}
-use Rattle.pram_step.specs.declared.requests.Request.{Request}
-use Rattle.pram_step.specs.Machine.{State, start, counter_place, place_count}
-use Rattle.pram_step.specs.Machine.{register, counter, out_of_range, IsStopped, AllStopped}
-use Rattle.pram_step.specs.Instructions.{decided, HasShape, request_in, requests_in}
+use Rattle.pram_machine.specs.declared.requests.Request.{Request}
+use Rattle.pram_machine.specs.Machine.{State, start, counter_place, place_count}
+use Rattle.pram_machine.specs.Machine.{register, counter, out_of_range, IsStopped, AllStopped}
+use Rattle.pram_machine.specs.Instructions.{decided, HasShape, request_in, requests_in}
 use Rattle.pram_step.specs.Steps.{Writes, Agrees, IsDispute, IsNext, next_state}
 use Rattle.pram_step.specs.Runs.{state_after, requests_after, AgreesAfter, IsReached}
 use Rattle.pram_step.specs.Runs.{IsStateAfter, IsFirstConflict, IsAnswer}

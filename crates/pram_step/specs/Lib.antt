@@ -1,5 +1,3 @@
-pub mod Machine
-pub mod Instructions
 pub mod Steps
 pub mod Runs
 pub mod Arrivals

@@ -1,15 +1,15 @@
 -- The state after t steps, the first conflict, and what a job ends with.
 use Rattle.std.specs.Prelude.{◌≡◌, ℕ, zero, suc, ◌+◌, ◌<◌, ◌≤◌, List, take}
-use Rattle.pram_text.specs.Job.{JobData}
+use Rattle.pram_job.specs.Job.{JobData}
 use Rattle.pram_step.specs.declared.answer.Dispute.{Dispute}
 use Rattle.pram_step.specs.declared.answer.Fault.{Fault}
 use Rattle.pram_step.specs.declared.answer.RunAnswer.{RunAnswer}
 use Rattle.pram_step.specs.declared.answer.RunAnswer.TheVariants as answer
-use Rattle.pram_step.specs.declared.requests.Request.{Request}
+use Rattle.pram_machine.specs.declared.requests.Request.{Request}
 use Rattle.pram_step.specs.declared.run.Outcome.{Outcome}
 use Rattle.pram_step.specs.declared.run.Outcome.TheVariants as outcome
-use Rattle.pram_step.specs.Machine.{State, start}
-use Rattle.pram_step.specs.Instructions.{requests_in}
+use Rattle.pram_machine.specs.Machine.{State, start}
+use Rattle.pram_machine.specs.Instructions.{requests_in}
 use Rattle.pram_step.specs.Steps.{Agrees, IsDispute, next_state}
 
 -- the state after t steps, as far as they agree

@@ -5,15 +5,15 @@ use Rattle.std.specs.Prelude.{if◌then◌else◌, List, [], ◌∷◌, length, 
 use Rattle.std.specs.Prelude.{slice_index, Option, Some, None, unwrap_or, MatchOption}
 use Rattle.std.specs.List.{range_with_len}
 use Rattle.std.specs.Option.{option_or}
-use Rattle.pram_text.specs.declared.instr.Rule.{Rule}
-use Rattle.pram_text.specs.declared.instr.Rule.TheVariants.{Common, Priority, Crew}
-use Rattle.pram_text.specs.Job.{JobData}
+use Rattle.pram_job.specs.declared.instr.Rule.{Rule}
+use Rattle.pram_job.specs.declared.instr.Rule.TheVariants.{Common, Priority, Crew}
+use Rattle.pram_job.specs.Job.{JobData}
 use Rattle.pram_step.specs.declared.answer.Dispute.{Dispute}
-use Rattle.pram_step.specs.declared.requests.Request.{Request}
+use Rattle.pram_machine.specs.declared.requests.Request.{Request}
 use Rattle.pram_step.specs.declared.state.StepFault.{StepFault}
 use Rattle.pram_step.specs.declared.state.StepFault.TheVariants.{Conflict, Memory}
-use Rattle.pram_step.specs.Machine.{State, counter_place}
-use Rattle.pram_step.specs.Instructions.{requests_in}
+use Rattle.pram_machine.specs.Machine.{State, counter_place}
+use Rattle.pram_machine.specs.Instructions.{requests_in}
 
 -- what processor i writes to a place; its next counter is a write to its counter's place
 abbrev pub written : JobData → ℕ → ℕ → Request → Option ℕ

@@ -7,7 +7,7 @@ use crate::answer::Fault;
 use crate::laws;
 use crate::pass::Course;
 use crate::state::{State, StepFault, step};
-use pram_text::Job;
+use pram_job::Job;
 use std::alloc::{AllocError, Global};
 
 /// What is there after so many steps.

@@ -1,13 +1,13 @@
 //! Where a processor stands, and what it asks for, in a state that the job reaches.
 ghost use Rattle.std.specs.Prelude.{◌≡◌, ℕ, ◌<◌, length, IfSome};
-ghost use Rattle.pram_step.specs.Instructions.{request_in};
-ghost use Rattle.pram_step.specs.Machine.{IsDataPlace, counter as counter_of, place_count};
+ghost use Rattle.pram_machine.specs.Instructions.{request_in};
+ghost use Rattle.pram_machine.specs.Machine.{IsDataPlace, counter as counter_of, place_count};
 ghost use Rattle.pram_step.specs.Runs.{IsStateAfter};
 
 use crate::laws;
-use crate::requests::Request;
 use crate::state::{State, request};
-use pram_text::Job;
+use pram_job::Job;
+use pram_machine::Request;
 
 /// A processor's counter.
 pub fn counter(job: &Job, state: &State, processor: u32) -> u32

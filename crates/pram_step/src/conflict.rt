@@ -4,10 +4,9 @@ ghost use Rattle.pram_step.specs.Steps.{Forbids, IsVerdict};
 ghost use Rattle.pram_step.specs.Runs.{AreConflicting, IsFault};
 
 use crate::answer::{Dispute, Fault};
-use crate::requests::Request;
 use crate::stores::{Stores, judge_all, take_up};
-use crate::turn::Put;
-use pram_text::{Job, Rule};
+use pram_job::{Job, Rule};
+use pram_machine::{Put, Request};
 use std::alloc::{AllocError, Global};
 
 /// What two of these requests dispute, one request being of each processor, in their order: the

@@ -22,14 +22,14 @@ ghost use Rattle.pram_step.specs.Laws.{LongerJobGoesOn};
 
 /// A request asks for data in a cell or an own register at most, its numbers fit, and its next
 /// counter is within the code or says that the processor stops.
-#[tactic(auto, using(crate::proofs::Shapes::request_shape))]
+#[tactic(auto, using(pram_machine::proofs::Shapes::request_shape))]
 pub fn requests_have_shape()
     ensures { RequestsHaveShape }
 {}
 
 /// What an instruction of the job asks for has that shape, whatever numbers its operands and its
 /// cell hold.
-#[tactic(auto, using(crate::proofs::Shapes::decided_shape))]
+#[tactic(auto, using(pram_machine::proofs::Shapes::decided_shape))]
 pub fn decisions_have_shape()
     ensures { DecisionsHaveShape }
 {}

@@ -2,15 +2,14 @@
 //! as no other stands between them: it is looked up once for all of them. Registers and counters
 //! are each one processor's own, so they are written at once; stores to cells wait for the end.
 ghost use Rattle.std.specs.Prelude.{◌≡◌, ◌<◌, ◌≤◌, length, slice_index, IfSome};
-ghost use Rattle.pram_step.specs.Machine.{IsDataPlace, counter, counter_place, place_count};
-ghost use Rattle.pram_step.specs.Inner.Turns.{put_of, request_of, IsSorted};
+ghost use Rattle.pram_machine.specs.Machine.{IsDataPlace, counter, counter_place, place_count};
+ghost use Rattle.pram_machine.specs.Turns.{put_of, request_of, IsSorted};
 ghost use Rattle.pram_step.specs.Inner.Passes.{AreRunning, GoesOn, IsMove, IsPassed, IsUnderWay};
 
-use crate::requests::Fetched;
 use crate::stores::{Store, take_up};
-use crate::turn::{Put, Turn};
-use pram_text::places::counters_at;
-use pram_text::{Instr, Job, Place};
+use pram_job::places::counters_at;
+use pram_job::{Instr, Job, Place};
+use pram_machine::{Fetched, Put, Turn};
 
 /// How far the turns of a step are.
 #[derive(Clone, Copy, Debug, PartialEq, Eq)]

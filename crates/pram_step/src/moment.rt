@@ -3,7 +3,7 @@ ghost use Rattle.std.specs.Prelude.{◌≡◌};
 ghost use Rattle.pram_step.specs.Runs.{IsStateAfter};
 
 use crate::state::State;
-use pram_text::Job;
+use pram_job::Job;
 
 /// A job, and its state after so many steps.
 #[derive(Drop)]

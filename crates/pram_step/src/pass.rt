@@ -1,8 +1,8 @@
 //! A step: the turns of the processors that run, and then their stores. Where it agrees it is one
 //! pass over them.
 ghost use Rattle.std.specs.Prelude.{◌≡◌, ◌*◌, length, vec_len, IfErr, OnOk, OnErr};
-ghost use Rattle.pram_step.specs.Machine.{place_count, start};
-ghost use Rattle.pram_step.specs.Instructions.{requests_in};
+ghost use Rattle.pram_machine.specs.Machine.{place_count, start};
+ghost use Rattle.pram_machine.specs.Instructions.{requests_in};
 ghost use Rattle.pram_step.specs.Steps.{IsDispute};
 ghost use Rattle.pram_step.specs.Inner.Marks.{HasRoom};
 ghost use Rattle.pram_step.specs.Inner.Passes.{AreRunning, GoesTo, IsAdvance, IsMade, SameCells};
@@ -11,7 +11,7 @@ use crate::answer::{Dispute, Fault};
 use crate::lockstep::pass;
 use crate::running::Running;
 use crate::stores::{Stores, judge_all, write_stores};
-use pram_text::Job;
+use pram_job::Job;
 
 /// What comes of some steps from the start.
 #[derive(Clone, Copy, Debug, PartialEq, Eq)]

@@ -5,7 +5,7 @@ ghost use Rattle.pram_step.specs.declared.run.Outcome.TheVariants.{Conflict};
 
 use crate::answer::{Fault, RunAnswer};
 use crate::state::State;
-use pram_text::Job;
+use pram_job::Job;
 use std::alloc::{AllocError, Global};
 
 /// How the plain machine ended.

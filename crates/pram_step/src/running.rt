@@ -1,12 +1,12 @@
 //! The processors that run.
 ghost use Rattle.std.specs.Prelude.{◌≡◌, ◌≤◌, length, take, vec_len, OnOk};
 ghost use Rattle.std.specs.Bool.{OnTrue};
-ghost use Rattle.pram_step.specs.Machine.{place_count};
+ghost use Rattle.pram_machine.specs.Machine.{place_count};
 ghost use Rattle.pram_step.specs.Inner.Passes.{AllIdle, AreRunning};
 
-use crate::requests::request_in;
-use pram_text::Job;
-use pram_text::places::counters_at;
+use pram_job::Job;
+use pram_job::places::counters_at;
+use pram_machine::request_in;
 use std::alloc::{AllocError, Global};
 
 /// The processors that run, in order, and room for all of them.

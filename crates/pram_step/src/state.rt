@@ -1,18 +1,18 @@
 //! The places of the machine, and a step.
 ghost use Rattle.std.specs.Prelude.{◌≡◌, ◌*◌, ◌<◌, length, take, slice_index, vec_len};
 ghost use Rattle.std.specs.Prelude.{IfOk, OnOk, OnErr, IfErr};
-ghost use Rattle.pram_step.specs.Machine.{place_count, start};
-ghost use Rattle.pram_step.specs.Instructions.{request_in, requests_in};
+ghost use Rattle.pram_machine.specs.Machine.{place_count, start};
+ghost use Rattle.pram_machine.specs.Instructions.{request_in, requests_in};
 ghost use Rattle.pram_step.specs.declared.state.StepFault.TheVariants.{Conflict, Memory};
 ghost use Rattle.pram_step.specs.Steps.{Agrees, IsStepFault, next_state, IsNext};
 ghost use Rattle.pram_step.specs.Inner.Passes.{GoesTo, IsRun};
 
 use crate::answer::{Cells, Dispute, Fault};
 use crate::pass::{Course, attempt, make_steps};
-use crate::requests::{Request, request_in};
 use crate::running::Running;
 use crate::stores::Stores;
-use pram_text::Job;
+use pram_job::Job;
+use pram_machine::{Request, request_in};
 use std::alloc::{AllocError, Global};
 use std::marker::Model;
 

@@ -1,13 +1,13 @@
 //! The stores of a step, which wait for its end.
 ghost use Rattle.std.specs.Prelude.{◌≡◌, ◌<◌, ◌≤◌, ◌+◌, length, All, OnOk};
 ghost use Rattle.pram_step.specs.Inner.Marks.{AreStored, AsksNext, HasRoom, store_at};
-ghost use Rattle.pram_step.specs.Inner.Turns.{put_of, IsSorted};
+ghost use Rattle.pram_machine.specs.Turns.{put_of, IsSorted};
 ghost use Rattle.pram_step.specs.Inner.Marks.{JudgesAll, JudgesNext, JudgesStore, TellsFirst};
 
 use crate::answer::Dispute;
 use crate::conflict::is_forbidden;
-use crate::turn::Put;
-use pram_text::{Job, Rule};
+use pram_job::{Job, Rule};
+use pram_machine::Put;
 use std::alloc::{AllocError, Global};
 
 /// A store to a cell.

@@ -1,8 +1,8 @@
 -- The answer of a run, and the summary of a job, as text.
 use Rattle.std.specs.Prelude.{ℕ, ◌+◌, List, [], ◌∷◌, ◌++◌, length, codes, decimal}
-use Rattle.pram_text.specs.Job.{JobData}
-use Rattle.pram_text.specs.declared.instr.Rule.{Rule}
-use Rattle.pram_text.specs.declared.instr.Rule.TheVariants.{Common, Priority, Crew}
+use Rattle.pram_job.specs.Job.{JobData}
+use Rattle.pram_job.specs.declared.instr.Rule.{Rule}
+use Rattle.pram_job.specs.declared.instr.Rule.TheVariants.{Common, Priority, Crew}
 use Rattle.pram_step.specs.declared.answer.Fault.{Fault}
 use Rattle.pram_step.specs.declared.answer.RunAnswer.{RunAnswer}
 use Rattle.pram_step.specs.declared.answer.RunAnswer.TheVariants.{Final, Conflict, Unfinished}

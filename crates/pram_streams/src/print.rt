@@ -9,8 +9,8 @@ ghost use Rattle.pram_streams.specs.Transfer.{AppendsBeginning};
 
 use crate::device::{Failed, Sink};
 use crate::transfer::put;
+use pram_job::{Job, Rule};
 use pram_step::{Fault, RunAnswer};
-use pram_text::{Job, Rule};
 use std::alloc::{AllocError, Global};
 use thiserror::Error;
 

@@ -4,8 +4,8 @@ use Rattle.std.proofs.Common.{take, get_or, Result, Ok, Err, None, refl, ap, apâ
 use Rattle.std.specs.Result.{result_err}
 use Rattle.std.proofs.lemmas.List.{get_or-map, get_or-take, take-map, map-append, map_more}
 use Rattle.pram_text.specs.declared.fault.TextKind.{TextKind}
-use Rattle.pram_text.specs.declared.instr.Instr.{Instr}
-use Rattle.pram_text.specs.declared.instr.Instr.TheVariants.{Halt}
+use Rattle.pram_job.specs.declared.instr.Instr.{Instr}
+use Rattle.pram_job.specs.declared.instr.Instr.TheVariants.{Halt}
 use Rattle.pram_text.specs.declared.program.Written.{Written}
 use Rattle.pram_text.specs.Inner.Reading.{fault_of_index}
 use Rattle.pram_text.specs.Text.{IsFirst}

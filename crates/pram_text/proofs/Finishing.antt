@@ -9,11 +9,11 @@ use Rattle.pram_text.specs.declared.fault.TextKind.TheVariants.{BadHeader, NoCod
 use Rattle.pram_text.specs.declared.head.Next.{Next}
 use Rattle.pram_text.specs.declared.head.Next.TheVariants.{Version, Cells, Procs}
 use Rattle.pram_text.specs.declared.head.Next.TheVariants.{Steps, Rules, Start, Code}
-use Rattle.pram_text.specs.declared.instr.Instr.{Instr}
-use Rattle.pram_text.specs.declared.instr.Instr.TheVariants.{Halt}
+use Rattle.pram_job.specs.declared.instr.Instr.{Instr}
+use Rattle.pram_job.specs.declared.instr.Instr.TheVariants.{Halt}
 use Rattle.pram_text.specs.declared.program.Program.{Program}
 use Rattle.pram_text.specs.declared.reader.Reader.{Reader}
-use Rattle.pram_text.specs.Lines.{Line, is_filled}
+use Rattle.text_lines.specs.Lines.{Line, is_filled}
 use Rattle.pram_text.specs.Judgement.{Scope, instr_of, unlabelled}
 use Rattle.pram_text.specs.Inner.Reading.{given, HoldsAt, HoldsCode, scope_by, index_at}
 use Rattle.pram_text.specs.Inner.Reading.{fault_of_index}

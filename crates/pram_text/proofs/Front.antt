@@ -4,10 +4,10 @@ use Rattle.std.proofs.Common.{List, [], ◌∷◌, ◌++◌, Ok, refl, ap, ◌�
 use Rattle.std.specs.Result.{result_err}
 use Rattle.pram_text.specs.declared.head.Head.{Head}
 use Rattle.pram_text.specs.declared.head.Next.{Next}
-use Rattle.pram_text.specs.declared.instr.Rule.{Rule}
+use Rattle.pram_job.specs.declared.instr.Rule.{Rule}
 use Rattle.pram_text.specs.declared.head.Next.TheVariants.{Version, Cells, Procs}
 use Rattle.pram_text.specs.declared.head.Next.TheVariants.{Steps, Rules, Start, Code}
-use Rattle.pram_text.specs.Lines.{Line}
+use Rattle.text_lines.specs.Lines.{Line}
 use Rattle.pram_text.specs.Judgement.{version_of, cells_of, procs_of, steps_of, rule_of}
 use Rattle.pram_text.specs.Inner.Reading.{HoldsHead}
 use Rattle.pram_text.specs.Text.{words_fault}

@@ -16,9 +16,9 @@ use Rattle.std.proofs.lemmas.Option.{slice_get_past}
 use Rattle.std.proofs.lemmas.Slice.Eq.{bytes_eq-Decides}
 use Rattle.pram_text.specs.declared.fault.TextKind.{TextKind}
 use Rattle.pram_text.specs.declared.fault.TextKind.TheVariants.{BadHeader}
-use Rattle.pram_text.specs.declared.instr.Array.{Array}
+use Rattle.pram_job.specs.declared.instr.Array.{Array}
 use Rattle.pram_text.specs.declared.start.Setup.{Setup}
-use Rattle.pram_text.specs.Lines.{Line, Word, is_filled, words_of}
+use Rattle.text_lines.specs.Lines.{Line, Word, is_filled, words_of}
 use Rattle.pram_text.specs.Judgement.{◌>>=◌, Entry, names, gives, says_array, array_of, values_of}
 use Rattle.pram_text.specs.Judgement.{init_of, entry_of}
 use Rattle.pram_text.specs.Inner.Reading.{HoldsStart, ReadsArray, ReadsInit, given}

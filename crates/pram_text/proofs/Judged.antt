@@ -19,8 +19,8 @@ use Rattle.pram_text.specs.declared.fault.TextKind.TheVariants.{WrongOperands, B
 use Rattle.pram_text.specs.declared.fault.TextKind.TheVariants.{DuplicateLabel, UnknownLabel}
 use Rattle.pram_text.specs.declared.fault.TextKind.TheVariants.{NoCode, TooLong, Memory}
 use Rattle.pram_text.specs.declared.reader.Reader.{Reader}
-use Rattle.pram_text.specs.Job.{JobData}
-use Rattle.pram_text.specs.Lines.{Line, lines_of, words_of, worded, is_allowed, is_filled}
+use Rattle.pram_job.specs.Job.{JobData}
+use Rattle.text_lines.specs.Lines.{Line, lines_of, words_of, worded, is_allowed, is_filled}
 use Rattle.pram_text.specs.Inner.Reading.{Holds, numbers_of, number_if, Finishes, TakesLine}
 use Rattle.pram_text.specs.Text.{line_fault, end_fault, fault_at, label_fault_at, has_code, body_of}
 use Rattle.pram_text.specs.Text.{scope_in, numbered_body, IsFirst, Bears, IsRefusal, Spells, SpellsLines}

@@ -18,12 +18,12 @@ use Rattle.pram_text.specs.declared.fault.TextKind.TheVariants.{DuplicateLabel}
 use Rattle.pram_text.specs.declared.program.Program.{Program}
 use Rattle.pram_text.specs.declared.program.Written.{Written}
 use Rattle.pram_text.specs.declared.statement.Statement.{Statement}
-use Rattle.pram_text.specs.Lines.{Line, Word}
+use Rattle.text_lines.specs.Lines.{Line, Word}
 use Rattle.pram_text.specs.Judgement.{label_of, unlabelled, is_name, Scope, instr_of}
 use Rattle.pram_text.specs.Judgement.{index_in, ◌>>=◌}
 use Rattle.pram_text.specs.Inner.Reading.{HoldsCode, HoldsIndices, index_at, define_fault}
 use Rattle.pram_text.specs.Inner.Statement.{resolved, aimed, ReadsLine}
-use Rattle.pram_text.specs.declared.limits.TheConstants.{MAX_CODE}
+use Rattle.pram_job.specs.declared.limits.TheConstants.{MAX_CODE}
 use Rattle.pram_text.specs.Text.{instr_fault, new_label_fault, label_fault}
 use Rattle.pram_text.specs.Text.{is_named, defines, IsLabelled}
 

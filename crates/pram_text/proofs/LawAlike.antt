@@ -9,10 +9,11 @@ use Rattle.std.proofs.lemmas.List.{length-map, take-map}
 use Rattle.std.proofs.lemmas.List.Elements.{recursion_from_All, All-from_recursion}
 use Rattle.pram_text.specs.declared.fault.TextKind.{TextKind}
 use Rattle.pram_text.specs.declared.fault.TextKind.TheVariants.{NotAscii}
-use Rattle.pram_text.specs.Job.{JobData}
-use Rattle.pram_text.specs.Lines.{Line, lines_of, words_of, worded, is_allowed, is_filled}
+use Rattle.pram_job.specs.Job.{JobData}
+use Rattle.text_lines.specs.Lines.{Line, lines_of, words_of, worded, is_allowed, is_filled}
 use Rattle.pram_text.specs.Judgement.{is_code}
-use Rattle.pram_text.specs.Laws.{HasOtherLine, SpellsSame, BearsSame}
+use Rattle.text_lines.specs.Lines.{HasOtherLine}
+use Rattle.pram_text.specs.Laws.{SpellsSame, BearsSame}
 use Rattle.pram_text.specs.Text.{Spells, words_fault, line_fault, numbered_body, end_fault}
 use Rattle.pram_text.specs.Text.{fault_at, scope_in, label_fault_at, IsFirst, Bears, SpellsLines}
 

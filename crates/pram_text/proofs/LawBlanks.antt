@@ -4,10 +4,10 @@ use Rattle.std.proofs.Common.{refl, sym, ap, subst, ◌∙◌, inl, inr, ⊎_eli
 use Rattle.std.specs.List.{AllByRecursion, list_all, onto_first}
 use Rattle.std.proofs.lemmas.Bool.{and_parts, or_cases, cases_Bool}
 use Rattle.std.proofs.lemmas.List.Elements.{filter-append}
-use Rattle.pram_text.specs.Lines.{words_of, is_allowed, is_blank, is_filled}
+use Rattle.text_lines.specs.Lines.{words_of, is_allowed, is_blank, is_filled}
 use Rattle.pram_text.proofs.LawAlike.{allowed}
-use Rattle.pram_text.proofs.WordsOf.{parts_of, parts_of-semicolon, parts_of-blank}
-use Rattle.pram_text.proofs.WordsOf.{parts_of-letter, has_part, words_of-blank}
+use Rattle.text_lines.proofs.WordsOf.{parts_of, parts_of-semicolon, parts_of-blank}
+use Rattle.text_lines.proofs.WordsOf.{parts_of-letter, has_part, words_of-blank}
 
 abbrev Blanks : List ℕ → Type 0
 Blanks bytes = AllByRecursion (λ b. is_blank b ≡ true) bytes

@@ -10,8 +10,8 @@ use Rattle.std.proofs.lemmas.List.{get_or_default, length-map, take-append-drop,
 use Rattle.std.proofs.lemmas.List.Splits.{length-slice_split}
 use Rattle.pram_text.specs.declared.fault.TextKind.{TextKind}
 use Rattle.pram_text.specs.declared.fault.TextKind.TheVariants.{NotAscii, UnknownLabel}
-use Rattle.pram_text.specs.Job.{JobData}
-use Rattle.pram_text.specs.Lines.{Line, lines_of, words_of, worded, is_allowed, is_filled}
+use Rattle.pram_job.specs.Job.{JobData}
+use Rattle.text_lines.specs.Lines.{Line, lines_of, words_of, worded, is_allowed, is_filled}
 use Rattle.pram_text.specs.Judgement.{unlabelled}
 use Rattle.pram_text.specs.Text.{index_of, Spells, words_fault, line_fault, body_of, numbered_body}
 use Rattle.pram_text.specs.Text.{end_fault, fault_at, scope_in, label_fault_at, IsFirst, Bears}

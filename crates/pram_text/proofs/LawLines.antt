@@ -3,7 +3,7 @@ use Rattle.std.proofs.Common.{◌≡◌, ℕ, length, ap, sym, ◌∙◌}
 use Rattle.std.proofs.lemmas.List.{length-map}
 use Rattle.pram_text.specs.Judgement.{is_later, unlabelled, instr_of}
 use Rattle.pram_text.specs.Laws.{InstructionsHaveLines}
-use Rattle.pram_text.specs.Lines.{Line, lines_of, worded}
+use Rattle.text_lines.specs.Lines.{Line, lines_of, worded}
 use Rattle.pram_text.specs.Text.{body_of, index_of, numbered_body, scope_of}
 use Rattle.pram_text.proofs.Stages.{body_of-body, none_named}
 use Rattle.pram_text.proofs.Worded.{words-numbered_body}

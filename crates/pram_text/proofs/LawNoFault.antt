@@ -12,12 +12,12 @@ use Rattle.std.proofs.lemmas.Slice.Eq.{bytes_eq-Decides}
 use Rattle.pram_text.specs.declared.fault.TextKind.{TextKind}
 use Rattle.pram_text.specs.declared.fault.TextKind.TheVariants.{BadHeader, UnknownInstruction}
 use Rattle.pram_text.specs.declared.fault.TextKind.TheVariants.{DuplicateLabel, UnknownLabel}
-use Rattle.pram_text.specs.declared.instr.Instr.{Instr}
-use Rattle.pram_text.specs.Instructions.{Form, register_index, only_index, table}
-use Rattle.pram_text.specs.declared.instr.Rule.{Rule}
-use Rattle.pram_text.specs.declared.limits.TheConstants.{MAX_CODE}
-use Rattle.pram_text.specs.Job.{JobData}
-use Rattle.pram_text.specs.Lines.{Word, Line}
+use Rattle.pram_job.specs.declared.instr.Instr.{Instr}
+use Rattle.pram_job.specs.Instructions.{Form, register_index, only_index, table}
+use Rattle.pram_job.specs.declared.instr.Rule.{Rule}
+use Rattle.pram_job.specs.declared.limits.TheConstants.{MAX_CODE}
+use Rattle.pram_job.specs.Job.{JobData}
+use Rattle.text_lines.specs.Lines.{Word, Line}
 use Rattle.pram_text.specs.Judgement.{◌>>=◌, version_of, cells_of, procs_of, steps_of, rule_of}
 use Rattle.pram_text.specs.Judgement.{is_later, Entry, entry_of, is_code, label_of, unlabelled}
 use Rattle.pram_text.specs.Judgement.{is_name, Scope, register_of, one_label}

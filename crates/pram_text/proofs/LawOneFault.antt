@@ -8,9 +8,9 @@ use Rattle.std.specs.Result.{result_err}
 use Rattle.std.proofs.lemmas.Bool.{cond-false, not_from_true, cases_lt}
 use Rattle.std.proofs.lemmas.List.{get_or-map, length-map}
 use Rattle.pram_text.specs.declared.fault.TextKind.{TextKind}
-use Rattle.pram_text.specs.declared.instr.Instr.TheVariants.{Halt}
-use Rattle.pram_text.specs.Job.{JobData}
-use Rattle.pram_text.specs.Lines.{Line, lines_of, words_of, worded, is_allowed, is_filled}
+use Rattle.pram_job.specs.declared.instr.Instr.TheVariants.{Halt}
+use Rattle.pram_job.specs.Job.{JobData}
+use Rattle.text_lines.specs.Lines.{Line, lines_of, words_of, worded, is_allowed, is_filled}
 use Rattle.pram_text.specs.Judgement.{is_later, unlabelled, instr_of}
 use Rattle.pram_text.specs.Text.{index_of, SpellsLines, Spells, words_fault}
 use Rattle.pram_text.specs.Text.{line_fault, has_code, body_of, numbered_body, scope_of, scope_in}

@@ -2,9 +2,9 @@
 use Rattle.std.proofs.Common.{◌≡◌, ◌⊎◌, ℕ, ◌<◌, ◌≤◌, List, ◌∷◌, ◌++◌}
 use Rattle.std.proofs.Common.{sym, ap, ap₂, subst, ◌∙◌, ⊎_elim, arith}
 use Rattle.std.proofs.lemmas.List.{ext_get_or}
-use Rattle.pram_text.specs.declared.instr.Rule.{Rule}
-use Rattle.pram_text.specs.Job.{JobData}
-use Rattle.pram_text.specs.Lines.{Line, lines_of, worded}
+use Rattle.pram_job.specs.declared.instr.Rule.{Rule}
+use Rattle.pram_job.specs.Job.{JobData}
+use Rattle.text_lines.specs.Lines.{Line, lines_of, worded}
 use Rattle.pram_text.specs.Judgement.{is_later, rule_of, Entry, entry_of, is_code, instr_of}
 use Rattle.pram_text.specs.Judgement.{unlabelled}
 use Rattle.pram_text.specs.Text.{index_of, code_line, scope_of, SpellsInit, SpellsCode}

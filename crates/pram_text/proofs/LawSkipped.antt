@@ -6,7 +6,7 @@ use Rattle.std.proofs.lemmas.List.{get_or-map}
 use Rattle.std.proofs.lemmas.List.Elements.{recursion_from_All, All-from_recursion}
 use Rattle.pram_text.specs.Laws.{FaultIsWithin, CommentsSayNothing}
 use Rattle.pram_text.specs.Laws.{BlanksSayNothing, WordlessLinesAreSkipped}
-use Rattle.pram_text.specs.Lines.{Line, lines_of, words_of, worded, is_filled}
+use Rattle.text_lines.specs.Lines.{Line, lines_of, words_of, worded, is_filled}
 use Rattle.pram_text.specs.Text.{SpellsLines, numbered_body, Bears}
 use Rattle.pram_text.proofs.Worded.{body_numbers-within}
 use Rattle.pram_text.proofs.LawAlike.{allowed, same_lines, say_same}

@@ -15,17 +15,17 @@ use Rattle.pram_text.specs.declared.fault.TextKind.{TextKind}
 use Rattle.pram_text.specs.declared.fault.TextKind.TheVariants.{BadHeader, BadNumber, OutOfLimits}
 use Rattle.pram_text.specs.declared.fault.TextKind.TheVariants.{UnknownInstruction, WrongOperands}
 use Rattle.pram_text.specs.declared.fault.TextKind.TheVariants.{BadRegister, UnknownLabel}
-use Rattle.pram_text.specs.declared.instr.Array.{Array}
-use Rattle.pram_text.specs.declared.instr.Instr.{Instr}
-use Rattle.pram_text.specs.declared.instr.Operand.{Operand}
-use Rattle.pram_text.specs.declared.instr.Operand.TheVariants.{Register, Number}
-use Rattle.pram_text.specs.declared.instr.Place.{Place}
-use Rattle.pram_text.specs.declared.instr.Place.TheVariants.{Cell, Named}
-use Rattle.pram_text.specs.Instructions.{Form, bare, only_target, target_number, target_place}
-use Rattle.pram_text.specs.Instructions.{target_two, place_value, register_index, only_index}
-use Rattle.pram_text.specs.Instructions.{table, IsOperand, IsArray, IsPlace}
-use Rattle.pram_text.specs.Job.{JobData, IsJob, IsInstr}
-use Rattle.pram_text.specs.Lines.{Word, Line, lines_of, worded}
+use Rattle.pram_job.specs.declared.instr.Array.{Array}
+use Rattle.pram_job.specs.declared.instr.Instr.{Instr}
+use Rattle.pram_job.specs.declared.instr.Operand.{Operand}
+use Rattle.pram_job.specs.declared.instr.Operand.TheVariants.{Register, Number}
+use Rattle.pram_job.specs.declared.instr.Place.{Place}
+use Rattle.pram_job.specs.declared.instr.Place.TheVariants.{Cell, Named}
+use Rattle.pram_job.specs.Instructions.{Form, bare, only_target, target_number, target_place}
+use Rattle.pram_job.specs.Instructions.{target_two, place_value, register_index, only_index}
+use Rattle.pram_job.specs.Instructions.{table, IsOperand, IsArray, IsPlace}
+use Rattle.pram_job.specs.Job.{JobData, IsJob, IsInstr}
+use Rattle.text_lines.specs.Lines.{Word, Line, lines_of, worded}
 use Rattle.pram_text.specs.Judgement.{◌>>=◌, is_number, number_of, number_in, most, named_number}
 use Rattle.pram_text.specs.Judgement.{is_later, Entry, names, gives, is_array_name, says_array}
 use Rattle.pram_text.specs.Judgement.{array_of, values_of, are_values, init_of, entry_of}

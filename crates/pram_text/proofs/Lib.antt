@@ -1,5 +1,3 @@
-pub mod WordsOf
-pub mod WordsNumbers
 pub mod Lists
 pub mod Said
 pub mod Stages
@@ -22,6 +20,5 @@ pub mod LawOneFault
 pub mod LawOneJob
 pub mod LawSkipped
 pub mod Worded
-pub mod Splitting
 pub mod Skipping
 pub mod LawLines

@@ -2,7 +2,7 @@
 use Rattle.std.proofs.Common.{◌≡◌, ◌≢◌, ℕ, zero, suc, ◌+◌, ◌-◌, true, false, List, ◌∷◌}
 use Rattle.std.proofs.Common.{refl, ap, subst, ◌∙◌, arith}
 use Rattle.pram_text.specs.Judgement.{is_code}
-use Rattle.pram_text.specs.Lines.{Line, is_filled, words_of}
+use Rattle.text_lines.specs.Lines.{Line, is_filled, words_of}
 use Rattle.pram_text.specs.declared.lines.Ahead.{Ahead}
 use Rattle.pram_text.specs.declared.lines.Ahead.TheVariants.{Header, Body}
 use Rattle.pram_text.proofs.Lists.{after_first_skip}

@@ -9,8 +9,8 @@ use Rattle.std.proofs.lemmas.Bool.{cond-false, and_parts, leb-true, cases_eq}
 use Rattle.std.proofs.lemmas.Slice.Eq.{bytes_eq-Decides}
 use Rattle.pram_text.specs.declared.fault.TextKind.{TextKind}
 use Rattle.pram_text.specs.declared.fault.TextKind.TheVariants.{BadHeader, BadNumber}
-use Rattle.pram_text.specs.declared.instr.Rule.{Rule}
-use Rattle.pram_text.specs.Lines.{Line}
+use Rattle.pram_job.specs.declared.instr.Rule.{Rule}
+use Rattle.text_lines.specs.Lines.{Line}
 use Rattle.pram_text.specs.Judgement.{is_number, number_of, version_of, is_later, rule_of}
 use Rattle.pram_text.specs.Judgement.{Entry, says_array, array_of, init_of, entry_of, is_code}
 use Rattle.pram_text.specs.Text.{words_fault, entry_fault, new_entry_fault, instr_fault}

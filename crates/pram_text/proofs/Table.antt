@@ -1,16 +1,16 @@
 -- The table of instructions, read from names, is the one that is read from instructions.
 use Rattle.std.specs.List.{AllByRecursion}
 use Rattle.std.proofs.Common.{◌≡◌, ℕ, Bool, true, false, sym, subst}
-use Rattle.pram_text.specs.declared.instr.Instr.{Instr}
-use Rattle.pram_text.specs.declared.instr.Operand.{Operand}
-use Rattle.pram_text.specs.declared.instr.Operands.{Operands}
-use Rattle.pram_text.specs.declared.instr.Operands.TheVariants as o
-use Rattle.pram_text.specs.Instructions.{AreOperands, Form, bare, only_target, target_number}
-use Rattle.pram_text.specs.declared.instr.Place.{Place}
-use Rattle.pram_text.specs.Instructions.{target_place, target_two, place_value, register_index}
-use Rattle.pram_text.specs.Instructions.{only_index, row_of, table}
-use Rattle.pram_text.specs.Job.{IsInstr}
-use Rattle.pram_text.specs.Lines.{Word}
+use Rattle.pram_job.specs.declared.instr.Instr.{Instr}
+use Rattle.pram_job.specs.declared.instr.Operand.{Operand}
+use Rattle.pram_job.specs.declared.instr.Operands.{Operands}
+use Rattle.pram_job.specs.declared.instr.Operands.TheVariants as o
+use Rattle.pram_job.specs.Instructions.{AreOperands, Form, bare, only_target, target_number}
+use Rattle.pram_job.specs.declared.instr.Place.{Place}
+use Rattle.pram_job.specs.Instructions.{target_place, target_two, place_value, register_index}
+use Rattle.pram_job.specs.Instructions.{only_index, row_of, table}
+use Rattle.pram_job.specs.Job.{IsInstr}
+use Rattle.text_lines.specs.Lines.{Word}
 
 -- what is made has this name, and these operands
 abbrev pub IsRow : Word → Form → Type 0

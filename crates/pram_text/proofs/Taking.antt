@@ -12,7 +12,7 @@ use Rattle.pram_text.specs.declared.head.Next.TheVariants.{Version, Cells, Procs
 use Rattle.pram_text.specs.declared.head.Next.TheVariants.{Steps, Rules, Start, Code}
 use Rattle.pram_text.specs.declared.program.Program.{Program}
 use Rattle.pram_text.specs.declared.reader.Reader.{Reader}
-use Rattle.pram_text.specs.Lines.{Line, is_allowed, is_filled, words_of, worded}
+use Rattle.text_lines.specs.Lines.{Line, is_allowed, is_filled, words_of, worded}
 use Rattle.pram_text.specs.declared.start.Setup.{Setup}
 use Rattle.pram_text.specs.Judgement.{is_later, is_code, Scope}
 use Rattle.pram_text.specs.Inner.Reading.{HoldsHead, HoldsAt, Holds, HoldsNothing, HoldsStart}

@@ -5,7 +5,7 @@ use Rattle.std.proofs.Common.{append_assoc, if◌then◌else◌}
 use Rattle.std.proofs.lemmas.List.{length_push}
 use Rattle.pram_text.specs.declared.fault.TextKind.{TextKind}
 use Rattle.pram_text.specs.declared.fault.TextKind.TheVariants.{OutOfLimits}
-use Rattle.pram_text.specs.Lines.{Line, Word}
+use Rattle.text_lines.specs.Lines.{Line, Word}
 use Rattle.pram_text.specs.Judgement.{◌>>=◌, number_in, most, values_of}
 
 -- the values so far, and then the others

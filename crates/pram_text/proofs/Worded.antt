@@ -6,7 +6,7 @@ use Rattle.std.specs.List.{AllByRecursion, enumerate_from, list_any, after_first
 use Rattle.std.proofs.lemmas.Bool.{cond-true, cond-false, cases_Bool}
 use Rattle.std.proofs.lemmas.List.{drop-map, map-append, length-map}
 use Rattle.std.proofs.lemmas.List.Elements.{filter-append, All-drop, All-from_recursion}
-use Rattle.pram_text.specs.Lines.{Line, words_of, worded, numbered, is_filled}
+use Rattle.text_lines.specs.Lines.{Line, words_of, worded, numbered, is_filled}
 use Rattle.pram_text.specs.Judgement.{is_code}
 use Rattle.pram_text.specs.Text.{has_code, body_of, numbered_body}
 use Rattle.pram_text.proofs.Lists.{after_first-push}

@@ -1,5 +1,4 @@
 -- Definitions that private contracts alone cite.
-pub mod Words
 pub mod Statement
 pub mod Reading
 pub mod Ahead

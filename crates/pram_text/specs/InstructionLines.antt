@@ -1,6 +1,6 @@
 -- On which line of a text an instruction stands.
 use Rattle.std.specs.Prelude.{ℕ, List, map, slice_index}
-use Rattle.pram_text.specs.Lines.{lines_of}
+use Rattle.text_lines.specs.Lines.{lines_of}
 use Rattle.pram_text.specs.Text.{numbered_body}
 
 -- the numbers of the lines with instructions, in order; lines count from 1

@@ -14,19 +14,19 @@ use Rattle.pram_text.specs.declared.fault.TextKind.TheVariants.{BadHeader, BadNu
 use Rattle.pram_text.specs.declared.fault.TextKind.TheVariants.{OutOfLimits, UnknownInstruction}
 use Rattle.pram_text.specs.declared.fault.TextKind.TheVariants.{WrongOperands, BadRegister}
 use Rattle.pram_text.specs.declared.fault.TextKind.TheVariants.{UnknownLabel}
-use Rattle.pram_text.specs.declared.instr.Array.{Array}
-use Rattle.pram_text.specs.declared.instr.Instr.{Instr}
-use Rattle.pram_text.specs.declared.instr.Operand.{Operand}
-use Rattle.pram_text.specs.declared.instr.Operand.TheVariants.{Register, Number}
-use Rattle.pram_text.specs.declared.instr.Place.{Place}
-use Rattle.pram_text.specs.declared.instr.Place.TheVariants.{Cell, Named}
-use Rattle.pram_text.specs.declared.instr.Rule.{Rule}
-use Rattle.pram_text.specs.declared.instr.Rule.TheVariants.{Common, Priority, Crew}
-use Rattle.pram_text.specs.declared.limits.TheConstants.{MAX_CELLS, MAX_PROCS}
-use Rattle.pram_text.specs.Instructions.{Form, table, bare, only_target, target_number}
-use Rattle.pram_text.specs.Instructions.{target_place, target_two, place_value, register_index}
-use Rattle.pram_text.specs.Instructions.{only_index}
-use Rattle.pram_text.specs.Lines.{Word, Line, is_filled}
+use Rattle.pram_job.specs.declared.instr.Array.{Array}
+use Rattle.pram_job.specs.declared.instr.Instr.{Instr}
+use Rattle.pram_job.specs.declared.instr.Operand.{Operand}
+use Rattle.pram_job.specs.declared.instr.Operand.TheVariants.{Register, Number}
+use Rattle.pram_job.specs.declared.instr.Place.{Place}
+use Rattle.pram_job.specs.declared.instr.Place.TheVariants.{Cell, Named}
+use Rattle.pram_job.specs.declared.instr.Rule.{Rule}
+use Rattle.pram_job.specs.declared.instr.Rule.TheVariants.{Common, Priority, Crew}
+use Rattle.pram_job.specs.declared.limits.TheConstants.{MAX_CELLS, MAX_PROCS}
+use Rattle.pram_job.specs.Instructions.{Form, table, bare, only_target, target_number}
+use Rattle.pram_job.specs.Instructions.{target_place, target_two, place_value, register_index}
+use Rattle.pram_job.specs.Instructions.{only_index}
+use Rattle.text_lines.specs.Lines.{Word, Line, is_filled}
 
 -- what the next part says of the value of the part before it, unless that part has a fault
 infixl 10 ◌>>=◌

@@ -4,15 +4,10 @@ use Rattle.std.specs.Prelude.{List, [], ◌∷◌, ◌++◌, length, count_by, I
 use Rattle.std.specs.List.{list_all, join_with_byte}
 use Rattle.pram_text.specs.declared.fault.TextKind.{TextKind}
 use Rattle.pram_text.specs.declared.fault.TextKind.TheVariants.{UnknownLabel}
-use Rattle.pram_text.specs.declared.limits.TheConstants.{MAX_CELLS, MAX_PROCS, MAX_CODE, REGISTERS}
-use Rattle.pram_text.specs.Job.{JobData, IsJob}
-use Rattle.pram_text.specs.Lines.{lines_of, words_of, is_allowed, is_blank}
+use Rattle.pram_job.specs.Job.{JobData, IsJob}
+use Rattle.text_lines.specs.Lines.{lines_of, words_of, is_allowed, is_blank, HasOtherLine}
 use Rattle.pram_text.specs.Text.{Spells, Bears, fault_at}
 use Rattle.pram_text.specs.InstructionLines.{instruction_lines}
-
--- cells, processors, instructions and registers
-abbrev pub LimitsAre : Type 0
-LimitsAre = (MAX_CELLS ≡ 65536) × (MAX_PROCS ≡ 1024) × (MAX_CODE ≡ 4096) × (REGISTERS ≡ 4)
 
 -- the lines, joined by line feeds, are the text
 abbrev pub LinesAreJoined : Type 0
@@ -64,13 +59,6 @@ SpellsSame text other = (job : JobData) → Spells text job ↔ Spells other job
 -- both texts bear the same faults
 abbrev pub BearsSame : List ℕ → List ℕ → Type 0
 BearsSame text other = (line : ℕ) (kind : TextKind) → Bears text line kind ↔ Bears other line kind
-
--- `other` is `text` with another line in the place of this one
-pub record HasOtherLine (text other line other_line : List ℕ) : Type 0 where
-  pub before : List (List ℕ)
-  pub after : List (List ℕ)
-  pub lines : lines_of text ≡ before ++ line ∷ after
-  pub other_lines : lines_of other ≡ before ++ other_line ∷ after
 
 -- a comment goes from its `;` to the end of the line
 abbrev pub CommentsSayNothing : Type 0

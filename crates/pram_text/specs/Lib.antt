@@ -1,9 +1,3 @@
-pub mod Instructions
-pub mod Job
-pub mod Places
-pub mod Lines
-pub mod LinesAfter
-pub mod TextLines
 pub mod Judgement
 pub mod Text
 pub mod InstructionLines

@@ -15,14 +15,14 @@ use Rattle.pram_text.specs.declared.fault.TextKind.TheVariants.{NotAscii, BadHea
 use Rattle.pram_text.specs.declared.fault.TextKind.TheVariants.{UnknownInstruction, DuplicateLabel}
 use Rattle.pram_text.specs.declared.fault.TextKind.TheVariants.{NoCode, TooLong}
 use Rattle.pram_text.specs.declared.fault.TextKind.TheVariants.{Memory}
-use Rattle.pram_text.specs.declared.instr.Array.{Array}
-use Rattle.pram_text.specs.declared.instr.Instr.{Instr}
-use Rattle.pram_text.specs.declared.instr.Rule.TheVariants.{Common}
-use Rattle.pram_text.specs.declared.instr.Rule.{Rule}
-use Rattle.pram_text.specs.declared.limits.TheConstants.{MAX_CODE}
-use Rattle.pram_text.specs.Job.{JobData}
-use Rattle.pram_text.specs.Lines.{Word, Line, lines_of, words_of}
-use Rattle.pram_text.specs.Lines.{worded, numbered, is_allowed, is_filled}
+use Rattle.pram_job.specs.declared.instr.Array.{Array}
+use Rattle.pram_job.specs.declared.instr.Instr.{Instr}
+use Rattle.pram_job.specs.declared.instr.Rule.TheVariants.{Common}
+use Rattle.pram_job.specs.declared.instr.Rule.{Rule}
+use Rattle.pram_job.specs.declared.limits.TheConstants.{MAX_CODE}
+use Rattle.pram_job.specs.Job.{JobData}
+use Rattle.text_lines.specs.Lines.{Word, Line, lines_of, words_of}
+use Rattle.text_lines.specs.Lines.{worded, numbered, is_allowed, is_filled}
 use Rattle.pram_text.specs.Judgement.{version_of, is_later, cells_of, procs_of, steps_of, rule_of}
 use Rattle.pram_text.specs.Judgement.{Entry, names, gives, entry_of, is_code, label_of, unlabelled}
 use Rattle.pram_text.specs.Judgement.{is_name, Scope, instr_of}

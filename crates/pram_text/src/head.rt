@@ -1,12 +1,12 @@
 //! The header of a text.
 ghost use Rattle.std.specs.Prelude.{◌≡◌, nat_le, if◌then◌else◌, List};
 ghost use Rattle.pram_text.specs.Judgement.{is_later};
-ghost use Rattle.pram_text.specs.Lines.{Line, words_of};
+ghost use Rattle.text_lines.specs.Lines.{Line, words_of};
 ghost use Rattle.pram_text.specs.Inner.Reading.{HoldsHead, TakesHead, IsFront};
 
 use crate::fault::TextKind;
 use crate::header::{cells_in, procs_in, rule_in, steps_in, version_in};
-use crate::instr::Rule;
+use pram_job::Rule;
 
 /// What the next line with words has to say.
 #[derive(Clone, Copy, Debug, PartialEq, Eq)]

@@ -1,19 +1,17 @@
 //! Header lines.
 ghost use Rattle.std.specs.Prelude.{◌≡◌, ◌<◌, ◌≤◌, IfOk};
-ghost use Rattle.pram_text.specs.Lines.{words_of};
+ghost use Rattle.text_lines.specs.Lines.{words_of};
 ghost use Rattle.pram_text.specs.Judgement.{named_number, version_of, cells_of, procs_of, steps_of};
 ghost use Rattle.pram_text.specs.Judgement.{rule_of, is_array_name, says_array, are_values};
 ghost use Rattle.pram_text.specs.Judgement.{is_code};
 ghost use Rattle.pram_text.specs.Inner.Reading.{ReadsArray, ReadsInit};
 
 use crate::fault::TextKind;
-use crate::instr::{Array, Rule};
-use crate::limits::{MAX_CELLS, MAX_PROCS};
 use crate::numbers::{is_numeric, number_within};
 use crate::statement::{is_name_word, register_in};
-use crate::words::{
-    four_words, has_words, is_word, next_word, one_word, two_first_words, two_words,
-};
+use pram_job::limits::{MAX_CELLS, MAX_PROCS};
+use pram_job::{Array, Rule};
+use text_lines::{four_words, has_words, is_word, next_word, one_word, two_first_words, two_words};
 
 /// The version that the first line names.
 #[tactic(auto, unfolding(crate::specs::Judgement::version_of, crate::specs::Judgement::number_in))]

@@ -1,16 +1,13 @@
 //! Laws of the text: they show that the definitions mean what is meant.
 //! Nothing happens when they are called.
 ghost use Rattle.pram_text.specs.Laws.{BlanksSayNothing, CommentsSayNothing, FaultIsWithin};
-ghost use Rattle.pram_text.specs.Laws.{InstructionsHaveLines, JobOrFault, LimitsAre};
+ghost use Rattle.pram_text.specs.Laws.{InstructionsHaveLines, JobOrFault};
 ghost use Rattle.pram_text.specs.Laws.{LinesAreCounted, LinesAreJoined};
 ghost use Rattle.pram_text.specs.Laws.{OneFault, OneJob};
 ghost use Rattle.pram_text.specs.Laws.{SpelledBearsNothing, SpelledJobIsLawful};
 ghost use Rattle.pram_text.specs.Laws.{UnknownLabelComesLast, WordlessLinesAreSkipped};
 
-/// The limits by their numbers.
-pub fn limits_are()
-    ensures { LimitsAre }
-{}
+pub use pram_job::laws::limits_are;
 
 /// The lines of a text, joined by line feeds, are the text, and there is one more of them than
 /// line feeds.

@@ -2,11 +2,10 @@
 ghost use Rattle.std.specs.Prelude.{◌≡◌, ◌≢◌};
 ghost use Rattle.pram_text.specs.Inner.Ahead.{SkipsLine};
 ghost use Rattle.pram_text.specs.InstructionLines.{line_of};
-ghost use Rattle.pram_text.specs.Lines.{words_of};
+ghost use Rattle.text_lines.specs.Lines.{words_of};
 
 use crate::header::is_code_line;
-use crate::text_lines::TextLines;
-use crate::words::has_words;
+use text_lines::{TextLines, has_words};
 
 /// How many lines with words come before the line `code`.
 const HEADER: u32 = 4;

@@ -1,11 +1,11 @@
 //! Numbers in words.
-ghost use Rattle.std.specs.Prelude.{◌≡◌, ◌-◌, ◌^◌, ◌≤◌, min, IfOk};
+ghost use Rattle.std.specs.Prelude.{◌≡◌, ◌≤◌, IfOk};
 ghost use Rattle.std.specs.Char.{is_ascii_digit};
-ghost use Rattle.std.specs.List.{AllPass, list_all};
-ghost use Rattle.std.specs.Str.Parse.{digits_value};
+ghost use Rattle.std.specs.List.{list_all};
 ghost use Rattle.pram_text.specs.Judgement.{is_number, number_in};
 
 use crate::fault::TextKind;
+use text_lines::value_of;
 
 fn all_digits(word: &[u8]) -> bool
     ensures { result ≡ list_all is_ascii_digit word.now }
@@ -18,20 +18,6 @@ pub(crate) fn is_numeric(word: &[u8]) -> bool
     ensures { result ≡ is_number word.now }
 {
     !word.is_empty() && all_digits(word)
-}
-
-/// The number that digits spell, or the greatest `u64` where it is larger.
-pub fn value_of(digits: &[u8]) -> u64
-    requires { AllPass is_ascii_digit digits.now }
-    ensures { result ≡ min (digits_value 10 digits.now) (2 ^ 64 - 1) }
-{
-    let mut value: u64 = 0;
-    for &digit in digits {
-        value = value
-            .saturating_mul(10)
-            .saturating_add(u64::from(digit - b'0'));
-    }
-    value
 }
 
 /// The number of a word, within limits.

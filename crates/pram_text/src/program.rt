@@ -1,16 +1,16 @@
 //! The instructions of a text.
 ghost use Rattle.std.specs.Prelude.{◌≡◌, ◌++◌, ◌∷◌, [], List, OnOk, IfErr};
 ghost use Rattle.std.specs.Option.{option_copied};
-ghost use Rattle.pram_text.specs.Lines.{Line, words_of};
+ghost use Rattle.text_lines.specs.Lines.{Line, words_of};
 ghost use Rattle.pram_text.specs.Inner.Reading.{HoldsCode, HoldsNoCode, TakesCode, Defines};
 ghost use Rattle.pram_text.specs.Inner.Reading.{IsCoded};
 ghost use Rattle.pram_text.specs.Inner.Reading.{numbers_of, index_at};
 ghost use Rattle.pram_text.specs.Inner.Statement.{aimed, known, resolved};
 
 use crate::fault::{TextFault, TextKind};
-use crate::instr::Instr;
-use crate::limits::MAX_CODE;
 use crate::statement::{Names, Statement, is_name_word, split_label, statement_in};
+use pram_job::Instr;
+use pram_job::limits::MAX_CODE;
 use std::alloc::{AllocError, Global};
 use std::collections::BTreeMap;
 

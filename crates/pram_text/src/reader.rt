@@ -1,20 +1,20 @@
 //! Reads a text line by line.
 ghost use Rattle.std.specs.Prelude.{◌≡◌, ◌≢◌, ◌≤◌, ℕ, [], List, IfOk, IfErr, vec_len};
-ghost use Rattle.pram_text.specs.Lines.{Line, words_of};
+ghost use Rattle.pram_job.specs.Job.{IsJob};
+ghost use Rattle.text_lines.specs.Lines.{Line, words_of};
 ghost use Rattle.pram_text.specs.Inner.Reading.{Finishes, Holds, HoldsAt};
-ghost use Rattle.pram_text.specs.Inner.Reading.{TakesLine, TakesWords, numbers_of};
+ghost use Rattle.pram_text.specs.Inner.Reading.{TakesLine, TakesWords, job_of, numbers_of};
 ghost use Rattle.pram_text.specs.Text.{IsRefusal, Spells};
 
 use crate::fault::{TextFault, TextKind};
 use crate::head::{Head, Next};
 use crate::header::is_code_line;
-use crate::job::Job;
 use crate::program::Program;
 use crate::start::{Setup, start_values};
 use crate::statement::Names;
-use crate::text_lines::TextLines;
-use crate::words::{has_words, is_lawful};
+use pram_job::{Instr, Job};
 use std::alloc::Global;
+use text_lines::{TextLines, has_words, is_lawful};
 
 /// The job that a text spells, or the first line that is wrong, and what is wrong with it.
 ///
@@ -145,6 +145,14 @@ impl<'t> Reader<'t> {
         let code = self.program.code()?;
         let alloc = *self.setup.values.allocator();
         let init = start_values(alloc, &self.setup.values, self.head.cells)?;
-        Ok(Job::new(&self.head, init, code))
+        Ok(job_of(&self.head, init, code))
     }
+}
+
+// The job of a header, of start values and of instructions.
+fn job_of(head: &Head, init: Vec<u32>, code: Vec<Instr>) -> Job
+    requires { IsJob (job_of head.now init.items code.items) }
+    ensures { result ≡ job_of head.now init.items code.items }
+{
+    Job::of_parts(head.rule, head.procs, head.steps, init, code)
 }

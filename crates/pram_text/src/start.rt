@@ -4,7 +4,7 @@ ghost use Rattle.std.specs.Prelude.{IfOk, OnOk, false, true, is_some, length, ma
 ghost use Rattle.std.specs.Prelude.{unwrap_or, vec_len};
 ghost use Rattle.std.specs.Option.{option_or};
 ghost use Rattle.std.specs.List.{list_any, range_with_len};
-ghost use Rattle.pram_text.specs.Lines.{Line, words_of};
+ghost use Rattle.text_lines.specs.Lines.{Line, words_of};
 ghost use Rattle.pram_text.specs.Judgement.{gives, says_array};
 ghost use Rattle.pram_text.specs.Text.{value_by};
 ghost use Rattle.pram_text.specs.Inner.Reading.{HoldsNothing, HoldsStart, ReadsValues, TakesStart};
@@ -12,11 +12,11 @@ ghost use Rattle.pram_text.specs.Inner.Reading.{given};
 
 use crate::fault::TextKind;
 use crate::header::{array_in, init_in, is_array_line};
-use crate::instr::Array;
 use crate::numbers::number_within;
-use crate::words::next_word;
+use pram_job::Array;
 use std::alloc::{AllocError, Global};
 use std::collections::BTreeMap;
+use text_lines::next_word;
 
 /// The start values and the arrays so far.
 #[derive(Drop)]

@@ -4,7 +4,7 @@ ghost use Rattle.std.specs.Char.{is_ascii_alphabetic, is_ascii_alphanumeric};
 ghost use Rattle.std.specs.List.{list_all};
 ghost use Rattle.std.specs.Option.{option_copied};
 ghost use Rattle.std.specs.Str.{bytes_eq};
-ghost use Rattle.pram_text.specs.Lines.{words_of};
+ghost use Rattle.text_lines.specs.Lines.{words_of};
 ghost use Rattle.pram_text.specs.Inner.Statement.{ReadsNone, ReadsOne, ReadsTwo, ReadsLoad};
 ghost use Rattle.pram_text.specs.Inner.Statement.{ReadsStore, ReadsNumber, ReadsJump, ReadsLabel};
 ghost use Rattle.pram_text.specs.Inner.Statement.{ReadsLine, ReadsShift, known};
@@ -12,10 +12,10 @@ ghost use Rattle.pram_text.specs.Judgement.{label_of, unlabelled, is_name, regis
 ghost use Rattle.pram_text.specs.Judgement.{operand_of, array_at};
 
 use crate::fault::TextKind;
-use crate::instr::{Array, Instr, Operand, Place};
 use crate::numbers::{is_numeric, number_within};
-use crate::words::{has_words, is_word, next_word, one_word, three_words, two_words};
+use pram_job::{Array, Instr, Operand, Place};
 use std::collections::BTreeMap;
+use text_lines::{has_words, is_word, next_word, one_word, three_words, two_words};
 
 /// An instruction, with the label that a jump goes to, whose index is 0 until it is known.
 #[derive(Clone, Copy)]

@@ -1,7 +1,7 @@
 -- The words that a board starts with.
 use Rattle.std.specs.Prelude.{◌≡◌, ℕ, List, map, slice_index}
 use Rattle.std.specs.List.{range_with_len}
-use Rattle.pram_text.specs.Job.{JobData}
+use Rattle.pram_job.specs.Job.{JobData}
 use Rattle.pram_words.specs.declared.words.Word.{Word}
 use Rattle.pram_words.specs.declared.words.Word.TheVariants.{Conflict, Node, Asked, Position}
 use Rattle.pram_words.specs.declared.words.Word.TheVariants.{Stored, Claim, Spare}

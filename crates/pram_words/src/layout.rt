@@ -1,5 +1,5 @@
 //! Where the words of a board lie.
-ghost use Rattle.pram_text.specs.declared.limits.TheConstants.{MAX_CELLS, MAX_PROCS};
+ghost use Rattle.pram_job.specs.declared.limits.TheConstants.{MAX_CELLS, MAX_PROCS};
 ghost use Rattle.std.specs.Prelude.{◌≡◌, ℕ, ◌+◌, ◌*◌, ◌<◌, ◌≤◌, ◌↔◌, IsTrue, IfOk, if◌then◌else◌};
 ghost use Rattle.pram_words.specs.declared.layout.Form.TheVariants.{Compact, Wide};
 ghost use Rattle.pram_words.specs.declared.words.Word.TheVariants.{Asked, Claim, Conflict};
@@ -20,8 +20,8 @@ ghost use Rattle.pram_words.specs.Words.{wide_claims_at, wide_place, wide_word};
 use crate::stamps::{payload, stamp};
 use crate::tree::{first_leaf, goes_right, goes_right_wide, leaves};
 use crate::words::Word;
-use pram_text::places::{counters_at, register_at};
-use pram_text::{Job, Rule};
+use pram_job::places::{counters_at, register_at};
+use pram_job::{Job, Rule};
 use std::alloc::{AllocError, Global};
 use std::marker::Model;
 

@@ -6,11 +6,11 @@ use Rattle.std.proofs.lemmas.Bool.{cond_both, eqb-true}
 use Rattle.std.proofs.lemmas.List.{take_more}
 use Rattle.std.proofs.lemmas.List.FromFn.{map-range_with_len_more}
 use Rattle.std.specs.List.{range_with_len}
-use Rattle.pram_text.specs.Job.{JobData}
+use Rattle.pram_job.specs.Job.{JobData}
 use Rattle.pram_step.proofs.LawFixed.{length-state_after}
-use Rattle.pram_step.specs.declared.requests.Request.{Request}
+use Rattle.pram_machine.specs.declared.requests.Request.{Request}
 use Rattle.pram_step.specs.History.{part_after}
-use Rattle.pram_step.specs.Instructions.{place_part, value_part, request_in, requests_in}
+use Rattle.pram_machine.specs.Instructions.{place_part, value_part, request_in, requests_in}
 use Rattle.pram_step.specs.Runs.{AreConflicting, IsReached, requests_after, state_after}
 use Rattle.pram_words.specs.declared.words.Word.TheVariants.{Conflict, Asked, Stored}
 use Rattle.pram_words.specs.Stamps.{stamp_of, payload_of}

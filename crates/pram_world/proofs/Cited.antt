@@ -1,7 +1,7 @@
 -- What the worlds' lemmas rest on, of the walk and of lawful words.
 use Rattle.std.proofs.Common.{◌≡◌, ◌≢◌, ℕ, ◌*◌, ◌<◌, ◌≤◌, List, []}
 use Rattle.std.proofs.Common.{◌∷◌, length, None, sym, ◌∙◌, arith}
-use Rattle.pram_text.specs.Job.{JobData}
+use Rattle.pram_job.specs.Job.{JobData}
 use Rattle.pram_words.specs.Words.{LayoutData}
 use Rattle.walkx.proofs.Asking.{all_ask}
 use Rattle.walkx.proofs.Fitting.{fits_told, new_workers_fit}

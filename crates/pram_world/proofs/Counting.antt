@@ -4,7 +4,7 @@ use Rattle.std.proofs.Common.{◌∷◌, length, slice_get, slice_set, Option, S
 use Rattle.std.proofs.Common.{refl, sym, ap, subst, ◌∙◌, inl, inr, mul-le-mul, arith}
 use Rattle.std.proofs.lemmas.Bool.{cases_lt}
 use Rattle.std.specs.Option.{is_none}
-use Rattle.pram_text.specs.Job.{JobData}
+use Rattle.pram_job.specs.Job.{JobData}
 use Rattle.pram_words.specs.Words.{LayoutData}
 use Rattle.pram_words.specs.Tree.{leaves_of}
 use Rattle.pram_words.proofs.Halvings.{leaves_most}

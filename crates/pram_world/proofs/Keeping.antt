@@ -3,7 +3,7 @@ use Rattle.std.proofs.Common.{◌≡◌, ◌≢◌, ◌⊎◌, ℕ, zero, suc, �
 use Rattle.std.proofs.Common.{[], ◌∷◌, ◌++◌, map, slice_get, slice_set, Option}
 use Rattle.std.proofs.Common.{Some, None, refl, sym, subst, inl, inr, arith}
 use Rattle.std.specs.List.{range_with_len}
-use Rattle.pram_text.specs.Job.{JobData, IsJob}
+use Rattle.pram_job.specs.Job.{JobData, IsJob}
 use Rattle.pram_words.specs.declared.layout.Form.{Form}
 use Rattle.pram_words.specs.declared.layout.Form.TheVariants.{Compact}
 use Rattle.pram_words.specs.declared.words.Word.{Word}

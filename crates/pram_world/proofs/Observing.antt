@@ -1,6 +1,6 @@
 -- An observer's read in a run.
 use Rattle.std.proofs.Common.{sym, subst}
-use Rattle.pram_text.specs.Job.{JobData}
+use Rattle.pram_job.specs.Job.{JobData}
 use Rattle.pram_words.specs.Words.{LayoutData, layout_of}
 use Rattle.walkx.specs.Records.{Record}
 use Rattle.lawful_walk.specs.Moments.{WasBacked}

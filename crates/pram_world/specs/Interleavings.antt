@@ -1,7 +1,7 @@
 -- What holds of a world at every moment of every run.
 use Rattle.std.specs.Prelude.{◌≡◌, ℕ, suc, ◌+◌, ◌*◌, ◌<◌, ◌≤◌, nat_le}
 use Rattle.std.specs.Prelude.{if◌then◌else◌, List, slice_index, Option, Some, None, IfSome}
-use Rattle.pram_text.specs.Job.{JobData}
+use Rattle.pram_job.specs.Job.{JobData}
 use Rattle.pram_step.specs.History.{IsWritten}
 use Rattle.pram_step.specs.Runs.{IsReached, state_after}
 use Rattle.pram_words.specs.declared.words.Word.TheVariants.{Stored}

@@ -1,6 +1,6 @@
 -- What holds of every run: of each job, rule and form of a board, with blocks of any size.
 use Rattle.std.specs.Prelude.{◌≡◌, ℕ, ◌<◌, ◌≤◌, List, length}
-use Rattle.pram_text.specs.Job.{JobData, IsJob}
+use Rattle.pram_job.specs.Job.{JobData, IsJob}
 use Rattle.pram_words.specs.declared.layout.Form.{Form}
 use Rattle.pram_words.specs.Words.{IsGrain, grain_of, layout_of}
 use Rattle.walkx.specs.declared.operation.Reading.TheVariants.{At}

@@ -8,8 +8,9 @@ ghost use Rattle.lawful_walk.specs.Board.{Stands, conflict as conflict_in, held,
 ghost use Rattle.pram_world.specs.Inner.Telling.{AreNamed, Says, last_cells, newest_of};
 ghost use Rattle.pram_world.specs.Outcomes.{IsTold};
 
-use pram_step::{Cells, Fault, Request, RunAnswer, fault_of};
-use pram_text::Job;
+use pram_job::Job;
+use pram_machine::Request;
+use pram_step::{Cells, Fault, RunAnswer, fault_of};
 use pram_words::{Layout, newer_payload, stamp};
 use std::alloc::{AllocError, Global};
 use walkx::request_of;

@@ -3,7 +3,7 @@ ghost use Rattle.std.specs.Prelude.{◌≡◌, ℕ, ◌<◌, ◌≤◌, IfOk, If
 ghost use Rattle.std.specs.Prelude.{option_map, slice_get};
 ghost use Rattle.pram_words.specs.Words.{length_of, places_of};
 ghost use Rattle.pram_words.specs.declared.words.Word.TheVariants.{Stored};
-ghost use Rattle.pram_text.specs.Job.{JobData};
+ghost use Rattle.pram_job.specs.Job.{JobData};
 ghost use Rattle.pram_words.specs.Words.{LayoutData};
 ghost use Rattle.walkx.specs.Operations.{words_after};
 ghost use Rattle.walkx.specs.Serving.{Serves};
@@ -21,8 +21,8 @@ ghost use Rattle.pram_world.specs.Worlds.{number as number_of, run, shown, start
 
 use crate::event::{Effect, Event, Standing};
 use crate::outcome::{answer, place_words};
+use pram_job::Job;
 use pram_step::RunAnswer;
-use pram_text::Job;
 use pram_words::Layout;
 use std::alloc::{AllocError, Global};
 use std::marker::Model;

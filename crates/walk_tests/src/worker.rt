@@ -6,8 +6,9 @@ ghost use Rattle.walkx.specs.Reads.{LooksFit};
 ghost use Rattle.walkx.specs.Serving.{Follows, Serves};
 ghost use Rattle.walkx.specs.Walk.{IsLayoutOf};
 
-use pram_step::Request;
-use pram_text::{Job, read_job};
+use pram_job::Job;
+use pram_machine::Request;
+use pram_text::read_job;
 use pram_words::{Kind, LAST_PHASE, Layout, phase, stamped};
 use std::alloc::{AllocError, Global};
 use std::process::Abort;

@@ -1,10 +1,10 @@
 -- A job's board: words and what they may have.
 use Rattle.std.proofs.Common.{◌≡◌, ℕ, ◌+◌, ◌*◌, ◌^◌, ◌<◌, ◌≤◌, Bool, true, false}
 use Rattle.std.proofs.Common.{if◌then◌else◌, Option, Some, None, ap, refl, inl, inr, arith}
-use Rattle.pram_text.specs.Job.{JobData}
-use Rattle.pram_step.specs.declared.requests.Request.{Request}
-use Rattle.pram_step.specs.Instructions.{HasShape, place_part}
-use Rattle.pram_step.specs.Machine.{IsDataPlace}
+use Rattle.pram_job.specs.Job.{JobData}
+use Rattle.pram_machine.specs.declared.requests.Request.{Request}
+use Rattle.pram_machine.specs.Instructions.{HasShape, place_part}
+use Rattle.pram_machine.specs.Machine.{IsDataPlace}
 use Rattle.pram_words.proofs.Numbering.{ranges, numbering, cases_form, form_wide}
 use Rattle.pram_words.specs.declared.words.Word.{Word}
 use Rattle.pram_words.specs.declared.words.Word.TheVariants.{Conflict, Node, Asked, Position}

@@ -3,7 +3,7 @@ use Rattle.std.proofs.Common.{◌≡◌, ℕ, ◌+◌, ◌-◌, ◌*◌, ◌%◌
 use Rattle.std.proofs.Common.{refl, ap, ◌∙◌, inl, inr, min, add-mul, mul-le-mul_right, arith}
 use Rattle.std.proofs.Math.Nat.{mul-add}
 use Rattle.std.proofs.lemmas.Bool.{cases_lt, cond_both, eq-eqb, eqb-false}
-use Rattle.pram_text.specs.Job.{JobData}
+use Rattle.pram_job.specs.Job.{JobData}
 use Rattle.pram_words.specs.Tree.{leaves_of}
 use Rattle.pram_words.specs.Words.{LayoutData, IsLayout, grain, number_of}
 use Rattle.pram_words.proofs.Blocks.{tasks_fit}

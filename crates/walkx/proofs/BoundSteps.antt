@@ -1,7 +1,7 @@
 -- The own-step bound.
 use Rattle.std.proofs.Common.{◌≡◌, ℕ, suc, ◌+◌, ◌-◌, ◌*◌, ◌<◌, ◌≤◌, List, [], ◌∷◌, ◌++◌}
 use Rattle.std.proofs.Common.{length, drop, Some, refl, sym, ◌∙◌, subst, ap, arith}
-use Rattle.pram_text.specs.Job.{JobData}
+use Rattle.pram_job.specs.Job.{JobData}
 use Rattle.pram_words.specs.Tree.{leaves_of}
 use Rattle.pram_words.specs.Words.{LayoutData, IsLayout}
 use Rattle.walkx.specs.declared.operation.Op.{Op}

@@ -2,20 +2,20 @@
 use Rattle.std.proofs.Common.{ℕ, ◌+◌, ◌-◌, ◌*◌, ◌≤◌, Bool, ◌||◌, ◌==◌, nat_lt, if◌then◌else◌}
 use Rattle.std.proofs.Common.{List, [], ◌∷◌, ◌++◌, length, slice_get, Option, Some, None, arith}
 use Rattle.std.proofs.lemmas.Bool.{cond_both}
-use Rattle.pram_text.specs.declared.instr.Instr.{Instr}
-use Rattle.pram_text.specs.declared.instr.Operands.{Operands}
-use Rattle.pram_text.specs.declared.instr.Operands.TheVariants.{Bare, Target, TargetNumber}
+use Rattle.pram_job.specs.declared.instr.Instr.{Instr}
+use Rattle.pram_job.specs.declared.instr.Operands.{Operands}
+use Rattle.pram_job.specs.declared.instr.Operands.TheVariants.{Bare, Target, TargetNumber}
 use Rattle.std.proofs.lemmas.List.{length-append}
-use Rattle.pram_text.specs.declared.instr.Operand.{Operand}
-use Rattle.pram_text.specs.declared.instr.Operand.TheVariants.{Register, Number}
-use Rattle.pram_text.specs.declared.instr.Operands.TheVariants.{TargetPlace, TargetTwo, PlaceValue}
-use Rattle.pram_text.specs.declared.instr.Operands.TheVariants.{RegisterIndex, Index}
-use Rattle.pram_text.specs.Instructions.{row_of}
-use Rattle.pram_text.specs.declared.instr.Rule.{Rule}
-use Rattle.pram_text.specs.declared.instr.Rule.TheVariants.{Common, Priority, Crew}
-use Rattle.pram_text.specs.Job.{JobData}
-use Rattle.pram_step.specs.declared.requests.Request.{Request}
-use Rattle.pram_step.specs.Instructions.{registers_in, index_of, read_by, sources_of, goes_to}
+use Rattle.pram_job.specs.declared.instr.Operand.{Operand}
+use Rattle.pram_job.specs.declared.instr.Operand.TheVariants.{Register, Number}
+use Rattle.pram_job.specs.declared.instr.Operands.TheVariants.{TargetPlace, TargetTwo, PlaceValue}
+use Rattle.pram_job.specs.declared.instr.Operands.TheVariants.{RegisterIndex, Index}
+use Rattle.pram_job.specs.Instructions.{row_of}
+use Rattle.pram_job.specs.declared.instr.Rule.{Rule}
+use Rattle.pram_job.specs.declared.instr.Rule.TheVariants.{Common, Priority, Crew}
+use Rattle.pram_job.specs.Job.{JobData}
+use Rattle.pram_machine.specs.declared.requests.Request.{Request}
+use Rattle.pram_machine.specs.Instructions.{registers_in, index_of, read_by, sources_of, goes_to}
 use Rattle.pram_words.specs.declared.phases.Kind.{Kind}
 use Rattle.pram_words.specs.declared.phases.Kind.TheVariants.{Compute, Apply, Verify}
 use Rattle.pram_words.specs.declared.words.Word.TheVariants.{Claim}

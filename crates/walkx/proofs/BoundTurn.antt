@@ -4,7 +4,7 @@ use Rattle.std.proofs.Common.{le_trans, true, false, ◌==◌, ◌&&◌, nat_le,
 use Rattle.std.proofs.Common.{List, ◌∷◌, refl, sym, ◌∙◌, inl, inr, arith}
 use Rattle.std.proofs.lemmas.Bool.{cases_lt, cond_both, le-leb, lt-leb}
 use Rattle.std.proofs.lemmas.Bool.{eqb-true, eqb-false, leb-true, leb-false}
-use Rattle.pram_text.specs.Job.{JobData}
+use Rattle.pram_job.specs.Job.{JobData}
 use Rattle.pram_words.specs.Phases.{step_at, kind_at}
 use Rattle.pram_words.specs.Ways.{turns_right_in}
 use Rattle.pram_words.specs.Words.{LayoutData, number_of}

@@ -1,7 +1,7 @@
 -- A worker that is going makes its weight less with each operation.
 use Rattle.std.proofs.Common.{◌≡◌, ℕ, suc, ◌+◌, ◌-◌, ◌<◌, ◌≤◌, List, [], ◌∷◌}
 use Rattle.std.proofs.Common.{length, drop, Some, refl, sym, ap, ◌∙◌, subst, arith}
-use Rattle.pram_text.specs.Job.{JobData}
+use Rattle.pram_job.specs.Job.{JobData}
 use Rattle.pram_words.specs.Words.{LayoutData, IsLayout}
 use Rattle.walkx.specs.declared.operation.Ended.{Ended}
 use Rattle.walkx.specs.declared.operation.Op.{Op}

@@ -2,7 +2,7 @@
 use Rattle.std.specs.Prelude.{ℕ, zero, suc, ◌+◌, ◌-◌, ◌*◌, ◌/◌, Bool, false, ◌||◌, min}
 use Rattle.std.specs.Prelude.{◌==◌, nat_le, if◌then◌else◌, List, length, drop}
 use Rattle.std.specs.List.{range_with_len, sum_by}
-use Rattle.pram_text.specs.Job.{JobData}
+use Rattle.pram_job.specs.Job.{JobData}
 use Rattle.pram_words.specs.Tree.{leaves_of}
 use Rattle.pram_words.specs.Words.{LayoutData, grain, number_of}
 use Rattle.pram_words.specs.declared.words.Word.TheVariants.{Node}

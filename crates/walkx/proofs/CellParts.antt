@@ -1,7 +1,7 @@
 -- A data place that is that of a cell, or not.
 use Rattle.std.proofs.Common.{◌≡◌, ◌-◌, ◌==◌, ◌&&◌, Bool, true, false}
 use Rattle.std.proofs.Common.{not, nat_lt, if◌then◌else◌, ℕ, refl, ap}
-use Rattle.pram_text.specs.declared.instr.Rule.{Rule}
+use Rattle.pram_job.specs.declared.instr.Rule.{Rule}
 use Rattle.walkx.specs.Scripts.{Script, asks}
 use Rattle.walkx.specs.Walk.{Then}
 use Rattle.walkx.specs.Inner.Posts.{PostData}

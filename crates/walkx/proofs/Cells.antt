@@ -1,10 +1,10 @@
 -- The cell that an instruction reads.
 use Rattle.std.proofs.Common.{◌≡◌, ℕ, ◌<◌, Some, length}
-use Rattle.pram_text.specs.declared.instr.Instr.{Instr}
-use Rattle.pram_text.specs.declared.instr.Instr.TheVariants.{Ld}
-use Rattle.pram_text.specs.Job.{JobData, IsInstr}
-use Rattle.pram_step.specs.Instructions.{cell_read}
-use Rattle.pram_step.proofs.Shapes.{reached_below}
+use Rattle.pram_job.specs.declared.instr.Instr.{Instr}
+use Rattle.pram_job.specs.declared.instr.Instr.TheVariants.{Ld}
+use Rattle.pram_job.specs.Job.{JobData, IsInstr}
+use Rattle.pram_machine.specs.Instructions.{cell_read}
+use Rattle.pram_machine.proofs.Shapes.{reached_below}
 
 -- only a load reads a cell
 pub cell_is : (job : JobData) (instr : Instr) (a c : ℕ) →

@@ -1,7 +1,7 @@
 -- A reader that hears an answer.
 use Rattle.std.proofs.Common.{◌≡◌, ◌≢◌, ◌≤◌, arith, suc, length, ℕ, []}
 use Rattle.std.proofs.Common.{◌∷◌, Some, None, refl, sym, ap, subst, ◌∙◌}
-use Rattle.pram_text.specs.Job.{JobData}
+use Rattle.pram_job.specs.Job.{JobData}
 use Rattle.pram_words.specs.Words.{LayoutData}
 use Rattle.walkx.specs.declared.operation.Op.TheVariants.{Load}
 use Rattle.walkx.specs.declared.operation.ReadOp.{ReadOp}

@@ -1,12 +1,12 @@
 -- The task of a pass, by the rule; a task that is the same as another one.
 use Rattle.std.proofs.Common.{◌≡◌, ℕ, refl, sym, subst, Result}
-use Rattle.pram_text.specs.declared.instr.Rule.{Rule}
-use Rattle.pram_text.specs.declared.instr.Rule.TheVariants.{Common, Priority, Crew}
+use Rattle.pram_job.specs.declared.instr.Rule.{Rule}
+use Rattle.pram_job.specs.declared.instr.Rule.TheVariants.{Common, Priority, Crew}
 use Rattle.pram_words.specs.declared.phases.Kind.{Kind}
 use Rattle.pram_words.specs.declared.phases.Kind.TheVariants.{Compute, Apply, Verify}
 use Rattle.walkx.specs.declared.left.Left.{Left}
 use Rattle.walkx.specs.Driving.{Standing, IsDue, Ends}
-use Rattle.pram_text.specs.Job.{JobData}
+use Rattle.pram_job.specs.Job.{JobData}
 use Rattle.pram_words.specs.Words.{LayoutData}
 use Rattle.walkx.specs.Inner.Posts.{PostData, step_of, processor_of}
 use Rattle.walkx.specs.Parts.{applies, claims_cell, compares, compares_claims, computes, does_in}

@@ -14,7 +14,7 @@ use Rattle.walkx.specs.Rests.{IsPlace, IsWithin, entered, part_of, script_at, sc
 use Rattle.walkx.specs.Records.{script_at_rank}
 use Rattle.walkx.specs.Turns.{working}
 use Rattle.walkx.proofs.Firsts.{rank_parts}
-use Rattle.pram_text.specs.Job.{JobData}
+use Rattle.pram_job.specs.Job.{JobData}
 use Rattle.pram_words.specs.Words.{LayoutData}
 
 -- the first task of a leaf

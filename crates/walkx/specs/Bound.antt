@@ -1,7 +1,7 @@
 -- How many operations a worker makes: its walk over a list of answers, what it may hear, and the
 -- bound.
 use Rattle.std.specs.Prelude.{◌≡◌, ℕ, ◌+◌, ◌*◌, ◌<◌, ◌≤◌, ◌==◌, if◌then◌else◌, max, List, [], ◌∷◌}
-use Rattle.pram_text.specs.Job.{JobData}
+use Rattle.pram_job.specs.Job.{JobData}
 use Rattle.pram_words.specs.Tree.{leaves_of}
 use Rattle.pram_words.specs.Words.{LayoutData, number_of}
 use Rattle.pram_words.specs.declared.words.Word.TheVariants.{Node, Position}

@@ -1,6 +1,6 @@
 -- What the laws of the walk say.
 use Rattle.std.specs.Prelude.{◌≡◌, ℕ, ◌<◌, List, length, None}
-use Rattle.pram_text.specs.Job.{JobData}
+use Rattle.pram_job.specs.Job.{JobData}
 use Rattle.pram_words.specs.Words.{LayoutData}
 use Rattle.walkx.specs.Bound.{told_all, history_of, IsHeard, most_steps}
 use Rattle.walkx.specs.Records.{Record, after, Knows}

@@ -1,15 +1,15 @@
 -- The parts of the tasks, by their results.
 use Rattle.std.specs.Prelude.{ℕ, ◌-◌, Bool, not, ◌&&◌, ◌||◌, ◌==◌, nat_lt, if◌then◌else◌}
 use Rattle.std.specs.Prelude.{[], slice_get, slice_index, Option}
-use Rattle.pram_text.specs.declared.instr.Instr.{Instr}
-use Rattle.pram_text.specs.declared.instr.Rule.{Rule}
-use Rattle.pram_text.specs.declared.instr.Rule.TheVariants.{Common, Priority, Crew}
-use Rattle.pram_text.specs.Job.{JobData}
+use Rattle.pram_job.specs.declared.instr.Instr.{Instr}
+use Rattle.pram_job.specs.declared.instr.Rule.{Rule}
+use Rattle.pram_job.specs.declared.instr.Rule.TheVariants.{Common, Priority, Crew}
+use Rattle.pram_job.specs.Job.{JobData}
 use Rattle.pram_words.specs.Phases.{kind_at}
 use Rattle.pram_words.specs.declared.phases.Kind.{Kind}
-use Rattle.pram_step.specs.declared.requests.Request.{Request}
-use Rattle.pram_step.specs.Instructions.{sources_of, cell_read, decided}
-use Rattle.pram_step.specs.Machine.{register_place}
+use Rattle.pram_machine.specs.declared.requests.Request.{Request}
+use Rattle.pram_machine.specs.Instructions.{sources_of, cell_read, decided}
+use Rattle.pram_machine.specs.Machine.{register_place}
 use Rattle.pram_words.specs.Stamps.{stamped_word, stamp_of, payload_of}
 use Rattle.pram_words.specs.Words.{number_of}
 use Rattle.pram_words.specs.declared.words.Word.TheVariants.{Conflict, Stored, Claim}

@@ -1,7 +1,7 @@
 -- Answers that are played back, and the worker that heard them.
 use Rattle.std.specs.Prelude.{◌≡◌, ℕ, ◌*◌, ◌<◌, ◌≤◌, [], ◌∷◌, length}
 use Rattle.std.specs.Prelude.{Option, Some, None, Result, Ok, Err}
-use Rattle.pram_text.specs.Job.{JobData}
+use Rattle.pram_job.specs.Job.{JobData}
 use Rattle.pram_words.specs.Words.{LayoutData}
 use Rattle.walkx.specs.declared.next.Next.{Next}
 use Rattle.walkx.specs.declared.next.Next.TheVariants as next

@@ -1,7 +1,7 @@
 -- The reader of a cell, as a script.
 use Rattle.std.specs.Prelude.{ℕ, ◌-◌, ◌/◌, ◌%◌, ◌&&◌, ◌==◌, ◌<◌, nat_le, if◌then◌else◌, List, ◌∷◌}
 use Rattle.std.specs.List.{AllByRecursion}
-use Rattle.pram_text.specs.Job.{JobData}
+use Rattle.pram_job.specs.Job.{JobData}
 use Rattle.pram_words.specs.Stamps.{stamp_of, payload_of}
 use Rattle.pram_words.specs.Words.{LayoutData, Admits, number_of, length_of}
 use Rattle.pram_words.specs.declared.words.Word.TheVariants.{Conflict, Node, Stored}

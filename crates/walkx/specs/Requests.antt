@@ -1,7 +1,7 @@
 -- The request that its three words stand for.
 use Rattle.std.specs.Prelude.{◌≡◌, ℕ, ◌-◌, ◌^◌, ◌<◌, ◌==◌, if◌then◌else◌, Some, None}
-use Rattle.pram_step.specs.declared.requests.Request.{Request}
-use Rattle.pram_step.specs.Instructions.{place_part, value_part}
+use Rattle.pram_machine.specs.declared.requests.Request.{Request}
+use Rattle.pram_machine.specs.Instructions.{place_part, value_part}
 use Rattle.pram_words.specs.Stamps.{stamped_word, payload_of}
 
 abbrev pub heard_request : ℕ → ℕ → ℕ → Request

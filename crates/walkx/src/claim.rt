@@ -8,7 +8,7 @@ use crate::left::Left;
 use crate::parts::hear_part;
 use crate::post::Leaf;
 use crate::steps::Steps;
-use pram_text::Rule;
+use pram_job::Rule;
 
 /// The cell of a data place is claimed, if it is one.
 #[inline(always)]

@@ -9,7 +9,7 @@ use crate::left::Left;
 use crate::parts::{hear_both, hear_part, is_none};
 use crate::post::Leaf;
 use crate::steps::Steps;
-use pram_text::Rule;
+use pram_job::Rule;
 
 /// The step is reported, if it is against the rule.
 #[inline(always)]

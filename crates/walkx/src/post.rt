@@ -2,7 +2,7 @@
 ghost use Rattle.std.specs.Prelude.{◌≡◌, ◌≢◌, ◌↔◌, IsTrue, ◌+◌, ◌-◌, ◌^◌, ◌<◌, ◌≤◌, ◌==◌, nat_lt};
 ghost use Rattle.pram_words.specs.Stamps.{stamp_of};
 ghost use Rattle.walkx.specs.Tasks.{is_late};
-ghost use Rattle.pram_step.specs.Machine.{counter_place, register_place};
+ghost use Rattle.pram_machine.specs.Machine.{counter_place, register_place};
 ghost use Rattle.pram_words.specs.Phases.{kind_at};
 ghost use Rattle.pram_words.specs.Words.{counters_of, length_of, number_of, places_of};
 ghost use Rattle.pram_words.specs.declared.words.Word.TheVariants.{Asked, Stored};
@@ -15,7 +15,7 @@ ghost use Rattle.walkx.specs.Parts.{owner_place, report_made};
 ghost use Rattle.walkx.specs.Walk.{IsBoard, IsLayoutOf};
 
 use crate::operation::Op;
-use pram_text::{Job, Rule};
+use pram_job::{Job, Rule};
 use pram_words::{Kind, Layout, kind_of, payload, stamp, stamped, step_of};
 use std::marker::Model;
 

@@ -10,7 +10,7 @@ ghost use Rattle.walkx.specs.Walk.{IsBoard};
 use crate::operation::{ReadOp, Reading};
 use crate::post::within_limits;
 use crate::words::seen_step;
-use pram_text::Job;
+use pram_job::Job;
 use pram_words::{Layout, newer_payload, payload, stamp};
 use std::marker::Model;
 
@@ -54,7 +54,7 @@ impl Model for Reader {
 
 impl Reader {
     ghost use Rattle.std.specs.Prelude.{◌≡◌, ℕ, ◌<◌, [], length};
-    ghost use Rattle.pram_text.specs.Job.{JobData};
+    ghost use Rattle.pram_job.specs.Job.{JobData};
     ghost use Rattle.pram_words.specs.Words.{LayoutData};
     ghost use Rattle.walkx.specs.Serving.{Follows};
     ghost use Rattle.walkx.specs.Reads.{HeardAdmitted, LooksFit, LooksOnBoard, answered, op_by};

@@ -1,8 +1,8 @@
 //! The compute task.
 ghost use Rattle.std.specs.Prelude.{◌≡◌, ◌<◌, ◌^◌, length, slice_get, IfSome, Some};
-ghost use Rattle.pram_text.specs.Job.{IsInstr};
-ghost use Rattle.pram_step.specs.Instructions.{cell_read, decided, place_part};
-ghost use Rattle.pram_step.specs.Machine.{register_place};
+ghost use Rattle.pram_job.specs.Job.{IsInstr};
+ghost use Rattle.pram_machine.specs.Instructions.{cell_read, decided, place_part};
+ghost use Rattle.pram_machine.specs.Machine.{register_place};
 ghost use Rattle.pram_words.specs.Words.{places_of};
 ghost use Rattle.walkx.specs.Inner.Posts.{IsLeaf, processor_of};
 ghost use Rattle.walkx.specs.Driving.{Ends, IsDue, IsNext, Plays};
@@ -13,10 +13,10 @@ use crate::left::Left;
 use crate::parts::hear_both;
 use crate::post::Leaf;
 use crate::steps::Steps;
-use pram_step::{
+use pram_job::Instr;
+use pram_machine::{
     Found, Request, Sources, cell_read, decided, goes_to, place_part, sources_of, value_part,
 };
-use pram_text::Instr;
 use pram_words::newer_payload;
 
 /// What a place held before the step.

@@ -10,7 +10,7 @@ use crate::left::Left;
 use crate::post::Leaf;
 use crate::request::compute;
 use crate::steps::Steps;
-use pram_text::Rule;
+use pram_job::Rule;
 use pram_words::Kind;
 
 /// The task of the phase at the leaf of a processor.

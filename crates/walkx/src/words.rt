@@ -1,11 +1,11 @@
 //! What words say that were loaded.
 ghost use Rattle.std.specs.Prelude.{◌≡◌, ℕ, ◌≤◌};
-ghost use Rattle.pram_step.specs.declared.requests.Request.{Request};
+ghost use Rattle.pram_machine.specs.declared.requests.Request.{Request};
 ghost use Rattle.pram_words.specs.declared.phases.TheConstants.{LAST_PHASE};
 ghost use Rattle.walkx.specs.Reads.{step_seen};
 ghost use Rattle.walkx.specs.Requests.{AreWordsOf, heard_request};
 
-use pram_step::Request;
+use pram_machine::Request;
 use pram_words::payload;
 
 /// The step that the root and then word 0 show to be finished.

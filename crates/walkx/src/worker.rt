@@ -3,7 +3,7 @@ use crate::next::Next;
 use crate::operation::{Activity, Ended, Op};
 use crate::playback::play_back;
 use crate::post::{Post, within_limits};
-use pram_text::Job;
+use pram_job::Job;
 use pram_words::Layout;
 use std::marker::Model;
 
@@ -32,7 +32,7 @@ impl Model for Worker {
 
 impl Worker {
     ghost use Rattle.std.specs.Prelude.{◌≡◌, ◌<◌, ◌≤◌, ◌*◌, Some, None, [], length};
-    ghost use Rattle.pram_text.specs.Job.{JobData};
+    ghost use Rattle.pram_job.specs.Job.{JobData};
     ghost use Rattle.pram_words.specs.Words.{LayoutData};
     ghost use Rattle.walkx.specs.Activities.{activity_of};
     ghost use Rattle.walkx.specs.Inner.Workers.{worker_data};

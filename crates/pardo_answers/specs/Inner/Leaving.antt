@@ -1,7 +1,7 @@
 -- What is known of the processors that leave, while steps are made.
 use Rattle.std.specs.Prelude.{◌≡◌, ◌≢◌, ℕ, ◌+◌, ◌<◌, List, length, Option, Some, None}
-use Rattle.pram_text.specs.Job.{JobData}
-use Rattle.pram_step.specs.Machine.{counter, out_of_range}
+use Rattle.pram_job.specs.Job.{JobData}
+use Rattle.pram_machine.specs.Machine.{counter, out_of_range}
 use Rattle.pram_step.specs.Runs.{state_after}
 use Rattle.pardo_job.specs.Carries.{ComesFrom}
 use Rattle.pardo_answers.specs.Ends.{AreGone, gone_in}

@@ -1,6 +1,6 @@
 -- Code that functions put after what is there.
 use Rattle.std.specs.Prelude.{◌≡◌, true, false, List, ◌++◌, Result, OnOk, IfErr}
-use Rattle.pram_text.specs.declared.instr.Instr.{Instr}
+use Rattle.pram_job.specs.declared.instr.Instr.{Instr}
 use Rattle.pardo_job.specs.declared.fault.JobKind.{JobKind}
 use Rattle.pardo_job.specs.declared.fault.JobKind.TheVariants.{TooDeep, Memory}
 use Rattle.pardo_job.specs.Operations.{is_shallow}

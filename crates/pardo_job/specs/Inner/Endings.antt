@@ -1,6 +1,6 @@
 -- What a run finds.
 use Rattle.std.specs.Prelude.{◌≡◌, ℕ, List, slice_index}
-use Rattle.pram_text.specs.Job.{JobData}
+use Rattle.pram_job.specs.Job.{JobData}
 use Rattle.pram_step.specs.Runs.{state_after, IsReached}
 use Rattle.pardo_job.specs.Compiled.{CompiledData, IsWhole}
 use Rattle.pardo_job.specs.declared.fault.JobKind.{JobKind}

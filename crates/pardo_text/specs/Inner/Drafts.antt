@@ -4,7 +4,7 @@ use Rattle.std.specs.Borrow.{Bor}
 use Rattle.pardo_text.specs.declared.draft.Draft.{Draft as Held}
 use Rattle.pardo_text.specs.Drafts.{Draft}
 use Rattle.pardo_text.specs.Inner.Names.{names_in}
-use Rattle.pram_text.specs.Lines.{Word}
+use Rattle.text_lines.specs.Lines.{Word}
 
 -- names that are kept the innermost last
 abbrev pub loops_in : List (Bor Word) → List Word

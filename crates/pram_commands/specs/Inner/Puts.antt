@@ -2,7 +2,7 @@
 use Rattle.std.specs.Prelude.{◌≡◌, ◌⊎◌, ◌↔◌, List, ℕ, Bool, Option, Result, Ok, Err, IfOk, IfErr}
 use Rattle.std.specs.Prelude.{IsErrOf, IsTrue}
 use Rattle.std.specs.Io.KnownBytes.{Appends}
-use Rattle.pram_text.specs.Job.{JobData}
+use Rattle.pram_job.specs.Job.{JobData}
 use Rattle.pram_step.specs.declared.answer.RunAnswer.{RunAnswer}
 use Rattle.pram_streams.specs.Transfer.{AppendsBeginning}
 use Rattle.pram_streams.specs.declared.print.PrintFault.{PrintFault}

@@ -20,11 +20,11 @@ use crate::why::{Question, put_told};
 use crate::workers::Workers;
 use job_text::print_text;
 use pram_cost::{Cost, cost_of, print_cost};
+use pram_job::Job;
 use pram_rows::{Shown, Window, print_steps};
 use pram_run::replay_to;
 use pram_step::{RunAnswer, plain_answer};
 use pram_streams::{PrintFault, Sink, Source, print_summary};
-use pram_text::Job;
 use std::alloc::{AllocError, Global};
 
 /// Reads a job, and prints its summary.

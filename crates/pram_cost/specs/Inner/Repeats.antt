@@ -1,8 +1,8 @@
 -- Steps that change nothing.
 use Rattle.std.specs.Prelude.{◌≡◌, ℕ, ◌+◌, ◌<◌}
-use Rattle.pram_text.specs.Job.{JobData}
-use Rattle.pram_step.specs.Instructions.{goes_to, request_in}
-use Rattle.pram_step.specs.Machine.{State, counter}
+use Rattle.pram_job.specs.Job.{JobData}
+use Rattle.pram_machine.specs.Instructions.{goes_to, request_in}
+use Rattle.pram_machine.specs.Machine.{State, counter}
 use Rattle.pram_step.specs.Runs.{state_after}
 
 -- processor i asks for no data and for the counter that it has

@@ -1,7 +1,7 @@
 -- What a counter says of an address.
 use Rattle.std.specs.Prelude.{◌≡◌, ℕ, ◌<◌}
-use Rattle.pram_text.specs.Job.{JobData}
-use Rattle.pram_step.specs.Machine.{State, counter, out_of_range}
+use Rattle.pram_job.specs.Job.{JobData}
+use Rattle.pram_machine.specs.Machine.{State, counter, out_of_range}
 
 -- some processor's counter says that its address was out of range
 pub record SomeIsLost (job : JobData) (state : State) : Type 0 where

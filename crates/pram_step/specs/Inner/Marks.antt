@@ -1,12 +1,12 @@
 -- What the requests so far put, and what is kept of their stores.
 use Rattle.std.specs.Prelude.{◌≡◌, ℕ, ◌+◌, ◌<◌, ◌≤◌, List, length, vec_len, take}
 use Rattle.std.specs.Prelude.{slice_get, slice_index, slice_index_or, Option, Some, MatchOption}
-use Rattle.pram_text.specs.Job.{JobData}
+use Rattle.pram_job.specs.Job.{JobData}
 use Rattle.pram_step.specs.declared.answer.Dispute.{Dispute}
-use Rattle.pram_step.specs.declared.requests.Request.{Request}
+use Rattle.pram_machine.specs.declared.requests.Request.{Request}
 use Rattle.pram_step.specs.declared.stores.Store.{Store}
 use Rattle.pram_step.specs.declared.stores.Stores.{Stores}
-use Rattle.pram_step.specs.Machine.{State}
+use Rattle.pram_machine.specs.Machine.{State}
 use Rattle.pram_step.specs.Steps.{IsVerdict}
 
 -- processor i's data goes to the place, and is the value

@@ -3,16 +3,16 @@ use Rattle.std.specs.Prelude.{◌≡◌, ℕ, ◌+◌, ◌<◌, ◌≤◌, ◌�
 use Rattle.std.specs.Prelude.{slice_index, slice_index_or, unwrap_or, Option, MatchOption}
 use Rattle.std.specs.List.{Contains}
 use Rattle.std.specs.List.Sorted.{IsStrictlyIncreasing}
-use Rattle.pram_text.specs.Job.{JobData}
+use Rattle.pram_job.specs.Job.{JobData}
 use Rattle.pram_step.specs.declared.answer.Fault.{Fault}
 use Rattle.pram_step.specs.declared.lockstep.Turns.{Turns}
 use Rattle.pram_step.specs.declared.pass.Course.{Course}
 use Rattle.pram_step.specs.declared.pass.Course.TheVariants.{Made, Settled, Disputed}
-use Rattle.pram_step.specs.declared.requests.Request.{Request}
+use Rattle.pram_machine.specs.declared.requests.Request.{Request}
 use Rattle.pram_step.specs.declared.stores.Store.{Store}
-use Rattle.pram_step.specs.Machine.{State, counter, counter_place, halted, place_count}
-use Rattle.pram_step.specs.Machine.{register_place}
-use Rattle.pram_step.specs.Instructions.{goes_to, request_in, requests_in}
+use Rattle.pram_machine.specs.Machine.{State, counter, counter_place, halted, place_count}
+use Rattle.pram_machine.specs.Machine.{register_place}
+use Rattle.pram_machine.specs.Instructions.{goes_to, request_in, requests_in}
 use Rattle.pram_step.specs.Steps.{Agrees, IsNext, next_state, written}
 use Rattle.pram_step.specs.Runs.{IsFault, IsFirstConflict, IsStateAfter}
 use Rattle.pram_step.specs.Inner.Marks.{AreAsked}

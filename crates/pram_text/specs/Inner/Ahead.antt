@@ -2,7 +2,7 @@
 use Rattle.std.specs.Prelude.{◌≡◌, ℕ, List, ◌∷◌, map, drop, filter, slice_index}
 use Rattle.std.specs.List.{after_first, enumerate_from}
 use Rattle.pram_text.specs.Judgement.{is_code}
-use Rattle.pram_text.specs.Lines.{Line, is_filled, words_of}
+use Rattle.text_lines.specs.Lines.{Line, is_filled, words_of}
 use Rattle.pram_text.specs.declared.lines.Ahead.{Ahead}
 use Rattle.pram_text.specs.declared.lines.Ahead.TheVariants.{Header, Body}
 

@@ -17,15 +17,15 @@ use Rattle.pram_text.specs.declared.head.Next.{Next}
 use Rattle.pram_text.specs.declared.head.Next.TheVariants.{Version, Cells, Procs, Steps}
 use Rattle.pram_text.specs.declared.head.Next.TheVariants.{Rules, Start, Code}
 use Rattle.pram_text.specs.declared.start.Setup.{Setup}
-use Rattle.pram_text.specs.declared.instr.Rule.TheVariants.{Common}
-use Rattle.pram_text.specs.declared.instr.Array.{Array}
-use Rattle.pram_text.specs.declared.instr.Instr.{Instr}
-use Rattle.pram_text.specs.declared.instr.Instr.TheVariants.{Halt}
+use Rattle.pram_job.specs.declared.instr.Rule.TheVariants.{Common}
+use Rattle.pram_job.specs.declared.instr.Array.{Array}
+use Rattle.pram_job.specs.declared.instr.Instr.{Instr}
+use Rattle.pram_job.specs.declared.instr.Instr.TheVariants.{Halt}
 use Rattle.pram_text.specs.declared.program.Program.{Program}
 use Rattle.pram_text.specs.declared.program.Written.{Written}
 use Rattle.pram_text.specs.declared.reader.Reader.{Reader}
-use Rattle.pram_text.specs.Job.{JobData, job_data}
-use Rattle.pram_text.specs.Lines.{Word, Line, words_of, worded, is_filled}
+use Rattle.pram_job.specs.Job.{JobData, job_data}
+use Rattle.text_lines.specs.Lines.{Word, Line, words_of, worded, is_filled}
 use Rattle.pram_text.specs.Judgement.{version_of, cells_of, procs_of}
 use Rattle.pram_text.specs.Judgement.{◌>>=◌, steps_of, is_later, Entry, names, gives, array_of}
 use Rattle.pram_text.specs.Judgement.{values_of, init_of, unlabelled, Scope, instr_of}

@@ -5,15 +5,15 @@ use Rattle.std.specs.BTreeMap.{BTreeMap, get_by}
 use Rattle.std.specs.Cmp.Lexicographic.{slice_cmp}
 use Rattle.std.specs.Ordering.{nat_cmp}
 use Rattle.pram_text.specs.declared.fault.TextKind.{TextKind}
-use Rattle.pram_text.specs.declared.instr.Array.{Array}
-use Rattle.pram_text.specs.declared.instr.Instr.{Instr}
-use Rattle.pram_text.specs.declared.instr.Instr.TheVariants.{Jz, Jmp}
-use Rattle.pram_text.specs.declared.instr.Operand.{Operand}
-use Rattle.pram_text.specs.declared.instr.Place.{Place}
+use Rattle.pram_job.specs.declared.instr.Array.{Array}
+use Rattle.pram_job.specs.declared.instr.Instr.{Instr}
+use Rattle.pram_job.specs.declared.instr.Instr.TheVariants.{Jz, Jmp}
+use Rattle.pram_job.specs.declared.instr.Operand.{Operand}
+use Rattle.pram_job.specs.declared.instr.Place.{Place}
 use Rattle.pram_text.specs.declared.statement.Names.{Names}
 use Rattle.pram_text.specs.declared.statement.Statement.{Statement}
-use Rattle.pram_text.specs.Instructions.{shifts}
-use Rattle.pram_text.specs.Lines.{Word, Line}
+use Rattle.pram_job.specs.Instructions.{shifts}
+use Rattle.text_lines.specs.Lines.{Word, Line}
 use Rattle.pram_text.specs.Judgement.{Scope, no_operand, one_register, two_operands}
 use Rattle.pram_text.specs.Judgement.{register_place, place_operand, register_number}
 use Rattle.pram_text.specs.Judgement.{register_label, one_label, index_in, instr_by, instr_of}

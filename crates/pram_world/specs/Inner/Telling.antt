@@ -1,7 +1,7 @@
 -- What is read off the words of a board.
 use Rattle.std.specs.Prelude.{◌≡◌, ◌≢◌, ℕ, suc, ◌*◌, List, take}
-use Rattle.pram_text.specs.Job.{JobData}
-use Rattle.pram_step.specs.declared.requests.Request.{Request}
+use Rattle.pram_job.specs.Job.{JobData}
+use Rattle.pram_machine.specs.declared.requests.Request.{Request}
 use Rattle.pram_step.specs.Runs.{requests_after, state_after}
 use Rattle.pram_words.specs.declared.words.Word.TheVariants.{Stored}
 use Rattle.pram_words.specs.Words.{LayoutData}

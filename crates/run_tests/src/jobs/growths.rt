@@ -4,9 +4,10 @@ ghost use Rattle.std.specs.Prelude.{◌≡◌, IfOk};
 
 use crate::jobs::{SWAP, Wanted};
 use pram_board::{Board, Seat};
+use pram_job::Job;
 use pram_run::{Sight, Trace, replay, run, watch};
 use pram_step::RunAnswer;
-use pram_text::{Job, read_job};
+use pram_text::read_job;
 use std::sync::Wait;
 use std::test::Fail;
 use std::thread::Threads;

@@ -1,7 +1,7 @@
 -- Where a worker stands, with the job and its board.
 use Rattle.std.specs.Prelude.{◌≡◌, IsTrue, ℕ, suc, ◌*◌, ◌<◌, ◌≤◌, Option, Some, None}
 use Rattle.std.specs.Prelude.{if◌then◌else◌}
-use Rattle.pram_text.specs.Job.{JobData}
+use Rattle.pram_job.specs.Job.{JobData}
 use Rattle.pram_words.specs.Phases.{step_at}
 use Rattle.pram_words.specs.Stamps.{stamped_word}
 use Rattle.pram_words.specs.Words.{LayoutData, grain, number_of}

@@ -1,5 +1,5 @@
 use Rattle.std.proofs.Common.{◌∙◌}
-use Rattle.pram_text.specs.declared.instr.Instr.TheVariants.{Set}
+use Rattle.pram_job.specs.declared.instr.Instr.TheVariants.{Set}
 use Rattle.job_text.proofs.Once.{once_step, once_stays}
 use Rattle.job_text.proofs.arrays.arrays_of.Goals as goal
 use Rattle.job_text.proofs.arrays.arrays_of.Goals.{in-Some+in_ok-arrays, in_default}

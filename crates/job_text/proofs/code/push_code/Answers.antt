@@ -1,6 +1,6 @@
 use Rattle.std.proofs.Common.{◌∙◌, ap, false, get_or, length, string_bytes, arith}
 use Rattle.std.proofs.lemmas.List.FromFn.{length-map-range_with_len, get_or-map-range_with_len}
-use Rattle.pram_text.specs.declared.instr.Instr.TheVariants.{Set}
+use Rattle.pram_job.specs.declared.instr.Instr.TheVariants.{Set}
 use Rattle.job_text.specs.Printed.{is_aim}
 use Rattle.job_text.proofs.Streaming.{code_step}
 use Rattle.job_text.proofs.code.push_code.Goals as goal

@@ -1,7 +1,7 @@
 use Rattle.std.proofs.Common.{rules, arith, ◌≡◌, ℕ, ◌+◌, ◌<◌}
 use Rattle.std.proofs.Common.{◌≤◌, true, false, List, slice_get, Some}
 use Rattle.std.proofs.Common.{length, sym, subst, ◌∙◌}
-use Rattle.pram_step.specs.Machine.{counter}
+use Rattle.pram_machine.specs.Machine.{counter}
 use Rattle.pram_step.specs.Runs.{state_after}
 use Rattle.pram_cost.specs.Accesses.{is_running}
 use Rattle.page_core.specs.declared.last.LastRow.{LastRow}

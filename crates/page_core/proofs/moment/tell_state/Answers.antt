@@ -1,5 +1,5 @@
 use Rattle.std.proofs.Common.{rules, ◌≡◌, take, length, subst, sym, ap, refl, ◌∙◌}
-use Rattle.pram_step.specs.Machine.{place_count}
+use Rattle.pram_machine.specs.Machine.{place_count}
 use Rattle.pram_step.specs.Runs.{IsStateAfter}
 use Rattle.page_core.proofs.Buffers.{length_after}
 use Rattle.page_core.proofs.moment.tell_state.Goals as goal

@@ -2,7 +2,7 @@ use Rattle.std.proofs.Common.{arith, ◌≡◌, ℕ, ◌+◌, ◌-◌}
 use Rattle.std.proofs.Common.{length, refl, ap, subst}
 use Rattle.std.proofs.Common.{◌∙◌, inl, inr}
 use Rattle.std.proofs.lemmas.Bool.{cases_lt}
-use Rattle.pram_step.specs.Machine.{State}
+use Rattle.pram_machine.specs.Machine.{State}
 use Rattle.pram_step.specs.Runs.{IsReached, IsStateAfter, state_after}
 use Rattle.page_core.specs.declared.steps.StepRow.{StepRow}
 use Rattle.page_core.specs.Steps.{step_row}

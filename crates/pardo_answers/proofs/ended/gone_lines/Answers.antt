@@ -1,6 +1,6 @@
 use Rattle.std.proofs.Common.{◌≡◌, ℕ, ◌+◌, List, Option, None, Some, refl, sym, subst, arith}
 use Rattle.std.specs.Prelude.{slice_index}
-use Rattle.pram_step.specs.Machine.{State}
+use Rattle.pram_machine.specs.Machine.{State}
 use Rattle.pram_step.specs.Runs.{IsStateAfter}
 use Rattle.pardo_answers.specs.Inner.Leaving.{AreNoted}
 use Rattle.pardo_answers.proofs.Leaving.{none_at_start, take_all_of}

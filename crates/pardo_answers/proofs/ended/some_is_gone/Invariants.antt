@@ -1,5 +1,5 @@
 use Rattle.std.proofs.Common.{◌≢◌, ℕ, ◌<◌}
-use Rattle.pram_step.specs.Machine.{counter, out_of_range}
+use Rattle.pram_machine.specs.Machine.{counter, out_of_range}
 use Rattle.pram_step.specs.Runs.{state_after}
 use Rattle.pardo_answers.proofs.ended.some_is_gone.Given as goal
 

@@ -1,7 +1,7 @@
 use Rattle.std.proofs.Common.{◌≡◌, length}
 use Rattle.std.specs.List.{flat_map}
-use Rattle.pram_text.specs.Lines.{words_of}
-use Rattle.pram_text.specs.TextLines.{left_of}
+use Rattle.text_lines.specs.Lines.{words_of}
+use Rattle.text_lines.specs.TextLines.{left_of}
 use Rattle.pardo_answers.specs.Language.{begins_program, is_program}
 use Rattle.pardo_answers.proofs.language.is_program.Given as goal
 

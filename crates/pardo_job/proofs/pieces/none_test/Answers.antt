@@ -1,5 +1,5 @@
 use Rattle.std.proofs.Common.{◌≡◌, ◌++◌, ◌∙◌, Err, List, ap, rules}
-use Rattle.pram_text.specs.declared.instr.Instr.{Instr}
+use Rattle.pram_job.specs.declared.instr.Instr.{Instr}
 use Rattle.pardo_job.specs.Lines.{none_code}
 use Rattle.pardo_job.proofs.LineParts.{none_first_fails, none_puts, on_err}
 use Rattle.pardo_job.proofs.pieces.none_test.Goals as goal

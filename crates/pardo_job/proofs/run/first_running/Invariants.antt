@@ -1,5 +1,5 @@
 use Rattle.std.proofs.Common.{ℕ, ◌<◌}
-use Rattle.pram_step.specs.Machine.{IsStopped}
+use Rattle.pram_machine.specs.Machine.{IsStopped}
 use Rattle.pardo_job.proofs.run.first_running.Given as goal
 
 abbrev pub invariant-loop-processor : goal.invariant-loop-processor

@@ -1,8 +1,8 @@
 use Rattle.std.proofs.Common.{◌≡◌, ◌∙◌, ◌∷◌, ℕ, sym, ap, ap₂}
 use Rattle.pardo_text.specs.Drafts.{Draft}
 use Rattle.pardo_text.specs.Inner.Drafts.{draft_of}
-use Rattle.pram_text.specs.Lines.{lines_of}
-use Rattle.pram_text.specs.TextLines.{left_of, taken_of}
+use Rattle.text_lines.specs.Lines.{lines_of}
+use Rattle.text_lines.specs.TextLines.{left_of, taken_of}
 use Rattle.pardo_text.specs.Reading.{program_after, program_of, with_text_line}
 use Rattle.pardo_text.proofs.Judged.{IsRefusal-from, program_after-fault, program_after-line}
 use Rattle.pardo_text.proofs.reader.read_program.Goals as goal

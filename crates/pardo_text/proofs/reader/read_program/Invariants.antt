@@ -1,7 +1,7 @@
 use Rattle.std.proofs.Common.{◌≡◌, length}
 use Rattle.pardo_text.specs.Inner.Drafts.{draft_of}
 use Rattle.pardo_text.specs.Reading.{program_after, program_of}
-use Rattle.pram_text.specs.TextLines.{left_of, taken_of}
+use Rattle.text_lines.specs.TextLines.{left_of, taken_of}
 use Rattle.pardo_text.proofs.reader.read_program.Given as goal
 
 abbrev pub invariant-loop-line : goal.invariant-loop-line

@@ -1,5 +1,5 @@
 use Rattle.std.proofs.Common.{◌≡◌, ◌≤◌, ℕ, length}
-use Rattle.pram_text.specs.Lines.{said_in}
+use Rattle.text_lines.specs.Lines.{said_in}
 use Rattle.pardo_text.specs.Tokens.{tokens_of, tokens_in}
 use Rattle.pardo_text.specs.Inner.Tokens.{plain_all, preceded}
 use Rattle.pardo_text.proofs.token.take_tokens.Given as goal

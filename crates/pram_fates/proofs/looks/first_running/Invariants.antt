@@ -1,5 +1,5 @@
 use Rattle.std.proofs.Common.{ℕ, ◌<◌}
-use Rattle.pram_step.specs.Machine.{IsStopped}
+use Rattle.pram_machine.specs.Machine.{IsStopped}
 use Rattle.pram_step.specs.Runs.{state_after}
 use Rattle.pram_fates.proofs.looks.first_running.Given as goal
 

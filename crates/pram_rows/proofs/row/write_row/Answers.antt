@@ -2,10 +2,10 @@ use Rattle.std.proofs.Common.{◌≡◌, ◌∙◌, ◌+◌, ℕ, List, Option, 
 use Rattle.std.proofs.lemmas.Result.{on_ok_weaker}
 use Rattle.std.specs.Option.{is_some, option_copied, unwrap_or}
 use Rattle.std.specs.Prelude.{IfSome}
-use Rattle.pram_text.specs.Job.{JobData}
-use Rattle.pram_step.specs.declared.requests.Request.{Request}
-use Rattle.pram_step.specs.Instructions.{request_in}
-use Rattle.pram_step.specs.Machine.{IsDataPlace}
+use Rattle.pram_job.specs.Job.{JobData}
+use Rattle.pram_machine.specs.declared.requests.Request.{Request}
+use Rattle.pram_machine.specs.Instructions.{request_in}
+use Rattle.pram_machine.specs.Machine.{IsDataPlace}
 use Rattle.pram_rows.specs.Rows.{instruction_at, line_text, target_text}
 use Rattle.pram_rows.proofs.Plain.{row-is}
 use Rattle.pram_rows.proofs.row.write_row.Goals as goal

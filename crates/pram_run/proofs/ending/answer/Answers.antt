@@ -1,5 +1,5 @@
 use Rattle.std.proofs.Common.{◌≤◌, ◌<◌, sym, ap, ◌∙◌, inl, arith}
-use Rattle.pram_text.specs.Job.{JobData}
+use Rattle.pram_job.specs.Job.{JobData}
 use Rattle.pram_step.specs.declared.answer.RunAnswer.TheVariants.{Unfinished}
 use Rattle.pram_run.proofs.Endings.{progress_heard, progress_looks, looked_more}
 use Rattle.pram_run.proofs.Endings.{looked_same, loads_go, last_shown}

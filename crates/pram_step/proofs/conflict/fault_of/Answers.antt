@@ -2,7 +2,7 @@ use Rattle.std.proofs.Common.{length, Option, ap, subst, ◌∙◌}
 use Rattle.pram_step.specs.declared.answer.Dispute.{Dispute}
 use Rattle.pram_step.specs.Runs.{state_after}
 use Rattle.pram_step.specs.Steps.{Agrees, IsVerdict}
-use Rattle.pram_step.proofs.Shapes.{length-requests_in}
+use Rattle.pram_machine.proofs.Shapes.{length-requests_in}
 use Rattle.pram_step.proofs.conflict.fault_of.Goals as goal
 
 pub dispute-requires : goal.dispute-requires

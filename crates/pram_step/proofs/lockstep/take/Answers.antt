@@ -1,13 +1,13 @@
 use Rattle.std.proofs.Common.{◌≡◌, ◌<◌, ◌∙◌, length, get_or, sym, subst, arith}
 use Rattle.std.proofs.lemmas.List.{get_or_default}
 use Rattle.std.specs.Prelude.{IfSome}
-use Rattle.pram_step.specs.declared.requests.Request.{Request}
-use Rattle.pram_step.specs.Machine.{IsDataPlace}
+use Rattle.pram_machine.specs.declared.requests.Request.{Request}
+use Rattle.pram_machine.specs.Machine.{IsDataPlace}
 use Rattle.pram_step.specs.Inner.Passes.{IsPassed, bound}
-use Rattle.pram_step.specs.Inner.Turns.{request_of}
+use Rattle.pram_machine.specs.Turns.{request_of}
 use Rattle.pram_step.proofs.Applying.{passed_next, passed_turn}
 use Rattle.pram_step.proofs.Passing.{bound_inside, count_after}
-use Rattle.pram_step.proofs.Shapes.{request_own}
+use Rattle.pram_machine.proofs.Shapes.{request_own}
 use Rattle.pram_step.proofs.lockstep.take.Goals as goal
 
 pub move_on-requires-clause-own : goal.move_on-requires-clause-own

@@ -1,5 +1,5 @@
 use Rattle.std.proofs.Common.{◌≡◌, length}
-use Rattle.pram_step.specs.Machine.{State, place_count}
+use Rattle.pram_machine.specs.Machine.{State, place_count}
 use Rattle.pram_step.specs.Inner.Passes.{AreRunning, IsPassed, IsUnderWay, bound}
 use Rattle.pram_step.proofs.lockstep.take.Given as goal
 

@@ -1,6 +1,6 @@
 use Rattle.std.proofs.Common.{◌≡◌, ◌<◌, ◌≤◌, length, get_or, subst, inl, refl, arith}
 use Rattle.std.proofs.lemmas.List.{get_or_default}
-use Rattle.pram_step.specs.Machine.{IsStopped, counter_place}
+use Rattle.pram_machine.specs.Machine.{IsStopped, counter_place}
 use Rattle.pram_step.specs.Inner.Passes.{IsPassed, bound}
 use Rattle.pram_step.proofs.Applying.{passed_next, passed_stopped}
 use Rattle.pram_step.proofs.Passing.{bound_inside, count_after}

@@ -1,11 +1,11 @@
 use Rattle.std.proofs.Common.{◌≤◌, List, length, take, drop, sym, subst, ◌∙◌, arith}
 use Rattle.pram_step.specs.declared.stores.Store.{Store}
-use Rattle.pram_step.specs.Instructions.{requests_in}
+use Rattle.pram_machine.specs.Instructions.{requests_in}
 use Rattle.pram_step.specs.Steps.{IsVerdict}
 use Rattle.pram_step.specs.Inner.Marks.{AreAsked}
 use Rattle.pram_step.proofs.Applying.{advanced, passed_cells}
 use Rattle.pram_step.proofs.Marking.{AreAsked_take, refilled}
-use Rattle.pram_step.proofs.Shapes.{length-requests_in}
+use Rattle.pram_machine.proofs.Shapes.{length-requests_in}
 use Rattle.pram_step.proofs.pass.advance.Goals as goal
 
 pub returns-in-Some-clause-dispute : goal.returns-in-Some-clause-dispute

@@ -1,12 +1,12 @@
 use Rattle.std.proofs.Common.{◌≡◌, true, ◌+◌, get_or, sym, ap, ◌∙◌, arith}
 use Rattle.std.specs.Prelude.{slice_index}
 use Rattle.std.proofs.lemmas.Bool.{OnTrue_from}
-use Rattle.pram_step.specs.declared.requests.Request.{Request}
-use Rattle.pram_step.specs.Machine.{counter_place}
+use Rattle.pram_machine.specs.declared.requests.Request.{Request}
+use Rattle.pram_machine.specs.Machine.{counter_place}
 use Rattle.pram_step.specs.Inner.Passes.{AllIdle}
 use Rattle.pram_step.proofs.Applying.{idle_first, idle_next}
 use Rattle.pram_step.proofs.Passing.{bound_past, listed_below}
-use Rattle.pram_step.proofs.Shapes.{request_idle}
+use Rattle.pram_step.proofs.Passing.{request_idle}
 use Rattle.pram_step.proofs.running.are_idle.Goals as goal
 
 pub loop-processor-init : goal.loop-processor-init

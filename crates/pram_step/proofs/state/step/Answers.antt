@@ -1,5 +1,5 @@
 use Rattle.std.proofs.Common.{◌∙◌, subst}
-use Rattle.pram_step.specs.Instructions.{requests_in}
+use Rattle.pram_machine.specs.Instructions.{requests_in}
 use Rattle.pram_step.specs.Steps.{Agrees}
 use Rattle.pram_step.proofs.state.step.Goals as goal
 

@@ -1,5 +1,5 @@
 use Rattle.std.proofs.Common.{List, length, take}
-use Rattle.pram_step.specs.declared.requests.Request.{Request}
+use Rattle.pram_machine.specs.declared.requests.Request.{Request}
 use Rattle.pram_step.specs.Inner.Marks.{AreAsked, AreJudged}
 use Rattle.pram_step.proofs.Marking.{turn_of}
 use Rattle.pram_step.proofs.stores.judge_all.Given as goal

@@ -1,5 +1,5 @@
 use Rattle.std.proofs.Common.{◌∙◌, ap, arith}
-use Rattle.pram_step.specs.Inner.Turns.{put_of}
+use Rattle.pram_machine.specs.Turns.{put_of}
 use Rattle.pram_step.proofs.Marking.{AreAsked_quiet, AreAsked_more}
 use Rattle.pram_step.proofs.RequestList.{Puts_put}
 use Rattle.pram_step.proofs.Turning.{no_cell}

@@ -1,7 +1,7 @@
 use Rattle.std.proofs.Common.{◌≡◌, ◌+◌, length}
 use Rattle.pram_text.specs.Inner.Ahead.{line_ahead, numbered_from}
 use Rattle.pram_text.specs.InstructionLines.{line_of}
-use Rattle.pram_text.specs.TextLines.{left_of, taken_of}
+use Rattle.text_lines.specs.TextLines.{left_of, taken_of}
 use Rattle.pram_text.proofs.lines.instruction_line.Given as goal
 
 abbrev pub invariant-loop-line : goal.invariant-loop-line

@@ -1,11 +1,11 @@
 use Rattle.std.proofs.Common.{◌≡◌, ◌<◌, ◌∙◌, ℕ, suc, [], length}
 use Rattle.std.proofs.Common.{drop, get_or, sym, ap, subst, arith}
-use Rattle.pram_text.specs.Lines.{lines_of}
-use Rattle.pram_text.specs.TextLines.{left_of, taken_of}
+use Rattle.text_lines.specs.Lines.{lines_of}
+use Rattle.text_lines.specs.TextLines.{left_of, taken_of}
 use Rattle.pram_text.specs.Text.{Bears}
 use Rattle.pram_text.proofs.Judged.{HasRead, HasRead-none, HasRead-more, Bears-line}
 use Rattle.pram_text.proofs.Judged.{IsRefusal-from, spells_from_finish, bears_from_finish}
-use Rattle.pram_text.proofs.Splitting.{at_front, none_left}
+use Rattle.text_lines.proofs.Splitting.{at_front, none_left}
 use Rattle.pram_text.proofs.reader.read_job.Goals as goal
 use Rattle.pram_text.proofs.reader.read_job.Goals.{In-Some, In_default}
 

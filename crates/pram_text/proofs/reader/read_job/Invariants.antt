@@ -1,6 +1,6 @@
 use Rattle.std.proofs.Common.{◌≡◌, ◌≤◌, length, drop}
-use Rattle.pram_text.specs.Lines.{lines_of}
-use Rattle.pram_text.specs.TextLines.{left_of, taken_of}
+use Rattle.text_lines.specs.Lines.{lines_of}
+use Rattle.text_lines.specs.TextLines.{left_of, taken_of}
 use Rattle.pram_text.proofs.Judged.{HasRead}
 use Rattle.pram_text.proofs.reader.read_job.Given as goal
 

@@ -1,5 +1,5 @@
 use Rattle.std.proofs.Common.{◌≡◌, ◌≤◌, ◌-◌, ◌++◌, Ok, length}
-use Rattle.pram_text.specs.Lines.{words_of}
+use Rattle.text_lines.specs.Lines.{words_of}
 use Rattle.pram_text.specs.Judgement.{◌>>=◌, values_of}
 use Rattle.pram_text.proofs.start.values_in.Given as goal
 

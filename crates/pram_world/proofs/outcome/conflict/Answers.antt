@@ -1,5 +1,5 @@
 use Rattle.std.proofs.Common.{List, arith, subst, sym}
-use Rattle.pram_step.specs.declared.requests.Request.{Request}
+use Rattle.pram_machine.specs.declared.requests.Request.{Request}
 use Rattle.pram_step.specs.Runs.{AreConflicting}
 use Rattle.pram_world.proofs.Answering.{conflicting, conflict_most}
 use Rattle.pram_world.proofs.outcome.conflict.Goals as goal

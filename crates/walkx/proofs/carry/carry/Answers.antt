@@ -1,6 +1,6 @@
 use Rattle.walkx.proofs.Passing.{passed}
 use Rattle.walkx.specs.Inner.Posts.{processor_of}
-use Rattle.pram_step.specs.Machine.{counter_place}
+use Rattle.pram_machine.specs.Machine.{counter_place}
 use Rattle.walkx.specs.Parts.{writes}
 use Rattle.walkx.proofs.carry.carry.Goals as goal
 

@@ -2,7 +2,7 @@ use Rattle.std.proofs.Common.{sym, ◌∙◌}
 use Rattle.walkx.proofs.CellParts.{readies_by}
 use Rattle.walkx.proofs.Turning.{moved}
 use Rattle.walkx.proofs.Passing.{passed}
-use Rattle.pram_text.specs.declared.instr.Rule.TheVariants.{Priority, Crew}
+use Rattle.pram_job.specs.declared.instr.Rule.TheVariants.{Priority, Crew}
 use Rattle.walkx.proofs.claim.ready.Goals as goal
 
 pub owned-requires-clause-next : goal.owned-requires-clause-next

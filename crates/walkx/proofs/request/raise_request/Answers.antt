@@ -1,4 +1,4 @@
-use Rattle.pram_step.specs.Instructions.{value_part}
+use Rattle.pram_machine.specs.Instructions.{value_part}
 use Rattle.walkx.proofs.Passing.{passed}
 use Rattle.walkx.specs.Parts.{raises_part}
 use Rattle.walkx.proofs.request.raise_request.Goals as goal

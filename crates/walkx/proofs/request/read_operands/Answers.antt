@@ -1,5 +1,5 @@
 use Rattle.std.proofs.Common.{sym, ap, ◌∙◌}
-use Rattle.pram_step.specs.Instructions.{listed}
+use Rattle.pram_machine.specs.Instructions.{listed}
 use Rattle.walkx.specs.Parts.{reads, register_of}
 use Rattle.walkx.proofs.request.read_operands.Goals as goal
 

@@ -1,7 +1,7 @@
 use Rattle.std.proofs.Common.{◌≡◌, ◌∙◌, ◌∷◌, [], ◌++◌, List, ap, arith, length, subst, sym}
 use Rattle.std.specs.Prelude.{slice_index}
-use Rattle.pram_text.specs.declared.instr.Instr.{Instr}
-use Rattle.pram_text.specs.declared.instr.Instr.TheVariants.{Pid}
+use Rattle.pram_job.specs.declared.instr.Instr.{Instr}
+use Rattle.pram_job.specs.declared.instr.Instr.TheVariants.{Pid}
 use Rattle.pardo_job.specs.declared.fault.JobKind.{JobKind}
 use Rattle.pardo_job.specs.declared.fault.JobKind.TheVariants.{Memory}
 use Rattle.pardo_job.specs.Refusals.{IsFault}

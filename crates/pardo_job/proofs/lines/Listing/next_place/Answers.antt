@@ -1,6 +1,6 @@
 use Rattle.std.proofs.Common.{◌≡◌, ◌+◌, ◌∙◌, ◌++◌, List, ap, arith, length}
 use Rattle.std.specs.Prelude.{slice_index}
-use Rattle.pram_text.specs.declared.instr.Instr.{Instr}
+use Rattle.pram_job.specs.declared.instr.Instr.{Instr}
 use Rattle.pardo_job.specs.Lines.{line_code}
 use Rattle.pardo_job.proofs.Placed.{fault_at, long_at, place_after_is}
 use Rattle.pardo_job.proofs.lines.Listing.next_place.Goals as goal

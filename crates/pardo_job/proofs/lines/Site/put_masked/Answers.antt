@@ -1,5 +1,5 @@
 use Rattle.std.proofs.Common.{List, length, sym, subst}
-use Rattle.pram_text.specs.declared.instr.Instr.{Instr}
+use Rattle.pram_job.specs.declared.instr.Instr.{Instr}
 use Rattle.pardo_job.specs.Inner.Pieces.{PutsLine}
 use Rattle.pardo_job.proofs.LineParts.{masked_none, masked_some, masked_too_long, puts_line}
 use Rattle.pardo_job.proofs.lines.Site.put_masked.Goals as goal

@@ -1,6 +1,6 @@
 use Rattle.std.proofs.Common.{◌≡◌, ◌≤◌, ◌+◌, ◌*◌, ℕ, suc, map}
 use Rattle.std.specs.List.{range_with_len}
-use Rattle.pram_step.specs.Instructions.{request_in}
+use Rattle.pram_machine.specs.Instructions.{request_in}
 use Rattle.pram_step.specs.Runs.{state_after}
 use Rattle.pram_words.specs.declared.words.Word.TheVariants.{Conflict}
 use Rattle.lawful_walk.specs.Moments.{Sound}

@@ -1,5 +1,5 @@
 use Rattle.std.proofs.Common.{sym, subst, ◌∙◌}
-use Rattle.pram_text.specs.Job.{JobData}
+use Rattle.pram_job.specs.Job.{JobData}
 use Rattle.walkx.specs.Walk.{IsLayoutOf}
 use Rattle.lawful_walk.specs.Board.{Stands}
 use Rattle.pram_board.proofs.Keeps.{opens}

@@ -1,5 +1,5 @@
 use Rattle.std.proofs.Common.{suc}
-use Rattle.pram_step.specs.Instructions.{request_in}
+use Rattle.pram_machine.specs.Instructions.{request_in}
 use Rattle.pram_step.specs.Runs.{state_after}
 use Rattle.pram_board.proofs.Faults.{still_heard, words_of}
 use Rattle.pram_board.proofs.Memory.{more_loads}

@@ -1,7 +1,7 @@
 use Rattle.std.proofs.Common.{[], ◌∷◌, ◌++◌, ap, sym, ◌∙◌, subst}
 use Rattle.std.specs.Result.{result_err}
 use Rattle.std.proofs.lemmas.Result.{err_from_is_err_and}
-use Rattle.pram_text.specs.Lines.{words_of}
+use Rattle.text_lines.specs.Lines.{words_of}
 use Rattle.pram_text.specs.Inner.Reading.{HoldsHead}
 use Rattle.pram_text.proofs.Front.{fault_at_version, fault_at_cells, fault_at_procs}
 use Rattle.pram_text.proofs.Front.{fault_at_steps, fault_at_rule, HoldsHead-steps, HoldsHead-rule}

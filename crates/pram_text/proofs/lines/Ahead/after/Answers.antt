@@ -1,5 +1,5 @@
 use Rattle.std.proofs.Common.{◌≡◌, ℕ, ◌-◌, sym, subst, ◌∙◌, arith}
-use Rattle.pram_text.specs.Lines.{words_of}
+use Rattle.text_lines.specs.Lines.{words_of}
 use Rattle.pram_text.specs.declared.lines.Ahead.{Ahead}
 use Rattle.pram_text.specs.declared.lines.Ahead.TheVariants.{Header}
 use Rattle.pram_text.specs.Inner.Ahead.{SkipsLine}

@@ -3,8 +3,8 @@ use Rattle.std.proofs.Common.{Option, Some, arith, if◌then◌else◌}
 use Rattle.std.specs.Result.{result_err}
 use Rattle.std.proofs.lemmas.Result.{err_from_is_err_and}
 use Rattle.pram_text.specs.Judgement.{instr_of}
-use Rattle.pram_text.specs.declared.limits.TheConstants.{MAX_CODE}
-use Rattle.pram_text.specs.Lines.{Word}
+use Rattle.pram_job.specs.declared.limits.TheConstants.{MAX_CODE}
+use Rattle.text_lines.specs.Lines.{Word}
 use Rattle.pram_text.specs.Inner.Reading.{define_fault, index_at}
 use Rattle.pram_text.specs.Inner.Statement.{known}
 use Rattle.pram_text.specs.Text.{is_named}

@@ -21,13 +21,13 @@ returns-in_err-code-clause-told c = λ before last held.
       ),
     ))
 
-pub new-requires : goal.new-requires
-new-requires c = lines_keep _ _ (SpellsLines-held c.requires.held.0 c.args.self.now _
+pub job_of-requires : goal.job_of-requires
+job_of-requires c = lines_keep _ _ (SpellsLines-held c.requires.held.0 c.args.self.now _
     _ c.requires.held.1 (rw c.deref.ensures.value at c.in_ok-init.ensures) c.in_ok-code.ensures.told
     (omega (arith, c.requires.some, c.args.self.now.program.written.ok.0)))
 
 pub returns-clause-told : goal.returns-clause-told
 returns-clause-told c = λ before last held.
-    rw c.new.ensures (SpellsLines-held before c.args.self.now _ _ held
+    rw c.job_of.ensures (SpellsLines-held before c.args.self.now _ _ held
     (rw c.deref.ensures.value at c.in_ok-init.ensures) c.in_ok-code.ensures.told
     (omega (arith, c.requires.some, c.args.self.now.program.written.ok.0)))

@@ -3,7 +3,7 @@ use Rattle.std.proofs.Common.{arith, if◌then◌else◌}
 use Rattle.std.proofs.lemmas.Map.Text.{btree_map_updates_str}
 use Rattle.std.proofs.lemmas.Result.{err_from_is_err_and}
 use Rattle.pram_text.specs.declared.fault.TextKind.TheVariants.{BadHeader}
-use Rattle.pram_text.specs.Lines.{is_filled}
+use Rattle.text_lines.specs.Lines.{is_filled}
 use Rattle.pram_text.specs.Inner.Statement.{array_named}
 use Rattle.pram_text.proofs.Inits.{array_read-err, array_read-ok, bare_if, filled_unless}
 use Rattle.pram_text.proofs.Inits.{entry_fault-err, entry_fault-late, HoldsStart-named}

@@ -5,7 +5,7 @@ use Rattle.std.specs.Vec.{with_items}
 use Rattle.std.proofs.lemmas.List.{with_items_is}
 use Rattle.std.proofs.lemmas.Result.{err_from_is_err_and}
 use Rattle.pram_text.specs.declared.fault.TextKind.TheVariants.{BadHeader}
-use Rattle.pram_text.specs.Lines.{is_filled}
+use Rattle.text_lines.specs.Lines.{is_filled}
 use Rattle.pram_text.specs.Judgement.{gives}
 use Rattle.pram_text.specs.Inner.Reading.{given}
 use Rattle.pram_text.specs.Text.{value_by}

@@ -1,5 +1,5 @@
 use Rattle.std.proofs.Common.{◌≡◌, subst, ap, arith}
-use Rattle.pram_text.specs.Job.{IsJob}
+use Rattle.pram_job.specs.Job.{IsJob}
 use Rattle.pram_words.specs.Words.{LayoutData}
 use Rattle.pram_world.proofs.Bodies.{start_is_world}
 use Rattle.pram_world.proofs.world.World.new.Goals as goal

@@ -1,0 +1,4 @@
+pub mod Instructions
+pub mod Job
+pub mod Places
+pub mod Laws

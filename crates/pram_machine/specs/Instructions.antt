@@ -1,0 +1,188 @@
+-- The table of the seventeen instructions, and what a processor asks for in a state.
+use Rattle.std.specs.Prelude.{◌≡◌, ℕ, zero, suc, ◌+◌, ◌-◌, ◌*◌, ◌/◌, ◌%◌, ◌^◌}
+use Rattle.std.specs.Prelude.{◌<◌, ◌≤◌, ◌==◌, nat_lt, if◌then◌else◌, List, [], ◌∷◌, ◌++◌, map}
+use Rattle.std.specs.Prelude.{slice_get, slice_index, Option, Some, None, bit_and, bit_or, bit_xor}
+use Rattle.std.specs.List.{range_with_len}
+use Rattle.pram_job.specs.declared.instr.Instr.{Instr}
+use Rattle.pram_job.specs.declared.instr.Instr.TheVariants.{Set, Pid, Add, Sub, Mul, And, Or, Xor}
+use Rattle.pram_job.specs.declared.instr.Instr.TheVariants.{Lt, Eq, Shl, Shr, Ld, St, Jz, Jmp}
+use Rattle.pram_job.specs.declared.instr.Instr.TheVariants.{Halt}
+use Rattle.pram_job.specs.declared.instr.Operand.{Operand}
+use Rattle.pram_job.specs.declared.instr.Operand.TheVariants.{Register, Number}
+use Rattle.pram_job.specs.declared.instr.Place.{Place}
+use Rattle.pram_job.specs.declared.instr.Place.TheVariants.{Cell, Named}
+use Rattle.pram_job.specs.declared.instr.Operands.{Operands}
+use Rattle.pram_job.specs.declared.instr.Operands.TheVariants.{Bare, Target, TargetNumber}
+use Rattle.pram_job.specs.declared.instr.Operands.TheVariants.{TargetPlace, TargetTwo, PlaceValue}
+use Rattle.pram_job.specs.declared.instr.Operands.TheVariants.{RegisterIndex, Index}
+use Rattle.pram_job.specs.Instructions.{row_of}
+use Rattle.pram_job.specs.Job.{JobData}
+use Rattle.pram_machine.specs.declared.instructions.Sources.{Sources}
+use Rattle.pram_machine.specs.declared.instructions.Sources.TheVariants as sources
+use Rattle.pram_machine.specs.declared.requests.Request.{Request}
+use Rattle.pram_machine.specs.Machine.{State, register_place, IsDataPlace, register}
+use Rattle.pram_machine.specs.Machine.{counter, halted, out_of_range}
+
+-- ---- operands
+
+-- the register of an operand, if it has one
+abbrev pub registers_in : Operand → List ℕ
+registers_in (Register register) = register ∷ []
+registers_in (Number number) = []
+
+-- the value of an operand, where its register holds this
+abbrev pub value_of : Operand → ℕ → ℕ
+value_of (Register register) held = held
+value_of (Number number) held = number
+
+-- what the register of the operand after this one holds, of the first and the second that are read
+abbrev pub held_after : Operand → ℕ → ℕ → ℕ
+held_after (Register register) first second = second
+held_after (Number number) first second = first
+
+abbrev pub index_of : Place → Operand
+index_of (Cell index) = index
+index_of (Named array index) = index
+
+-- the cell of a place with this index, if there is one
+abbrev pub reached : JobData → Place → ℕ → Option ℕ
+reached job (Cell _) index = if nat_lt index job.cells then Some index else None
+reached job (Named array _) index =
+    if nat_lt index array.len then Some (array.base + index) else None
+
+-- the same, where the register of its index holds this
+abbrev pub cell_of : JobData → Place → ℕ → Option ℕ
+cell_of job place held = reached job place (value_of (index_of place) held)
+
+-- ---- the table
+
+-- the registers that are read, in the order in which they are written
+abbrev pub read_by : Operands → List ℕ
+read_by Bare = []
+read_by (Target target) = []
+read_by (TargetNumber target number) = []
+read_by (TargetPlace target place) = registers_in (index_of place)
+read_by (TargetTwo target first second) = first ∷ registers_in second
+read_by (PlaceValue place value) = registers_in (index_of place) ++ registers_in value
+read_by (RegisterIndex register index) = register ∷ []
+read_by (Index index) = []
+
+abbrev pub sources_of : Instr → List ℕ
+sources_of instr = read_by (row_of instr).1
+
+-- the cell that an instruction reads, where the first register that it reads holds this
+abbrev pub cell_read : JobData → Instr → ℕ → Option ℕ
+cell_read job (Ld target place) first = cell_of job place first
+cell_read job _ first = None
+
+-- a register takes a value
+abbrev pub gives : JobData → ℕ → ℕ → ℕ → ℕ → Request
+gives job i counter register value =
+    record { put = Some (register_place job i register, value); next = counter + 1 }
+
+-- no data, and this next counter
+abbrev pub goes_to : ℕ → Request
+goes_to next = record { put = None; next = next }
+
+-- what is asked for of a cell, and where there is none the next counter
+abbrev pub within : Option ℕ → ℕ → (ℕ → Request) → Request
+within None otherwise asks = goes_to otherwise
+within (Some cell) otherwise asks = asks cell
+
+-- shifted by 32 bits or more, nothing is left of a number
+abbrev pub shifted : ℕ → ℕ → ℕ
+shifted by value = if nat_lt by 32 then value else 0
+
+-- What processor i asks for by the instruction at its counter, where the first and the second
+-- register that it reads hold these, and the cell that it reads holds this value.
+unfoldable pub decided : JobData → ℕ → ℕ → Instr → ℕ → ℕ → ℕ → Request
+decided job i counter (Set target number) first second value = gives job i counter target number
+decided job i counter (Pid target) first second value = gives job i counter target i
+decided job i counter (Add target _ b) first second value =
+    gives job i counter target ((first + value_of b second) % 2 ^ 32)
+decided job i counter (Sub target _ b) first second value =
+    gives job i counter target ((first + (2 ^ 32 - value_of b second)) % 2 ^ 32)
+decided job i counter (Mul target _ b) first second value =
+    gives job i counter target ((first * value_of b second) % 2 ^ 32)
+decided job i counter (And target _ b) first second value =
+    gives job i counter target (bit_and first (value_of b second))
+decided job i counter (Or target _ b) first second value =
+    gives job i counter target (bit_or first (value_of b second))
+decided job i counter (Xor target _ b) first second value =
+    gives job i counter target (bit_xor first (value_of b second))
+decided job i counter (Lt target _ b) first second value =
+    gives job i counter target (if nat_lt first (value_of b second) then 1 else 0)
+decided job i counter (Eq target _ b) first second value =
+    gives job i counter target (if first == value_of b second then 1 else 0)
+decided job i counter (Shl target _ b) first second value =
+    gives job i counter target
+    (shifted (value_of b second) ((first * 2 ^ value_of b second) % 2 ^ 32))
+decided job i counter (Shr target _ b) first second value =
+    gives job i counter target (shifted (value_of b second) (first / 2 ^ value_of b second))
+decided job i counter (Ld target place) first second value =
+    within (cell_of job place first) (out_of_range job) (λ cell. gives job i counter target value)
+decided job i counter (St place b) first second value =
+    within (cell_of job place first) (out_of_range job) (λ cell. record {
+      put = Some (cell, value_of b (held_after (index_of place) first second));
+      next = counter + 1;
+    })
+decided job i counter (Jz _ index) first second value =
+    goes_to (if first == 0 then index else counter + 1)
+decided job i counter (Jmp index) first second value = goes_to index
+decided job i counter Halt first second value = goes_to (halted job)
+
+-- ---- in code, and in words
+
+-- the registers in order
+abbrev pub listed : Sources → List ℕ
+listed sources.None = []
+listed (sources.One register) = register ∷ []
+listed (sources.Two first second) = first ∷ second ∷ []
+
+-- The parts of a request: the data place plus 1 or 0 for none, the data value, the next counter.
+abbrev pub place_part : Request → ℕ
+place_part request = elim request.put [ None ↦ 0 | Some write ↦ write.0 + 1 ]
+
+abbrev pub value_part : Request → ℕ
+value_part request = elim request.put [ None ↦ 0 | Some write ↦ write.1 ]
+
+abbrev pub part_of : Request → ℕ → ℕ
+part_of request zero = place_part request
+part_of request (suc zero) = value_part request
+part_of request (suc (suc j)) = request.next
+
+-- data goes to a cell or a register of processor i, numbers fit, and the counter goes to an
+-- instruction, or the processor stops
+pub record HasShape (job : JobData) (i : ℕ) (request : Request) : Type 0 where
+  pub data_place : (place value : ℕ) → request.put ≡ Some (place, value) → IsDataPlace job i place
+  pub data_value : (place value : ℕ) → request.put ≡ Some (place, value) → value < 2 ^ 32
+  pub next : request.next ≤ out_of_range job
+
+-- ---- in a state
+
+-- what a register that an instruction reads holds, and the cell that it reads
+abbrev pub operand_held : JobData → State → ℕ → Instr → ℕ → ℕ
+operand_held job state i instr which =
+    slice_index (map (register job state i) (sources_of instr)) which
+
+abbrev pub cell_held : JobData → State → Instr → ℕ → ℕ
+cell_held job state instr first =
+    elim (cell_read job instr first) [ None ↦ 0 | Some cell ↦ slice_index state cell ]
+
+abbrev pub decided_in : JobData → State → ℕ → Instr → Request
+decided_in job state i instr =
+    decided job i (counter job state i) instr (operand_held job state i instr 0)
+    (operand_held job state i instr 1)
+    (cell_held job state instr (operand_held job state i instr 0))
+
+-- A processor whose counter is no instruction's index asks for no data and stays.
+unfoldable pub request_in : JobData → State → ℕ → Request
+request_in job state i =
+    elim (slice_get job.code (counter job state i)) [
+      | None ↦ goes_to (counter job state i)
+      | Some instr ↦ decided_in job state i instr
+    ]
+
+-- the requests of all processors, each from the state before the step
+unfoldable pub requests_in : JobData → State → List Request
+requests_in job state = map (request_in job state) (range_with_len 0 job.procs)

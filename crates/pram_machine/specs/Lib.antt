@@ -1,0 +1,3 @@
+pub mod Machine
+pub mod Instructions
+pub mod Turns

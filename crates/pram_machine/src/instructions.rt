@@ -1,0 +1,360 @@
+//! The table of the seventeen instructions: what each reads, and what it asks for.
+ghost use Rattle.std.specs.Prelude.{◌≡◌, ℕ, ◌+◌, ◌^◌, ◌<◌, List, [], ◌∷◌, length, slice_index};
+ghost use Rattle.std.specs.Prelude.{◌++◌, All, IfSome, Option, Some};
+ghost use Rattle.pram_job.specs.Instructions.{IsOperand, IsPlace};
+ghost use Rattle.pram_job.specs.Job.{IsInstr};
+ghost use Rattle.pram_machine.specs.Machine.{out_of_range, register_place};
+ghost use Rattle.pram_machine.specs.Instructions.{registers_in, value_of, held_after, index_of};
+ghost use Rattle.pram_machine.specs.Instructions.{reached, sources_of, listed, cell_read};
+ghost use Rattle.pram_machine.specs.Instructions.{goes_to, decided, HasShape};
+ghost use Rattle.pram_machine.specs.Turns.{IsTurnOf};
+ghost use Rattle.pram_machine.specs.declared.turn.Put.TheVariants.{Nothing, Register, Cell};
+
+use crate::requests::Request;
+use crate::turn::{Put, Turn};
+use pram_job::{Instr, Job, Operand, Operands, Place};
+
+/// The registers that an instruction reads, in the order in which it is written.
+#[derive(Clone, Copy, Debug, PartialEq, Eq)]
+pub enum Sources {
+    None,
+    One(u8),
+    Two(u8, u8),
+}
+
+/// The registers that an instruction reads.
+#[inline(always)]
+pub fn sources_of(instr: Instr) -> Sources
+    ensures listed { listed result ≡ sources_of instr }
+    ensures registers { (cells len : ℕ) → IsInstr cells len instr
+        → All (λ r. r < 4) (listed result) }
+{
+    match instr.row().1 {
+        Operands::Bare | Operands::Target(_) | Operands::TargetNumber(_, _) => Sources::None,
+        Operands::Index(_) => Sources::None,
+        Operands::TargetPlace(_, place) => of_one(index_of(place)),
+        Operands::RegisterIndex(r, _) => Sources::One(r),
+        Operands::TargetTwo(_, a, b) => of_two(a, b),
+        Operands::PlaceValue(place, b) => match index_of(place) {
+            Operand::Register(a) => of_two(a, b),
+            Operand::Number(_) => of_one(b),
+        },
+    }
+}
+
+// The register of an operand.
+#[inline(always)]
+fn of_one(operand: Operand) -> Sources
+    ensures { listed result ≡ registers_in operand }
+{
+    match operand {
+        Operand::Register(r) => Sources::One(r),
+        Operand::Number(_) => Sources::None,
+    }
+}
+
+// A register, and that of an operand.
+#[inline(always)]
+fn of_two(first: u8, operand: Operand) -> Sources
+    ensures { listed result ≡ first ∷ registers_in operand }
+{
+    match operand {
+        Operand::Register(r) => Sources::Two(first, r),
+        Operand::Number(_) => Sources::One(first),
+    }
+}
+
+// The index of a place.
+#[inline(always)]
+fn index_of(place: Place) -> Operand
+    ensures { result ≡ index_of place }
+{
+    match place {
+        Place::Cell(index) | Place::Named(_, index) => index,
+    }
+}
+
+// The value of an operand, where its register holds this.
+#[inline(always)]
+fn value_of(operand: Operand, held: u32) -> u32
+    ensures { result ≡ value_of operand held }
+{
+    match operand {
+        Operand::Register(_) => held,
+        Operand::Number(number) => number,
+    }
+}
+
+// The cell of a place with this index, if there is one.
+#[inline(always)]
+fn reached(job: &Job, place: Place, index: u32) -> Option<u32>
+    requires { IsPlace job.now.cells place }
+    ensures value { result ≡ reached job.now place index }
+    ensures within { IfSome result (λ cell. cell < job.now.cells) }
+{
+    job.limits_hold();
+    match place {
+        Place::Cell(_) if index < job.cells() => Some(index),
+        Place::Named(array, _) if index < array.len => Some(array.base + index),
+        _ => None,
+    }
+}
+
+/// The cell that an instruction reads, this being what the first register that it reads holds.
+#[inline(always)]
+pub fn cell_read(job: &Job, instr: Instr, first: u32) -> Option<u32>
+    requires { IsInstr job.now.cells (length job.now.code) instr }
+    ensures value { result ≡ cell_read job.now instr first }
+    ensures within { IfSome result (λ cell. cell < job.now.cells) }
+{
+    match instr {
+        Instr::Ld(_, place) => reached(job, place, value_of(index_of(place), first)),
+        _ => None,
+    }
+}
+
+/// Where the operands of an instruction, and the cell that it reads, are looked up.
+pub(crate) trait Held {
+    /// What operand k holds, the operands being these registers.
+    ghost operand: { Self → List ℕ → ℕ → ℕ };
+
+    /// What is read from this cell, or from none.
+    ghost cell: { Self → Option ℕ → ℕ };
+
+    /// How many cells there are.
+    ghost cells: { Self → ℕ };
+
+    /// What the first operand holds.
+    fn first(&self, register: u8) -> u32
+        requires { register < 4 }
+        ensures { (rest : List ℕ) → result ≡ operand self.now (register ∷ rest) 0 };
+
+    /// What the second operand holds.
+    fn second(&self, register: u8) -> u32
+        requires { register < 4 }
+        ensures { (r : ℕ) (rest : List ℕ) → result ≡ operand self.now (r ∷ register ∷ rest) 1 };
+
+    /// What the cell holds.
+    fn cell(&self, address: u32) -> u32
+        requires { address < cells self.now }
+        ensures { result ≡ cell self.now (Some address) };
+}
+
+/// What a processor asks for by the instruction at its counter. Only what the instruction reads is
+/// looked up. The instruction is no copy, and each of its forms has an arm of its own: so only the
+/// operands that it has are loaded.
+#[inline(always)]
+#[tactic(auto, unfolding(crate::specs::Instructions::decided))]
+pub(crate) fn decide<H: Held>(
+    job: &Job,
+    processor: u32,
+    counter: u32,
+    instr: &Instr,
+    held: &H,
+) -> Turn
+    requires processor { processor < job.now.procs }
+    requires counter { counter < length job.now.code }
+    requires instr { IsInstr job.now.cells (length job.now.code) instr.now }
+    requires cells { H.cells held.now ≡ job.now.cells }
+    ensures { IsTurnOf job.now (decided job.now processor counter instr.now
+        (H.operand held.now (sources_of instr.now) 0) (H.operand held.now (sources_of instr.now) 1)
+        (H.cell held.now
+        (cell_read job.now instr.now (H.operand held.now (sources_of instr.now) 0)))) result }
+{
+    job.limits_hold();
+    let gives = |r, value| gives(job, processor, counter, r, value);
+    match *instr {
+        Instr::Set(r, k) => gives(r, k),
+        Instr::Pid(r) => gives(r, processor),
+        Instr::Add(r, a, b) => gives(r, held.first(a).wrapping_add(second(held, b))),
+        Instr::Sub(r, a, b) => gives(r, held.first(a).wrapping_sub(second(held, b))),
+        Instr::Mul(r, a, b) => gives(r, held.first(a).wrapping_mul(second(held, b))),
+        Instr::And(r, a, b) => gives(r, held.first(a) & second(held, b)),
+        Instr::Or(r, a, b) => gives(r, held.first(a) | second(held, b)),
+        Instr::Xor(r, a, b) => gives(r, held.first(a) ^ second(held, b)),
+        Instr::Lt(r, a, b) => gives(r, u32::from(held.first(a) < second(held, b))),
+        Instr::Eq(r, a, b) => gives(r, u32::from(held.first(a) == second(held, b))),
+        Instr::Shl(r, a, b) => gives(r, held.first(a).checked_shl(second(held, b)).unwrap_or(0)),
+        Instr::Shr(r, a, b) => gives(r, held.first(a).checked_shr(second(held, b)).unwrap_or(0)),
+        Instr::Ld(r, Place::Cell(a)) => match reached(job, Place::Cell(a), first(held, a)) {
+            Some(cell) => gives(r, held.cell(cell)),
+            None => leaves(job),
+        },
+        Instr::Ld(r, Place::Named(array, a)) => {
+            match reached(job, Place::Named(array, a), first(held, a)) {
+                Some(cell) => gives(r, held.cell(cell)),
+                None => leaves(job),
+            }
+        }
+        Instr::St(Place::Cell(a), b) => match reached(job, Place::Cell(a), first(held, a)) {
+            Some(cell) => puts(cell, stored(held, a, b), counter),
+            None => leaves(job),
+        },
+        Instr::St(Place::Named(array, a), b) => {
+            match reached(job, Place::Named(array, a), first(held, a)) {
+                Some(cell) => puts(cell, stored(held, a, b), counter),
+                None => leaves(job),
+            }
+        }
+        Instr::Jz(r, index) => jumps(if held.first(r) == 0 {
+            index
+        } else {
+            counter + 1
+        }),
+        Instr::Jmp(index) => jumps(index),
+        Instr::Halt => jumps(job.code().len() as u32),
+    }
+}
+
+// The turn of a processor that names no cell.
+#[inline(always)]
+fn leaves(job: &Job) -> Turn
+    ensures { result ≡ record { put = Nothing; next = out_of_range job.now } }
+{
+    jumps(job.code().len() as u32 + 1)
+}
+
+// The value of an operand before which no register is read.
+#[inline(always)]
+fn first<H: Held>(held: &H, operand: Operand) -> u32
+    requires { IsOperand operand }
+    ensures alone { result ≡ value_of operand (H.operand held.now (registers_in operand) 0) }
+    ensures before { (rest : List ℕ) → result
+        ≡ value_of operand (H.operand held.now (registers_in operand ++ rest) 0) }
+{
+    match operand {
+        Operand::Register(r) => held.first(r),
+        Operand::Number(number) => number,
+    }
+}
+
+// The value of an operand before which one register is read.
+#[inline(always)]
+fn second<H: Held>(held: &H, operand: Operand) -> u32
+    requires { IsOperand operand }
+    ensures { (r : ℕ) → result
+        ≡ value_of operand (H.operand held.now (r ∷ registers_in operand) 1) }
+{
+    match operand {
+        Operand::Register(r) => held.second(r),
+        Operand::Number(number) => number,
+    }
+}
+
+// The value that is stored, after the index of a place was read.
+#[inline(always)]
+fn stored<H: Held>(held: &H, index: Operand, operand: Operand) -> u32
+    requires { IsOperand operand }
+    ensures { result ≡ value_of operand (held_after index
+        (H.operand held.now (registers_in index ++ registers_in operand) 0)
+        (H.operand held.now (registers_in index ++ registers_in operand) 1)) }
+{
+    match index {
+        Operand::Register(_) => second(held, operand),
+        Operand::Number(_) => first(held, operand),
+    }
+}
+
+/// What the registers and the cell that an instruction reads hold. For those that it has not any
+/// number will do.
+#[derive(Clone, Copy, Debug, PartialEq, Eq)]
+pub struct Found {
+    /// The first register.
+    pub a: u32,
+    /// The second register.
+    pub b: u32,
+    /// The cell.
+    pub value: u32,
+}
+
+/// What a processor asks for by the instruction at its counter, these having been found.
+#[inline(always)]
+#[tactic(auto, using(crate::proofs::Shapes::decided_shape))]
+pub fn decided(job: &Job, processor: u32, counter: u32, instr: Instr, found: Found) -> Request
+    requires processor { processor < job.now.procs }
+    requires counter { counter < length job.now.code }
+    requires instr { IsInstr job.now.cells (length job.now.code) instr }
+    ensures request { result ≡ decided job.now processor counter instr found.a found.b found.value }
+    ensures shape { HasShape job.now processor result }
+{
+    let cells = job.cells();
+    decide(job, processor, counter, &instr, &Heard { found, cells }).request()
+}
+
+/// What was found before, in a job with so many cells.
+#[derive(Clone, Copy)]
+struct Heard {
+    found: Found,
+    cells: u32,
+}
+
+impl Held for Heard {
+    ghost operand = { λ h _ k. slice_index (h.found.a ∷ h.found.b ∷ []) k };
+
+    ghost cell = { λ h _. h.found.value };
+
+    ghost cells = { λ h. h.cells };
+
+    #[inline(always)]
+    fn first(&self, _register: u8) -> u32 {
+        self.found.a
+    }
+
+    #[inline(always)]
+    fn second(&self, _register: u8) -> u32 {
+        self.found.b
+    }
+
+    #[inline(always)]
+    fn cell(&self, _address: u32) -> u32 {
+        self.found.value
+    }
+}
+
+// A register takes a value.
+#[inline(always)]
+fn gives(job: &Job, processor: u32, counter: u32, register: u8, value: u32) -> Turn
+    requires processor { processor < job.now.procs }
+    requires counter { counter < length job.now.code }
+    requires register { register < 4 }
+    ensures { result ≡ record {
+      put = Register (register_place job.now processor register) value;
+      next = counter + 1;
+    } }
+{
+    Turn {
+        put: Put::Register(job.register_place(processor, register), value),
+        next: counter + 1,
+    }
+}
+
+// A cell takes a value, and the counter goes on.
+#[inline(always)]
+fn puts(cell: u32, value: u32, counter: u32) -> Turn
+    requires { counter + 1 < 2 ^ 32 }
+    ensures { result ≡ record { put = Cell cell value; next = counter + 1 } }
+{
+    Turn {
+        put: Put::Cell(cell, value),
+        next: counter + 1,
+    }
+}
+
+// No data, and this next counter.
+#[inline(always)]
+pub(crate) fn jumps(next: u32) -> Turn
+    ensures { result ≡ record { put = Nothing; next = next } }
+{
+    Turn {
+        put: Put::Nothing,
+        next,
+    }
+}
+
+/// The request of no data, and of this next counter.
+#[inline(always)]
+pub fn goes_to(next: u32) -> Request
+    ensures { result ≡ goes_to next }
+{
+    Request { put: None, next }
+}

@@ -1,0 +1,3 @@
+pub mod WordsOf
+pub mod WordsNumbers
+pub mod Splitting

@@ -1,0 +1,4 @@
+pub mod Lines
+pub mod LinesAfter
+pub mod TextLines
+pub mod Words
