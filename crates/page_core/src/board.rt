@@ -11,14 +11,14 @@ use std::alloc::{AllocError, Global};
 /// What happens. Kind 0 is an atomic step of the body of this number, 1 its loss, 2 its return; 3
 /// is one body more, a twin of the worker of this number.
 #[repr(C)]
-#[derive(Clone, Copy, Debug, PartialEq, Eq)]
+#[derive(Clone, Copy)]
 pub struct Event {
     pub kind: u32,
     pub body: u32,
 }
 
 /// Why there is no board after the events.
-#[derive(Clone, Copy, Debug, PartialEq, Eq)]
+#[derive(Clone, Copy)]
 pub enum Hindrance {
     /// The text gives no job, or the call is out of memory.
     Refused(Refusal),

@@ -15,7 +15,7 @@ use walkx::{Activity, Ended};
 /// is its step. `node` is 0 where it is lost or comes back. It has made so many atomic steps of
 /// its script.
 #[repr(C)]
-#[derive(Clone, Copy, Debug, PartialEq, Eq)]
+#[derive(Clone, Copy)]
 pub struct BodyRow {
     pub phase: u64,
     pub worker: u32,

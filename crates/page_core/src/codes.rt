@@ -4,7 +4,7 @@ ghost use Rattle.page_core.specs.Texts.{coded};
 
 /// How a call ended: what is told begins with its code, and with the kind and the line of a fault.
 #[repr(C)]
-#[derive(Clone, Copy, Debug, PartialEq, Eq)]
+#[derive(Clone, Copy)]
 pub struct Status {
     pub code: u32,
     pub fault: u32,

@@ -14,7 +14,7 @@ use std::alloc::Global;
 /// The first step in which two processors meet at a cell, the cell, and the two. The step is 0
 /// where none do.
 #[repr(C)]
-#[derive(Clone, Copy, Debug, PartialEq, Eq)]
+#[derive(Clone, Copy)]
 pub struct MeetingRow {
     pub step: u32,
     pub cell: u32,
@@ -26,7 +26,7 @@ pub struct MeetingRow {
 /// 0 for EREW, 1 for CREW, 2 for CRCW common and 3 for CRCW priority. The meetings rule out EREW,
 /// CREW, and CRCW common.
 #[repr(C)]
-#[derive(Clone, Copy, Debug, PartialEq, Eq)]
+#[derive(Clone, Copy)]
 pub struct CostTold {
     pub status: Status,
     pub executed: u64,

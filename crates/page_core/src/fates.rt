@@ -14,7 +14,7 @@ use std::alloc::Global;
 /// where `count` still run: the least of them is `first`, before the instruction in line `line`. It
 /// is 2 where all had stopped after step `step`.
 #[repr(C)]
-#[derive(Clone, Copy, Debug, PartialEq, Eq)]
+#[derive(Clone, Copy)]
 pub struct EndRow {
     pub line: u64,
     pub kind: u32,
@@ -26,7 +26,7 @@ pub struct EndRow {
 /// The first processor that named a cell that there is not, in step `step` by the instruction in
 /// line `line`. The step is 0 where none did.
 #[repr(C)]
-#[derive(Clone, Copy, Debug, PartialEq, Eq)]
+#[derive(Clone, Copy)]
 pub struct LostRow {
     pub line: u64,
     pub step: u32,
@@ -35,7 +35,7 @@ pub struct LostRow {
 
 /// What became of the processors of a text's job.
 #[repr(C)]
-#[derive(Clone, Copy, Debug, PartialEq, Eq)]
+#[derive(Clone, Copy)]
 pub struct FatesTold {
     pub status: Status,
     pub end: EndRow,

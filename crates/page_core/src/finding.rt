@@ -11,7 +11,7 @@ use pram_step::Fault;
 /// What is told of a job: `count` is how many elements of the buffer were written, how many it
 /// needs (no room), or the number of the event (an unknown one).
 #[repr(C)]
-#[derive(Clone, Copy, Debug, PartialEq, Eq)]
+#[derive(Clone, Copy)]
 pub struct Told {
     pub status: Status,
     pub step: u32,
@@ -22,7 +22,7 @@ pub struct Told {
 }
 
 /// What was found.
-#[derive(Clone, Copy, Debug, PartialEq, Eq)]
+#[derive(Clone, Copy)]
 pub enum Finding {
     /// It is told, at this step, in so many elements of the buffer.
     Done { step: u32, count: u64 },

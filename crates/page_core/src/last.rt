@@ -14,7 +14,7 @@ use std::alloc::Global;
 /// The last step in which a processor ran, and the index of the instruction that it executed then.
 /// The step is 0 where it never ran.
 #[repr(C)]
-#[derive(Clone, Copy, Debug, PartialEq, Eq)]
+#[derive(Clone, Copy)]
 pub struct LastRow {
     pub step: u32,
     pub index: u32,

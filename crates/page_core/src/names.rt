@@ -17,7 +17,7 @@ use std::alloc::{AllocError, Global};
 /// bytes. Their kind is that of the codes: a shared scalar, a shared array, and then rows with a
 /// cell for each processor, of a private variable, of the variable of a loop, or of a mask.
 #[repr(C)]
-#[derive(Clone, Copy, Debug, PartialEq, Eq)]
+#[derive(Clone, Copy)]
 pub struct CellsRow {
     pub base: u64,
     pub len: u64,

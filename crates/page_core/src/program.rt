@@ -26,7 +26,7 @@ use std::alloc::{AllocError, Global};
 /// many there are. A fault is 1 to 15 in the order of `PardoKind`, and 16 to 18 in that of
 /// `JobKind`.
 #[repr(C)]
-#[derive(Clone, Copy, Debug, PartialEq, Eq)]
+#[derive(Clone, Copy)]
 pub struct ProgramTold {
     pub status: Status,
     pub bytes: u64,
@@ -35,14 +35,14 @@ pub struct ProgramTold {
 
 /// A line of code: its number in the text, and how many `if`s are open before it.
 #[repr(C)]
-#[derive(Clone, Copy, Debug, PartialEq, Eq)]
+#[derive(Clone, Copy)]
 pub struct LineRow {
     pub number: u64,
     pub depth: u64,
 }
 
 /// Why nothing is told of a text.
-#[derive(Clone, Copy, Debug, PartialEq, Eq)]
+#[derive(Clone, Copy)]
 pub enum NoProgram {
     /// Its first word is not `pardo`.
     OtherLanguage,

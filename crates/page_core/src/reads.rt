@@ -9,7 +9,7 @@ use walkx::{ReadOp, Reader, Reading};
 
 /// What a reader of a cell answers: it held this value after this step.
 #[repr(C)]
-#[derive(Clone, Copy, Debug, PartialEq, Eq)]
+#[derive(Clone, Copy)]
 pub struct ReadRow {
     pub step: u32,
     pub value: u32,

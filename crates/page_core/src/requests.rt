@@ -21,7 +21,7 @@ use std::alloc::Global;
 /// and `held` what that cell holds. It writes `value` to nothing (`target` 0), to the cell `number`
 /// (1) or to its own register `number` (2), and goes on to `next`.
 #[repr(C)]
-#[derive(Clone, Copy, Debug, PartialEq, Eq)]
+#[derive(Clone, Copy)]
 pub struct RequestRow {
     pub counter: u32,
     pub status: u32,
@@ -35,7 +35,7 @@ pub struct RequestRow {
 
 /// What a data write goes to: nothing (0), a cell (1) or a register (2), with its number, and the
 /// value.
-#[derive(Clone, Copy, Debug, PartialEq, Eq)]
+#[derive(Clone, Copy)]
 pub struct Target {
     pub kind: u32,
     pub number: u32,

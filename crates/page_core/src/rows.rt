@@ -15,7 +15,7 @@ use walkx::Op;
 /// word before it and after it, what that word is (as in `WordRow`; form 7 where no step was made),
 /// whether it was the older word of its place, and what the event's body is doing after it.
 #[repr(C)]
-#[derive(Clone, Copy, Debug, PartialEq, Eq)]
+#[derive(Clone, Copy)]
 pub struct EventRow {
     pub before: u64,
     pub after: u64,
@@ -53,14 +53,14 @@ pub(crate) fn event_row(world: &World, event: Event, bodies: u32, effect: Effect
 }
 
 /// The kind of an atomic step, and its word.
-#[derive(Clone, Copy, Debug, PartialEq, Eq)]
+#[derive(Clone, Copy)]
 pub struct StepWord {
     pub kind: u32,
     pub word: u32,
 }
 
 /// What the word of a step is, and whether it was the older word of its place.
-#[derive(Clone, Copy, Debug, PartialEq, Eq)]
+#[derive(Clone, Copy)]
 pub struct StepMeaning {
     pub form: u32,
     pub which: u32,

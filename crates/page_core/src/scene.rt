@@ -21,7 +21,7 @@ use walkx::seen_step;
 /// and bodies there are), the leaves of the tree, the last finished phase `root`, the finished
 /// steps of the machine, and the step of the conflict or 0. `at` is the number of an unknown event.
 #[repr(C)]
-#[derive(Clone, Copy, Debug, PartialEq, Eq)]
+#[derive(Clone, Copy)]
 pub struct Scene {
     pub status: Status,
     pub root: u64,

@@ -15,7 +15,7 @@ use std::alloc::Global;
 /// How many processors run in a step, how many of them read a cell, and how many write one. `at` is
 /// the index of the instruction of the first that runs; where none does, the number of all.
 #[repr(C)]
-#[derive(Clone, Copy, Debug, PartialEq, Eq)]
+#[derive(Clone, Copy)]
 pub struct StepRow {
     pub running: u32,
     pub reading: u32,

@@ -12,7 +12,7 @@ use std::alloc::Global;
 /// The sizes of the job that a text spells, or its fault. The rule is 0 for common, 1 for priority
 /// and 2 for crew; a fault is 1 to 11 in the order of `TextKind`.
 #[repr(C)]
-#[derive(Clone, Copy, Debug, PartialEq, Eq)]
+#[derive(Clone, Copy)]
 pub struct Judgement {
     pub status: Status,
     pub rule: u32,
@@ -24,7 +24,7 @@ pub struct Judgement {
 }
 
 /// Why a text gives no job.
-#[derive(Clone, Copy, Debug, PartialEq, Eq)]
+#[derive(Clone, Copy)]
 pub enum Refusal {
     /// It bears this fault.
     NoJob(TextFault),

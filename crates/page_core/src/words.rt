@@ -15,7 +15,7 @@ use pram_world::World;
 /// next counter) or 0 and 1 for the first and the second word of a place. `newer` is 1 for the
 /// newer of the two.
 #[repr(C)]
-#[derive(Clone, Copy, Debug, PartialEq, Eq)]
+#[derive(Clone, Copy)]
 pub struct WordRow {
     pub value: u64,
     pub form: u32,
@@ -27,7 +27,7 @@ pub struct WordRow {
 }
 
 /// What a word is, in numbers.
-#[derive(Clone, Copy, Debug, PartialEq, Eq)]
+#[derive(Clone, Copy)]
 pub struct Meaning {
     pub form: u32,
     pub which: u32,

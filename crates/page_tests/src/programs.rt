@@ -20,7 +20,7 @@ fn sizes(told: ProgramTold) -> (u32, u64, u64) {
 }
 
 // Why nothing is told: the code, the fault and its line.
-fn why<T>(found: Result<T, NoProgram>) -> (u32, u32, u64) {
+fn why<T: Drop>(found: Result<T, NoProgram>) -> (u32, u32, u64) {
     match found {
         Ok(_) => (DONE, 0, 0),
         Err(why) => numbers(tell_none(why).status),
@@ -72,7 +72,7 @@ fn names_of_cells_are_told(rt: HostRuntime) {
     let Ok(named) = take_names(rt.alloc(), PROGRAM) else {
         panic!(rt; "the program is refused");
     };
-    assert!(rt; named.names.as_slice() == b"sAown");
+    assert!(rt; named.names.as_slice() == &b"sAown"[..]);
     assert!(rt; named.rows.len() == 5);
     let wanted = [
         (0, 1, 1, SCALAR),
