@@ -52,9 +52,9 @@ pub extern "C" fn pram_page_scene(
             *read = tell(no_board(hindrance));
         }
         Ok(world) => {
-            let shown = shown(&query, rows.len());
+            let count = shown(&query, rows.len());
             *read = tell(reads(&world, cells));
-            *told = match tell_board(&world, shown, words, bodies) {
+            *told = match tell_board(&world, count, words, bodies) {
                 Ok(scene) => scene,
                 Err(hindrance) => hindered(hindrance),
             };

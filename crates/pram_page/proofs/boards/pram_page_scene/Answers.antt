@@ -13,7 +13,7 @@ returns-after-tell_board-clause-scene c =
     let rows = c.watched.new.rows in
     let words = c.tell_board.new.words in
     let bodies = c.tell_board.new.bodies in
-    let shown : c.shown.result ≡ count_shown (length events) c.args.from (length rows) =
+    let shown : c.shown-count.result ≡ count_shown (length events) c.args.from (length rows) =
     search rules in
     elim c.match-tell_board.branch [
       | in-Ok-tell_board w ↦
