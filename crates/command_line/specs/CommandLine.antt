@@ -1,32 +1,32 @@
 -- The program's command, and what a line holds of the matches of its words.
-use Rattle.std.specs.Prelude.{◌≡◌, ◌≢◌, ◌<◌, ◌≤◌, ◌⊎◌, ◌-◌, ◌^◌, MatchOption, ℕ, Bool, true, false}
-use Rattle.std.specs.Prelude.{[], List, Option, Some, None, Result, IsErrAnd, IsSomeAnd, codes, pos}
+use Rattle.std.specs.Prelude.{◌≡◌, ◌<◌, ◌≤◌, ◌⊎◌, ◌-◌, ◌^◌, MatchOption, ℕ, Bool, true, false}
+use Rattle.std.specs.Prelude.{List, Option, Some, None, Result, IsErrAnd, IsSomeAnd, codes, pos}
 use Rattle.std.specs.Prelude.{IfSome, option_map}
 use Rattle.std.specs.Str.Parse.{digits_value, without_leading_plus}
-use Rattle.clap.specs.Words.{App, FailsBy, IsAmong, Row, Rule, Text}
+use Rattle.clap.specs.Words.{App, FailsBy, Row, Rule, Text}
 use Rattle.clap.specs.Words.{fault_of, first_of, kind_of, new_app, new_rule}
 use Rattle.clap.specs.Words.{one_of, subcommand_of, takes, with_rule, with_subcommand}
 use Rattle.clap.specs.declared.builder.action.ArgAction.TheVariants.{Set, SetTrue}
 use Rattle.clap.specs.declared.error.Error.{Error}
-use Rattle.clap.specs.declared.error.kind.ErrorKind.TheVariants.{DisplayHelp, DisplayVersion}
 use Rattle.clap.specs.declared.error.kind.ErrorKind.TheVariants.{OutOfMemory, ValueValidation}
 use Rattle.clap.specs.declared.builder.value_parser.ValueParser.TheVariants.{Signed}
-use Rattle.pram_commands.specs.CellLists.{SpellsCells}
-use Rattle.pram_commands.specs.Line.{text_of}
-use Rattle.pram_commands.specs.Progress.{is_told}
-use Rattle.pram_commands.specs.declared.block.Block.{Block}
-use Rattle.pram_commands.specs.declared.threads.Manner.{Manner}
-use Rattle.pram_commands.specs.Threads.{IsGrain, size_of}
-use Rattle.pram_commands.specs.declared.refusal.TheConstants.{DONE, FAILED, MEMORY}
-use Rattle.pram_commands.specs.declared.line.Line.{Line}
+use Rattle.command_data.specs.CellLists.{SpellsCells}
+use Rattle.command_data.specs.Line.{text_of}
+use Rattle.command_data.specs.Manner.{IsGrain, is_told, size_of}
+use Rattle.command_data.specs.declared.block.Block.{Block}
+use Rattle.command_data.specs.declared.manner.Manner.{Manner}
+use Rattle.command_data.specs.declared.line.Line.{Line}
 use Rattle.command_line.specs.declared.line.Asked.{Asked}
-use Rattle.pram_commands.specs.declared.line.Line.TheVariants.{Check, Compile, Plain, Cost}
-use Rattle.pram_commands.specs.declared.line.Line.TheVariants.{Steps, Run, Watch, Replay}
+use Rattle.command_data.specs.declared.line.Line.TheVariants.{Check, Compile, Plain, Cost}
+use Rattle.command_data.specs.declared.line.Line.TheVariants.{Steps, Run, Watch, Replay}
+
+-- an argument that is known by its place
+abbrev pub placed_rule : Text → Rule
+placed_rule name = record (new_rule name) { value_names = 1; action = Some Set }
 
 -- an option with a value
 abbrev pub option_rule : Text → Rule
-option_rule name =
-    record (new_rule name) { long = Some name; value_names = 1; action = Some Set }
+option_rule name = record (placed_rule name) { long = Some name }
 
 -- one whose value is a number from one to another
 abbrev pub number_rule : Text → (least most : ℕ) → Rule
@@ -43,8 +43,7 @@ flag_rule name = record (new_rule name) { long = Some name; action = Some SetTru
 
 -- NAME FILE [--explain]
 abbrev pub on_file : Text → App
-on_file name = with_rule (with_rule (new_app name)
-    (needed (record (new_rule (codes "file")) { value_names = 1; action = Some Set })))
+on_file name = with_rule (with_rule (new_app name) (needed (placed_rule (codes "file"))))
     (flag_rule (codes "explain"))
 
 -- plain FILE [--why]
@@ -247,11 +246,3 @@ abbrev pub FailsByWords : {T : Type 0} → List Text → Result T Error → Type
 FailsByWords words result = FailsBy (fault_of pramx words) result
     ⊎ (HasBadValue (subcommand_of pramx words)
     × IsErrAnd result (λ error. (kind_of error ≡ OutOfMemory) ⊎ (kind_of error ≡ ValueValidation)))
-
--- Where the words are wrong, or ask for help or the version, the status is that of a failure, or
--- help or the version was shown; or memory ran out.
-abbrev pub EndsByWords : List Text → ℕ → Type 0
-EndsByWords words status =
-    fault_of pramx words ≢ [] → (status ≡ MEMORY) ⊎ ((status ≡ FAILED)
-    ⊎ ((status ≡ DONE) × (IsAmong DisplayHelp (fault_of pramx words)
-    ⊎ IsAmong DisplayVersion (fault_of pramx words))))

@@ -1,3 +1,1 @@
-pub mod Answering
 pub mod CommandLine
-pub mod Input

@@ -1,21 +1,23 @@
 //! The command line.
 ghost use Rattle.std.specs.Prelude.{◌≡◌, ◌≢◌, ◌-◌, ◌^◌, Some, codes};
 ghost use Rattle.std.specs.Prelude.{true, false, map, IfOk, IfErr, IfSome};
-ghost use Rattle.clap.specs.Words.{App, app_of, first_of, found_of, kind_of, with_subcommand};
+ghost use Rattle.clap.specs.Words.{App, Rule, app_of, first_of, found_of, kind_of, with_rule};
 ghost use Rattle.clap.specs.Words.{rows_of, rule_of, subcommand_of, subcommand_rows_of};
-ghost use Rattle.pram_commands.specs.Progress.{is_told};
-ghost use Rattle.command_line.specs.CommandLine.{AreRefused, FailsByWords, HasBadBlock, HasBadCells};
-ghost use Rattle.command_line.specs.CommandLine.{HasBadValue, HasBadWindow, IsAsked};
-ghost use Rattle.command_line.specs.CommandLine.{HasManner, IsBlockIfSet, IsMet, IsNumberIfSet};
-ghost use Rattle.command_line.specs.CommandLine.{IsNumberOf, IsNumberOr, bare, flag_rule, pramx};
-ghost use Rattle.command_line.specs.CommandLine.{needed, on_file, on_machine, on_plain, on_replay, on_run};
-ghost use Rattle.command_line.specs.CommandLine.{on_steps, on_watch};
-ghost use Rattle.command_line.specs.CommandLine.{option_rule, with_manner, with_progress, with_workers};
+ghost use Rattle.clap.specs.Words.{with_subcommand};
+ghost use Rattle.command_data.specs.Manner.{is_told};
+ghost use Rattle.command_line.specs.CommandLine.{AreRefused, FailsByWords, HasBadBlock};
+ghost use Rattle.command_line.specs.CommandLine.{HasBadCells, HasBadValue, HasBadWindow};
+ghost use Rattle.command_line.specs.CommandLine.{HasManner, IsAsked, IsBlockIfSet, IsMet};
+ghost use Rattle.command_line.specs.CommandLine.{IsNumberIfSet, IsNumberOf, IsNumberOr, bare};
+ghost use Rattle.command_line.specs.CommandLine.{flag_rule, needed, number_rule, on_file};
+ghost use Rattle.command_line.specs.CommandLine.{on_machine, on_plain, on_replay, on_run, on_steps};
+ghost use Rattle.command_line.specs.CommandLine.{on_watch, option_rule, placed_rule, pramx};
+ghost use Rattle.command_line.specs.CommandLine.{with_manner, with_progress, with_workers};
 
 use clap::builder::ValueParser;
 use clap::error::ErrorKind;
 use clap::{Arg, ArgAction, ArgMatches, Command, Error, value_parser};
-use pram_commands::{Block, CellList, Line, Manner, Telling, Workers};
+use command_data::{Block, CellList, Line, Manner, Telling, Workers};
 use std::alloc::{AllocError, Global};
 
 const EXAMPLES: &str = "\
@@ -100,7 +102,7 @@ pub fn read_line<'a>(
 }
 
 /// A value that the command takes, and that makes no line.
-#[derive(Clone, Copy, Debug, PartialEq, Eq)]
+#[derive(Clone, Copy)]
 enum BadValue<'a> {
     /// This stands for the cells of a watch, and names none.
     Cells(&'a str),
@@ -243,8 +245,8 @@ fn bare_command<'a>(alloc: Global) -> Command<'a>
         .subcommand_required(true)
 }
 
-// The command with this subcommand, if it was made. Nothing else waits for it meanwhile: so few
-// values are there to be given back where memory is out.
+// The command with this subcommand, if it was made; else the command is let go at once, and not
+// part by part, as a `?` would.
 fn with<'a>(
     command: Command<'a>,
     made: Result<Command<'a>, AllocError>,
@@ -252,80 +254,133 @@ fn with<'a>(
     ensures { (sub : App) → sub.top.is_plain ≡ true → IfOk made.entry (λ it. app_of it ≡ sub)
         → IfOk result (λ it. app_of it ≡ with_subcommand (app_of command.entry) sub.top) }
 {
-    command.subcommand(made?)
+    match made {
+        Ok(subcommand) => command.subcommand(subcommand),
+        Err(error) => {
+            drop(command);
+            Err(error)
+        }
+    }
+}
+
+// The command with this argument, if it was made.
+fn with_arg<'a>(
+    made: Result<Command<'a>, AllocError>,
+    arg: Arg<'a>,
+) -> Result<Command<'a>, AllocError>
+    ensures { (app : App) → (rule : Rule) → IfOk made.entry (λ it. app_of it ≡ app)
+        → rule_of arg.entry ≡ rule → arg.entry.global ≡ false
+        → IfOk result (λ it. app_of it ≡ with_rule app rule) }
+{
+    made?.arg(arg)
 }
 
 fn plain_command<'a>(alloc: Global) -> Result<Command<'a>, AllocError>
     ensures { IfOk result (λ command. app_of command ≡ on_plain) }
 {
-    let why = flag(alloc, "why", WHY);
-    file_command(alloc, "plain", "Run a job on the plain machine")?.arg(why)
+    let command = file_command(alloc, "plain", "Run a job on the plain machine");
+    with_arg(command, flag(alloc, "why", WHY))
 }
 
 fn steps_command<'a>(alloc: Global) -> Result<Command<'a>, AllocError>
     ensures { IfOk result (λ command. app_of command ≡ on_steps) }
 {
-    let from = option(alloc, "from", "A", FROM);
-    let to = option(alloc, "to", "B", TO);
-    file_command(
+    let command = file_command(
         alloc,
         "steps",
         "Run a job on the plain machine, and print what each processor asks for in each step",
-    )?
-    .arg(numbered(from, value_parser!(u32).range(1..=MOST_STEPS)))?
-    .arg(numbered(to, value_parser!(u32).range(1..=MOST_STEPS)))?
-    .arg(flag(alloc, "csv", CSV))
+    );
+    let command = with_arg(command, step(alloc, "from", "A", FROM));
+    let command = with_arg(command, step(alloc, "to", "B", TO));
+    with_arg(command, flag(alloc, "csv", CSV))
+}
+
+// An option whose value is a step of a job.
+fn step<'a>(alloc: Global, name: &'a str, value: &'a str, help: &'a str) -> Arg<'a>
+    ensures rule { rule_of result ≡ number_rule name.entry.now 1 4294967295 }
+    ensures local { result.global ≡ false }
+{
+    let option = option(alloc, name, value, help);
+    numbered(option, value_parser!(u32).range(1..=MOST_STEPS))
 }
 
 fn replay_command<'a>(alloc: Global) -> Result<Command<'a>, AllocError>
     ensures { IfOk result (λ command. app_of command ≡ on_replay) }
 {
-    workers_command(
+    let command = workers_command(
         alloc,
         "replay",
         "Run a job on one thread, and print each step",
-    )?
-    .arg(flag(alloc, "csv", CSV))
+    );
+    with_arg(command, flag(alloc, "csv", CSV))
 }
 
 fn run_command<'a>(alloc: Global) -> Result<Command<'a>, AllocError>
     ensures { IfOk result (λ command. app_of command ≡ on_run) }
 {
-    let command = workers_command(alloc, "run", "Run a job on threads")?;
-    with_manner(alloc, command)?.arg(flag(alloc, "why", WHY))
+    let command = workers_command(alloc, "run", "Run a job on threads");
+    let command = with_manner(alloc, command);
+    with_arg(command, flag(alloc, "why", WHY))
 }
 
 fn watch_command<'a>(alloc: Global) -> Result<Command<'a>, AllocError>
     ensures { IfOk result (λ command. app_of command ≡ on_watch) }
 {
-    let cells = option(alloc, "cells", "C,C,..", CELLS);
-    let rounds = option(alloc, "rounds", "R", ROUNDS);
     let command = workers_command(
         alloc,
         "watch",
         "Run a job on threads, and read cells while they run",
-    )?
-    .arg(needed(cells))?
-    .arg(needed(numbered(rounds, value_parser!(u32).range(1..=MOST_ROUNDS))))?;
+    );
+    let cells = option(alloc, "cells", "C,C,..", CELLS);
+    let command = with_arg(command, needed(cells));
+    let command = with_arg(command, needed(rounds(alloc)));
     with_manner(alloc, command)
 }
 
-// The command with what a run and a watch take last.
-fn with_manner<'a>(alloc: Global, command: Command<'a>) -> Result<Command<'a>, AllocError>
-    ensures { IfOk result (λ made. app_of made ≡ with_manner (app_of command.entry)) }
+fn rounds<'a>(alloc: Global) -> Arg<'a>
+    ensures rule { rule_of result ≡ number_rule (codes "rounds") 1 1000000 }
+    ensures local { result.global ≡ false }
 {
-    let block = option(alloc, "block", "G", BLOCK);
-    with_progress(alloc, command)?.arg(numbered(block, value_parser!(u32).range(1..=64)))
+    let option = option(alloc, "rounds", "R", ROUNDS);
+    numbered(option, value_parser!(u32).range(1..=MOST_ROUNDS))
 }
 
-fn with_progress<'a>(alloc: Global, command: Command<'a>) -> Result<Command<'a>, AllocError>
-    ensures { IfOk result (λ made. app_of made ≡ with_progress (app_of command.entry)) }
+// The command, if it was made, with what a run and a watch take last.
+fn with_manner<'a>(
+    alloc: Global,
+    made: Result<Command<'a>, AllocError>,
+) -> Result<Command<'a>, AllocError>
+    ensures { (app : App) → IfOk made.entry (λ it. app_of it ≡ app)
+        → IfOk result (λ it. app_of it ≡ with_manner app) }
 {
-    let progress = flag(alloc, "progress", PROGRESS);
-    let pace = option(alloc, "pace", "MICROSECONDS", PACE);
-    command
-        .arg(progress)?
-        .arg(numbered(pace, value_parser!(u32).range(0..=MOST_PACE)))
+    with_arg(with_progress(alloc, made), block(alloc))
+}
+
+fn block<'a>(alloc: Global) -> Arg<'a>
+    ensures rule { rule_of result ≡ number_rule (codes "block") 1 64 }
+    ensures local { result.global ≡ false }
+{
+    let option = option(alloc, "block", "G", BLOCK);
+    numbered(option, value_parser!(u32).range(1..=64))
+}
+
+fn with_progress<'a>(
+    alloc: Global,
+    made: Result<Command<'a>, AllocError>,
+) -> Result<Command<'a>, AllocError>
+    ensures { (app : App) → IfOk made.entry (λ it. app_of it ≡ app)
+        → IfOk result (λ it. app_of it ≡ with_progress app) }
+{
+    let command = with_arg(made, flag(alloc, "progress", PROGRESS));
+    with_arg(command, pace(alloc))
+}
+
+fn pace<'a>(alloc: Global) -> Arg<'a>
+    ensures rule { rule_of result ≡ number_rule (codes "pace") 0 1000000 }
+    ensures local { result.global ≡ false }
+{
+    let option = option(alloc, "pace", "MICROSECONDS", PACE);
+    numbered(option, value_parser!(u32).range(0..=MOST_PACE))
 }
 
 fn workers_command<'a>(
@@ -335,24 +390,37 @@ fn workers_command<'a>(
 ) -> Result<Command<'a>, AllocError>
     ensures { IfOk result (λ command. app_of command ≡ with_workers name.entry.now) }
 {
-    let workers = option(alloc, "workers", "W", WORKERS);
-    let plan = option(alloc, "plan", "P", PLAN);
-    file_command(alloc, name, about)?
-        .arg(needed(numbered(workers, value_parser!(u32).range(1..=64))))?
-        .arg(plan)
+    let command = file_command(alloc, name, about);
+    let command = with_arg(command, needed(workers(alloc)));
+    with_arg(command, option(alloc, "plan", "P", PLAN))
+}
+
+fn workers<'a>(alloc: Global) -> Arg<'a>
+    ensures rule { rule_of result ≡ number_rule (codes "workers") 1 64 }
+    ensures local { result.global ≡ false }
+{
+    let option = option(alloc, "workers", "W", WORKERS);
+    numbered(option, value_parser!(u32).range(1..=64))
 }
 
 fn file_command<'a>(alloc: Global, name: &'a str, about: &'a str) -> Result<Command<'a>, AllocError>
     ensures { IfOk result (λ command. app_of command ≡ on_file name.entry.now) }
 {
-    let file = Arg::new(alloc, "file")
-        .value_name("FILE")
-        .help(FILE)
-        .action(ArgAction::Set);
-    Command::new(alloc, name)
-        .about(about)
-        .arg(needed(file))?
-        .arg(flag(alloc, "explain", EXPLAIN))
+    let command = Command::new(alloc, name).about(about);
+    let file = placed(alloc, "file", "FILE", FILE);
+    let command = with_arg(Ok(command), needed(file));
+    with_arg(command, flag(alloc, "explain", EXPLAIN))
+}
+
+// An argument that is known by its place.
+fn placed<'a>(alloc: Global, name: &'a str, value: &'a str, help: &'a str) -> Arg<'a>
+    ensures rule { rule_of result ≡ placed_rule name.entry.now }
+    ensures local { result.global ≡ false }
+{
+    Arg::new(alloc, name)
+        .value_name(value)
+        .help(help)
+        .action(ArgAction::Set)
 }
 
 // An option with a value.
@@ -360,11 +428,7 @@ fn option<'a>(alloc: Global, name: &'a str, value: &'a str, help: &'a str) -> Ar
     ensures rule { rule_of result ≡ option_rule name.entry.now }
     ensures local { result.global ≡ false }
 {
-    Arg::new(alloc, name)
-        .long(name)
-        .value_name(value)
-        .help(help)
-        .action(ArgAction::Set)
+    placed(alloc, name, value, help).long(name)
 }
 
 // An option without a value, that stands or does not.

@@ -1,7 +1,7 @@
 //! What the program answers to words, over files that are texts.
 ghost use Rattle.std.specs.Prelude.{⊤};
 
-use command_line::answer_words;
+use command_answers::answer_words;
 use pram_commands::{Console, Folder};
 use pram_streams::{FromRead, IntoWrite};
 use std::alloc::Global;

@@ -1,5 +1,5 @@
 //! Files as sources.
-use command_line::Input;
+use command_answers::Input;
 use pram_streams::{FromRead, Reason, Source, TakeFault, take};
 use std::io::ErrorKind;
 use std::test::Fail;

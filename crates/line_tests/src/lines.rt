@@ -1,7 +1,7 @@
 //! Which words make a line.
 use clap::error::ErrorKind;
+use command_data::{Block, CellList, Line, Manner, Telling, Workers};
 use command_line::read_line;
-use pram_commands::{Block, CellList, Line, Manner, Telling, Workers};
 use std::alloc::{AllocError, Global};
 use std::test::Fail;
 

@@ -3,18 +3,14 @@ use Rattle.std.proofs.Common.{◌≡◌, ◌∙◌, ◌⊎◌, ℕ, zero, suc, �
 use Rattle.std.proofs.Common.{Option, None, Some, MatchOption, sym, subst, ap, inl, inr, refl, arith}
 use Rattle.std.proofs.Common.{length, take, get_or}
 use Rattle.std.proofs.lemmas.List.{get_or-take, get_or_default}
+use Rattle.command_data.specs.CellLists.{SpellsCell, cell_of, part_at}
 use Rattle.pram_job.specs.Job.{JobData}
 use Rattle.pram_commands.specs.CellLists.{AreCellsOf, HasCell, IsCellOf, IsFirstOutside, IsOutside}
-use Rattle.pram_commands.specs.CellLists.{SpellsCell, SpellsPart, cell_of, part_at}
 use Rattle.pram_commands.specs.Names.{NamingData}
 use Rattle.pram_commands.specs.declared.fault.CommandFault.{CommandFault}
 use Rattle.pram_commands.specs.declared.fault.CommandFault.TheVariants.{OutsideCell, OutsidePlace}
 
--- the part of this turn is one of all
-pub turn_spelled : (parts : List (List ℕ)) (n : ℕ) (part : List ℕ) → All SpellsPart parts →
-    (n < length parts) × (part ≡ get_or parts n part) → SpellsPart part
-turn_spelled parts n part all turn = subst (λ p. SpellsPart p) (sym turn.1) (all n part turn.0)
-
+-- the part of this turn
 turn_at : (parts : List (List ℕ)) (n : ℕ) (part : List ℕ) →
     (n < length parts) × (part ≡ get_or parts n part) → part ≡ part_at parts n
 turn_at parts n part turn = turn.1 ∙ get_or_default parts n part [] turn.0

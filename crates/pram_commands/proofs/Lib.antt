@@ -1,4 +1,3 @@
-pub mod Blocks
 pub mod Cells
 pub mod Doing
 pub mod Ends

@@ -23,8 +23,8 @@ use Rattle.pram_commands.specs.declared.fault.CommandFault.TheVariants.{OutsideS
 use Rattle.pram_commands.specs.declared.fault.CommandFault.TheVariants.{JobDevice, PlanDevice}
 use Rattle.pram_commands.specs.declared.fault.CommandFault.TheVariants.{OutDevice, JobTooLarge}
 use Rattle.pram_commands.specs.declared.fault.CommandFault.TheVariants.{PlanTooLarge, Memory}
-use Rattle.pram_commands.specs.declared.line.Line.{Line}
-use Rattle.pram_commands.specs.declared.line.Line.TheVariants as line
+use Rattle.command_data.specs.declared.line.Line.{Line}
+use Rattle.command_data.specs.declared.line.Line.TheVariants as line
 use Rattle.pram_commands.proofs.Doing.{err_same, ok_not_err}
 
 -- what was told with another status than 5 is no lack of memory

@@ -1,46 +1,13 @@
--- Cells named by a text, parted by commas: by their numbers, or as places of a program.
-use Rattle.std.specs.Prelude.{◌≡◌, ◌⊎◌, ◌==◌, ◌<◌, ◌≤◌, ◌^◌, ℕ, Bool, false, List, [], ◌∷◌, length}
-use Rattle.std.specs.Prelude.{Option, None, Some, IsTrue, slice_index_or, ⊤}
-use Rattle.std.specs.List.{All, slice_split}
-use Rattle.std.specs.Str.Parse.{IsNumeral, digits_value, without_leading_plus}
+-- The cells that a text names, parted by commas: by their numbers, or as places of a program.
+use Rattle.std.specs.Prelude.{◌≡◌, ◌⊎◌, ◌<◌, ◌≤◌, ℕ, List, [], ◌∷◌, length}
+use Rattle.std.specs.Prelude.{Option, None, Some, ⊤}
+use Rattle.command_data.specs.CellLists.{SpellsCell, cell_of, part_at}
 use Rattle.pram_job.specs.Job.{JobData}
-use Rattle.pardo_text.specs.Tokens.{begins_name}
 use Rattle.pardo_job.specs.Printed.{cell_text}
 use Rattle.pram_commands.specs.Names.{NamingData}
 use Rattle.pram_commands.specs.declared.fault.CommandFault.{CommandFault}
 use Rattle.pram_commands.specs.declared.fault.CommandFault.TheVariants.{OutsideCell, OutsidePlace}
 use Rattle.pram_commands.specs.declared.fault.CommandFault.TheVariants.{Memory}
-
--- the parts of a text between its commas
-abbrev pub parts_of : List ℕ → List (List ℕ)
-parts_of = slice_split (λ byte. byte == 44)
-
--- the part of this number, counted from 0
-abbrev pub part_at : List (List ℕ) → ℕ → List ℕ
-part_at parts at = slice_index_or parts at []
-
--- ---- which texts are lists
-
-abbrev pub cell_of : List ℕ → ℕ
-cell_of part = digits_value 10 (without_leading_plus part)
-
--- a number below 2^32
-abbrev pub SpellsCell : List ℕ → Type 0
-SpellsCell part = IsNumeral 10 (without_leading_plus part) × (cell_of part < 2 ^ 32)
-
--- whether it begins as a name does
-abbrev pub begins_place : List ℕ → Bool
-begins_place [] = false
-begins_place (byte ∷ bytes) = begins_name byte
-
--- each part is such a number, or begins as a name does
-abbrev pub SpellsPart : List ℕ → Type 0
-SpellsPart part = SpellsCell part ⊎ IsTrue (begins_place part)
-
-abbrev pub SpellsCells : List ℕ → Type 0
-SpellsCells text = All SpellsPart (parts_of text)
-
--- ---- which cells they name
 
 -- the program's answers tell the cell so: `A[3]`, or a scalar by its name
 abbrev pub IsPlaceOf : Option NamingData → ℕ → List ℕ → Type 0

@@ -2,9 +2,9 @@
 use Rattle.std.specs.Prelude.{◌≡◌, ℕ, List, [], Option, Some, MatchOption}
 use Rattle.pram_commands.specs.Did.{Writing}
 use Rattle.pram_commands.specs.Inputs.{Reading}
-use Rattle.pram_commands.specs.Line.{file_of, plan_of}
+use Rattle.command_data.specs.Line.{file_of, plan_of}
 use Rattle.pram_commands.specs.Served.{Served}
-use Rattle.pram_commands.specs.declared.line.Line.{Line}
+use Rattle.command_data.specs.declared.line.Line.{Line}
 
 -- The line was served, with this status: its job came from the file that it names for it, its plan
 -- from the one that it names for that, or there was none. Holds says which bytes the file of a name

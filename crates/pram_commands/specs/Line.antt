@@ -1,7 +1,5 @@
--- The files that a line names, and its command.
-use Rattle.std.specs.Prelude.{ℕ, List, [], Option, None, ⊤, option_map}
-use Rattle.std.specs.Borrow.{Bor}
-use Rattle.pram_commands.specs.CellLists.{part_at, parts_of}
+-- The command of a line.
+use Rattle.command_data.specs.CellLists.{parts_of}
 use Rattle.pram_commands.specs.Costs.{costing}
 use Rattle.pram_commands.specs.Did.{Command}
 use Rattle.pram_commands.specs.Plain.{checking, plainly}
@@ -9,37 +7,9 @@ use Rattle.pram_commands.specs.Replayed.{replaying}
 use Rattle.pram_commands.specs.Steps.{stepping}
 use Rattle.pram_commands.specs.Texts.{compiling}
 use Rattle.pram_commands.specs.Threads.{running, watching}
-use Rattle.pram_commands.specs.declared.line.Line.{Line}
-use Rattle.pram_commands.specs.declared.line.Line.TheVariants.{Check, Compile, Plain, Cost}
-use Rattle.pram_commands.specs.declared.line.Line.TheVariants.{Steps, Run, Watch, Replay}
-
-abbrev pub text_of : Option (Bor (List ℕ)) → Option (List ℕ)
-text_of = option_map (λ text. text.now)
-
-abbrev pub file_of : Line → List ℕ
-file_of (Check file) = file.now
-file_of (Compile file) = file.now
-file_of (Plain file why) = file.now
-file_of (Cost file) = file.now
-file_of (Steps file from to alone) = file.now
-file_of (Run file plan manner why) = file.now
-file_of (Watch file plan manner cells rounds) = file.now
-file_of (Replay file workers plan alone) = file.now
-
-abbrev pub plan_of : Line → Option (List ℕ)
-plan_of (Check file) = None
-plan_of (Compile file) = None
-plan_of (Plain file why) = None
-plan_of (Cost file) = None
-plan_of (Steps file from to alone) = None
-plan_of (Run file plan manner why) = text_of plan
-plan_of (Watch file plan manner cells rounds) = text_of plan
-plan_of (Replay file workers plan alone) = text_of plan
-
--- the part of this number of the list of cells
-abbrev pub place_of : Line → ℕ → List ℕ
-place_of (Watch file plan manner cells rounds) at = part_at (parts_of cells.text.now) at
-place_of _ at = []
+use Rattle.command_data.specs.declared.line.Line.{Line}
+use Rattle.command_data.specs.declared.line.Line.TheVariants.{Check, Compile, Plain, Cost}
+use Rattle.command_data.specs.declared.line.Line.TheVariants.{Steps, Run, Watch, Replay}
 
 -- what the line comes to: its command says which bytes it prints on a job and a plan, and how it
 -- ends
@@ -53,9 +23,3 @@ command_of (Run file plan manner why) = running why manner.workers.count
 command_of (Watch file plan manner cells rounds) =
     watching manner.workers.count (parts_of cells.text.now) rounds
 command_of (Replay file workers plan alone) = replaying alone workers.count
-
--- The line is done by the thread that calls.
-abbrev pub StartsNoThread : Line → Type 0
-StartsNoThread (Run file plan manner why) = ⊥
-StartsNoThread (Watch file plan manner cells rounds) = ⊥
-StartsNoThread _ = ⊤

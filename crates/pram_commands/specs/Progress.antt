@@ -1,11 +1,9 @@
--- The line that tells how far a board is, and whether it is told.
-use Rattle.std.specs.Prelude.{◌≡◌, ◌++◌, ℕ, Bool, true, false, List, codes, decimal}
+-- The line that tells how far a board is.
+use Rattle.std.specs.Prelude.{◌≡◌, ◌++◌, ℕ, List, codes, decimal}
 use Rattle.pram_board.specs.Seats.{SeatData, Progressed}
 use Rattle.pram_board.specs.declared.look.Progress.{Progress}
 use Rattle.pram_board.specs.declared.task.Task.{Task}
 use Rattle.pram_commands.specs.declared.progress.ProgressLine.{ProgressLine}
-use Rattle.pram_commands.specs.declared.progress.Telling.{Telling}
-use Rattle.pram_commands.specs.declared.progress.Telling.TheVariants.{Silent, Lines, OneLine}
 
 -- its text
 abbrev pub progress_text : ProgressLine → List ℕ
@@ -18,9 +16,3 @@ pub record TellsProgress (task : Task) (before after : SeatData) (line : Progres
   pub looked : Progressed task before after found
   pub step : line.step ≡ found.step
   pub steps : line.steps ≡ task.job.steps
-
--- whether anything is told
-abbrev pub is_told : Telling → Bool
-is_told Silent = false
-is_told Lines = true
-is_told OneLine = true

@@ -6,7 +6,7 @@ use Rattle.pram_commands.specs.Faults.{fault_status}
 use Rattle.pram_commands.specs.Inputs.{Reading}
 use Rattle.pram_commands.specs.Line.{command_of}
 use Rattle.pram_commands.specs.declared.fault.CommandFault.{CommandFault}
-use Rattle.pram_commands.specs.declared.line.Line.{Line}
+use Rattle.command_data.specs.declared.line.Line.{Line}
 use Rattle.pram_commands.specs.declared.refusal.TheConstants.{REFUSED, UNFINISHED, FAILED, MEMORY}
 
 -- There is a fault with this status, of which all is true that a fault says.

@@ -7,7 +7,7 @@ use Rattle.pram_job.specs.Job.{JobData}
 use Rattle.pram_step.specs.Runs.{IsReached, state_after}
 use Rattle.pram_step.specs.declared.answer.RunAnswer.{RunAnswer}
 use Rattle.pram_words.specs.declared.layout.Form.TheVariants.{Wide}
-pub use Rattle.pram_words.specs.Words.{IsGrain, grain_for}
+use Rattle.pram_words.specs.Words.{grain_for}
 use Rattle.stop_plan.specs.Plan.{PlanData}
 use Rattle.pram_board.specs.Seats.{Desk, SeatData, IsOpened}
 use Rattle.pram_run.specs.Heard.{HasRunBeside}
@@ -20,11 +20,8 @@ use Rattle.pram_commands.specs.CellLists.{AreCellsOf}
 use Rattle.pram_commands.specs.Did.{Answering, Command}
 use Rattle.pram_commands.specs.Names.{AreNames, NamingData}
 use Rattle.pram_commands.specs.Why.{Explaining}
-use Rattle.pram_commands.specs.declared.block.Block.{Block}
-
--- how many processors a block has
-abbrev pub size_of : Block → ℕ
-size_of block = 2 ^ block.exponent
+use Rattle.command_data.specs.Manner.{size_of}
+use Rattle.command_data.specs.declared.block.Block.{Block}
 
 -- how many processors a leaf stands for: as the block says, or else as the board chooses
 abbrev pub grain_by : Option Block → (procs : ℕ) → ℕ

@@ -6,17 +6,18 @@ ghost use Rattle.pram_commands.specs.Costs.{conflict_of};
 ghost use Rattle.pram_commands.specs.Did.{Did, ending, ends_with, status_of, tells_status, writing};
 ghost use Rattle.pram_commands.specs.Inner.Puts.{printed_as, status_result};
 ghost use Rattle.pram_commands.specs.Inputs.{AreReady, taking};
-ghost use Rattle.pram_commands.specs.Line.{StartsNoThread, command_of};
+ghost use Rattle.command_data.specs.Line.{StartsNoThread};
+ghost use Rattle.pram_commands.specs.Line.{command_of};
 
 mod alone;
 mod on_threads;
 
 use crate::fault::CommandFault;
-use crate::line::Line;
 use crate::names::{Words, print_told};
 use crate::refusal::{CONFLICT, DONE, UNFINISHED};
 use crate::sources::Sources;
 pub use alone::{check, compile, cost, plain, replay, steps};
+use command_data::Line;
 pub use on_threads::{Reads, Wanted, run, watch};
 use pram_cost::Cost;
 use pram_rows::Window;

@@ -2,8 +2,8 @@
 ghost use Rattle.std.specs.Prelude.{◌≡◌, false};
 
 use crate::fault::CommandFault;
-use crate::line::Line;
 use crate::sentences;
+use command_data::Line;
 use pram_streams::{Reason, Sink, put};
 use std::alloc::Global;
 use std::fmt;

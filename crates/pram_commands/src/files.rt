@@ -3,9 +3,9 @@ ghost use Rattle.std.specs.Prelude.{◌≡◌, ℕ, false, List, Option};
 ghost use Rattle.pram_commands.specs.Did.{writing};
 ghost use Rattle.pram_commands.specs.Files.{ServesFiles};
 
-use crate::line::Line;
 use crate::server::serve;
 use crate::sources::{Console, Sources};
+use command_data::Line;
 use pram_streams::{Empty, Sink, Source};
 use std::alloc::Global;
 use std::rt::Clock;

@@ -10,7 +10,7 @@ ghost use Rattle.pram_commands.specs.declared.fault.CommandFault.TheVariants.{Jo
 use crate::fault::CommandFault;
 use crate::names::{Naming, read_text};
 use crate::sources::{Inputs, Sources};
-use crate::workers::Workers;
+use command_data::Workers;
 use pram_job::Job;
 use pram_streams::{Source, TakeFault, take};
 use std::alloc::Global;

@@ -2,6 +2,7 @@
 ghost use Rattle.std.specs.Prelude.{◌≡◌, ◌++◌, Some, codes};
 ghost use Rattle.pram_commands.specs.Progress.{TellsProgress, progress_text};
 
+use command_data::Telling;
 use pram_board::{Board, Seat};
 use std::rt::Clock;
 use std::sync::atomic::{AtomicBool, Ordering};
@@ -17,17 +18,6 @@ const NAPS: u64 = 25;
 
 /// How many sleeps the end of a run waits for a line to be wiped.
 const WAITS: u64 = 20;
-
-/// How standard error is told how far the workers are.
-#[derive(Clone, Copy, Debug, PartialEq, Eq)]
-pub enum Telling {
-    /// Not at all.
-    Silent,
-    /// By one line after the other.
-    Lines,
-    /// By one line, which is written anew each time, and wiped at the end.
-    OneLine,
-}
 
 /// How far a board is, as standard error tells it.
 #[derive(Clone, Copy, Debug, PartialEq, Eq)]

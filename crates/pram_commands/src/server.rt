@@ -4,15 +4,15 @@ ghost use Rattle.pram_commands.specs.Did.{writing};
 ghost use Rattle.pram_commands.specs.Faults.{fault_status};
 ghost use Rattle.pram_commands.specs.Inner.Refusals.{named_by, named_in, refusal_status};
 ghost use Rattle.pram_commands.specs.Inputs.{AreReady, reading};
-ghost use Rattle.pram_commands.specs.Line.{StartsNoThread};
+ghost use Rattle.command_data.specs.Line.{StartsNoThread};
 ghost use Rattle.pram_commands.specs.Served.{Served};
 
 use crate::commands::{do_alone, do_on_threads};
 use crate::explanation::{Explanation, Reasons, explain};
 use crate::fault::CommandFault;
-use crate::line::Line;
 use crate::refusal::{MEMORY, Refusal, tell_first};
 use crate::sources::{Console, Sources};
+use command_data::Line;
 use pram_streams::{Sink, Source};
 use std::alloc::Global;
 use std::rt::Clock;

@@ -6,10 +6,9 @@ ghost use Rattle.pram_board.specs.Seats.{IsOpened};
 ghost use Rattle.pram_commands.specs.Inner.Watching.{HasHeardAlone, HasWatchedOn, IsWatchedBy};
 ghost use Rattle.pram_commands.specs.Threads.{IsEnd, IsNewBoard, grain_by};
 
-use crate::block::Block;
-use crate::progress::{Teller, Telling, start_teller};
+use crate::progress::{Teller, start_teller};
 use crate::sources::Inputs;
-use crate::workers::Workers;
+use command_data::{Block, Manner};
 use pram_board::{Board, Seat};
 use pram_run::{Assignment, Listener, Observation, Reads, Sight, run_heard, watch_heard};
 use pram_step::RunAnswer;
@@ -20,17 +19,6 @@ use std::thread;
 use std::thread::{Scope, Threads};
 use std::time::Duration;
 use stop_plan::{Gate, Open, Paced};
-
-/// How a job goes on threads: with so many workers; how standard error is told how far they
-/// are; the pause before each tick of a worker, in microseconds, where there is one, since else
-/// they do not wait; and the board's block, where the board is not to choose it.
-#[derive(Clone, Copy, Debug, PartialEq, Eq)]
-pub struct Manner {
-    pub workers: Workers,
-    pub progress: Telling,
-    pub pace: Option<u32>,
-    pub block: Option<Block>,
-}
 
 /// A job and its plan, with what a reader beside the workers reads: so many rounds through cells of
 /// the job.

@@ -5,7 +5,7 @@
 
 ghost use Rattle.std.specs.Prelude.{◌≡◌, ◌≤◌, false};
 
-use command_line::{RealFiles, answer_words};
+use command_answers::{RealFiles, answer_words};
 use pram_commands::{Console, Folder, MEMORY, Refusal, tell};
 use pram_streams::{IntoWrite, Sink};
 use std::alloc::{AllocError, Global};

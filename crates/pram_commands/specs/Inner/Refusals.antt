@@ -6,10 +6,10 @@ use Rattle.pram_text.specs.declared.fault.TextKind.{TextKind}
 use Rattle.stop_plan.specs.declared.plan.PlanKind.{PlanKind}
 use Rattle.pardo_job.specs.declared.fault.Refusal.{Refusal as ProgramRefusal}
 use Rattle.pram_commands.specs.Inputs.{IsBad, IsOfText}
-use Rattle.pram_commands.specs.Line.{file_of, place_of, plan_of}
+use Rattle.command_data.specs.Line.{file_of, place_of, plan_of}
 use Rattle.pram_commands.specs.declared.fault.CommandFault.{CommandFault}
 use Rattle.pram_commands.specs.declared.fault.CommandFault.TheVariants as fault
-use Rattle.pram_commands.specs.declared.line.Line.{Line}
+use Rattle.command_data.specs.declared.line.Line.{Line}
 use Rattle.pram_commands.specs.declared.refusal.Refusal.{Refusal}
 use Rattle.pram_commands.specs.declared.refusal.Refusal.TheVariants as refusal
 use Rattle.pram_commands.specs.declared.refusal.TheConstants.{REFUSED, FAILED, MEMORY}

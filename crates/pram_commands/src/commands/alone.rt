@@ -17,7 +17,7 @@ use crate::inputs::{Spelled, take_inputs, take_job, take_text};
 use crate::names::{Words, lines_of};
 use crate::sources::{Inputs, Sources};
 use crate::why::{Question, put_told};
-use crate::workers::Workers;
+use command_data::Workers;
 use job_text::print_text;
 use pram_cost::{Cost, cost_of, print_cost};
 use pram_job::Job;

@@ -5,17 +5,18 @@ ghost use Rattle.pram_commands.specs.Inner.Puts.{Puts};
 ghost use Rattle.pram_commands.specs.Inputs.{AreReady, taking};
 ghost use Rattle.pram_commands.specs.Names.{AreNames};
 ghost use Rattle.pram_commands.specs.Threads.{TellsSights, running, watching};
-ghost use Rattle.pram_commands.specs.CellLists.{parts_of};
+ghost use Rattle.command_data.specs.CellLists.{parts_of};
 
-use crate::cell_list::CellList;
+use crate::cell_list::cells_in;
 use crate::commands::printed;
 use crate::fault::CommandFault;
 use crate::inputs::take_inputs;
 use crate::names::Words;
 use crate::printing::{Printing, PrintingReads, outcome, take_back};
 use crate::sources::{Inputs, Sources};
-use crate::threads::{Manner, Watched, run_job, watch_job};
+use crate::threads::{Watched, run_job, watch_job};
 use crate::why::Question;
+use command_data::{CellList, Manner};
 use pram_step::RunAnswer;
 use pram_streams::{PrintFault, Sink, Source};
 use std::alloc::Global;
@@ -114,7 +115,7 @@ pub fn watch<R: Threads + Wait + Clock + Eprint + Sync, J: Source, P: Source, O:
         rounds,
     } = reads;
     let inputs = take_inputs(alloc, manner.workers, sources)?;
-    let cells = cells.cells_in(alloc, &inputs)?;
+    let cells = cells_in(alloc, cells.text(), &inputs)?;
     let watched = Watched {
         inputs: &inputs,
         cells: cells.as_slice(),

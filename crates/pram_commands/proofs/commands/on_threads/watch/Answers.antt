@@ -2,7 +2,8 @@ use Rattle.std.proofs.Common.{◌<◌, ℕ, List, All, refl, subst, sym}
 use Rattle.std.specs.Prelude.{⊤}
 use Rattle.pram_commands.proofs.Doing.{err_is, ok_not_err, printed_did, well}
 use Rattle.pram_commands.proofs.Outside.{outside_did, puts_as}
-use Rattle.pram_commands.specs.CellLists.{AreCellsOf, parts_of}
+use Rattle.command_data.specs.CellLists.{parts_of}
+use Rattle.pram_commands.specs.CellLists.{AreCellsOf, IsOutside}
 use Rattle.pram_commands.specs.Did.{Answering, tells, writing}
 use Rattle.pram_commands.specs.Threads.{TellsSights, TellsWatch}
 use Rattle.pram_commands.proofs.commands.on_threads.watch.Goals as goal
@@ -24,7 +25,9 @@ returns-in_err-cells g c =
     }) c.in_ok-inputs.inputs.names took.names refl tt
     (λ f. ok_not_err _ _ (took.job_failed.0 f))
     (λ f. ok_not_err _ _ (took.plan_failed.0 f)) (well _ c.requires.output) took.job_reads
-    took.plan_reads c.in_err-cells.field-0.0 c.in_err-cells.ensures.outside _
+    took.plan_reads c.in_err-cells.field-0.0
+    (subst (λ (text : List ℕ). IsOutside c.in_ok-inputs.inputs.names c.in_ok-inputs.inputs.job
+    (parts_of text) c.in_err-cells.field-0.0) c.text.ensures c.in_err-cells.ensures.outside) _
     (err_is _ _ c.from_residual-in_err-cells.ensures)
 
 pub returns : goal.returns
@@ -36,7 +39,9 @@ returns g c =
     let w = writing g.O.Sink c.args.out.now c.put_watch.new.out in
     let cells = c.as_slice.result.now in
     let are_cells = subst (λ (l : List ℕ). AreCellsOf inputs.names parts l)
-    (sym c.as_slice.ensures.value) c.in_ok-cells.ensures.cells in
+    (sym c.as_slice.ensures.value)
+    (subst (λ (text : List ℕ). AreCellsOf inputs.names (parts_of text) c.in_ok-cells.cells.items)
+    c.text.ensures c.in_ok-cells.ensures.cells) in
     let puts = puts_as
     (Answering (TellsSights inputs.names inputs.job inputs.plan cells rounds) inputs.text.items
     inputs.job)

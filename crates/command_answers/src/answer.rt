@@ -1,0 +1,71 @@
+//! What the program answers to words: a line is served, and all else is told.
+ghost use Rattle.std.specs.Prelude.{◌≡◌, ◌≢◌, ◌⊎◌, ◌≤◌, false, map};
+ghost use Rattle.clap.specs.Words.{kind_of};
+ghost use Rattle.pram_commands.specs.Did.{writing};
+ghost use Rattle.command_answers.specs.Answering.{AnswersWords, EndsByWords};
+
+use clap::error::ErrorKind;
+use command_line::read_line;
+use pram_commands::{Console, DONE, FAILED, Folder, MEMORY, Refusal, serve_files, tell};
+use pram_streams::{Sink, put};
+use std::alloc::Global;
+use std::rt::Clock;
+use std::sync::Wait;
+use std::thread::Threads;
+
+/// Does what the words ask, of which the first is the program's name, over files, standard output
+/// and standard error, and answers the exit status.
+pub fn answer_words<'a, R: Eprint + Threads + Wait + Clock + Sync, F: Folder, O: Sink, E: Sink>(
+    rt: &R,
+    alloc: Global,
+    folder: &F,
+    words: &'a [&'a str],
+    console: &mut Console<O, E>,
+) -> u8
+    requires out { O.has_failed console.old.out ≡ false }
+    requires err { E.has_failed console.old.err ≡ false }
+    ensures status { result ≤ MEMORY }
+    ensures words { EndsByWords (map (λ word. word.now) words.entry.now) result }
+    ensures answers { AnswersWords (F.holds folder.now) (map (λ word. word.now) words.entry.now)
+        (writing O.Sink console.old.out console.new.out) result }
+{
+    match read_line(alloc, words, console.is_terminal) {
+        Ok(asked) => {
+            console.explains |= asked.explain;
+            serve_files(rt, alloc, folder, &asked.line, console)
+        }
+        Err(error) => refusal_status(alloc, &error, console),
+    }
+}
+
+/// Prints what `read_line` answers in place of a line, and answers its status: help and the version
+/// on the output, all else on standard error.
+fn refusal_status<O: Sink, E: Sink>(
+    alloc: Global,
+    error: &clap::Error,
+    console: &mut Console<O, E>,
+) -> u8
+    requires out { O.has_failed console.old.out ≡ false }
+    requires err { E.has_failed console.old.err ≡ false }
+    ensures status { result ≤ MEMORY }
+    ensures memory { kind_of error.now ≡ ErrorKind.OutOfMemory → result ≡ MEMORY }
+    ensures wrong { kind_of error.now ≢ ErrorKind.OutOfMemory
+        → kind_of error.now ≢ ErrorKind.DisplayHelp
+        → kind_of error.now ≢ ErrorKind.DisplayVersion → (result ≡ FAILED) ⊎ (result ≡ MEMORY) }
+    ensures shown { (result ≡ DONE) ⊎ (FAILED ≤ result) }
+{
+    if error.kind() == ErrorKind::OutOfMemory {
+        return tell(alloc, Refusal::Memory, &mut console.err);
+    }
+    let Ok(text) = format!(in alloc; "{error}") else {
+        return tell(alloc, Refusal::Memory, &mut console.err);
+    };
+    if error.use_stderr() {
+        let _ = put(&mut console.err, text.as_bytes());
+        return FAILED;
+    }
+    match put(&mut console.out, text.as_bytes()) {
+        Ok(()) => DONE,
+        Err(_) => tell(alloc, Refusal::Output, &mut console.err),
+    }
+}

@@ -1,0 +1,10 @@
+//! What the program answers to words: the line that they mean is served from the files that it
+//! names, and all else is told. It stands apart from `main`, since a check of a crate with `clap`
+//! takes long.
+#![tactic(auto)]
+
+mod answer;
+mod input;
+
+pub use answer::answer_words;
+pub use input::{Input, RealFiles};

@@ -1,0 +1,3 @@
+pub mod CellLists
+pub mod Line
+pub mod Manner
