@@ -1,5 +1,5 @@
 // The proved core, called from JavaScript. Nothing here knows the machine: it lays out bytes and
-// reads numbers back, as crates/pram_page describes them.
+// reads numbers back, as crates/page_core describes them.
 import { WIDTH, packEffect } from './effects.js';
 
 export const CODE = {

@@ -390,6 +390,17 @@ function testSizes(core) {
   is('a step past the end', `${state.code} ${requests.code}`, `${CODE.NO_STEP} ${CODE.NO_STEP}`);
 }
 
+// Processor 1 names a cell that there is not in step 3, the last one.
+const LEAVING = 'pram 1\ncells 2\nprocs 2\nsteps 3\ncode\n'
+  + 'pid r0\nadd r1 r0 r0\nst r1 r0\nhalt\n';
+
+function testFates(core) {
+  const told = core.fates(LEAVING);
+  is('how processors end', [told.code, told.end, told.running, told.first, told.endLine].join(),
+    [CODE.DONE, 1, 1, 0, 9].join());
+  is('which is lost', [told.lost, told.lostStep, told.lostLine].join(), '1,3,8');
+}
+
 // Going to a far moment is quick.
 function testSpeed(core) {
   const text = readFileSync(join(folder, 'sort.pram'), 'utf8');
@@ -434,6 +445,7 @@ testPlan(core);
 await testAddress();
 testRefusals(core);
 testSizes(core);
+testFates(core);
 testSpeed(core);
 await testExercises(core, is);
 const replayed = pramx ? ['prefix', 'broadcast', 'leader_priority'] : [];

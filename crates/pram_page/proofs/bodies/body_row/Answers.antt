@@ -1,7 +1,0 @@
-use Rattle.std.proofs.Common.{sym, ◌∙◌}
-use Rattle.pram_page.proofs.Fitting.{fits}
-use Rattle.pram_page.proofs.bodies.body_row.Goals as goal
-
-pub row_of-requires : goal.row_of-requires
-row_of-requires c = fits c.args.world.now c.args.b c.in-Some.standing c.facts.ensures.interleaved
-    (sym c.standing.ensures ∙ c.in-Some.is)

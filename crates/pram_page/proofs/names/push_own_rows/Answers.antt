@@ -1,9 +1,0 @@
-use Rattle.pram_page.specs.Programs.{own_row}
-use Rattle.pram_page.proofs.Telling.{numbered_more}
-use Rattle.pram_page.proofs.names.push_own_rows.Goals as goal
-
-pub loop-which-preserved : goal.loop-which-preserved
-loop-which-preserved c =
-    numbered_more (own_row c.args.program.now) c.loop-which.which c.own_row.result
-    c.args.rows.now.items c.loop-which.rows.items c.push.new.self.items c.own_row.ensures
-    c.loop-which.invariant c.in_ok-push.ensures.items
