@@ -1,6 +1,8 @@
 pub mod Postfix
 pub mod Runs
 pub mod Turns
+pub mod Marks
+pub mod Tokens
 pub mod Left
 pub mod Chains
 pub mod Depths

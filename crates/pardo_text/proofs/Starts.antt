@@ -1,7 +1,7 @@
 -- Values that are read one after another.
-use Rattle.std.proofs.Common.{◌≡◌, ℕ, suc, ◌+◌, ◌-◌, ◌<◌, ◌≤◌, Bool, true, false, List, [], ◌∷◌}
-use Rattle.std.proofs.Common.{◌++◌, length, is_some, unwrap_or, Option, Some, None, Result, Ok, Err}
-use Rattle.std.proofs.Common.{refl, sym, ap, ◌∙◌, arith, append_assoc}
+use Rattle.std.proofs.Common.{◌≡◌, ◌≢◌, ℕ, suc, ◌+◌, ◌-◌, ◌<◌, ◌≤◌, Bool, true, false, List, []}
+use Rattle.std.proofs.Common.{◌∷◌, ◌++◌, length, is_some, unwrap_or, Option, Some, None, Result, Ok}
+use Rattle.std.proofs.Common.{Err, refl, sym, ap, ◌∙◌, arith, append_assoc}
 use Rattle.pardo_text.specs.declared.fault.PardoKind.{PardoKind}
 use Rattle.pardo_text.specs.declared.fault.PardoKind.TheVariants.{BadLine}
 use Rattle.pardo_text.specs.Expressions.{ended, fixed_at, rest_after}
@@ -10,6 +10,7 @@ use Rattle.pardo_text.specs.Names.{Names}
 use Rattle.pardo_text.specs.Reads.{◌>>=◌}
 use Rattle.pardo_text.specs.Tokens.{Token}
 use Rattle.pardo_text.specs.Values.{most, values_in, values_after, values_next, after_dots}
+use Rattle.pardo_text.specs.Values.{filled, start_at}
 use Rattle.pardo_text.specs.declared.part.Mark.TheVariants as mark
 
 -- ---- options and ends
@@ -128,3 +129,22 @@ take_more names n i value front new tokens rest after end lt e f g h same new_is
 pub take_over : (names : Names) (n i : ℕ) (front : List ℕ) (tokens : List Token) → n ≤ i →
     after_values front (values_in names (n - i) tokens) ≡ Err BadLine
 take_over names n i front tokens few = let none : n - i ≡ 0 = omega arith in rw none refl
+
+-- ---- start values
+
+of_none : (front : List ℕ) (read : Result (List ℕ × Bool) PardoKind) (x : List ℕ × Bool) →
+    front ≡ [] → after_values front read ≡ Ok x → read ≡ Ok x
+of_none front (Ok values) x none e =
+    ap (λ l. Ok (l ++ values.0, values.1)) (sym none) ∙ e
+of_none front (Err kind) x none e = absurd (cc e)
+
+-- Start values are filled up from those that are given.
+pub start_given : (names : Names) (places n : ℕ) (tokens rest : List Token) (front values : List ℕ)
+    (fills : Bool) → n ≡ length tokens → n ≢ 0 → rest_after mark.Equals tokens ≡ Ok rest →
+    front ≡ [] → after_values front (values_in names (length rest) rest) ≡ Ok (values, fills) →
+    start_at names places tokens ≡ filled places values fills
+unfolding start_at
+start_given names places n [] rest front values fills len some e none given =
+    absurd (some len)
+start_given names places n (token ∷ tokens) rest front values fills len some e none given =
+    rw (e, of_none front (values_in names (length rest) rest) (values, fills) none given) refl

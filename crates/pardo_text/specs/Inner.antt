@@ -1,5 +1,6 @@
 -- Definitions that private contracts alone cite.
 pub mod Tokens
+pub mod Marks
 pub mod Names
 pub mod Nodes
 pub mod Values

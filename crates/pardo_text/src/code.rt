@@ -1,5 +1,5 @@
 //! Lines of code.
-ghost use Rattle.std.specs.Prelude.{◌≡◌};
+ghost use Rattle.std.specs.Prelude.{◌≡◌, ◌∷◌, length};
 ghost use Rattle.pardo_text.specs.Code.{whole_at, way_at, target_of, assignment_at};
 ghost use Rattle.pardo_text.specs.Inner.Names.{names_in};
 ghost use Rattle.pardo_text.specs.Inner.Tokens.{Gives};
@@ -19,7 +19,10 @@ use std::alloc::Global;
 
 impl<'t> Draft<'t> {
     ghost use Rattle.pardo_text.specs.Code.{statement_line, if_line, while_line, for_line};
-    ghost use Rattle.pardo_text.specs.Code.{else_of, end_of};
+    ghost use Rattle.pardo_text.specs.Tokens.{symbol, name as word};
+    ghost use Rattle.pardo_text.specs.Drafts.{fitting, with_line, with_block, with_loop};
+    ghost use Rattle.pardo_text.specs.declared.block.Block.TheVariants.{For as ForBlock};
+    ghost use Rattle.pardo_text.specs.declared.symbol.Symbol.TheVariants.{Else, End};
     ghost use Rattle.pardo_text.specs.Inner.Drafts.{draft_of};
 
     /// Reads a line of code of this number.
@@ -36,19 +39,9 @@ impl<'t> Draft<'t> {
             Some(Token::Symbol(Symbol::If)) => self.take_if(number, tokens),
             Some(Token::Symbol(Symbol::While)) => self.take_while(number, tokens),
             Some(Token::Symbol(Symbol::For)) => self.take_for(number, tokens),
-            Some(Token::Symbol(Symbol::Else)) => {
-                ended(tokens)?;
-                self.take_else(number)
-            }
-            Some(Token::Symbol(Symbol::End)) => {
-                ended(tokens)?;
-                self.take_end(number)
-            }
-            Some(Token::Name(name)) => {
-                let statement = assignment(self.alloc, &self.names, name, tokens)?;
-                self.add_line(number, statement)?;
-                Ok(())
-            }
+            Some(Token::Symbol(Symbol::Else)) => self.take_else(number, tokens),
+            Some(Token::Symbol(Symbol::End)) => self.take_end(number, tokens),
+            Some(Token::Name(name)) => self.take_assignment(number, name, tokens),
             _ => Err(PardoKind::BadLine),
         }
     }
@@ -89,19 +82,35 @@ impl<'t> Draft<'t> {
         let first = expression(self.alloc, &self.names, Scope::Bound, tokens)?;
         let up = way(tokens)?;
         let last = whole(self.alloc, &self.names, Scope::Bound, tokens)?;
-        let begin = self.lines.len();
         let nest = self.loops.len();
-        self.add_line(number, Statement::For(nest, first, last, up, 0))?;
+        self.begin_loop(number, name, Statement::For(nest, first, last, up, 0))
+    }
+
+    // The first line of a loop, whose variable has this name.
+    fn begin_loop(
+        &mut self,
+        number: u64,
+        name: &'t [u8],
+        statement: Statement,
+    ) -> Result<(), PardoKind>
+        ensures { Gives (λ _. draft_of self.new) result (fitting (with_loop name.now (with_block
+            (ForBlock (length (draft_of self.old).lines)) (with_line number statement
+            (draft_of self.old))))) }
+    {
+        let begin = self.lines.len();
+        self.add_line(number, statement)?;
         self.open(Block::For(begin))?;
         self.open_loop(name)?;
         self.fit()
     }
 
-    // Reads `else`.
-    fn take_else(&mut self, number: u64) -> Result<(), PardoKind>
+    // Reads what follows `else`.
+    #[tactic(auto, unfolding(crate::specs::Code::statement_line))]
+    fn take_else(&mut self, number: u64, tokens: &Cursor<'_, 't>) -> Result<(), PardoKind>
         ensures { Gives (λ _. draft_of self.new) result
-            (else_of number (draft_of self.old) (draft_of self.old).blocks) }
+            (statement_line number (draft_of self.old) (symbol Else ∷ tokens.now)) }
     {
+        ended(tokens)?;
         match self.blocks.pop() {
             Some(Block::If) => {
                 self.add_line(number, Statement::Else)?;
@@ -112,11 +121,13 @@ impl<'t> Draft<'t> {
         }
     }
 
-    // Reads `end`.
-    fn take_end(&mut self, number: u64) -> Result<(), PardoKind>
+    // Reads what follows `end`.
+    #[tactic(auto, unfolding(crate::specs::Code::statement_line))]
+    fn take_end(&mut self, number: u64, tokens: &Cursor<'_, 't>) -> Result<(), PardoKind>
         ensures { Gives (λ _. draft_of self.new) result
-            (end_of number (draft_of self.old) (draft_of self.old).blocks) }
+            (statement_line number (draft_of self.old) (symbol End ∷ tokens.now)) }
     {
+        ended(tokens)?;
         let statement = match self.blocks.pop() {
             None => return Err(PardoKind::BadBlock),
             Some(Block::If | Block::Else) => Statement::EndIf,
@@ -130,6 +141,22 @@ impl<'t> Draft<'t> {
                 Statement::EndFor(begin)
             }
         };
+        self.add_line(number, statement)?;
+        Ok(())
+    }
+
+    // Reads what follows the name of the target of an assignment.
+    #[tactic(auto, unfolding(crate::specs::Code::statement_line))]
+    fn take_assignment(
+        &mut self,
+        number: u64,
+        name: &[u8],
+        tokens: &mut Cursor<'_, 't>,
+    ) -> Result<(), PardoKind>
+        ensures { Gives (λ _. draft_of self.new) result
+            (statement_line number (draft_of self.old) (word name.now ∷ tokens.old)) }
+    {
+        let statement = assignment(self.alloc, &self.names, name, tokens)?;
         self.add_line(number, statement)?;
         Ok(())
     }

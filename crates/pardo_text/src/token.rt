@@ -1,11 +1,14 @@
 //! The tokens of a line.
-ghost use Rattle.std.specs.Prelude.{◌≡◌, ◌<◌, ◌||◌, ◌==◌, not, length, IfSome};
+ghost use Rattle.std.specs.Prelude.{◌≡◌, ◌<◌, ◌||◌, ◌==◌, ◌++◌, not, length, IfSome};
 ghost use Rattle.std.specs.Char.{is_ascii_digit, is_ascii_alphabetic, is_ascii_alphanumeric};
 ghost use Rattle.std.specs.List.{position};
 ghost use Rattle.std.specs.Option.{option_map};
 ghost use Rattle.text_lines.specs.Lines.{said_in};
 ghost use Rattle.pardo_text.specs.Tokens.{begins_name, is_of_name, run_len, keywords, marks};
-ghost use Rattle.pardo_text.specs.Tokens.{word_by, mark_by, token_at, tokens_of};
+ghost use Rattle.pardo_text.specs.Tokens.{symbol, word_by, mark_by, token_at, tokens_of};
+ghost use Rattle.pardo_text.specs.Inner.Marks.{spelled_by, header_words, block_words};
+ghost use Rattle.pardo_text.specs.Inner.Marks.{operation_words, long_marks, short_marks, byte_by};
+ghost use Rattle.pardo_text.specs.Inner.Marks.{operation_bytes, other_bytes};
 ghost use Rattle.pardo_text.specs.Inner.Tokens.{plain, plain_all, Gives};
 
 use crate::fault::PardoKind;
@@ -53,78 +56,160 @@ fn number_end(line: &[u8]) -> Option<usize>
 fn word_token(word: &[u8]) -> Token<'_>
     ensures { plain result ≡ word_by keywords word.now }
 {
-    if is_word(word, "pardo") {
-        Token::Symbol(Symbol::Pardo)
-    } else if is_word(word, "rule") {
-        Token::Symbol(Symbol::Rule)
-    } else if is_word(word, "const") {
-        Token::Symbol(Symbol::Const)
-    } else if is_word(word, "procs") {
-        Token::Symbol(Symbol::Procs)
-    } else if is_word(word, "shared") {
-        Token::Symbol(Symbol::Shared)
-    } else if is_word(word, "private") {
-        Token::Symbol(Symbol::Private)
-    } else if is_word(word, "code") {
-        Token::Symbol(Symbol::Code)
-    } else if is_word(word, "for") {
-        Token::Symbol(Symbol::For)
-    } else if is_word(word, "to") {
-        Token::Symbol(Symbol::To)
-    } else if is_word(word, "downto") {
-        Token::Symbol(Symbol::Downto)
-    } else if is_word(word, "while") {
-        Token::Symbol(Symbol::While)
-    } else if is_word(word, "if") {
-        Token::Symbol(Symbol::If)
-    } else if is_word(word, "else") {
-        Token::Symbol(Symbol::Else)
-    } else if is_word(word, "end") {
-        Token::Symbol(Symbol::End)
-    } else if is_word(word, "lg") {
-        Token::Symbol(Symbol::Lg)
-    } else if is_word(word, "and") {
-        Token::Symbol(Symbol::Operator(Op::And))
-    } else if is_word(word, "or") {
-        Token::Symbol(Symbol::Operator(Op::Or))
-    } else if is_word(word, "min") {
-        Token::Symbol(Symbol::Operator(Op::Min))
-    } else if is_word(word, "max") {
-        Token::Symbol(Symbol::Operator(Op::Max))
+    if let Some(symbol) = header_word(word) {
+        Token::Symbol(symbol)
+    } else if let Some(symbol) = block_word(word) {
+        Token::Symbol(symbol)
+    } else if let Some(symbol) = operation_word(word) {
+        Token::Symbol(symbol)
     } else {
         Token::Name(word)
     }
 }
 
-// The mark with which a line begins, and what is after it.
-fn mark_token(line: &[u8]) -> Option<(Token<'_>, &[u8])>
-    ensures token { option_map (λ x. (plain x.0, x.1.now)) result ≡ mark_by marks line.now }
+// The keyword that a word is, if it stands before the code.
+fn header_word(word: &[u8]) -> Option<Symbol>
+    ensures { result ≡ spelled_by header_words word.now }
+{
+    if is_word(word, "pardo") {
+        Some(Symbol::Pardo)
+    } else if is_word(word, "rule") {
+        Some(Symbol::Rule)
+    } else if is_word(word, "const") {
+        Some(Symbol::Const)
+    } else if is_word(word, "procs") {
+        Some(Symbol::Procs)
+    } else if is_word(word, "shared") {
+        Some(Symbol::Shared)
+    } else if is_word(word, "private") {
+        Some(Symbol::Private)
+    } else if is_word(word, "code") {
+        Some(Symbol::Code)
+    } else {
+        None
+    }
+}
+
+// The keyword that a word is, if it begins or ends a block.
+fn block_word(word: &[u8]) -> Option<Symbol>
+    ensures { result ≡ spelled_by block_words word.now }
+{
+    if is_word(word, "for") {
+        Some(Symbol::For)
+    } else if is_word(word, "to") {
+        Some(Symbol::To)
+    } else if is_word(word, "downto") {
+        Some(Symbol::Downto)
+    } else if is_word(word, "while") {
+        Some(Symbol::While)
+    } else if is_word(word, "if") {
+        Some(Symbol::If)
+    } else if is_word(word, "else") {
+        Some(Symbol::Else)
+    } else if is_word(word, "end") {
+        Some(Symbol::End)
+    } else {
+        None
+    }
+}
+
+// The keyword that a word is, if it stands in an expression.
+fn operation_word(word: &[u8]) -> Option<Symbol>
+    ensures { result ≡ spelled_by operation_words word.now }
+{
+    if is_word(word, "lg") {
+        Some(Symbol::Lg)
+    } else if is_word(word, "and") {
+        Some(Symbol::Operator(Op::And))
+    } else if is_word(word, "or") {
+        Some(Symbol::Operator(Op::Or))
+    } else if is_word(word, "min") {
+        Some(Symbol::Operator(Op::Min))
+    } else if is_word(word, "max") {
+        Some(Symbol::Operator(Op::Max))
+    } else {
+        None
+    }
+}
+
+// The mark with which a line begins, and what is after it: a longer mark before a shorter one.
+fn mark(line: &[u8]) -> Option<(Symbol, &[u8])>
+    ensures mark { option_map (λ x. (symbol x.0, x.1.now)) result ≡ mark_by marks line.now }
+    ensures shorter { IfSome result (λ x. length x.1.now < length line.now) }
+{
+    if let Some(found) = long_mark(line) {
+        Some(found)
+    } else {
+        short_mark(line)
+    }
+}
+
+// The mark of several bytes with which a line begins, and what is after it.
+fn long_mark(line: &[u8]) -> Option<(Symbol, &[u8])>
+    ensures mark { option_map (λ x. (symbol x.0, x.1.now)) result ≡ mark_by long_marks line.now }
     ensures shorter { IfSome result (λ x. length x.1.now < length line.now) }
 {
     match line {
-        [b'.', b'.', b'.', rest @ ..] => Some((Token::Symbol(Symbol::Dots), rest)),
-        [b':', b'=', rest @ ..] => Some((Token::Symbol(Symbol::Assign), rest)),
-        [b'!', b'=', rest @ ..] => Some((Token::Symbol(Symbol::Operator(Op::Ne)), rest)),
-        [b'<', b'=', rest @ ..] => Some((Token::Symbol(Symbol::Operator(Op::Le)), rest)),
-        [b'>', b'=', rest @ ..] => Some((Token::Symbol(Symbol::Operator(Op::Ge)), rest)),
-        [b'<', b'<', rest @ ..] => Some((Token::Symbol(Symbol::Operator(Op::Shl)), rest)),
-        [b'>', b'>', rest @ ..] => Some((Token::Symbol(Symbol::Operator(Op::Shr)), rest)),
-        [b'+', rest @ ..] => Some((Token::Symbol(Symbol::Operator(Op::Add)), rest)),
-        [b'-', rest @ ..] => Some((Token::Symbol(Symbol::Operator(Op::Sub)), rest)),
-        [b'*', rest @ ..] => Some((Token::Symbol(Symbol::Operator(Op::Mul)), rest)),
-        [b'/', rest @ ..] => Some((Token::Symbol(Symbol::Operator(Op::Div)), rest)),
-        [b'%', rest @ ..] => Some((Token::Symbol(Symbol::Operator(Op::Rem)), rest)),
-        [b'&', rest @ ..] => Some((Token::Symbol(Symbol::Operator(Op::BitAnd)), rest)),
-        [b'|', rest @ ..] => Some((Token::Symbol(Symbol::Operator(Op::BitOr)), rest)),
-        [b'^', rest @ ..] => Some((Token::Symbol(Symbol::Operator(Op::BitXor)), rest)),
-        [b'<', rest @ ..] => Some((Token::Symbol(Symbol::Operator(Op::Lt)), rest)),
-        [b'>', rest @ ..] => Some((Token::Symbol(Symbol::Operator(Op::Gt)), rest)),
-        [b'=', rest @ ..] => Some((Token::Symbol(Symbol::Operator(Op::Eq)), rest)),
-        [b'(', rest @ ..] => Some((Token::Symbol(Symbol::Open), rest)),
-        [b')', rest @ ..] => Some((Token::Symbol(Symbol::Close), rest)),
-        [b'[', rest @ ..] => Some((Token::Symbol(Symbol::OpenIndex), rest)),
-        [b']', rest @ ..] => Some((Token::Symbol(Symbol::CloseIndex), rest)),
-        [b',', rest @ ..] => Some((Token::Symbol(Symbol::Comma), rest)),
+        [b'.', b'.', b'.', rest @ ..] => Some((Symbol::Dots, rest)),
+        [b':', b'=', rest @ ..] => Some((Symbol::Assign, rest)),
+        [b'!', b'=', rest @ ..] => Some((Symbol::Operator(Op::Ne), rest)),
+        [b'<', b'=', rest @ ..] => Some((Symbol::Operator(Op::Le), rest)),
+        [b'>', b'=', rest @ ..] => Some((Symbol::Operator(Op::Ge), rest)),
+        [b'<', b'<', rest @ ..] => Some((Symbol::Operator(Op::Shl), rest)),
+        [b'>', b'>', rest @ ..] => Some((Symbol::Operator(Op::Shr), rest)),
+        _ => None,
+    }
+}
+
+// The mark of one byte with which a line begins, and what is after it.
+fn short_mark(line: &[u8]) -> Option<(Symbol, &[u8])>
+    ensures mark { option_map (λ x. (symbol x.0, x.1.now)) result ≡ mark_by short_marks line.now }
+    ensures shorter { IfSome result (λ x. length x.1.now < length line.now) }
+{
+    let (first, rest) = line.split_first()?;
+    let symbol = byte_mark(*first)?;
+    Some((symbol, rest))
+}
+
+// The mark that a byte is by itself.
+fn byte_mark(byte: u8) -> Option<Symbol>
+    ensures { result ≡ byte_by (operation_bytes ++ other_bytes) byte }
+{
+    match byte_operation(byte) {
+        None => other_mark(byte),
+        operation => operation,
+    }
+}
+
+fn byte_operation(byte: u8) -> Option<Symbol>
+    ensures { result ≡ byte_by operation_bytes byte }
+{
+    let op = match byte {
+        b'+' => Op::Add,
+        b'-' => Op::Sub,
+        b'*' => Op::Mul,
+        b'/' => Op::Div,
+        b'%' => Op::Rem,
+        b'&' => Op::BitAnd,
+        b'|' => Op::BitOr,
+        b'^' => Op::BitXor,
+        b'<' => Op::Lt,
+        b'>' => Op::Gt,
+        b'=' => Op::Eq,
+        _ => return None,
+    };
+    Some(Symbol::Operator(op))
+}
+
+fn other_mark(byte: u8) -> Option<Symbol>
+    ensures { result ≡ byte_by other_bytes byte }
+{
+    match byte {
+        b'(' => Some(Symbol::Open),
+        b')' => Some(Symbol::Close),
+        b'[' => Some(Symbol::OpenIndex),
+        b']' => Some(Symbol::CloseIndex),
+        b',' => Some(Symbol::Comma),
         _ => None,
     }
 }
@@ -145,7 +230,8 @@ fn next_token(line: &[u8]) -> Option<(Token<'_>, &[u8])>
         let (digits, rest) = line.split_at(number_end(line).unwrap_or(line.len()));
         Some((Token::Number(value_of(digits)), rest))
     } else {
-        mark_token(line)
+        let (symbol, rest) = mark(line)?;
+        Some((Token::Symbol(symbol), rest))
     }
 }
 

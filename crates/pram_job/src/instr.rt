@@ -5,7 +5,7 @@ ghost use Rattle.pram_job.specs.Instructions.{row_of};
 /// What a processor does in a step. Registers have the numbers 0 to 3, indices are those of
 /// instructions, counted from 0. On the right, a register stands for what it holds. Arithmetic is
 /// modulo 2^32.
-#[derive(Clone, Copy, Debug, PartialEq, Eq)]
+#[derive(Clone, Copy)]
 pub enum Instr {
     /// `set r k`: r becomes k.
     Set(u8, u32),
@@ -51,14 +51,14 @@ pub enum Operand {
 }
 
 /// The cells from `base` on, so many. A text gives them a name.
-#[derive(Clone, Copy, Debug, PartialEq, Eq)]
+#[derive(Clone, Copy)]
 pub struct Array {
     pub base: u32,
     pub len: u32,
 }
 
 /// Where an instruction reads or writes.
-#[derive(Clone, Copy, Debug, PartialEq, Eq)]
+#[derive(Clone, Copy)]
 pub enum Place {
     /// `a`: the cell of number a.
     Cell(Operand),
@@ -69,7 +69,7 @@ pub enum Place {
 /// What a text has after the name of an instruction, in the order in which it is written. A target
 /// is a register that takes a value, the other registers are read, and an index is that of
 /// the instruction that a label stands before.
-#[derive(Clone, Copy, Debug, PartialEq, Eq)]
+#[derive(Clone, Copy)]
 pub enum Operands {
     /// Nothing.
     Bare,

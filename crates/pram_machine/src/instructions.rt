@@ -6,8 +6,8 @@ ghost use Rattle.pram_job.specs.Job.{IsInstr};
 ghost use Rattle.pram_machine.specs.Machine.{out_of_range, register_place};
 ghost use Rattle.pram_machine.specs.Instructions.{registers_in, value_of, held_after, index_of};
 ghost use Rattle.pram_machine.specs.Instructions.{reached, sources_of, listed, cell_read};
-ghost use Rattle.pram_machine.specs.Instructions.{goes_to, decided, HasShape};
-ghost use Rattle.pram_machine.specs.Turns.{IsTurnOf};
+ghost use Rattle.pram_machine.specs.Instructions.{goes_to, decided, cell_of, HasShape};
+ghost use Rattle.pram_machine.specs.Turns.{IsTurnOf, computed};
 ghost use Rattle.pram_machine.specs.declared.turn.Put.TheVariants.{Nothing, Register, Cell};
 
 use crate::requests::Request;
@@ -162,40 +162,30 @@ pub(crate) fn decide<H: Held>(
         (cell_read job.now instr.now (H.operand held.now (sources_of instr.now) 0)))) result }
 {
     job.limits_hold();
-    let gives = |r, value| gives(job, processor, counter, r, value);
     match *instr {
-        Instr::Set(r, k) => gives(r, k),
-        Instr::Pid(r) => gives(r, processor),
-        Instr::Add(r, a, b) => gives(r, held.first(a).wrapping_add(second(held, b))),
-        Instr::Sub(r, a, b) => gives(r, held.first(a).wrapping_sub(second(held, b))),
-        Instr::Mul(r, a, b) => gives(r, held.first(a).wrapping_mul(second(held, b))),
-        Instr::And(r, a, b) => gives(r, held.first(a) & second(held, b)),
-        Instr::Or(r, a, b) => gives(r, held.first(a) | second(held, b)),
-        Instr::Xor(r, a, b) => gives(r, held.first(a) ^ second(held, b)),
-        Instr::Lt(r, a, b) => gives(r, u32::from(held.first(a) < second(held, b))),
-        Instr::Eq(r, a, b) => gives(r, u32::from(held.first(a) == second(held, b))),
-        Instr::Shl(r, a, b) => gives(r, held.first(a).checked_shl(second(held, b)).unwrap_or(0)),
-        Instr::Shr(r, a, b) => gives(r, held.first(a).checked_shr(second(held, b)).unwrap_or(0)),
-        Instr::Ld(r, Place::Cell(a)) => match reached(job, Place::Cell(a), first(held, a)) {
-            Some(cell) => gives(r, held.cell(cell)),
+        Instr::Set(r, k) => gives(job, processor, counter, r, k),
+        Instr::Pid(r) => gives(job, processor, counter, r, processor),
+        Instr::Add(r, a, b)
+        | Instr::Sub(r, a, b)
+        | Instr::Mul(r, a, b)
+        | Instr::And(r, a, b)
+        | Instr::Or(r, a, b)
+        | Instr::Xor(r, a, b)
+        | Instr::Lt(r, a, b)
+        | Instr::Eq(r, a, b)
+        | Instr::Shl(r, a, b)
+        | Instr::Shr(r, a, b) => {
+            let value = computed(instr, held.first(a), second(held, b));
+            gives(job, processor, counter, r, value)
+        }
+        Instr::Ld(r, ref place) => match cell_at(job, place, held) {
+            Some(cell) => gives(job, processor, counter, r, held.cell(cell)),
             None => leaves(job),
         },
-        Instr::Ld(r, Place::Named(array, a)) => {
-            match reached(job, Place::Named(array, a), first(held, a)) {
-                Some(cell) => gives(r, held.cell(cell)),
-                None => leaves(job),
-            }
-        }
-        Instr::St(Place::Cell(a), b) => match reached(job, Place::Cell(a), first(held, a)) {
-            Some(cell) => puts(cell, stored(held, a, b), counter),
+        Instr::St(ref place, b) => match cell_at(job, place, held) {
+            Some(cell) => puts(cell, stored(held, index_of(*place), b), counter),
             None => leaves(job),
         },
-        Instr::St(Place::Named(array, a), b) => {
-            match reached(job, Place::Named(array, a), first(held, a)) {
-                Some(cell) => puts(cell, stored(held, a, b), counter),
-                None => leaves(job),
-            }
-        }
         Instr::Jz(r, index) => jumps(if held.first(r) == 0 {
             index
         } else {
@@ -203,6 +193,45 @@ pub(crate) fn decide<H: Held>(
         }),
         Instr::Jmp(index) => jumps(index),
         Instr::Halt => jumps(job.code().len() as u32),
+    }
+}
+
+// What an instruction that computes makes of two numbers.
+#[inline(always)]
+#[tactic(auto, unfolding(crate::specs::Turns::computed))]
+fn computed(instr: &Instr, a: u32, b: u32) -> u32
+    ensures { result ≡ computed instr.now a b }
+{
+    match *instr {
+        Instr::Add(..) => a.wrapping_add(b),
+        Instr::Sub(..) => a.wrapping_sub(b),
+        Instr::Mul(..) => a.wrapping_mul(b),
+        Instr::And(..) => a & b,
+        Instr::Or(..) => a | b,
+        Instr::Xor(..) => a ^ b,
+        Instr::Lt(..) => u32::from(a < b),
+        Instr::Eq(..) => u32::from(a == b),
+        Instr::Shl(..) => a.checked_shl(b).unwrap_or(0),
+        Instr::Shr(..) => a.checked_shr(b).unwrap_or(0),
+        _ => 0,
+    }
+}
+
+// The cell of a place, whose index is the first that is read, if there is one.
+#[inline(always)]
+fn cell_at<H: Held>(job: &Job, place: &Place, held: &H) -> Option<u32>
+    requires { IsPlace job.now.cells place.now }
+    ensures alone { result ≡ cell_of job.now place.now
+        (H.operand held.now (registers_in (index_of place.now)) 0) }
+    ensures before { (rest : List ℕ) → result ≡ cell_of job.now place.now
+        (H.operand held.now (registers_in (index_of place.now) ++ rest) 0) }
+    ensures within { IfSome result (λ cell. cell < job.now.cells) }
+{
+    match *place {
+        Place::Cell(index) => reached(job, Place::Cell(index), first(held, index)),
+        Place::Named(array, index) => {
+            reached(job, Place::Named(array, index), first(held, index))
+        }
     }
 }
 

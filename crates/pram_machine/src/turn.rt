@@ -6,7 +6,7 @@ use crate::requests::Request;
 use pram_job::Job;
 
 /// A place and its new value, if there is one.
-#[derive(Clone, Copy, Debug, PartialEq, Eq)]
+#[derive(Clone, Copy)]
 pub enum Put {
     Nothing,
     /// A register of the processor.
@@ -30,7 +30,7 @@ impl Put {
 }
 
 /// What a processor asks for. Whether its data go to a cell is known without a comparison.
-#[derive(Clone, Copy, Debug, PartialEq, Eq)]
+#[derive(Clone, Copy)]
 pub struct Turn {
     pub put: Put,
     /// The processor's counter after the step.

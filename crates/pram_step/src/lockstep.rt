@@ -5,6 +5,7 @@ ghost use Rattle.std.specs.Prelude.{◌≡◌, ◌<◌, ◌≤◌, length, slice
 ghost use Rattle.pram_machine.specs.Machine.{IsDataPlace, counter, counter_place, place_count};
 ghost use Rattle.pram_machine.specs.Turns.{put_of, request_of, IsSorted};
 ghost use Rattle.pram_step.specs.Inner.Passes.{AreRunning, GoesOn, IsMove, IsPassed, IsUnderWay};
+ghost use Rattle.pram_step.specs.Inner.Passes.{StandsAt};
 
 use crate::stores::{Store, take_up};
 use pram_job::places::counters_at;
@@ -12,7 +13,7 @@ use pram_job::{Instr, Job, Place};
 use pram_machine::{Fetched, Put, Turn};
 
 /// How far the turns of a step are.
-#[derive(Clone, Copy, Debug, PartialEq, Eq)]
+#[derive(Clone, Copy)]
 pub(crate) struct Turns {
     /// How many of the processors that run have had theirs.
     pub taken: usize,
@@ -42,7 +43,7 @@ pub(crate) fn pass(job: &Job, places: &mut [u32], running: &[u32], asked: &mut [
 }
 
 /// Takes the turn of the next processor, and those of all after it that stand at the same
-/// instruction. Each form that has a row here has a loop of its own, in which no other is looked at.
+/// instruction.
 #[inline(always)]
 fn take_next(
     job: &Job,
@@ -63,59 +64,125 @@ fn take_next(
             stores: turns.stores,
         };
     };
-    match *at.instr {
-        Instr::Set(r, k) => take(at.with(&Instr::Set(r, k)), places, running, asked, turns),
-        Instr::Pid(r) => take(at.with(&Instr::Pid(r)), places, running, asked, turns),
-        Instr::Add(r, a, b) => take(at.with(&Instr::Add(r, a, b)), places, running, asked, turns),
-        Instr::Sub(r, a, b) => take(at.with(&Instr::Sub(r, a, b)), places, running, asked, turns),
-        Instr::Mul(r, a, b) => take(at.with(&Instr::Mul(r, a, b)), places, running, asked, turns),
-        Instr::And(r, a, b) => take(at.with(&Instr::And(r, a, b)), places, running, asked, turns),
-        Instr::Or(r, a, b) => take(at.with(&Instr::Or(r, a, b)), places, running, asked, turns),
-        Instr::Xor(r, a, b) => take(at.with(&Instr::Xor(r, a, b)), places, running, asked, turns),
-        Instr::Lt(r, a, b) => take(at.with(&Instr::Lt(r, a, b)), places, running, asked, turns),
-        Instr::Eq(r, a, b) => take(at.with(&Instr::Eq(r, a, b)), places, running, asked, turns),
-        Instr::Shl(r, a, b) => take(at.with(&Instr::Shl(r, a, b)), places, running, asked, turns),
-        Instr::Shr(r, a, b) => take(at.with(&Instr::Shr(r, a, b)), places, running, asked, turns),
+    let stand = Stand { at, turns };
+    take_form(stand, places, running, asked)
+}
+
+/// The instruction that the next processor stands at, and how far the turns are.
+#[derive(Clone, Copy)]
+struct Stand<'m> {
+    at: Fetched<'m>,
+    turns: Turns,
+}
+
+/// Takes the turns of the next processors that stand at this instruction. Each form that has a row
+/// here, or in a function that is called last, has a loop of its own, in which no other is looked
+/// at.
+#[inline(always)]
+fn take_form(stand: Stand<'_>, places: &mut [u32], running: &[u32], asked: &mut [Store]) -> Turns
+    requires { StandsAt stand.at.job.now running.now places.old asked.old stand.turns
+        stand.at.counter }
+    ensures { GoesOn stand.entry.at.job.now running.now places.old asked.old stand.entry.turns
+        places.new asked.new result }
+{
+    match *stand.at.instr {
+        Instr::Set(r, k) => take_as(stand, Instr::Set(r, k), places, running, asked),
+        Instr::Pid(r) => take_as(stand, Instr::Pid(r), places, running, asked),
+        Instr::Jz(r, index) => take_as(stand, Instr::Jz(r, index), places, running, asked),
+        Instr::Jmp(index) => take_as(stand, Instr::Jmp(index), places, running, asked),
+        _ => take_place(stand, places, running, asked),
+    }
+}
+
+// The rows of the forms that name a place, and those after them.
+#[inline(always)]
+fn take_place(stand: Stand<'_>, places: &mut [u32], running: &[u32], asked: &mut [Store]) -> Turns
+    requires { StandsAt stand.at.job.now running.now places.old asked.old stand.turns
+        stand.at.counter }
+    ensures { GoesOn stand.entry.at.job.now running.now places.old asked.old stand.entry.turns
+        places.new asked.new result }
+{
+    match *stand.at.instr {
         Instr::Ld(r, Place::Cell(a)) => {
-            take(
-                at.with(&Instr::Ld(r, Place::Cell(a))),
-                places,
-                running,
-                asked,
-                turns,
-            )
+            take_as(stand, Instr::Ld(r, Place::Cell(a)), places, running, asked)
         }
         Instr::Ld(r, Place::Named(array, a)) => {
-            take(
-                at.with(&Instr::Ld(r, Place::Named(array, a))),
+            take_as(
+                stand,
+                Instr::Ld(r, Place::Named(array, a)),
                 places,
                 running,
                 asked,
-                turns,
             )
         }
         Instr::St(Place::Cell(a), b) => {
-            take(
-                at.with(&Instr::St(Place::Cell(a), b)),
-                places,
-                running,
-                asked,
-                turns,
-            )
+            take_as(stand, Instr::St(Place::Cell(a), b), places, running, asked)
         }
         Instr::St(Place::Named(array, a), b) => {
-            take(
-                at.with(&Instr::St(Place::Named(array, a), b)),
+            take_as(
+                stand,
+                Instr::St(Place::Named(array, a), b),
                 places,
                 running,
                 asked,
-                turns,
             )
         }
-        Instr::Jz(r, index) => take(at.with(&Instr::Jz(r, index)), places, running, asked, turns),
-        Instr::Jmp(index) => take(at.with(&Instr::Jmp(index)), places, running, asked, turns),
-        _ => take(at, places, running, asked, turns),
+        _ => take_number(stand, places, running, asked),
     }
+}
+
+// The rows of the forms that compute with numbers, and those after them.
+#[inline(always)]
+fn take_number(stand: Stand<'_>, places: &mut [u32], running: &[u32], asked: &mut [Store]) -> Turns
+    requires { StandsAt stand.at.job.now running.now places.old asked.old stand.turns
+        stand.at.counter }
+    ensures { GoesOn stand.entry.at.job.now running.now places.old asked.old stand.entry.turns
+        places.new asked.new result }
+{
+    match *stand.at.instr {
+        Instr::Add(r, a, b) => take_as(stand, Instr::Add(r, a, b), places, running, asked),
+        Instr::Sub(r, a, b) => take_as(stand, Instr::Sub(r, a, b), places, running, asked),
+        Instr::Mul(r, a, b) => take_as(stand, Instr::Mul(r, a, b), places, running, asked),
+        Instr::Shl(r, a, b) => take_as(stand, Instr::Shl(r, a, b), places, running, asked),
+        Instr::Shr(r, a, b) => take_as(stand, Instr::Shr(r, a, b), places, running, asked),
+        _ => take_bits(stand, places, running, asked),
+    }
+}
+
+// The rows of the forms that compute with bits, or compare. What is left needs no loop of its own.
+#[inline(always)]
+fn take_bits(stand: Stand<'_>, places: &mut [u32], running: &[u32], asked: &mut [Store]) -> Turns
+    requires { StandsAt stand.at.job.now running.now places.old asked.old stand.turns
+        stand.at.counter }
+    ensures { GoesOn stand.entry.at.job.now running.now places.old asked.old stand.entry.turns
+        places.new asked.new result }
+{
+    match *stand.at.instr {
+        Instr::And(r, a, b) => take_as(stand, Instr::And(r, a, b), places, running, asked),
+        Instr::Or(r, a, b) => take_as(stand, Instr::Or(r, a, b), places, running, asked),
+        Instr::Xor(r, a, b) => take_as(stand, Instr::Xor(r, a, b), places, running, asked),
+        Instr::Lt(r, a, b) => take_as(stand, Instr::Lt(r, a, b), places, running, asked),
+        Instr::Eq(r, a, b) => take_as(stand, Instr::Eq(r, a, b), places, running, asked),
+        instr => take_as(stand, instr, places, running, asked),
+    }
+}
+
+/// Takes them by this instruction, the same one by a name that tells its form.
+#[inline(always)]
+fn take_as(
+    stand: Stand<'_>,
+    instr: Instr,
+    places: &mut [u32],
+    running: &[u32],
+    asked: &mut [Store],
+) -> Turns
+    requires same { instr ≡ stand.at.instr.now }
+    requires stands { StandsAt stand.at.job.now running.now places.old asked.old stand.turns
+        stand.at.counter }
+    ensures { GoesOn stand.entry.at.job.now running.now places.old asked.old stand.entry.turns
+        places.new asked.new result }
+{
+    take(stand.at.with(&instr), places, running, asked, stand.turns)
 }
 
 /// Takes the turns of the next processors that stand at this instruction, up to one that does not.

@@ -14,7 +14,7 @@ use crate::stores::{Stores, judge_all, write_stores};
 use pram_job::Job;
 
 /// What comes of some steps from the start.
-#[derive(Clone, Copy, Debug, PartialEq, Eq)]
+#[derive(Clone, Copy)]
 pub(crate) enum Course {
     /// They were made.
     Made,

@@ -11,7 +11,7 @@ use pram_machine::Put;
 use std::alloc::{AllocError, Global};
 
 /// A store to a cell.
-#[derive(Clone, Copy, Debug, PartialEq, Eq)]
+#[derive(Clone, Copy, Debug)]
 pub(crate) struct Store {
     pub processor: u32,
     pub cell: u32,

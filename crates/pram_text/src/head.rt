@@ -9,7 +9,7 @@ use crate::header::{cells_in, procs_in, rule_in, steps_in, version_in};
 use pram_job::Rule;
 
 /// What the next line with words has to say.
-#[derive(Clone, Copy, Debug, PartialEq, Eq)]
+#[derive(Clone, Copy)]
 pub(crate) enum Next {
     Version,
     Cells,

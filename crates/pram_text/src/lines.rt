@@ -11,7 +11,7 @@ use text_lines::{TextLines, has_words};
 const HEADER: u32 = 4;
 
 /// What is left before the line that is looked for.
-#[derive(Clone, Copy, Debug, PartialEq, Eq)]
+#[derive(Clone, Copy, PartialEq, Eq)]
 enum Ahead {
     /// So many lines with words, and then those up to the line `code`.
     Header(u32),

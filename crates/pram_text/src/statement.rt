@@ -1,13 +1,14 @@
 //! Instruction lines.
-ghost use Rattle.std.specs.Prelude.{◌≡◌, ◌||◌, ◌==◌, ◌∷◌, None, Some};
+ghost use Rattle.std.specs.Prelude.{◌≡◌, ◌||◌, ◌==◌, ◌∷◌, drop, None, Some};
 ghost use Rattle.std.specs.Char.{is_ascii_alphabetic, is_ascii_alphanumeric};
 ghost use Rattle.std.specs.List.{list_all};
 ghost use Rattle.std.specs.Option.{option_copied};
 ghost use Rattle.std.specs.Str.{bytes_eq};
+ghost use Rattle.pram_job.specs.Instructions.{table};
 ghost use Rattle.text_lines.specs.Lines.{words_of};
 ghost use Rattle.pram_text.specs.Inner.Statement.{ReadsNone, ReadsOne, ReadsTwo, ReadsLoad};
 ghost use Rattle.pram_text.specs.Inner.Statement.{ReadsStore, ReadsNumber, ReadsJump, ReadsLabel};
-ghost use Rattle.pram_text.specs.Inner.Statement.{ReadsLine, ReadsShift, known};
+ghost use Rattle.pram_text.specs.Inner.Statement.{ReadsLine, ReadsRows, known};
 ghost use Rattle.pram_text.specs.Judgement.{label_of, unlabelled, is_name, register_of};
 ghost use Rattle.pram_text.specs.Judgement.{operand_of, array_at};
 
@@ -229,7 +230,22 @@ fn statement_of<'a>(
         two_operands_in(operands, later).map(|(r, a, b)| plain(Instr::Sub(r, a, b)))
     } else if is_word(name, "mul") {
         two_operands_in(operands, later).map(|(r, a, b)| plain(Instr::Mul(r, a, b)))
-    } else if is_word(name, "and") {
+    } else {
+        bits_of(name, operands, names)
+    }
+}
+
+// The same, of the rows that compute with bits or compare, and of those after them.
+fn bits_of<'a>(
+    name: &[u8],
+    operands: &'a [u8],
+    names: &Names<'_, '_>,
+) -> Result<Statement<'a>, TextKind>
+    ensures { ReadsRows (drop 5 (table names.now.later)) (known names.now) name.now
+        (words_of operands.now) result }
+{
+    let later = names.later;
+    if is_word(name, "and") {
         two_operands_in(operands, later).map(|(r, a, b)| plain(Instr::And(r, a, b)))
     } else if is_word(name, "or") {
         two_operands_in(operands, later).map(|(r, a, b)| plain(Instr::Or(r, a, b)))
@@ -239,7 +255,21 @@ fn statement_of<'a>(
         two_operands_in(operands, later).map(|(r, a, b)| plain(Instr::Lt(r, a, b)))
     } else if is_word(name, "eq") {
         two_operands_in(operands, later).map(|(r, a, b)| plain(Instr::Eq(r, a, b)))
-    } else if is_word(name, "ld") {
+    } else {
+        place_of(name, operands, names)
+    }
+}
+
+// The same, of the rows that name places, of those that jump, and of those after them.
+fn place_of<'a>(
+    name: &[u8],
+    operands: &'a [u8],
+    names: &Names<'_, '_>,
+) -> Result<Statement<'a>, TextKind>
+    ensures { ReadsRows (drop 10 (table names.now.later)) (known names.now) name.now
+        (words_of operands.now) result }
+{
+    if is_word(name, "ld") {
         load_in(operands, names).map(|(r, place)| plain(Instr::Ld(r, place)))
     } else if is_word(name, "st") {
         store_in(operands, names).map(|(place, b)| plain(Instr::St(place, b)))
@@ -250,14 +280,20 @@ fn statement_of<'a>(
     } else if is_word(name, "halt") {
         no_operand_in(operands).map(|()| plain(Instr::Halt))
     } else {
-        shift_of(name, operands, later)
+        shift_of(name, operands, names)
     }
 }
 
 // The same, of the rows that version 3 brought.
-fn shift_of<'a>(name: &[u8], operands: &[u8], later: bool) -> Result<Statement<'a>, TextKind>
-    ensures { ReadsShift later name.now (words_of operands.now) result }
+fn shift_of<'a>(
+    name: &[u8],
+    operands: &[u8],
+    names: &Names<'_, '_>,
+) -> Result<Statement<'a>, TextKind>
+    ensures { ReadsRows (drop 15 (table names.now.later)) (known names.now) name.now
+        (words_of operands.now) result }
 {
+    let later = names.later;
     if later && is_word(name, "shl") {
         two_operands_in(operands, later).map(|(r, a, b)| plain(Instr::Shl(r, a, b)))
     } else if later && is_word(name, "shr") {

@@ -80,6 +80,13 @@ pub record IsUnderWay (job : JobData) (running : List ℕ) (now : State) (asked 
   pub inside : turns.taken ≤ length running
   pub few : turns.stores ≤ bound job running turns.taken
 
+-- the next processor stands at the instruction with this index
+pub record StandsAt (job : JobData) (running : List ℕ) (now : State) (asked : List Store)
+    (turns : Turns) (index : ℕ) : Type 0 where
+  pub left : turns.taken < length running
+  pub begun : IsUnderWay job running now asked turns
+  pub here : counter job now (slice_index running turns.taken) ≡ index
+
 -- Some turns more have been taken. Where those before were taken from some start, so are these.
 pub record GoesOn (job : JobData) (running : List ℕ) (now : State) (asked : List Store)
     (turns : Turns) (now' : State) (asked' : List Store) (turns' : Turns) : Type 0 where

@@ -1,5 +1,5 @@
 -- An instruction line whose jump still names its label.
-use Rattle.std.specs.Prelude.{◌≡◌, ℕ, Bool, if◌then◌else◌, List, [], Option, Some, None, Result, Ok}
+use Rattle.std.specs.Prelude.{◌≡◌, ℕ, Bool, List, Option, Some, None, Result, Ok}
 use Rattle.std.specs.Borrow.{Bor}
 use Rattle.std.specs.BTreeMap.{BTreeMap, get_by}
 use Rattle.std.specs.Cmp.Lexicographic.{slice_cmp}
@@ -12,7 +12,7 @@ use Rattle.pram_job.specs.declared.instr.Operand.{Operand}
 use Rattle.pram_job.specs.declared.instr.Place.{Place}
 use Rattle.pram_text.specs.declared.statement.Names.{Names}
 use Rattle.pram_text.specs.declared.statement.Statement.{Statement}
-use Rattle.pram_job.specs.Instructions.{shifts}
+use Rattle.pram_job.specs.Instructions.{Form}
 use Rattle.text_lines.specs.Lines.{Word, Line}
 use Rattle.pram_text.specs.Judgement.{Scope, no_operand, one_register, two_operands}
 use Rattle.pram_text.specs.Judgement.{register_place, place_operand, register_number}
@@ -80,11 +80,11 @@ abbrev pub ReadsLine : Scope → Line → Result Statement TextKind → Type 0
 ReadsLine scope line result = (find : Word → Option ℕ) →
     instr_of scope find line ≡ (result >>= resolved find)
 
--- the same, of the rows that version 3 brought
-abbrev pub ReadsShift : Bool → Word → Line → Result Statement TextKind → Type 0
-ReadsShift later name operands result = (arrays : Word → Option Array) (find : Word → Option ℕ) →
-    instr_by (if later then shifts else []) (record { later = later; arrays = arrays }) find name
-    operands ≡ (result >>= resolved find)
+-- the same, of an instruction that has one of these rows
+abbrev pub ReadsRows : List (Word × Form) → Scope → Word → Line →
+    Result Statement TextKind → Type 0
+ReadsRows rows scope name operands result = (find : Word → Option ℕ) →
+    instr_by rows scope find name operands ≡ (result >>= resolved find)
 
 -- ---- what is known of a text
 
