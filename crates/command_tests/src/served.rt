@@ -111,11 +111,9 @@ pub fn serve_text<R: Threads + Wait + Clock + Eprint + Sync>(
     serve_source(rt, alloc, line, FromRead::new(text))
 }
 
-/// A row of a table as bytes: in rows `/` stands for a line feed.
-pub fn lines_of(alloc: Global, row: &str) -> Result<Vec<u8>, AllocError> {
-    row.bytes()
-        .map(|byte| if byte == b'/' { b'\n' } else { byte })
-        .collect(alloc)
+/// A text of a table: there `/` stands for a line feed.
+pub fn lines_of(alloc: Global, text: &str) -> Result<String, AllocError> {
+    text.replace(alloc, "/", "\n")
 }
 
 /// Serves a line over a text and the rows of a plan below their header.
@@ -127,10 +125,10 @@ pub fn serve_rows<R: Threads + Wait + Clock + Eprint + Sync>(
     rows: &str,
 ) -> Result<Served, AllocError> {
     let text = lines_of(alloc, text)?;
-    let rows = format!(in alloc; "worker,act,ticks/{rows}")?;
-    let rows = lines_of(alloc, rows.as_str())?;
-    let job = FromRead::new(text.as_slice());
-    let plan = FromRead::new(rows.as_slice());
+    let rows = lines_of(alloc, rows)?;
+    let plan = format!(in alloc; "worker,act,ticks\n{rows}")?;
+    let job = FromRead::new(text.as_bytes());
+    let plan = FromRead::new(plan.as_bytes());
     Ok(serve_sources(rt, alloc, line, job, plan))
 }
 
@@ -145,82 +143,103 @@ pub fn of_text(text: &[u8]) -> Sources<FromRead<&[u8]>, Empty>
     }
 }
 
-/// A text, the rows of a plan, all that is written, and the status. An answer is written to the
-/// output, and a refusal, with status 2, to standard error. In rows `/` stands for a line feed.
-pub type Row<'a> = (&'a str, &'a str, &'a str, u8);
+/// A line of a table: a text, the rows of a plan, the status, and all that is written. An answer is
+/// written to the output, and a refusal, with status 2, to standard error.
+#[derive(Clone, Copy)]
+pub struct Row<'a> {
+    pub text: &'a str,
+    pub plan: &'a str,
+    pub status: &'a str,
+    pub written: &'a str,
+}
 
-/// Serves a line over the texts and plans of rows.
-pub fn expect<R: Abort + Threads + Wait + Clock + Eprint + Sync>(
+/// A row from `TEXT | STATUS WRITTEN`, or `TEXT under PLAN | STATUS WRITTEN`.
+pub fn row_of(line: &str) -> Option<Row<'_>> {
+    let (given, told) = line.split_once(" | ")?;
+    let (text, plan) = given.split_once(" under ").unwrap_or((given, ""));
+    let (status, written) = told.split_once(' ')?;
+    Some(Row {
+        text,
+        plan,
+        status,
+        written,
+    })
+}
+
+// A status as a table has it.
+fn status_name(status: u8) -> &'static str {
+    match status {
+        0 => "0",
+        1 => "1",
+        2 => "2",
+        3 => "3",
+        _ => "another",
+    }
+}
+
+/// What was served for a text ended with this status.
+pub fn expect_status<R: Abort>(rt: &R, served: &Served, status: &str, text: &str) {
+    assert!(rt; status_name(served.status) == status, "{text}");
+}
+
+/// What was served for a text is this alone, on the output or, with status 2, on standard error.
+pub fn expect_written<R: Abort>(rt: &R, served: &Served, written: &str, text: &str) {
+    let (found, other) = if served.status == 2 {
+        (&served.err, &served.out)
+    } else {
+        (&served.out, &served.err)
+    };
+    assert!(rt; found.as_slice() == written.as_bytes(), "{text}");
+    assert!(rt; other.is_empty(), "{text}");
+}
+
+/// Serves a line over a row.
+pub fn expect_row<R: Abort + Threads + Wait + Clock + Eprint + Sync>(
     rt: &R,
     alloc: Global,
     line: &Line<'_>,
-    rows: &[Row<'_>],
+    row: Row<'_>,
 ) -> Result<(), Fail> {
-    for (text, plan, wanted, status) in rows {
-        let served = serve_rows(rt, alloc, line, text, plan)?;
-        let wanted = lines_of(alloc, wanted)?;
-        let (written, other) = if *status == 2 {
-            (served.err, served.out)
-        } else {
-            (served.out, served.err)
-        };
-        assert!(rt;
-            written.as_slice() == wanted.as_slice(),
-            "of {text} under {plan}"
-        );
-        assert!(rt; other.is_empty(), "of {text} under {plan}");
-        assert!(rt; served.status == *status, "of {text} under {plan}");
-    }
+    let served = serve_rows(rt, alloc, line, row.text, row.plan)?;
+    let written = lines_of(alloc, row.written)?;
+    expect_status(rt, &served, row.status, row.text);
+    expect_written(rt, &served, written.as_str(), row.text);
     Ok(())
 }
 
-/// The same without a plan: each line of a table has a text, the status and what is written. Those
-/// that begin with `--` are comments.
-pub fn expect_table<R: Abort + Threads + Wait + Clock + Eprint + Sync>(
+/// Serves a line over the rows of a table. Lines that begin with `--` are comments.
+pub fn expect<R: Abort + Threads + Wait + Clock + Eprint + Sync>(
     rt: &R,
     alloc: Global,
     line: &Line<'_>,
     table: &str,
 ) -> Result<(), Fail> {
     for row in table.lines() {
-        if row.starts_with("--") {
-            continue;
+        if !row.starts_with("--") {
+            expect_row(rt, alloc, line, row_of(row).expect(rt, row))?;
         }
-        let Some((text, told)) = row.split_once(" | ") else {
-            panic!(rt; "{row}");
-        };
-        let Some((status, written)) = told.split_once(' ') else {
-            panic!(rt; "{row}");
-        };
-        expect(rt, alloc, line, &[(text, "", written, status.parse()?)])?;
     }
     Ok(())
 }
 
-/// An answer, how many lines stand above it, and the status.
-#[derive(Clone, Copy)]
-pub struct Below<'a> {
-    pub answer: &'a str,
-    pub lines: usize,
-    pub status: u8,
+// How many lines stand above an answer.
+fn lines_above(out: &[u8], answer: &[u8]) -> Option<usize> {
+    let above = out.strip_suffix(answer)?;
+    Some(above.iter().filter(|byte| **byte == b'\n').count())
 }
 
-/// What was served is this answer below so many lines, and nothing was told.
-pub fn expect_below<R: AllocGlobal + Abort>(
+/// What was served for a row is its answer below so many lines, and nothing was told.
+pub fn expect_below<R: Abort>(
     rt: &R,
+    alloc: Global,
     served: &Served,
-    wanted: Below<'_>,
+    row: Row<'_>,
+    lines: usize,
 ) -> Result<(), Fail> {
-    let answer = lines_of(rt.alloc(), wanted.answer)?;
-    let Some(front) = served.out.as_slice().strip_suffix(answer.as_slice()) else {
-        panic!(rt; "no answer {}", wanted.answer);
-    };
-    let lines = front.iter().filter(|byte| **byte == b'\n').count();
-    assert!(rt;
-        (lines, served.status) == (wanted.lines, wanted.status),
-        "{}",
-        wanted.answer
-    );
+    let answer = lines_of(alloc, row.written)?;
+    let found = lines_above(served.out.as_slice(), answer.as_bytes());
+    expect_status(rt, served, row.status, row.text);
+    assert!(rt; found == Some(lines), "{}", row.text);
     assert!(rt; served.err.is_empty());
     Ok(())
 }

@@ -3,6 +3,7 @@ use clap::error::ErrorKind;
 use command_data::{Block, CellList, Line, Manner, Telling, Workers};
 use command_line::read_line;
 use std::alloc::{AllocError, Global};
+use std::process::Abort;
 use std::test::Fail;
 
 fn words_in<'a>(alloc: Global, row: &'a str) -> Result<Vec<&'a str>, AllocError> {
@@ -49,7 +50,6 @@ fn steps(from: u32, to: u32) -> Line<'static> {
 
 #[test]
 fn words_make_a_line(rt: HostRuntime) -> Result<(), Fail> {
-    let alloc = rt.alloc();
     for (row, line) in [
         ("pramx check f", Line::Check { file: "f" }),
         ("pramx compile f", Line::Compile { file: "f" }),
@@ -120,9 +120,16 @@ fn words_make_a_line(rt: HostRuntime) -> Result<(), Fail> {
             },
         ),
     ] {
-        let words = words_in(alloc, row)?;
-        assert!(rt; read_line(alloc, &words, false)?.line == line, "of {row}");
+        expect_line(&rt, row, &line)?;
     }
+    Ok(())
+}
+
+// The words of a row make this line.
+fn expect_line<R: AllocGlobal + Abort>(rt: &R, row: &str, line: &Line<'_>) -> Result<(), Fail> {
+    let words = words_in(rt.alloc(), row)?;
+    let found = read_line(rt.alloc(), &words, false)?.line;
+    assert!(rt; found == *line, "of {row}");
     Ok(())
 }
 
@@ -181,18 +188,20 @@ pramx --help -> DisplayHelp
 pramx run --help -> DisplayHelp
 ";
 
+// The kind of the error that the words of a row have, or nothing.
+fn kind_of(alloc: Global, row: &str) -> Result<String, AllocError> {
+    let words = words_in(alloc, row)?;
+    match read_line(alloc, &words, false) {
+        Ok(_) => Ok(String::new(alloc)),
+        Err(error) => kind_name(alloc, error.kind()),
+    }
+}
+
 #[test]
 fn other_words_are_refused(rt: HostRuntime) -> Result<(), Fail> {
-    let alloc = rt.alloc();
     for row in REFUSED.lines() {
-        let Some((words, wanted)) = row.split_once(" -> ") else {
-            panic!(rt; "{row}");
-        };
-        let words = words_in(alloc, words)?;
-        let kind = match read_line(alloc, &words, false) {
-            Ok(_) => String::new(alloc),
-            Err(error) => kind_name(alloc, error.kind())?,
-        };
+        let (words, wanted) = row.split_once(" -> ").expect(&rt, row);
+        let kind = kind_of(rt.alloc(), words)?;
         assert!(rt; kind.as_str() == wanted, "of {row}");
     }
     Ok(())

@@ -1,6 +1,6 @@
 //! Texts that are read, and each kind of fault.
 use pram_job::{Array, Instr, Operand, Operands, Place, Rule};
-use pram_text::{TextFault, TextKind, read_job};
+use pram_text::{TextFault, read_job};
 use std::alloc::{AllocError, Global};
 use std::process::Abort;
 use std::test::Fail;
@@ -8,33 +8,39 @@ use std::test::Fail;
 /// A header up to the line `code`.
 const HEADER: &str = "pram 1/cells 1/procs 1/steps 1/code/";
 
-// Whether the text is refused by this fault at this line.
-fn is_refused(alloc: Global, text: &[u8], line: u64, kind: TextKind) -> bool {
-    read_job(alloc, text).err() == Some(TextFault { line, kind })
+// A text in which `/` stands for a line feed.
+fn lines_of(alloc: Global, row: &str) -> Result<String, AllocError> {
+    row.replace(alloc, "/", "\n")
 }
 
-// A text in which `/` stands for a line feed.
-fn lines_of(alloc: Global, row: &str) -> Result<Vec<u8>, AllocError> {
-    row.bytes()
-        .map(|byte| if byte == b'/' { b'\n' } else { byte })
-        .collect(alloc)
+// The line and the kind of a text's fault, or nothing.
+fn fault_of(alloc: Global, text: &[u8]) -> Result<String, AllocError> {
+    match read_job(alloc, text) {
+        Ok(_) => Ok(String::new(alloc)),
+        Err(TextFault { line, kind }) => format!(in alloc; "{line} {kind:?}"),
+    }
+}
+
+// Checks that a text has this fault, or none where nothing is said.
+fn expect_fault<R: AllocGlobal + Abort>(rt: &R, text: &[u8], fault: &str) -> Result<(), Fail> {
+    let found = fault_of(rt.alloc(), text)?;
+    assert!(rt; found.as_str() == fault, "{found} {fault}");
+    Ok(())
+}
+
+// The rest of a row's text, and its fault.
+fn columns_of(row: &str) -> Option<(&str, &str)> {
+    let (_, columns) = row.split_once(" | ")?;
+    columns.split_once(" | ")
 }
 
 // Checks the refusals of texts that begin with this head. Each line of the table names a row, and
 // has the rest of its text, and the line and the kind of its fault.
 fn all_refused<R: AllocGlobal + Abort>(rt: &R, head: &str, table: &str) -> Result<(), Fail> {
     for row in table.lines() {
-        let mut columns = row.split(" | ").skip(1);
-        let (Some(rest), Some(fault)) = (columns.next(), columns.next()) else {
-            panic!(rt; "{row}");
-        };
-        let mut text = lines_of(rt.alloc(), head)?;
-        text.extend_from_slice(lines_of(rt.alloc(), rest)?.as_slice())?;
-        let told = match read_job(rt.alloc(), &text) {
-            Ok(_) => String::new(rt.alloc()),
-            Err(TextFault { line, kind }) => format!(in rt.alloc(); "{line} {kind:?}")?,
-        };
-        assert!(rt; told.as_str() == fault, "{row}");
+        let (rest, fault) = columns_of(row).expect(rt, row);
+        let text = format!(in rt.alloc(); "{head}{rest}")?;
+        expect_fault(rt, lines_of(rt.alloc(), text.as_str())?.as_bytes(), fault)?;
     }
     Ok(())
 }
@@ -83,50 +89,45 @@ fn refused_instructions(rt: HostRuntime) -> Result<(), Fail> {
 
 #[test]
 fn a_comment_with_a_byte_that_is_not_allowed(rt: HostRuntime) -> Result<(), Fail> {
-    let mut text = lines_of(rt.alloc(), HEADER)?;
-    text.extend_from_slice(b"; \xff\nhalt\n")?;
-    assert!(rt; is_refused(rt.alloc(), &text, 6, TextKind::NotAscii));
-    Ok(())
+    let text = b"pram 1\ncells 1\nprocs 1\nsteps 1\ncode\n; \xff\nhalt\n";
+    expect_fault(&rt, text, "6 NotAscii")
 }
 
-/// The header, `first`, so many times `again`, and `last`.
+// The header, `first`, so many times `again`, and `last`.
 fn repeated(
     alloc: Global,
-    first: &[u8],
-    again: &[u8],
+    first: &str,
+    again: &str,
     times: u32,
-    last: &[u8],
-) -> Result<Vec<u8>, Fail> {
-    let mut text = lines_of(alloc, HEADER)?;
-    text.extend_from_slice(first)?;
+    last: &str,
+) -> Result<String, AllocError> {
+    let row = format!(in alloc; "{HEADER}{first}")?;
+    let mut text = lines_of(alloc, row.as_str())?;
     for _ in 0..times {
-        text.extend_from_slice(again)?;
+        text.push_str(again)?;
     }
-    text.extend_from_slice(last)?;
+    text.push_str(last)?;
     Ok(text)
 }
 
 #[test]
 fn one_instruction_too_many(rt: HostRuntime) -> Result<(), Fail> {
-    let lines = repeated(rt.alloc(), b"", b"halt\n", 4097, b"")?;
-    assert!(rt; is_refused(rt.alloc(), &lines, 4102, TextKind::TooLong));
-    let full = repeated(rt.alloc(), b"", b"halt\n", 4096, b"")?;
-    assert!(rt; read_job(rt.alloc(), &full).err() == None);
-    Ok(())
+    let lines = repeated(rt.alloc(), "", "halt\n", 4097, "")?;
+    expect_fault(&rt, lines.as_bytes(), "4102 TooLong")?;
+    let full = repeated(rt.alloc(), "", "halt\n", 4096, "")?;
+    expect_fault(&rt, full.as_bytes(), "")
 }
 
 #[test]
 fn a_million_digits(rt: HostRuntime) -> Result<(), Fail> {
-    let digits = repeated(rt.alloc(), b"set r0 ", b"9", 1_000_000, b"\n")?;
-    assert!(rt; is_refused(rt.alloc(), &digits, 6, TextKind::OutOfLimits));
-    Ok(())
+    let digits = repeated(rt.alloc(), "set r0 ", "9", 1_000_000, "\n")?;
+    expect_fault(&rt, digits.as_bytes(), "6 OutOfLimits")
 }
 
 #[test]
 fn a_label_of_many_letters(rt: HostRuntime) -> Result<(), Fail> {
-    let label = repeated(rt.alloc(), b"", b"a", 100_000, b": halt\n")?;
-    assert!(rt; read_job(rt.alloc(), &label).err() == None);
-    Ok(())
+    let label = repeated(rt.alloc(), "", "a", 100_000, ": halt\n")?;
+    expect_fault(&rt, label.as_bytes(), "")
 }
 
 // Whether both are the same place.
@@ -208,7 +209,7 @@ const LATER: &str = "pram 3/cells 9/procs 1/steps 1/rule crew/";
 
 #[test]
 fn version_3(rt: HostRuntime) -> Result<(), Fail> {
-    let mut text = lines_of(rt.alloc(), LATER)?;
+    let mut text = lines_of(rt.alloc(), LATER)?.into_bytes();
     for part in [
         "array A 2 4\narray .r0 8 1\ninit 1 7 8 9\ninit 0 6\ncode\n",
         "a: add r0 r1 4294967295\neq r0 r1 r2\nshl r0 r1 31\nshr r2 r3 r0\n",
@@ -290,36 +291,51 @@ fn version_3_alone(rt: HostRuntime) -> Result<(), Fail> {
     )
 }
 
+const RULES: &str = "\
+pram 2/cells 1/procs 1/steps 1/rule common/ | Common
+pram 2/cells 1/procs 1/steps 1/rule priority/ | Priority
+pram 2/cells 1/procs 1/steps 1/rule crew/ | Crew
+pram 1/cells 1/procs 1/steps 1/ | Common
+";
+
+// The name of the rule of a header.
+fn rule_of(alloc: Global, head: &str) -> Result<String, Fail> {
+    let row = format!(in alloc; "{head}code/halt/")?;
+    let job = read_job(alloc, lines_of(alloc, row.as_str())?.as_bytes())?;
+    Ok(format!(in alloc; "{:?}", job.rule())?)
+}
+
 #[test]
 fn rules(rt: HostRuntime) -> Result<(), Fail> {
-    for (head, rule) in [
-        ("pram 2/cells 1/procs 1/steps 1/rule common/", Rule::Common),
-        (
-            "pram 2/cells 1/procs 1/steps 1/rule priority/",
-            Rule::Priority,
-        ),
-        ("pram 2/cells 1/procs 1/steps 1/rule crew/", Rule::Crew),
-        ("pram 1/cells 1/procs 1/steps 1/", Rule::Common),
-    ] {
-        let mut text = lines_of(rt.alloc(), head)?;
-        text.extend_from_slice(b"code\nhalt\n")?;
-        assert!(rt; read_job(rt.alloc(), &text)?.rule() == rule, "{head}");
+    for row in RULES.lines() {
+        let (head, wanted) = row.split_once(" | ").expect(&rt, row);
+        let found = rule_of(rt.alloc(), head)?;
+        assert!(rt; found.as_str() == wanted, "{head}");
     }
     Ok(())
 }
 
+const WHOLE: &[u8] = b"\
+pram 1
+cells 5
+procs 4
+steps 5
+init 1 1
+init 3 1
+code
+pid r0
+ld r1 r0
+jz r1 end
+set r2 4
+st r2 r1
+end: halt
+";
+
 #[test]
-fn beginnings_of_a_text(rt: HostRuntime) -> Result<(), Fail> {
-    let header = b"pram 1\ncells 5\nprocs 4\nsteps 5\ninit 1 1\ninit 3 1\ncode\n";
-    let mut text = header.to_vec(rt.alloc())?;
-    text.extend_from_slice(b"pid r0\nld r1 r0\njz r1 end\nset r2 4\nst r2 r1\nend: halt\n")?;
-    for len in 0..text.len() {
-        let answer = read_job(rt.alloc(), &text[..len]);
-        assert_eq!(rt;
-            answer.is_ok(),
-            matches!(len, 60 | 61 | 69 | 70 | 107),
-            "{len} bytes"
-        );
+fn beginnings_of_a_text(rt: HostRuntime) {
+    for len in 0..WHOLE.len() {
+        let is_read = read_job(rt.alloc(), &WHOLE[..len]).is_ok();
+        let wanted = matches!(len, 60 | 61 | 69 | 70 | 107);
+        assert!(rt; is_read == wanted, "{len} bytes");
     }
-    Ok(())
 }

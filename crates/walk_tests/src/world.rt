@@ -2,6 +2,7 @@
 ghost use Rattle.std.specs.Prelude.{◌≡◌, IfOk};
 
 use crate::worker::{Bench, WRITTEN, sees_the_older_value};
+use pram_job::Job;
 use pram_step::{Fault, RunAnswer};
 use pram_text::read_job;
 use pram_words::Layout;
@@ -83,40 +84,55 @@ fn end_of(row: &Row) -> Ended {
     }
 }
 
-// Worker 0 is lost after each number of its steps, and comes back once worker 1 is over.
-fn survives_a_loss(rt: &(impl AllocGlobal + Abort), row: &Row) -> Result<(), Fail> {
+// Worker 0 is lost after so many steps, and comes back once worker 1 is over. It tells whether it
+// was over before.
+fn lost(rt: &(impl AllocGlobal + Abort), row: &Row, steps: u32) -> Result<bool, Fail> {
     let end = end_of(row);
+    let mut lost = world(rt, row.text)?;
+    if go(&mut lost, 0, steps) {
+        return Ok(true);
+    }
+    lost.event(Event::Stop(0));
+    assert!(rt; lost.finish(0).is_none());
+    assert!(rt; lost.finish(1) == Some(end), "{steps} steps");
+    assert!(rt; is_answer(&lost, row)?, "{steps} steps");
+    lost.event(Event::Back(0));
+    assert!(rt; lost.finish(0) == Some(end), "{steps} steps");
+    Ok(false)
+}
+
+// Worker 0 and its twin take turns, until worker 0 is lost after so many steps. It tells whether it
+// was over before.
+fn twinned(rt: &(impl AllocGlobal + Abort), row: &Row, steps: u32) -> Result<bool, Fail> {
+    let mut twins = world(rt, row.text)?;
+    let twin = twins.twin(0)?;
+    for _ in 0..steps {
+        twins.event(Event::Go(0));
+        twins.event(Event::Go(twin));
+    }
+    if !twins.is_going(0) {
+        return Ok(true);
+    }
+    twins.event(Event::Stop(0));
+    assert!(rt; twins.finish(twin) == Some(end_of(row)), "{steps} steps");
+    assert!(rt; is_answer(&twins, row)?, "{steps} steps");
+    Ok(false)
+}
+
+fn survives_a_loss(rt: &(impl AllocGlobal + Abort), row: &Row) -> Result<(), Fail> {
     for steps in 0..2000 {
-        let mut lost = world(rt, row.text)?;
-        if go(&mut lost, 0, steps) {
+        if lost(rt, row, steps)? {
             return Ok(());
         }
-        lost.event(Event::Stop(0));
-        assert!(rt; lost.finish(0).is_none());
-        assert!(rt; lost.finish(1) == Some(end), "{steps} steps");
-        assert!(rt; is_answer(&lost, row)?, "{steps} steps");
-        lost.event(Event::Back(0));
-        assert!(rt; lost.finish(0) == Some(end), "{steps} steps");
     }
     panic!(rt; "not over")
 }
 
-// Worker 0 and its twin take turns, until worker 0 is lost after each number of its steps.
 fn survives_beside_a_twin(rt: &(impl AllocGlobal + Abort), row: &Row) -> Result<(), Fail> {
-    let end = end_of(row);
     for steps in 0..2000 {
-        let mut twins = world(rt, row.text)?;
-        let twin = twins.twin(0)?;
-        for _ in 0..steps {
-            twins.event(Event::Go(0));
-            twins.event(Event::Go(twin));
-        }
-        if !twins.is_going(0) {
+        if twinned(rt, row, steps)? {
             return Ok(());
         }
-        twins.event(Event::Stop(0));
-        assert!(rt; twins.finish(twin) == Some(end), "{steps} steps");
-        assert!(rt; is_answer(&twins, row)?, "{steps} steps");
     }
     panic!(rt; "not over")
 }
@@ -214,39 +230,61 @@ fn a_read_between_two_steps_sees_the_older_one(rt: HostRuntime) -> Result<(), Fa
     Ok(())
 }
 
+// What is read again where memory was refused.
+fn read_again(rt: &impl AllocGlobal, text: &str) -> Result<Job, Fail> {
+    match read_job(rt.alloc(), text.as_bytes()) {
+        Ok(job) => Ok(job),
+        Err(_) => Ok(read_job(rt.alloc(), text.as_bytes())?),
+    }
+}
+
+// A world of two workers. Where memory is refused, the same call is made again.
+fn world_again(rt: &impl AllocGlobal, job: &Job, refused: &mut u32) -> Result<World, Fail>
+    ensures { IfOk result (λ w. w.layout.workers ≡ 2) }
+{
+    match World::new(rt.alloc(), job, 2) {
+        Ok(world) => Ok(world),
+        Err(_) => {
+            *refused = 1;
+            Ok(World::new(rt.alloc(), job, 2)?)
+        }
+    }
+}
+
+// A twin of worker 1, likewise.
+fn twin_again(world: &mut World, refused: &mut u32) -> Result<usize, Fail>
+    requires { world.old.layout.workers ≡ 2 }
+{
+    match world.twin(1) {
+        Ok(twin) => Ok(twin),
+        Err(_) => {
+            *refused = 1;
+            Ok(world.twin(1)?)
+        }
+    }
+}
+
+// How a world ended, likewise.
+fn outcome_again(world: &World, refused: &mut u32) -> Result<RunAnswer, Fail> {
+    match world.outcome() {
+        Ok(answer) => Ok(answer),
+        Err(_) => {
+            *refused = 1;
+            Ok(world.outcome()?)
+        }
+    }
+}
+
 // A growth that is refused, as by `rt try --fail-alloc`, is told, and the same call then succeeds.
 // It prints whether one was.
 #[test]
 fn refused_growths_change_nothing(rt: HostRuntime) -> Result<(), Fail> {
-    let alloc = rt.alloc();
     let mut refused = 0u32;
-    let job = match read_job(alloc, DISPUTED.as_bytes()) {
-        Ok(job) => job,
-        Err(_) => read_job(alloc, DISPUTED.as_bytes())?,
-    };
-    let mut world = match World::new(alloc, &job, 2) {
-        Ok(world) => world,
-        Err(_) => {
-            refused = 1;
-            World::new(alloc, &job, 2)?
-        }
-    };
-    let twin = match world.twin(1) {
-        Ok(twin) => twin,
-        Err(_) => {
-            refused = 1;
-            world.twin(1)?
-        }
-    };
+    let job = read_again(&rt, DISPUTED)?;
+    let mut world = world_again(&rt, &job, &mut refused)?;
+    let twin = twin_again(&mut world, &mut refused)?;
     assert!(rt; world.finish(twin) == Some(Ended::Conflict(5)));
-    let answer = match world.outcome() {
-        Ok(answer) => answer,
-        Err(_) => {
-            refused = 1;
-            world.outcome()?
-        }
-    };
-    match answer {
+    match outcome_again(&world, &mut refused)? {
         RunAnswer::Conflict(found) => assert!(rt; Some(found) == AT_STEP_FIVE),
         _ => panic!(rt; "no conflict"),
     }

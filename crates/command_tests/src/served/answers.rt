@@ -1,6 +1,6 @@
 //! What lines write for a text, and their statuses. In rows `/` stands for
 //! a line feed.
-use crate::served::{CHECK, COMPILE, COST, FILE, PLAIN, TWO, expect, expect_table};
+use crate::served::{CHECK, COMPILE, COST, FILE, PLAIN, TWO, expect};
 use pram_commands::{Line, Workers};
 use std::test::Fail;
 
@@ -107,7 +107,7 @@ pram 1/cells 1/procs 1/steps 1/code/ | 2 text line=6 kind=NoCode/
 
 #[test]
 fn plain_answers(rt: HostRuntime) -> Result<(), Fail> {
-    expect_table(&rt, rt.alloc(), &PLAIN, PLAIN_ROWS)
+    expect(&rt, rt.alloc(), &PLAIN, PLAIN_ROWS)
 }
 
 const CHECK_ROWS: &str = "\
@@ -135,7 +135,7 @@ pram 1/cells 1/procs 1/steps 1/code/jmp x/ | 2 text line=6 kind=UnknownLabel/
 
 #[test]
 fn check_says_how_large_a_job_is(rt: HostRuntime) -> Result<(), Fail> {
-    expect_table(&rt, rt.alloc(), &CHECK, CHECK_ROWS)
+    expect(&rt, rt.alloc(), &CHECK, CHECK_ROWS)
 }
 
 const COMPILE_ROWS: &str = "\
@@ -153,7 +153,7 @@ pram 1/cells 1/procs 1/steps 1/code/jmp x/ | 2 text line=6 kind=UnknownLabel/
 
 #[test]
 fn compile_prints_a_text_of_the_machine(rt: HostRuntime) -> Result<(), Fail> {
-    expect_table(&rt, rt.alloc(), &COMPILE, COMPILE_ROWS)
+    expect(&rt, rt.alloc(), &COMPILE, COMPILE_ROWS)
 }
 
 const COST_ROWS: &str = "\
@@ -169,7 +169,7 @@ pram 1/cells 1/procs 1/steps 1/code/ | 2 text line=6 kind=NoCode/
 
 #[test]
 fn cost_answers(rt: HostRuntime) -> Result<(), Fail> {
-    expect_table(&rt, rt.alloc(), &COST, COST_ROWS)
+    expect(&rt, rt.alloc(), &COST, COST_ROWS)
 }
 
 const STEPS_ROWS: &str = "\
@@ -190,89 +190,64 @@ pram 1/cells 1/procs 1/steps 1/code/ | 2 text line=6 kind=NoCode/
 
 #[test]
 fn steps_answers(rt: HostRuntime) -> Result<(), Fail> {
-    expect_table(&rt, rt.alloc(), &STEPS, STEPS_ROWS)
+    expect(&rt, rt.alloc(), &STEPS, STEPS_ROWS)
 }
 
 // Rows without the answer: the status tells how the job ended.
+const ROWS_ALONE: &str = "\
+pram 1/cells 1/procs 2/steps 2/code/pid r0/st r1 r0/ \
+    | 1 step,processor,place,instruction,writes,value,next/2,0,1,st r1 r0,cell 0,0,2/\
+    2,1,1,st r1 r0,cell 0,1,2/
+pram 1/cells 1/procs 1/steps 2/code/halt/ \
+    | 0 step,processor,place,instruction,writes,value,next/2,0,1,halted,,,1/
+pardo 1/rule common/procs i < 2/shared s/code/;/s := i/ \
+    | 1 step,processor,place,instruction,writes,value,next,line/\
+    2,0,1,st 0..0 0 r3,cell 0,0,2,7/2,1,1,st 0..0 0 r3,cell 0,1,2,7/
+";
+
 #[test]
 fn rows_stand_alone(rt: HostRuntime) -> Result<(), Fail> {
-    let rows = [
-        (
-            "pram 1/cells 1/procs 2/steps 2/code/pid r0/st r1 r0/",
-            "",
-            "step,processor,place,instruction,writes,value,next/\
-             2,0,1,st r1 r0,cell 0,0,2/\
-             2,1,1,st r1 r0,cell 0,1,2/",
-            1,
-        ),
-        (
-            "pram 1/cells 1/procs 1/steps 2/code/halt/",
-            "",
-            "step,processor,place,instruction,writes,value,next/\
-             2,0,1,halted,,,1/",
-            0,
-        ),
-        (
-            "pardo 1/rule common/procs i < 2/shared s/code/;/s := i/",
-            "",
-            "step,processor,place,instruction,writes,value,next,line/\
-             2,0,1,st 0..0 0 r3,cell 0,0,2,7/\
-             2,1,1,st 0..0 0 r3,cell 0,1,2,7/",
-            1,
-        ),
-    ];
-    expect(&rt, rt.alloc(), &STEPS_ALONE, &rows)?;
-    let rows = [(
-        "pram 1/cells 1/procs 1/steps 0/code/halt/",
-        "",
-        "tick,worker,op,word,before,after/1,0,load,1,0,0/2,0,load,0,0,0/",
-        0,
-    )];
-    expect(&rt, rt.alloc(), &REPLAY_ALONE, &rows)?;
-    let rows = [(
-        "pram 1/cells 1/procs 1/steps 0/init 0 5/code/halt/",
-        "",
-        "tick,worker,op,word,before,after/1,0,load,1,0,0/2,0,load,0,0,0/done steps=0/0: 5/",
-        0,
-    )];
-    expect(&rt, rt.alloc(), &REPLAY, &rows)
+    expect(&rt, rt.alloc(), &STEPS_ALONE, ROWS_ALONE)
 }
+
+const REPLAYED_ALONE: &str = "\
+pram 1/cells 1/procs 1/steps 0/code/halt/ \
+    | 0 tick,worker,op,word,before,after/1,0,load,1,0,0/2,0,load,0,0,0/
+";
+
+const REPLAYED: &str = "\
+pram 1/cells 1/procs 1/steps 0/init 0 5/code/halt/ \
+    | 0 tick,worker,op,word,before,after/1,0,load,1,0,0/2,0,load,0,0,0/done steps=0/0: 5/
+";
+
+#[test]
+fn replayed_rows_stand_alone(rt: HostRuntime) -> Result<(), Fail> {
+    expect(&rt, rt.alloc(), &REPLAY_ALONE, REPLAYED_ALONE)?;
+    expect(&rt, rt.alloc(), &REPLAY, REPLAYED)
+}
+
+const WHY_ROWS: &str = "\
+pram 1/cells 1/procs 4/steps 9/code/pid r0/set r1 1/and r2 r0 r1//\
+    ; the even ones leave/jz r2 end/round: jmp round/end: halt/ \
+    | 0 done steps=9/0: 0/running count=2 first=1 line=12/
+pram 1/cells 2/procs 4/steps 9/init 0 5/code/pid r0/ld r1 r0/st r0 r1/ \
+    | 0 done steps=9/0: 5/1: 0/stopped step=3/lost processor=2 step=2 line=8/
+pram 1/cells 2/procs 4/steps 9/code/pid r0/ld r1 r0/set r2 0/st r2 r0/ \
+    | 1 conflict step=4 cell=0 processors=0,1/lost processor=2 step=2 line=7/
+pram 1/cells 1/procs 3/steps 2/code/pid r0/st r1 r0/ \
+    | 1 conflict step=2 cell=0 processors=0,1/
+";
+
+// An unfinished run speaks of the step that its answer names: after one step more the processor had
+// stopped.
+const UNFINISHED: &str = "\
+pram 1/cells 1/procs 1/steps 1/code/set r0 7/ under 0,stop,0/1,stop,0/ \
+    | 3 unfinished step=0/running count=1 first=0 line=6/
+";
 
 #[test]
 fn answers_say_what_became_of_the_processors(rt: HostRuntime) -> Result<(), Fail> {
-    let rows = [
-        (
-            "pram 1/cells 1/procs 4/steps 9/code/pid r0/set r1 1/and r2 r0 r1//\
-             ; the even ones leave/jz r2 end/round: jmp round/end: halt/",
-            "",
-            "done steps=9/0: 0/running count=2 first=1 line=12/",
-            0,
-        ),
-        (
-            "pram 1/cells 2/procs 4/steps 9/init 0 5/code/pid r0/ld r1 r0/st r0 r1/",
-            "",
-            "done steps=9/0: 5/1: 0/stopped step=3/lost processor=2 step=2 line=8/",
-            0,
-        ),
-        (
-            "pram 1/cells 2/procs 4/steps 9/code/pid r0/ld r1 r0/set r2 0/st r2 r0/",
-            "",
-            "conflict step=4 cell=0 processors=0,1/lost processor=2 step=2 line=7/",
-            1,
-        ),
-        (
-            "pram 1/cells 1/procs 3/steps 2/code/pid r0/st r1 r0/",
-            "",
-            "conflict step=2 cell=0 processors=0,1/",
-            1,
-        ),
-    ];
-    expect(&rt, rt.alloc(), &PLAIN_WHY, &rows)?;
-    expect(&rt, rt.alloc(), &RUN_WHY, &rows)?;
-    // An unfinished run speaks of the step that its answer names: after one step more the
-    // processor had stopped.
-    let unfinished = "unfinished step=0/running count=1 first=0 line=6/";
-    let plan = "0,stop,0/1,stop,0/";
-    let text = "pram 1/cells 1/procs 1/steps 1/code/set r0 7/";
-    expect(&rt, rt.alloc(), &RUN_WHY, &[(text, plan, unfinished, 3)])
+    expect(&rt, rt.alloc(), &PLAIN_WHY, WHY_ROWS)?;
+    expect(&rt, rt.alloc(), &RUN_WHY, WHY_ROWS)?;
+    expect(&rt, rt.alloc(), &RUN_WHY, UNFINISHED)
 }

@@ -1,5 +1,5 @@
 //! What is printed of a text's answer and of its costs.
-use crate::served::{COST, PLAIN, expect};
+use crate::served::{COST, PLAIN, Row, expect_row, row_of};
 use std::alloc::Global;
 use std::process::Abort;
 use std::rt::Clock;
@@ -7,19 +7,23 @@ use std::sync::Wait;
 use std::test::Fail;
 use std::thread::Threads;
 
-/// A text, its answer, and what its run costs.
-pub type CostRow = (&'static str, &'static str, &'static str);
+// A row with its answer, and what its run costs.
+fn cost_row_of(line: &str) -> Option<(Row<'_>, &str)> {
+    let (answered, cost) = line.rsplit_once(" | ")?;
+    Some((row_of(answered)?, cost))
+}
 
-/// Runs each job on the plain machine, and says what that costs.
+/// Runs each job of a table on the plain machine, and says what that costs.
 pub fn expect_costs<R: Abort + Threads + Wait + Clock + Eprint + Sync>(
     rt: &R,
     alloc: Global,
-    rows: &[CostRow],
+    table: &str,
 ) -> Result<(), Fail> {
-    for (text, answer, cost) in rows {
-        let status = u8::from(answer.starts_with("conflict"));
-        expect(rt, alloc, &PLAIN, &[(*text, "", *answer, status)])?;
-        expect(rt, alloc, &COST, &[(*text, "", *cost, status)])?;
+    for line in table.lines() {
+        let (row, cost) = cost_row_of(line).expect(rt, line);
+        expect_row(rt, alloc, &PLAIN, row)?;
+        let written = cost;
+        expect_row(rt, alloc, &COST, Row { written, ..row })?;
     }
     Ok(())
 }

@@ -3,6 +3,7 @@ use crate::served::{CHECK, of_text};
 use pram_commands::{CommandFault, Console, Explanation, Line, Reasons, Workers, serve};
 use pram_streams::{IntoWrite, Reason};
 use pram_text::TextKind;
+use std::alloc::{AllocError, Global};
 use std::test::Fail;
 use stop_plan::PlanKind;
 
@@ -13,53 +14,56 @@ const REPLAY: Line<'static> = Line::Replay {
     alone: false,
 };
 
-#[test]
-fn each_fault_has_a_sentence(rt: HostRuntime) -> Result<(), Fail> {
-    let text = CommandFault::Text {
+const FAULTS: [CommandFault; 9] = [
+    CommandFault::Text {
         line: 7,
         kind: TextKind::UnknownInstruction,
-    };
-    let plan = CommandFault::Plan {
+    },
+    CommandFault::Plan {
         row: 2,
         kind: PlanKind::AfterStop,
+    },
+    CommandFault::OutsideCell { cell: 9 },
+    CommandFault::OutsideStep { step: 5 },
+    CommandFault::JobDevice,
+    CommandFault::PlanDevice,
+    CommandFault::JobTooLarge,
+    CommandFault::OutDevice,
+    CommandFault::Memory,
+];
+
+const SENTENCES: &str = "\
+sum.pram, line 7: no instruction stands here
+standard input, row 2: an earlier row stops this worker
+sum.pram: the job has no cell 9
+sum.pram: the job has no step 5
+sum.pram: there is no such file
+standard input: it is a folder
+sum.pram: it has more than 16,777,216 bytes
+standard output takes no more
+out of memory, or the system refused a thread
+";
+
+// Tells the sentence of a fault, below those of the faults before it.
+fn tell(alloc: Global, fault: CommandFault, told: &mut String) -> Result<(), AllocError> {
+    let explanation = Explanation {
+        line: REPLAY,
+        fault,
+        reasons: Reasons {
+            job: Reason::Missing,
+            plan: Reason::Folder,
+        },
     };
-    for (fault, said) in [
-        (text, "sum.pram, line 7: no instruction stands here\n"),
-        (
-            plan,
-            "standard input, row 2: an earlier row stops this worker\n",
-        ),
-        (
-            CommandFault::OutsideCell { cell: 9 },
-            "sum.pram: the job has no cell 9\n",
-        ),
-        (
-            CommandFault::OutsideStep { step: 5 },
-            "sum.pram: the job has no step 5\n",
-        ),
-        (CommandFault::JobDevice, "sum.pram: there is no such file\n"),
-        (CommandFault::PlanDevice, "standard input: it is a folder\n"),
-        (
-            CommandFault::JobTooLarge,
-            "sum.pram: it has more than 16,777,216 bytes\n",
-        ),
-        (CommandFault::OutDevice, "standard output takes no more\n"),
-        (
-            CommandFault::Memory,
-            "out of memory, or the system refused a thread\n",
-        ),
-    ] {
-        let explanation = Explanation {
-            line: REPLAY,
-            fault,
-            reasons: Reasons {
-                job: Reason::Missing,
-                plan: Reason::Folder,
-            },
-        };
-        let told = format!(in rt.alloc(); "{explanation}")?;
-        assert!(rt; told.as_str() == said);
+    told.push_str(format!(in alloc; "{explanation}")?.as_str())
+}
+
+#[test]
+fn each_fault_has_a_sentence(rt: HostRuntime) -> Result<(), Fail> {
+    let mut told = String::new(rt.alloc());
+    for fault in FAULTS {
+        tell(rt.alloc(), fault, &mut told)?;
     }
+    assert!(rt; told.as_str() == SENTENCES, "{told}");
     Ok(())
 }
 

@@ -6,6 +6,7 @@ use failing_devices::Drip;
 use pram_commands::{CommandFault, Sources, check, plain};
 use pram_streams::{Empty, IntoWrite, MOST, Source};
 use pram_text::TextKind;
+use std::process::Abort;
 use std::test::Fail;
 
 const TEXT: &[u8] = b"\
@@ -46,47 +47,65 @@ fn dripped(pulls: usize) -> Sources<Drip<'static>, Empty>
     }
 }
 
+// A plain run whose source fails after so many bytes prints nothing.
+fn plain_fails_after<R: AllocGlobal + Abort>(rt: &R, pulls: usize) {
+    let mut sink = IntoWrite::new(Vec::new(rt.alloc()));
+    let answer = plain(rt.alloc(), false, &mut dripped(pulls), &mut sink);
+    assert!(rt; answer.err() == Some(CommandFault::JobDevice), "at {pulls}");
+    assert!(rt; sink.into_inner().is_empty());
+}
+
+// Nor does a check.
+fn check_fails_after<R: AllocGlobal + Abort>(rt: &R, pulls: usize) {
+    let mut sink = IntoWrite::new(Vec::new(rt.alloc()));
+    let checked = check(rt.alloc(), &mut dripped(pulls), &mut sink);
+    assert!(rt; checked == Err(CommandFault::JobDevice), "at {pulls}");
+    assert!(rt; sink.into_inner().is_empty());
+}
+
 #[test]
 fn nothing_is_printed_where_a_pull_fails(rt: HostRuntime) -> Result<(), Fail> {
-    let alloc = rt.alloc();
     for pulls in 0..=TEXT.len() {
-        let mut sink = IntoWrite::new(Vec::new(alloc));
-        let answer = plain(alloc, false, &mut dripped(pulls), &mut sink);
-        assert!(rt; answer.err() == Some(CommandFault::JobDevice), "at {pulls}");
-        assert!(rt; sink.into_inner().is_empty());
-        let mut sink = IntoWrite::new(Vec::new(alloc));
-        let checked = check(alloc, &mut dripped(pulls), &mut sink);
-        assert!(rt; checked == Err(CommandFault::JobDevice), "at {pulls}");
-        assert!(rt; sink.into_inner().is_empty());
+        plain_fails_after(&rt, pulls);
+        check_fails_after(&rt, pulls);
     }
     // one pull more finds the end
-    let mut sink = IntoWrite::new(Vec::new(alloc));
-    plain(alloc, false, &mut dripped(TEXT.len() + 1), &mut sink)?;
+    let mut sink = IntoWrite::new(Vec::new(rt.alloc()));
+    plain(rt.alloc(), false, &mut dripped(TEXT.len() + 1), &mut sink)?;
     assert!(rt; sink.into_inner().as_slice() == ANSWER);
     Ok(())
 }
 
+// A plain run into an output with so little room fills it with a beginning of the answer.
+fn plain_fills<R: AllocGlobal + Abort>(rt: &R, pushes: usize) {
+    let mut room = [0u8; 256];
+    let mut sink = IntoWrite::new(&mut room[..pushes.min(256)]);
+    let answer = plain(rt.alloc(), false, &mut of_text(TEXT), &mut sink);
+    assert!(rt;
+        answer.err() == Some(CommandFault::OutDevice),
+        "at {pushes}"
+    );
+    assert!(rt; sink.into_inner().is_empty());
+    assert!(rt; ANSWER.starts_with(&room[..pushes.min(256)]));
+}
+
+// So does a check.
+fn check_fills<R: AllocGlobal + Abort>(rt: &R, pushes: usize) {
+    let mut room = [0u8; 256];
+    let mut sink = IntoWrite::new(&mut room[..pushes.min(256)]);
+    let checked = check(rt.alloc(), &mut of_text(TEXT), &mut sink);
+    assert!(rt; checked == Err(CommandFault::OutDevice), "at {pushes}");
+    assert!(rt; sink.into_inner().is_empty());
+    assert!(rt; SUMMARY.starts_with(&room[..pushes.min(256)]));
+}
+
 #[test]
 fn a_beginning_is_printed_where_a_push_fails(rt: HostRuntime) {
-    let alloc = rt.alloc();
     for pushes in 0..ANSWER.len() {
-        let mut room = [0u8; 256];
-        let mut sink = IntoWrite::new(&mut room[..pushes.min(256)]);
-        let answer = plain(alloc, false, &mut of_text(TEXT), &mut sink);
-        assert!(rt;
-            answer.err() == Some(CommandFault::OutDevice),
-            "at {pushes}"
-        );
-        assert!(rt; sink.into_inner().is_empty());
-        assert!(rt; ANSWER.starts_with(&room[..pushes.min(256)]));
+        plain_fills(&rt, pushes);
     }
     for pushes in 0..SUMMARY.len() {
-        let mut room = [0u8; 256];
-        let mut sink = IntoWrite::new(&mut room[..pushes.min(256)]);
-        let checked = check(alloc, &mut of_text(TEXT), &mut sink);
-        assert!(rt; checked == Err(CommandFault::OutDevice), "at {pushes}");
-        assert!(rt; sink.into_inner().is_empty());
-        assert!(rt; SUMMARY.starts_with(&room[..pushes.min(256)]));
+        check_fills(&rt, pushes);
     }
 }
 

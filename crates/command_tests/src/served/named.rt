@@ -2,16 +2,25 @@
 //! refused.
 ghost use Rattle.std.specs.Prelude.{◌≤◌};
 
-use crate::served::programs::PROGRAMS;
-use crate::served::{CHECK, COMPILE, COST, FILE, PLAIN, of_text, serve_text};
+use crate::served::programs::{BETWEEN, Program, gallery, program_of};
+use crate::served::{
+    CHECK, COMPILE, COST, FILE, PLAIN, Served, expect_status, expect_written, of_text, serve_text,
+};
 use pram_commands::{Console, Line, Manner, Telling, Workers, serve};
 use pram_streams::IntoWrite;
-use std::alloc::Global;
+use std::alloc::{AllocError, Global};
 use std::process::Abort;
 use std::rt::Clock;
 use std::sync::Wait;
 use std::test::Fail;
 use std::thread::Threads;
+
+const REPLAY: Line<'static> = Line::Replay {
+    file: FILE,
+    workers: Workers { count: 2 },
+    plan: None,
+    alone: false,
+};
 
 // A run by so many workers.
 fn run_by(count: u32) -> Line<'static>
@@ -31,25 +40,24 @@ fn run_by(count: u32) -> Line<'static>
     }
 }
 
-// The line prints this of the text, and nothing on standard error.
+// The line prints this of the program, and nothing on standard error.
 fn expect_answer<R: AllocGlobal + Abort + Threads + Wait + Clock + Eprint + Sync>(
     rt: &R,
     line: &Line<'_>,
-    text: &str,
+    program: Program<'_>,
     answer: &str,
-    status: u8,
 ) {
-    let served = serve_text(rt, rt.alloc(), line, text.as_bytes());
-    assert!(rt; served.out.as_slice() == answer.as_bytes(), "{text}");
-    assert!(rt; served.err.is_empty(), "{text}");
-    assert!(rt; served.status == status, "{text}");
+    let served = serve_text(rt, rt.alloc(), line, program.text.as_bytes());
+    expect_status(rt, &served, program.status, program.text);
+    expect_written(rt, &served, answer, program.text);
 }
 
 #[test]
 fn programs_are_answered_by_names(rt: HostRuntime) {
-    for (text, answer, _, status) in PROGRAMS {
-        for line in [PLAIN, run_by(1), run_by(3)] {
-            expect_answer(&rt, &line, text, answer, status);
+    for line in [PLAIN, run_by(1), run_by(3)] {
+        for piece in gallery().split(BETWEEN) {
+            let program = program_of(piece).expect(&rt, piece);
+            expect_answer(&rt, &line, program, program.answer);
         }
     }
 }
@@ -57,45 +65,62 @@ fn programs_are_answered_by_names(rt: HostRuntime) {
 // With the lines and places where processors first meet.
 #[test]
 fn programs_say_what_they_cost(rt: HostRuntime) {
-    for (text, _, cost, status) in PROGRAMS {
-        expect_answer(&rt, &COST, text, cost, status);
+    for piece in gallery().split(BETWEEN) {
+        let program = program_of(piece).expect(&rt, piece);
+        expect_answer(&rt, &COST, program, program.cost);
     }
 }
 
-// The text of a program's job is printed again as it is, and ends as the program does.
+// The text of a program's job, which is printed again as it is.
+fn printed<R: AllocGlobal + Abort + Threads + Wait + Clock + Eprint + Sync>(
+    rt: &R,
+    text: &str,
+) -> Vec<u8> {
+    let printed = serve_text(rt, rt.alloc(), &COMPILE, text.as_bytes());
+    expect_status(rt, &printed, "0", text);
+    let again = serve_text(rt, rt.alloc(), &COMPILE, printed.out.as_slice());
+    assert!(rt; again.out.as_slice() == printed.out.as_slice(), "{text}");
+    printed.out
+}
+
+// The text of the program's job ends as the program does.
+fn expect_ending<R: AllocGlobal + Abort + Threads + Wait + Clock + Eprint + Sync>(
+    rt: &R,
+    program: Program<'_>,
+) {
+    let printed = printed(rt, program.text);
+    let served = serve_text(rt, rt.alloc(), &PLAIN, printed.as_slice());
+    expect_status(rt, &served, program.status, program.text);
+    let ending = program.answer.lines().next().unwrap_or("");
+    let ends = served.out.as_slice().starts_with(ending.as_bytes());
+    assert!(rt; ends || program.status == "1", "{}", program.text);
+}
+
 #[test]
 fn programs_are_printed_as_texts(rt: HostRuntime) {
-    let alloc = rt.alloc();
-    for (text, answer, _, status) in PROGRAMS {
-        let printed = serve_text(&rt, alloc, &COMPILE, text.as_bytes());
-        assert!(rt; printed.status == 0, "{text}");
-        let again = serve_text(&rt, alloc, &COMPILE, printed.out.as_slice());
-        assert!(rt; again.out.as_slice() == printed.out.as_slice(), "{text}");
-        let served = serve_text(&rt, alloc, &PLAIN, printed.out.as_slice());
-        assert!(rt; served.status == status, "{text}");
-        let ending = answer.lines().next().unwrap_or("");
-        let ends = served.out.as_slice().starts_with(ending.as_bytes());
-        assert!(rt; ends || status == 1, "{text}");
+    for piece in gallery().split(BETWEEN) {
+        expect_ending(&rt, program_of(piece).expect(&rt, piece));
     }
+}
+
+// A replay by two workers ends as the program does.
+fn expect_replay<R: AllocGlobal + Abort + Threads + Wait + Clock + Eprint + Sync>(
+    rt: &R,
+    program: Program<'_>,
+) {
+    let served = serve_text(rt, rt.alloc(), &REPLAY, program.text.as_bytes());
+    expect_status(rt, &served, program.status, program.text);
+    let ends = served.out.as_slice().ends_with(program.answer.as_bytes());
+    assert!(rt; ends, "{}", program.text);
 }
 
 // Of a few that are short: a replay has a row for each atomic step.
 #[test]
 fn replays_of_programs_end_with_their_answers(rt: HostRuntime) {
-    let line = Line::Replay {
-        file: FILE,
-        workers: Workers { count: 2 },
-        plan: None,
-        alone: false,
-    };
-    for (text, answer, _, status) in PROGRAMS {
-        if status == 1 || answer.len() < 30 {
-            let served = serve_text(&rt, rt.alloc(), &line, text.as_bytes());
-            assert!(rt;
-                served.out.as_slice().ends_with(answer.as_bytes()),
-                "{text}"
-            );
-            assert!(rt; served.status == status, "{text}");
+    for piece in gallery().split(BETWEEN) {
+        let program = program_of(piece).expect(&rt, piece);
+        if program.status == "1" || program.answer.len() < 30 {
+            expect_replay(&rt, program);
         }
     }
 }
@@ -126,87 +151,91 @@ pardo 1~rule crew~procs i < 1~code~while 1~end~ -> 5 Endless the program is stil
 pardo 1~rule crew~shared A[65000]~shared B[600]~ -> 4 TooManyCells a program has at most 65,536 cells
 ";
 
-// A text in which `~` stands for a line feed.
-fn with_lines(alloc: Global, head: &str, rest: &str) -> Result<Vec<u8>, Fail> {
-    let mut text = Vec::new(alloc);
-    for byte in head.bytes().chain(rest.bytes()) {
-        text.push(if byte == b'~' { b'\n' } else { byte })?;
-    }
-    Ok(text)
+// A text in which `~` stands for a line feed, below a head.
+fn with_lines(alloc: Global, head: &str, rest: &str) -> Result<String, AllocError> {
+    let text = format!(in alloc; "{head}{rest}")?;
+    text.replace(alloc, "~", "\n")
 }
 
-// The text is refused so.
+// What is told of a refusal, as a table has it: its line, its kind and its sentence.
+fn refusal_of(alloc: Global, told: &str) -> Option<Result<String, AllocError>> {
+    let (line, told) = told.split_once(' ')?;
+    let (kind, sentence) = told.split_once(' ')?;
+    Some(format!(in alloc; "text line={line} kind={kind}\njob.txt, line {line}: {sentence}\n"))
+}
+
+// The text is refused so, with the status of a refusal.
 fn expect_refused<R: Abort + Threads + Wait + Clock + Eprint + Sync>(
     rt: &R,
     alloc: Global,
-    text: &[u8],
+    text: &str,
     said: &str,
-) -> Result<(), Fail> {
+) {
     let mut console = Console {
         out: IntoWrite::new(Vec::new(alloc)),
         err: IntoWrite::new(Vec::new(alloc)),
         is_terminal: false,
         explains: true,
     };
-    let status = serve(rt, alloc, &CHECK, &mut of_text(text), &mut console);
+    let status = serve(
+        rt,
+        alloc,
+        &CHECK,
+        &mut of_text(text.as_bytes()),
+        &mut console,
+    );
     let Console { out, err, .. } = console;
-    assert!(rt; status == 2, "{said}");
-    assert!(rt; out.into_inner().is_empty(), "{said}");
-    assert!(rt; err.into_inner().as_slice() == said.as_bytes(), "{said}");
-    Ok(())
+    let served = Served {
+        out: out.into_inner(),
+        err: err.into_inner(),
+        status,
+    };
+    expect_status(rt, &served, "2", text);
+    expect_written(rt, &served, said, text);
 }
 
-// Each line of a table is the rest of a text that begins with this head, and how it is refused.
-fn all_refused<R: Abort + Threads + Wait + Clock + Eprint + Sync>(
+// A line of a table is the rest of a text that begins with this head, and how it is refused.
+fn expect_row<R: Abort + Threads + Wait + Clock + Eprint + Sync>(
     rt: &R,
     alloc: Global,
     head: &str,
-    table: &str,
+    row: &str,
 ) -> Result<(), Fail> {
-    for row in table.lines() {
-        let Some((rest, told)) = row.split_once(" -> ") else {
-            panic!(rt; "{row}");
-        };
-        let Some((line, told)) = told.split_once(" ") else {
-            panic!(rt; "{row}");
-        };
-        let Some((kind, sentence)) = told.split_once(" ") else {
-            panic!(rt; "{row}");
-        };
-        let said = format!(in alloc;
-            "text line={line} kind={kind}\njob.txt, line {line}: {sentence}\n"
-        )?;
-        let text = with_lines(alloc, head, rest)?;
-        expect_refused(rt, alloc, text.as_slice(), said.as_str())?;
-    }
+    let (rest, told) = row.split_once(" -> ").expect(rt, row);
+    let text = with_lines(alloc, head, rest)?;
+    let said = refusal_of(alloc, told).expect(rt, row)?;
+    expect_refused(rt, alloc, text.as_str(), said.as_str());
     Ok(())
 }
 
 #[test]
 fn refused_programs_are_explained(rt: HostRuntime) -> Result<(), Fail> {
-    all_refused(&rt, rt.alloc(), HEADER, REFUSED)?;
-    all_refused(&rt, rt.alloc(), "", REFUSED_TEXTS)
+    for row in REFUSED.lines() {
+        expect_row(&rt, rt.alloc(), HEADER, row)?;
+    }
+    for row in REFUSED_TEXTS.lines() {
+        expect_row(&rt, rt.alloc(), "", row)?;
+    }
+    Ok(())
 }
 
 #[test]
 fn a_program_too_long_is_refused(rt: HostRuntime) -> Result<(), Fail> {
-    let alloc = rt.alloc();
-    let mut text = with_lines(alloc, HEADER, "")?;
+    let mut text = with_lines(rt.alloc(), HEADER, "")?;
     for _ in 0..600 {
-        text.extend_from_slice(b"x := x + s + A[x] + A[x + 1]\n")?;
+        text.push_str("x := x + s + A[x] + A[x + 1]\n")?;
     }
-    let served = serve_text(&rt, alloc, &CHECK, text.as_slice());
-    assert!(rt; served.status == 2);
+    let served = serve_text(&rt, rt.alloc(), &CHECK, text.as_bytes());
+    expect_status(&rt, &served, "2", "too long");
     assert!(rt; served.err.as_slice().ends_with(b" kind=TooLong\n"));
     Ok(())
 }
 
 #[test]
 fn who_left_is_named(rt: HostRuntime) -> Result<(), Fail> {
-    let alloc = rt.alloc();
-    let text = with_lines(alloc, HEADER, "A[i] := i~~x := A[i + 2]~s := 7~")?;
-    let served = serve_text(&rt, alloc, &PLAIN, text.as_slice());
-    assert!(rt; served.status == 0);
+    let text = with_lines(rt.alloc(), HEADER, "A[i] := i~~x := A[i + 2]~s := 7~")?;
+    let served = serve_text(&rt, rt.alloc(), &PLAIN, text.as_bytes());
+    expect_status(&rt, &served, "0", "who left");
     assert!(rt; served.out.as_slice().starts_with(b"done steps="));
     assert!(rt;
         served.out.as_slice().ends_with(

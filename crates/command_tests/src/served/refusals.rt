@@ -1,11 +1,15 @@
 //! Files and outputs that fail.
 use crate::served::{
-    CHECK, FILE, PLAIN, Served, TWO, run_line, serve_source, serve_sources, serve_text,
+    CHECK, FILE, PLAIN, Served, TWO, of_text, run_line, serve_source, serve_sources, serve_text,
 };
 use failing_devices::Drip;
-use pram_commands::{Console, Line, Sources, Workers, serve};
-use pram_streams::{Empty, FromRead, IntoWrite, MOST};
+use pram_commands::{Console, Line, Workers, serve};
+use pram_streams::{FromRead, IntoWrite, MOST};
+use std::process::Abort;
+use std::rt::Clock;
+use std::sync::Wait;
 use std::test::Fail;
+use std::thread::Threads;
 
 const REPLAY: Line<'static> = Line::Replay {
     file: FILE,
@@ -47,30 +51,34 @@ fn a_large_file_is_named(rt: HostRuntime) -> Result<(), Fail> {
     Ok(())
 }
 
+// An output that takes so few bytes fails, and took a beginning of the whole.
+fn expect_beginning<R: AllocGlobal + Abort + Threads + Wait + Clock + Eprint + Sync>(
+    rt: &R,
+    line: &Line<'_>,
+    whole: &[u8],
+    count: usize,
+) {
+    let mut room = [0u8; 256];
+    let mut console = Console {
+        out: IntoWrite::new(&mut room[..count.min(256)]),
+        err: IntoWrite::new(Vec::new(rt.alloc())),
+        is_terminal: false,
+        explains: false,
+    };
+    let status = serve(rt, rt.alloc(), line, &mut of_text(JOB), &mut console);
+    let Console { out, err, .. } = console;
+    assert!(rt; status == 4 && out.into_inner().is_empty());
+    assert!(rt; err.into_inner().as_slice() == "file -\n".as_bytes());
+    assert!(rt; whole.starts_with(&room[..count.min(256)]));
+}
+
 // The output fails after each byte in turn.
 #[test]
 fn a_failing_output_took_a_beginning(rt: HostRuntime) {
-    let alloc = rt.alloc();
     for line in [CHECK, PLAIN, run_line(TWO), REPLAY] {
-        let whole = serve_text(&rt, alloc, &line, JOB).out;
+        let whole = serve_text(&rt, rt.alloc(), &line, JOB).out;
         for count in 0..whole.len() {
-            let mut room = [0u8; 256];
-            let mut console = Console {
-                out: IntoWrite::new(&mut room[..count.min(256)]),
-                err: IntoWrite::new(Vec::new(alloc)),
-                is_terminal: false,
-                explains: false,
-            };
-            let mut sources = Sources {
-                job: FromRead::new(JOB),
-                plan: Empty,
-            };
-            let status = serve(&rt, alloc, &line, &mut sources, &mut console);
-            let Console { out, err, .. } = console;
-            assert!(rt; status == 4);
-            assert!(rt; err.into_inner().as_slice() == "file -\n".as_bytes());
-            assert!(rt; out.into_inner().is_empty());
-            assert!(rt; whole.as_slice().starts_with(&room[..count.min(256)]));
+            expect_beginning(&rt, &line, whole.as_slice(), count);
         }
     }
 }
@@ -85,10 +93,7 @@ fn the_status_stays_where_standard_error_fails(rt: HostRuntime) {
         is_terminal: false,
         explains: true,
     };
-    let mut sources = Sources {
-        job: FromRead::new(&JOB[..6]),
-        plan: Empty,
-    };
+    let mut sources = of_text(&JOB[..6]);
     assert!(rt; serve(&rt, alloc, &PLAIN, &mut sources, &mut console) == 2);
     assert!(rt; console.out.into_inner().is_empty());
 }

@@ -1,94 +1,81 @@
 //! What worked runs cost, as it is printed.
+use crate::tests::lines_of;
 use pram_cost::{ByCells, cost_of, print_cost};
 use pram_streams::IntoWrite;
 use pram_text::read_job;
+use std::alloc::Global;
 use std::process::Abort;
 use std::test::Fail;
 
-// Checks that the run of the job costs what these lines say.
-fn costs<R: AllocGlobal + Abort>(rt: &R, text: &str, lines: &str) -> Result<(), Fail> {
-    let alloc = rt.alloc();
+// The lines that the run of a job costs.
+fn cost_lines(alloc: Global, text: &str) -> Result<Vec<u8>, Fail> {
     let job = read_job(alloc, text.as_bytes())?;
     let cost = cost_of(alloc, &job)?;
     let mut sink = IntoWrite::new(Vec::new(alloc));
     print_cost(alloc, &mut sink, &cost, cost.needs(), &ByCells)?;
-    assert_eq!(rt; sink.into_inner().as_slice(), lines.as_bytes());
+    Ok(sink.into_inner())
+}
+
+// Checks a row of the table.
+fn costs<R: AllocGlobal + Abort>(rt: &R, row: &str) -> Result<(), Fail> {
+    let (text, wanted) = row.split_once(" | ").expect(rt, row);
+    let text = lines_of(rt.alloc(), text)?;
+    let wanted = lines_of(rt.alloc(), wanted)?;
+    let found = cost_lines(rt.alloc(), text.as_str())?;
+    assert!(rt; found.as_slice() == wanted.as_bytes(), "{row}");
     Ok(())
 }
 
-// Texts of jobs, and the lines that their runs cost.
-const ROWS: [(&str, &str); 8] = [
-    // processors with a cell each need EREW
-    (
-        "pram 1\ncells 4\nprocs 3\nsteps 6\ncode\n\
-         pid r0\nld r1 r0\nset r2 1\nadd r1 r0 r2\nst r1 r0\nhalt\n",
-        "cost of this input\nsteps 6\nprocessors 3\nproduct 18\nwork 18\nmost 3\n\
-         reading 1\nwriting 1\nneeds EREW\nsame read none\nsame write none\nother value none\n\
-         done steps=6\n",
-    ),
-    // one cell that all read needs CREW
-    (
-        "pram 1\ncells 2\nprocs 3\nsteps 9\ncode\n\
-         pid r0\njz r0 end\nset r1 1\nld r2 r1\nend: halt\n",
-        "cost of this input\nsteps 9\nprocessors 3\nproduct 27\nwork 13\nmost 3\n\
-         reading 1\nwriting 0\nneeds CREW\nsame read step=4 cell=1 processors=1,2\n\
-         same write none\nother value none\ndone steps=9\n",
-    ),
-    // equal writes need common
-    (
-        "pram 1\ncells 2\nprocs 4\nsteps 4\ncode\n\
-         pid r0\nset r1 1\nlt r2 r0 r1\nst r2 r1\n",
-        "cost of this input\nsteps 4\nprocessors 4\nproduct 16\nwork 16\nmost 4\n\
-         reading 0\nwriting 1\nneeds CRCW common\nsame read none\n\
-         same write step=4 cell=0 processors=1,2\nother value none\ndone steps=4\n",
-    ),
-    // other values need priority
-    (
-        "pram 2\ncells 2\nprocs 4\nsteps 9\nrule priority\ncode\n\
-         pid r0\nset r1 1\nand r2 r0 r1\nst r1 r1\nst r2 r0\n",
-        "cost of this input\nsteps 9\nprocessors 4\nproduct 36\nwork 20\nmost 4\n\
-         reading 0\nwriting 2\nneeds CRCW priority\nsame read none\n\
-         same write step=4 cell=1 processors=0,1\nother value step=5 cell=0 processors=0,2\n\
-         done steps=9\n",
-    ),
-    // conflicting step counts
-    (
-        "pram 1\ncells 2\nprocs 4\nsteps 9\ncode\n\
-         pid r0\nset r1 1\nand r2 r0 r1\nst r2 r0\nhalt\n",
-        "cost of this input\nsteps 4\nprocessors 4\nproduct 16\nwork 16\nmost 4\n\
-         reading 0\nwriting 1\nneeds CRCW priority\nsame read none\n\
-         same write step=4 cell=0 processors=0,2\nother value step=4 cell=0 processors=0,2\n\
-         conflict step=4 cell=0 processors=0,2\n",
-    ),
-    // endless jumps are counted at once
-    (
-        "pram 1\ncells 1\nprocs 3\nsteps 4294967295\ncode\n\
-         pid r0\njz r0 end\nl: jmp l\nend: halt\n",
-        "cost of this input\nsteps 4294967295\nprocessors 3\nproduct 12884901885\n\
-         work 8589934593\nmost 3\nreading 0\nwriting 0\nneeds EREW\nsame read none\n\
-         same write none\nother value none\ndone steps=4294967295\n",
-    ),
-    // reads do not meet writes
-    (
-        "pram 1\ncells 1\nprocs 2\nsteps 9\ncode\n\
-         pid r0\njz r0 end\nset r1 0\nst r1 r0\nhalt\nend: set r1 0\nld r2 r1\nhalt\n",
-        "cost of this input\nsteps 9\nprocessors 2\nproduct 18\nwork 10\nmost 2\n\
-         reading 1\nwriting 1\nneeds EREW\nsame read none\nsame write none\nother value none\n\
-         done steps=9\n",
-    ),
-    // one cell that all write needs common
-    (
-        "pram 1\ncells 1\nprocs 2\nsteps 4\ncode\nld r1 r0\nset r1 7\nst r0 r1\n",
-        "cost of this input\nsteps 4\nprocessors 2\nproduct 8\nwork 6\nmost 2\n\
-         reading 1\nwriting 1\nneeds CRCW common\nsame read step=1 cell=0 processors=0,1\n\
-         same write step=3 cell=0 processors=0,1\nother value none\ndone steps=4\n",
-    ),
-];
+// Texts of jobs, and the lines that their runs cost. In the table `/` stands for a line feed.
+const ROWS: &str = "\
+-- processors with a cell each need EREW
+pram 1/cells 4/procs 3/steps 6/code/pid r0/ld r1 r0/set r2 1/add r1 r0 r2/st r1 r0/halt/ \
+    | cost of this input/steps 6/processors 3/product 18/work 18/most 3/reading 1/writing 1/\
+    needs EREW/same read none/same write none/other value none/done steps=6/
+-- one cell that all read needs CREW
+pram 1/cells 2/procs 3/steps 9/code/pid r0/jz r0 end/set r1 1/ld r2 r1/end: halt/ \
+    | cost of this input/steps 9/processors 3/product 27/work 13/most 3/reading 1/writing 0/\
+    needs CREW/same read step=4 cell=1 processors=1,2/same write none/other value none/\
+    done steps=9/
+-- equal writes need common
+pram 1/cells 2/procs 4/steps 4/code/pid r0/set r1 1/lt r2 r0 r1/st r2 r1/ \
+    | cost of this input/steps 4/processors 4/product 16/work 16/most 4/reading 0/writing 1/\
+    needs CRCW common/same read none/same write step=4 cell=0 processors=1,2/other value none/\
+    done steps=4/
+-- other values need priority
+pram 2/cells 2/procs 4/steps 9/rule priority/code/pid r0/set r1 1/and r2 r0 r1/st r1 r1/\
+    st r2 r0/ \
+    | cost of this input/steps 9/processors 4/product 36/work 20/most 4/reading 0/writing 2/\
+    needs CRCW priority/same read none/same write step=4 cell=1 processors=0,1/\
+    other value step=5 cell=0 processors=0,2/done steps=9/
+-- conflicting step counts
+pram 1/cells 2/procs 4/steps 9/code/pid r0/set r1 1/and r2 r0 r1/st r2 r0/halt/ \
+    | cost of this input/steps 4/processors 4/product 16/work 16/most 4/reading 0/writing 1/\
+    needs CRCW priority/same read none/same write step=4 cell=0 processors=0,2/\
+    other value step=4 cell=0 processors=0,2/conflict step=4 cell=0 processors=0,2/
+-- endless jumps are counted at once
+pram 1/cells 1/procs 3/steps 4294967295/code/pid r0/jz r0 end/l: jmp l/end: halt/ \
+    | cost of this input/steps 4294967295/processors 3/product 12884901885/work 8589934593/\
+    most 3/reading 0/writing 0/needs EREW/same read none/same write none/other value none/\
+    done steps=4294967295/
+-- reads do not meet writes
+pram 1/cells 1/procs 2/steps 9/code/pid r0/jz r0 end/set r1 0/st r1 r0/halt/end: set r1 0/\
+    ld r2 r1/halt/ \
+    | cost of this input/steps 9/processors 2/product 18/work 10/most 2/reading 1/writing 1/\
+    needs EREW/same read none/same write none/other value none/done steps=9/
+-- one cell that all write needs common
+pram 1/cells 1/procs 2/steps 4/code/ld r1 r0/set r1 7/st r0 r1/ \
+    | cost of this input/steps 4/processors 2/product 8/work 6/most 2/reading 1/writing 1/\
+    needs CRCW common/same read step=1 cell=0 processors=0,1/\
+    same write step=3 cell=0 processors=0,1/other value none/done steps=4/
+";
 
 #[test]
 fn worked_costs(rt: HostRuntime) -> Result<(), Fail> {
-    for (text, lines) in ROWS {
-        costs(&rt, text, lines)?;
+    for row in ROWS.lines() {
+        if !row.starts_with("--") {
+            costs(&rt, row)?;
+        }
     }
     Ok(())
 }

@@ -1,11 +1,13 @@
 //! What the answer of a program looks like, and which texts are programs.
 use failing_devices::Trickle;
 use pardo_answers::{Lines, Names, is_program, plain_end, print_named};
-use pardo_text::read_program;
+use pardo_text::{Program, read_program};
+use pram_job::Job;
 use pram_step::RunAnswer;
 use pram_streams::{IntoWrite, PrintFault};
 use pram_text::read_job;
 use std::alloc::Global;
+use std::process::Abort;
 use std::test::Fail;
 
 /// The header of programs of an array and a scalar, after the rule.
@@ -62,21 +64,26 @@ const CASES: [(Case, &str); 3] = [
     ),
 ];
 
-fn told(alloc: Global, case: Case) -> Result<Vec<u8>, Fail> {
+// The program and the job of a case.
+fn parts_of(alloc: Global, case: Case) -> Result<(Program, Job), Fail> {
     let Case {
         rule,
         program,
         steps,
         job,
-        numbers,
+        ..
     } = case;
     let program = format!(in alloc; "pardo 1\nrule {rule}\n{NAMES}{program}")?;
     let job = format!(in alloc;
         "pram 3\ncells 4\nprocs 4\nsteps {steps}\nrule {rule}\n{CELLS}{job}"
     )?;
     let program = read_program(alloc, program.as_bytes())?;
-    let job = read_job(alloc, job.as_bytes())?;
-    let ended = plain_end(alloc, &job, numbers)?;
+    Ok((program, read_job(alloc, job.as_bytes())?))
+}
+
+fn told(alloc: Global, case: Case) -> Result<Vec<u8>, Fail> {
+    let (program, job) = parts_of(alloc, case)?;
+    let ended = plain_end(alloc, &job, case.numbers)?;
     let mut sink = IntoWrite::new(Vec::new(alloc));
     let names = Names {
         program: &program,
@@ -96,6 +103,18 @@ fn answers_by_names(rt: HostRuntime) -> Result<(), Fail> {
     Ok(())
 }
 
+const UNFINISHED: &str = "unfinished step=2\n";
+
+// A sink that fails after so many bytes took a beginning.
+fn expect_beginning<R: AllocGlobal + Abort>(rt: &R, names: &Names<'_>, pushes: usize) {
+    let mut sink = Trickle::new(rt.alloc(), pushes);
+    let answer = RunAnswer::Unfinished { step: 2 };
+    let printed = print_named(rt.alloc(), &mut sink, names, &answer);
+    assert!(rt; printed == Err(PrintFault::Device));
+    assert!(rt; UNFINISHED.as_bytes().starts_with(sink.taken.as_slice()));
+    assert!(rt; sink.taken.len() == pushes);
+}
+
 #[test]
 fn a_beginning_where_the_sink_fails(rt: HostRuntime) -> Result<(), Fail> {
     let alloc = rt.alloc();
@@ -109,29 +128,33 @@ fn a_beginning_where_the_sink_fails(rt: HostRuntime) -> Result<(), Fail> {
         steps: 3,
         lines: &lines,
     };
-    let text = "unfinished step=2\n".as_bytes();
-    for pushes in 0..text.len() {
-        let mut sink = Trickle::new(alloc, pushes);
-        let printed = print_named(alloc, &mut sink, &names, &RunAnswer::Unfinished { step: 2 });
-        assert_eq!(rt; printed, Err(PrintFault::Device));
-        assert_eq!(rt; sink.taken.as_slice(), &text[..pushes]);
+    for pushes in 0..UNFINISHED.len() {
+        expect_beginning(&rt, &names, pushes);
     }
     Ok(())
 }
 
+const PROGRAMS: [&str; 4] = [
+    "pardo 1\n",
+    "; a comment\n\n\t pardo 1 ; and one more\n",
+    "pardo",
+    "pardo;1",
+];
+
+const OTHERS: [&str; 5] = [
+    "pram 1\npardo 1\n",
+    "pardo1\n",
+    "Pardo 1\n",
+    ";pardo 1\n",
+    "",
+];
+
 #[test]
 fn the_first_word_decides_what_a_text_is(rt: HostRuntime) {
-    for (text, is) in [
-        ("pardo 1\n", true),
-        ("; a comment\n\n\t pardo 1 ; and one more\n", true),
-        ("pardo", true),
-        ("pardo;1", true),
-        ("pram 1\npardo 1\n", false),
-        ("pardo1\n", false),
-        ("Pardo 1\n", false),
-        (";pardo 1\n", false),
-        ("", false),
-    ] {
-        assert_eq!(rt; is_program(text.as_bytes()), is, "{text}");
+    for text in PROGRAMS {
+        assert!(rt; is_program(text.as_bytes()), "{text}");
+    }
+    for text in OTHERS {
+        assert!(rt; !is_program(text.as_bytes()), "{text}");
     }
 }

@@ -1,80 +1,95 @@
 //! The answers on known texts, and that calls with memory succeed.
-use std::alloc::Global;
+use crate::tests::lines_of;
+use std::alloc::{AllocError, Global};
 use std::io;
+use std::process::Abort;
 use std::sync::atomic::{AtomicU64, Ordering};
 use std::test::Fail;
 use std::time::{Clock, Duration};
 use stop_plan::{Act, Gate, Open, Paced, Plan, PlanFault, PlanKind, Row, read_plan};
 
-// What is wrong with rows under a header, for four workers.
-fn fault_under_header(alloc: Global, rows: &str) -> Result<Option<PlanFault>, Fail> {
-    let mut text = String::from_str(alloc, "worker,act,ticks\n")?;
-    text.push_str(rows)?;
-    Ok(read_plan(alloc, text.as_bytes(), 4).err())
+// The record and the kind of a text's fault, or nothing.
+fn fault_of(alloc: Global, text: &[u8], workers: u32) -> Result<String, AllocError> {
+    match read_plan(alloc, text, workers) {
+        Ok(_) => Ok(String::new(alloc)),
+        Err(PlanFault { row, kind }) => format!(in alloc; "{row} {kind:?}"),
+    }
 }
 
-fn bad(row: u64, kind: PlanKind) -> Option<PlanFault> {
-    Some(PlanFault { row, kind })
+// Checks that a text has this fault, or none where nothing is said.
+fn expect_fault<R: AllocGlobal + Abort>(
+    rt: &R,
+    text: &[u8],
+    workers: u32,
+    fault: &str,
+) -> Result<(), Fail> {
+    let found = fault_of(rt.alloc(), text, workers)?;
+    assert!(rt; found.as_str() == fault, "{found} {fault}");
+    Ok(())
 }
+
+// Rows under a header, for four workers, and the record and the kind of their fault.
+const REFUSED: &str = "\
+4,go,1/ | 2 BadWorker
+,go,1/ | 2 BadWorker
++1,go,1/ | 2 BadWorker
+0,back,1/ | 2 BadNumber
+0,go,4294967296/ | 2 BadNumber
+0,go,99999999999999999999999/ | 2 BadNumber
+0,run,1/ | 2 BadAct
+0,Go,1/ | 2 BadAct
+9,run,x/ | 2 BadWorker
+0,go/ | 2 BadRow
+0,go,1,/ | 2 BadRow
+0,stop,0/0,go,1/ | 3 AfterStop
+0,stop,0/1,go,1/0,go,x/ | 4 BadNumber
+";
 
 #[test]
 fn refused_rows(rt: HostRuntime) -> Result<(), Fail> {
-    let alloc = rt.alloc();
-    let cases = [
-        ("4,go,1\n", bad(2, PlanKind::BadWorker)),
-        (",go,1\n", bad(2, PlanKind::BadWorker)),
-        ("+1,go,1\n", bad(2, PlanKind::BadWorker)),
-        ("0,back,1\n", bad(2, PlanKind::BadNumber)),
-        ("0,go,4294967296\n", bad(2, PlanKind::BadNumber)),
-        (
-            "0,go,99999999999999999999999\n",
-            bad(2, PlanKind::BadNumber),
-        ),
-        ("0,run,1\n", bad(2, PlanKind::BadAct)),
-        ("0,Go,1\n", bad(2, PlanKind::BadAct)),
-        ("9,run,x\n", bad(2, PlanKind::BadWorker)),
-        ("0,go\n", bad(2, PlanKind::BadRow)),
-        ("0,go,1,\n", bad(2, PlanKind::BadRow)),
-        ("0,stop,0\n0,go,1\n", bad(3, PlanKind::AfterStop)),
-        ("0,stop,0\n1,go,1\n0,go,x\n", bad(4, PlanKind::BadNumber)),
-        ("0,stop,0\n1,stop,0\n3,sleep,0\n2,go,1\n", None),
-    ];
-    for (rows, want) in cases {
-        assert_eq!(rt; fault_under_header(alloc, rows)?, want, "{rows}");
+    for row in REFUSED.lines() {
+        let (rows, fault) = row.split_once(" | ").expect(&rt, row);
+        let text = format!(in rt.alloc(); "worker,act,ticks/{rows}")?;
+        let text = lines_of(rt.alloc(), text.as_str())?;
+        expect_fault(&rt, text.as_bytes(), 4, fault)?;
     }
     Ok(())
 }
 
 #[test]
-fn headers(rt: HostRuntime) {
-    let alloc = rt.alloc();
-    let header = bad(1, PlanKind::BadRow);
-    for (text, workers, want) in [
+fn rows_that_are_taken(rt: HostRuntime) -> Result<(), Fail> {
+    let text = b"worker,act,ticks\n0,stop,0\n1,stop,0\n3,sleep,0\n2,go,1\n";
+    expect_fault(&rt, text, 4, "")
+}
+
+#[test]
+fn headers(rt: HostRuntime) -> Result<(), Fail> {
+    let header = "1 BadRow";
+    for (text, workers, fault) in [
         (b"0,go,1\n".as_slice(), 4, header),
         (b"worker,act,tick\n", 4, header),
         (b"worker,act,ticks,\n", 4, header),
-        (b"\xEF\xBB\xBFworker,act,ticks", 4, None),
-        (
-            b"worker,act,ticks\n0,go,1\n",
-            0,
-            bad(2, PlanKind::BadWorker),
-        ),
-        (b"", 4, None),
-        (b"\r\n\n", 4, None),
+        (b"\xEF\xBB\xBFworker,act,ticks", 4, ""),
+        (b"worker,act,ticks\n0,go,1\n", 0, "2 BadWorker"),
+        (b"", 4, ""),
+        (b"\r\n\n", 4, ""),
     ] {
-        assert_eq!(rt; read_plan(alloc, text, workers).err(), want);
+        expect_fault(&rt, text, workers, fault)?;
     }
+    Ok(())
 }
 
 #[test]
 fn a_record_of_ten_thousand_fields(rt: HostRuntime) -> Result<(), Fail> {
-    let alloc = rt.alloc();
-    let mut text = Vec::from_slice(alloc, b"worker,act,ticks\n0")?;
+    let mut text = String::from_str(rt.alloc(), "worker,act,ticks\n0")?;
     for _ in 1..10_000 {
-        text.extend_from_slice(b",0")?;
+        text.push_str(",0")?;
     }
-    assert_eq!(rt; read_plan(alloc, &text, 4).err(), bad(2, PlanKind::BadRow));
-    Ok(())
+    expect_fault(&rt, text.as_bytes(), 4, "2 BadRow")
+}
+
+fn row(worker: u32, act: Act, ticks: u32) -> Row {
+    Row { worker, act, ticks }
 }
 
 #[test]
@@ -82,21 +97,19 @@ fn rows_of_a_plan(rt: HostRuntime) -> Result<(), Fail> {
     let text = b"\xEF\xBB\xBFworker,act,ticks\r\n\"0\",\"go\",\"0004\"\r\n\
         2,sleep,4294967295\n\n2,back,00\n2,stop,0";
     let plan = read_plan(rt.alloc(), text, 3)?;
-    let row = |worker, act, ticks| Row { worker, act, ticks };
-    let want = [
+    let wanted = [
         row(0, Act::Go, 4),
         row(2, Act::Sleep, u32::MAX),
         row(2, Act::Back, 0),
         row(2, Act::Stop, 0),
     ];
-    assert_eq!(rt; (plan.workers(), plan.rows()), (3, want.as_slice()));
+    assert!(rt; plan.workers() == 3);
+    assert!(rt; plan.rows() == wanted.as_slice());
     Ok(())
 }
 
 #[test]
 fn plans_from_rows(rt: HostRuntime) -> Result<(), Fail> {
-    let alloc = rt.alloc();
-    let row = |worker, act, ticks| Row { worker, act, ticks };
     let rows = [
         row(2, Act::Go, u32::MAX),
         row(0, Act::Sleep, 3),
@@ -104,25 +117,33 @@ fn plans_from_rows(rt: HostRuntime) -> Result<(), Fail> {
         row(0, Act::Stop, 0),
         row(2, Act::Go, 0),
     ];
-    let plan = Plan::new(alloc, 3, &rows)?;
-    assert_eq!(rt; (plan.workers(), plan.rows()), (3, rows.as_slice()));
+    let plan = Plan::new(rt.alloc(), 3, &rows)?;
+    assert!(rt; plan.workers() == 3);
+    assert!(rt; plan.rows() == rows.as_slice());
+    expect_refusal(&rt, 2, &rows, 2, PlanKind::BadWorker);
     // The fourth row stops the worker of the second, and would be record 5 of a text.
     let late = [rows[0], rows[1], rows[2], rows[3], rows[1]];
-    let ticks = [row(0, Act::Stop, 1)];
-    for (workers, rows, want) in [
-        (3, late.as_slice(), bad(6, PlanKind::AfterStop)),
-        (2, rows.as_slice(), bad(2, PlanKind::BadWorker)),
-        (2, ticks.as_slice(), bad(2, PlanKind::BadNumber)),
-    ] {
-        assert_eq!(rt; Plan::new(alloc, workers, rows).err(), want);
-    }
+    expect_refusal(&rt, 3, &late, 6, PlanKind::AfterStop);
+    expect_refusal(&rt, 2, &[row(0, Act::Stop, 1)], 2, PlanKind::BadNumber);
     Ok(())
+}
+
+// Checks that no plan has these rows, by the record and the kind of the fault.
+fn expect_refusal<R: AllocGlobal + Abort>(
+    rt: &R,
+    workers: u32,
+    rows: &[Row],
+    record: u64,
+    kind: PlanKind,
+) {
+    let wanted = PlanFault { row: record, kind };
+    assert!(rt; Plan::new(rt.alloc(), workers, rows).err() == Some(wanted));
 }
 
 #[test]
 fn plan_without_rows(rt: HostRuntime) {
     let plan = Plan::empty(rt.alloc(), 7);
-    assert_eq!(rt; plan.workers(), 7);
+    assert!(rt; plan.workers() == 7);
     assert!(rt; plan.rows().is_empty());
 }
 
@@ -162,10 +183,10 @@ fn each_pass_of_a_paced_gate_takes_its_pause(rt: HostRuntime) -> Result<(), Fail
         micros: AtomicU64::new(0),
     };
     let gate = Paced::new(&clock, Duration::from_micros(250));
-    assert_eq!(rt; gate.pause(), Duration::from_micros(250));
+    assert!(rt; gate.pause() == Duration::from_micros(250));
     for _ in 0..3 {
         pass_once(&gate);
     }
-    assert_eq!(rt; clock.monotonic()?, Duration::from_micros(750));
+    assert!(rt; clock.monotonic()? == Duration::from_micros(750));
     Ok(())
 }

@@ -1,13 +1,11 @@
 //! Worked rows by replay: by 1, 2 and 4 workers, and under plans that leave some worker.
 ghost use Rattle.std.specs.Prelude.{◌≤◌};
 
-use crate::jobs::{
-    BELOW_ZERO, BEYOND, COMMON_EQUAL, COMMON_NUMBERS, CREW_EQUAL, LATER, PRIORITY_NUMBERS, SET,
-    SUMS, SWAP, TWO_CELLS, Wanted, holds_at, plan_of,
-};
+use crate::jobs::{BELOW_ZERO, Row, lines_of, plan_of, row_of, said};
 use pram_run::{OutFault, StepKind, Trace, TraceRow, replay, write_trace};
 use pram_step::RunAnswer;
 use pram_text::read_job;
+use std::alloc::{AllocError, Global};
 use std::io;
 use std::io::Write;
 use std::process::Abort;
@@ -32,64 +30,72 @@ pub(crate) fn replayed(
     Ok(replay(alloc, &job, workers, &plan)?)
 }
 
+// A replay of a row's job by so many workers.
+fn row_replayed(
+    rt: &(impl AllocGlobal + Abort),
+    row: Row<'_>,
+    workers: &str,
+) -> Result<(RunAnswer, Trace), Fail> {
+    let text = lines_of(rt.alloc(), row.text)?;
+    let plan = lines_of(rt.alloc(), row.plan)?;
+    let workers = workers.parse()?;
+    assert!(rt; 1 <= workers && workers <= 64);
+    replayed(rt, text.as_str(), workers, plan.as_str())
+}
+
+// By each number of workers a row is answered as it says.
+fn expect_answers(rt: &(impl AllocGlobal + Abort), line: &str) -> Result<(), Fail> {
+    let row = row_of(line).expect(rt, line);
+    for workers in row.workers.split(' ') {
+        let (answer, _) = row_replayed(rt, row, workers)?;
+        let said = said(rt.alloc(), &answer)?;
+        assert!(rt; said.as_str() == row.wanted, "{line}");
+    }
+    Ok(())
+}
+
+const ROWS: &str = "\
+swap by 1 2 4 7 | [9, 7]
+swap by 1 2 4 7 under 0,go,50/0,sleep,9/ | [9, 7]
+below zero by 1 2 4 7 | [4294967295]
+beyond by 1 2 4 7 | [9, 9]
+sums by 1 2 4 7 | [10, 11, 12]
+equal, common by 1 2 4 7 | [0, 1, 0, 1, 1]
+numbers, common by 1 2 4 7 | conflict 5 4 1 3
+numbers, priority by 1 2 4 7 | [0, 1, 0, 1, 1]
+two cells, priority by 1 2 4 7 | [0, 1]
+equal, crew by 1 2 4 7 | conflict 5 4 1 3
+all write, crew by 1 2 4 7 | conflict 1 0 0 1
+";
+
 #[test]
 fn worked_rows(rt: HostRuntime) -> Result<(), Fail> {
-    let crew = "pram 2\ncells 1\nprocs 3\nsteps 1\nrule crew\ncode\nst r0 r1\n";
-    let priority = "pram 2\ncells 2\nprocs 4\nsteps 4\nrule priority\ncode\n\
-        pid r0\nset r1 1\nand r2 r0 r1\nst r2 r0\n";
-    let rows = [
-        (SWAP, "", Wanted::Cells(&[9, 7])),
-        (SWAP, "0,go,50\n0,sleep,9\n", Wanted::Cells(&[9, 7])),
-        (BELOW_ZERO, "", Wanted::Cells(&[4294967295])),
-        (BEYOND, "", Wanted::Cells(&[9, 9])),
-        (SUMS, "", Wanted::Cells(&[10, 11, 12])),
-        (COMMON_EQUAL, "", Wanted::Cells(&[0, 1, 0, 1, 1])),
-        (COMMON_NUMBERS, "", Wanted::Conflict(5, 4, 1, 3)),
-        (PRIORITY_NUMBERS, "", Wanted::Cells(&[0, 1, 0, 1, 1])),
-        (priority, "", Wanted::Cells(&[0, 1])),
-        (CREW_EQUAL, "", Wanted::Conflict(5, 4, 1, 3)),
-        (crew, "", Wanted::Conflict(1, 0, 0, 1)),
-    ];
-    for (text, plan, wanted) in rows {
-        for workers in [1, 2, 4, 7] {
-            let (answer, _) = replayed(&rt, text, workers, plan)?;
-            holds_at(&rt, wanted.is(&answer), text);
-        }
+    for line in ROWS.lines() {
+        expect_answers(&rt, line)?;
     }
     Ok(())
 }
 
 // Whatever some workers do, the least of the disputed cells is named; and where all are stopped,
-// the job is unfinished.
+// the job is unfinished. In the row of priority worker 3 alone goes at first, and begins at the
+// leaf of the last processor.
+const PLANS: &str = "\
+two cells by 1 | conflict 4 0 0 2
+two cells by 1 under 0,go,500/0,back,0/ | conflict 4 0 0 2
+two cells by 2 under 1,go,700/1,stop,0/ | conflict 4 0 0 2
+two cells by 2 under 0,stop,0/ | conflict 4 0 0 2
+two cells by 4 under 3,go,1000/3,stop,0/2,go,20/2,back,0/2,go,20/2,stop,0/ | conflict 4 0 0 2
+two cells by 4 under 1,go,1013/0,go,300/0,stop,0/ | conflict 4 0 0 2
+two cells by 4 under 0,stop,0/1,stop,0/2,stop,0/ | conflict 4 0 0 2
+numbers, priority by 4 under 3,go,6008/ | [0, 1, 0, 1, 1]
+set by 1 under 0,go,8/0,stop,0/ | unfinished 0
+later by 1 under 0,go,30/0,stop,0/ | unfinished 1
+";
+
 #[test]
 fn worked_plans(rt: HostRuntime) -> Result<(), Fail> {
-    let least = Wanted::Conflict(4, 0, 0, 2);
-    let rows = [
-        (TWO_CELLS, 1, "", least),
-        (TWO_CELLS, 1, "0,go,500\n0,back,0\n", least),
-        (TWO_CELLS, 2, "1,go,700\n1,stop,0\n", least),
-        (TWO_CELLS, 2, "0,stop,0\n", least),
-        (
-            TWO_CELLS,
-            4,
-            "3,go,1000\n3,stop,0\n2,go,20\n2,back,0\n2,go,20\n2,stop,0\n",
-            least,
-        ),
-        (TWO_CELLS, 4, "1,go,1013\n0,go,300\n0,stop,0\n", least),
-        (TWO_CELLS, 4, "0,stop,0\n1,stop,0\n2,stop,0\n", least),
-        // worker 3 alone goes at first, and begins at the leaf of the last processor
-        (
-            PRIORITY_NUMBERS,
-            4,
-            "3,go,6008\n",
-            Wanted::Cells(&[0, 1, 0, 1, 1]),
-        ),
-        (SET, 1, "0,go,8\n0,stop,0\n", Wanted::Unfinished(0)),
-        (LATER, 1, "0,go,30\n0,stop,0\n", Wanted::Unfinished(1)),
-    ];
-    for (text, workers, plan, wanted) in rows {
-        let (answer, _) = replayed(&rt, text, workers, plan)?;
-        holds_at(&rt, wanted.is(&answer), plan);
+    for line in PLANS.lines() {
+        expect_answers(&rt, line)?;
     }
     Ok(())
 }
@@ -104,41 +110,56 @@ fn row(worker: u32, kind: StepKind, word: u32, before: u64, after: u64) -> Trace
     }
 }
 
-// How many rows a trace has, and one of them: a late swap changes nothing; a worker comes back
-// where its position says; a cell is claimed, and written.
+// How many rows a trace has, and one of them by its number, its kind, word and values: a late swap
+// changes nothing; a worker comes back where its position says; a cell is claimed, and written.
+const TRACES: &str = "\
+set by 1 | 33 17 Swap 8 0 4294967303
+set by 2 under 0,go,17/1,go,23/0,go,1/ | 47 40 Swap 9 4294967303 4294967303
+set by 2 under 0,go,17/1,go,23/0,go,1/ | 47 41 Load 17 4294967297 4294967297
+number by 1 | 101 0 Load 1 0 0
+number by 1 under 0,go,15/0,back,0/ | 104 14 Store 10 1 3
+number by 1 under 0,go,15/0,back,0/ | 104 15 Load 10 3 3
+set, priority by 1 | 30 0 Load 1 0 0
+store, priority by 1 | 36 17 Max 18 0 4294967297
+store, priority by 1 | 36 28 Swap 6 0 4294967296
+store, crew by 1 | 36 19 Max 18 0 4294967297
+";
+
+// A row of a trace that worker 0 made, as the table has it.
+fn row_text(alloc: Global, row: &TraceRow) -> Result<String, AllocError> {
+    let TraceRow {
+        before,
+        after,
+        word,
+        kind,
+        ..
+    } = row;
+    format!(in alloc; "{kind:?} {word} {before} {after}")
+}
+
+// The trace of a row's replay, which ends with its cells.
+fn row_traced(rt: &(impl AllocGlobal + Abort), row: Row<'_>) -> Result<Trace, Fail> {
+    let (answer, trace) = row_replayed(rt, row, row.workers)?;
+    assert!(rt; matches!(answer, RunAnswer::Final(_)));
+    Ok(trace)
+}
+
+fn expect_trace(rt: &(impl AllocGlobal + Abort), line: &str) -> Result<(), Fail> {
+    let row = row_of(line).expect(rt, line);
+    let (count, wanted) = row.wanted.split_once(' ').expect(rt, line);
+    let (at, wanted) = wanted.split_once(' ').expect(rt, line);
+    let trace = row_traced(rt, row)?;
+    let found = trace.rows().get(at.parse::<usize>()?).expect(rt, line);
+    assert!(rt; trace.rows().len() == count.parse::<usize>()?);
+    assert!(rt; found.worker == 0);
+    assert!(rt; row_text(rt.alloc(), found)?.as_str() == wanted, "{line}");
+    Ok(())
+}
+
 #[test]
 fn worked_traces(rt: HostRuntime) -> Result<(), Fail> {
-    let two = "pram 1\ncells 2\nprocs 2\nsteps 1\ncode\npid r0\n";
-    let quiet = "pram 2\ncells 1\nprocs 1\nsteps 1\nrule priority\ncode\nset r0 7\n";
-    let claim = "pram 2\ncells 1\nprocs 1\nsteps 1\nrule priority\ncode\nst r0 r1\n";
-    let crew = "pram 2\ncells 1\nprocs 1\nsteps 1\nrule crew\ncode\nst r0 r1\n";
-    let late = "0,go,17\n1,go,23\n0,go,1\n";
-    let back = "0,go,15\n0,back,0\n";
-    let first = row(0, StepKind::Load, 1, 0, 0);
-    let set = row(0, StepKind::Swap, 8, 0, 4294967303);
-    let swap = row(0, StepKind::Swap, 9, 4294967303, 4294967303);
-    let next = row(0, StepKind::Load, 17, 4294967297, 4294967297);
-    let stored = row(0, StepKind::Store, 10, 1, 3);
-    let loaded = row(0, StepKind::Load, 10, 3, 3);
-    let claims = row(0, StepKind::Max, 18, 0, 4294967297);
-    let writes = row(0, StepKind::Swap, 6, 0, 4294967296);
-    let rows = [
-        (SET, 1, "", 33, 17, set),
-        (SET, 2, late, 47, 40, swap),
-        (SET, 2, late, 47, 41, next),
-        (two, 1, "", 101, 0, first),
-        (two, 1, back, 104, 14, stored),
-        (two, 1, back, 104, 15, loaded),
-        (quiet, 1, "", 30, 0, first),
-        (claim, 1, "", 36, 17, claims),
-        (claim, 1, "", 36, 28, writes),
-        (crew, 1, "", 36, 19, claims),
-    ];
-    for (text, workers, plan, count, at, wanted) in rows {
-        let (answer, trace) = replayed(&rt, text, workers, plan)?;
-        holds_at(&rt, matches!(answer, RunAnswer::Final(_)), text);
-        holds_at(&rt, trace.rows().len() == count, text);
-        holds_at(&rt, trace.rows().get(at) == Some(&wanted), text);
+    for line in TRACES.lines() {
+        expect_trace(&rt, line)?;
     }
     Ok(())
 }
@@ -199,6 +220,17 @@ impl Write for Failing {
     }
 }
 
+// Whether a trace is written to what fails at the write of this number, and is told where not.
+fn is_written(rt: &(impl AllocGlobal + Abort), trace: &Trace, left: u32) -> bool {
+    match write_trace(rt.alloc(), trace, Failing { left }) {
+        Ok(_) => true,
+        Err(fault) => {
+            assert!(rt; fault == OutFault::Device);
+            false
+        }
+    }
+}
+
 #[test]
 fn each_write_that_fails_is_told(rt: HostRuntime) -> Result<(), Fail> {
     let (trace, _) = traced(&rt, LONG_SWAP, 2, "")?;
@@ -206,13 +238,9 @@ fn each_write_that_fails_is_told(rt: HostRuntime) -> Result<(), Fail> {
     assert!(rt; trace.rows().len() > 2048);
     let mut was_written = false;
     for left in 0..20 {
-        match write_trace(rt.alloc(), &trace, Failing { left }) {
-            Ok(_) => was_written = true,
-            Err(fault) => {
-                assert!(rt; fault == OutFault::Device);
-                assert!(rt; !was_written);
-            }
-        }
+        let is_written = is_written(&rt, &trace, left);
+        assert!(rt; is_written || !was_written);
+        was_written = is_written;
     }
     assert!(rt; was_written);
     Ok(())

@@ -1,10 +1,7 @@
 //! Runs on threads: worked rows, and gates that hold workers and readers at chosen ticks.
 ghost use Rattle.std.specs.Prelude.{◌≤◌};
 
-use crate::jobs::{
-    BELOW_ZERO, BEYOND, COMMON_EQUAL, COMMON_NUMBERS, CREW_EQUAL, LATER, PRIORITY_NUMBERS, SET,
-    SUMS, SWAP, TWO_CELLS, Wanted, holds_at, plan_of,
-};
+use crate::jobs::{BELOW_ZERO, LATER, SWAP, lines_of, plan_of, row_of, said};
 use pram_board::Board;
 use pram_run::{Sight, run, watch};
 use pram_step::RunAnswer;
@@ -38,35 +35,37 @@ fn ran<G: Gate + Sync>(
     Ok(answer?)
 }
 
+// A row is answered as it says.
+fn expect_answer(rt: &(impl AllocGlobal + Abort + Threads + Wait), line: &str) -> Result<(), Fail> {
+    let row = row_of(line).expect(rt, line);
+    let text = lines_of(rt.alloc(), row.text)?;
+    let plan = lines_of(rt.alloc(), row.plan)?;
+    let workers = row.workers.parse()?;
+    assert!(rt; 1 <= workers && workers <= 64);
+    let answer = ran(rt, text.as_str(), workers, plan.as_str(), &Open)?;
+    assert!(rt; said(rt.alloc(), &answer)?.as_str() == row.wanted, "{line}");
+    Ok(())
+}
+
+const ROWS: &str = "\
+set by 1 | [0]
+set by 1 under 0,go,8/0,stop,0/ | unfinished 0
+swap by 2 under 0,go,50/0,sleep,9/1,back,0/ | [9, 7]
+two cells by 3 under 1,go,40/1,stop,0/2,stop,0/ | conflict 4 0 0 2
+below zero by 64 | [4294967295]
+beyond by 2 under 1,go,9/1,back,0/ | [9, 9]
+sums by 5 | [10, 11, 12]
+later by 1 under 0,go,30/0,stop,0/ | unfinished 1
+equal, common by 2 | [0, 1, 0, 1, 1]
+numbers, common by 4 | conflict 5 4 1 3
+numbers, priority by 4 | [0, 1, 0, 1, 1]
+equal, crew by 2 | conflict 5 4 1 3
+";
+
 #[test]
 fn worked_rows(rt: HostRuntime) -> Result<(), Fail> {
-    let rows = [
-        (SET, 1, "", Wanted::Cells(&[0])),
-        (SET, 1, "0,go,8\n0,stop,0\n", Wanted::Unfinished(0)),
-        (
-            SWAP,
-            2,
-            "0,go,50\n0,sleep,9\n1,back,0\n",
-            Wanted::Cells(&[9, 7]),
-        ),
-        (
-            TWO_CELLS,
-            3,
-            "1,go,40\n1,stop,0\n2,stop,0\n",
-            Wanted::Conflict(4, 0, 0, 2),
-        ),
-        (BELOW_ZERO, 64, "", Wanted::Cells(&[4294967295])),
-        (BEYOND, 2, "1,go,9\n1,back,0\n", Wanted::Cells(&[9, 9])),
-        (SUMS, 5, "", Wanted::Cells(&[10, 11, 12])),
-        (LATER, 1, "0,go,30\n0,stop,0\n", Wanted::Unfinished(1)),
-        (COMMON_EQUAL, 2, "", Wanted::Cells(&[0, 1, 0, 1, 1])),
-        (COMMON_NUMBERS, 4, "", Wanted::Conflict(5, 4, 1, 3)),
-        (PRIORITY_NUMBERS, 4, "", Wanted::Cells(&[0, 1, 0, 1, 1])),
-        (CREW_EQUAL, 2, "", Wanted::Conflict(5, 4, 1, 3)),
-    ];
-    for (text, workers, plan, wanted) in rows {
-        let answer = ran(&rt, text, workers, plan, &Open)?;
-        holds_at(&rt, wanted.is(&answer), text);
+    for line in ROWS.lines() {
+        expect_answer(&rt, line)?;
     }
     Ok(())
 }
@@ -148,23 +147,29 @@ fn holding(worker: u32, tick: u64, other: u32, until: u64) -> Hold {
     }
 }
 
+// A run of two workers at a gate whose holds are kept answers so.
+fn expect_held<C: Clock + Sync>(
+    rt: &(impl AllocGlobal + Abort + Threads + Wait),
+    text: &str,
+    gate: &Holds<C>,
+    wanted: &str,
+) -> Result<(), Fail> {
+    let answer = ran(rt, text, 2, "", gate)?;
+    assert!(rt; said(rt.alloc(), &answer)?.as_str() == wanted);
+    assert!(rt; gate.were_kept());
+    Ok(())
+}
+
+const SET: &str = "pram 1\ncells 1\nprocs 1\nsteps 1\ncode\nset r0 7\n";
+
 // Two workers each stand before their first step until the other one does; and worker 0 stands
 // before its swap of register 0, and worker 1 makes it.
 #[test]
 fn two_at_once(rt: HostRuntime) -> Result<(), Fail> {
     let first = [holding(0, 0, 1, 0), holding(1, 0, 0, 0)];
+    expect_held(&rt, SWAP, &Holds::new(rt.clone()?, first), "[9, 7]")?;
     let late = [holding(0, 17, 1, 22), holding(1, 0, 0, 17)];
-    let rows = [
-        (SWAP, first, Wanted::Cells(&[9, 7])),
-        (SET, late, Wanted::Cells(&[0])),
-    ];
-    for (text, holds, wanted) in rows {
-        let gate = Holds::new(rt.clone()?, holds);
-        let answer = ran(&rt, text, 2, "", &gate)?;
-        assert!(rt; wanted.is(&answer));
-        assert!(rt; gate.were_kept());
-    }
-    Ok(())
+    expect_held(&rt, SET, &Holds::new(rt.clone()?, late), "[0]")
 }
 
 // What a watch of cell 0 lists, beside one worker, at a gate whose holds are kept.
@@ -187,34 +192,40 @@ fn watched<C: Clock + Sync>(
     }
 }
 
+// Checks how many sights a watch at a gate lists, and the first of them.
+fn expect_sights<C: Clock + Sync>(
+    rt: &(impl AllocGlobal + Abort + Threads + Wait),
+    text: &str,
+    rounds: u32,
+    gate: &Holds<C>,
+    first: &[Sight],
+) -> Result<(), Fail> {
+    let sights = watched(rt, text, rounds, gate)?;
+    assert!(rt; sights.len() == rounds as usize);
+    assert!(rt; sights.as_slice().starts_with(first), "{text}");
+    Ok(())
+}
+
 // The reader is held until the worker has passed, and the worker until the reader has; the worker
 // is held until the reader's last read; and the first read finds a write of step 2 before the step
 // is finished.
 #[test]
 fn the_reader_reads_beside_the_workers(rt: HostRuntime) -> Result<(), Fail> {
     let both = [holding(0, 0, 1, 0), holding(1, 0, 0, 0)];
+    expect_sights(&rt, LATER, 1, &Holds::new(rt.clone()?, both), &[])?;
     let before = [holding(0, 0, 1, 3), holding(0, 0, 1, 3)];
+    let start = [sight(0, 0), sight(0, 0), sight(0, 0)];
+    expect_sights(&rt, BELOW_ZERO, 4, &Holds::new(rt.clone()?, before), &start)?;
     let between = [holding(1, 0, 0, 53), holding(0, 53, 1, 1)];
-    let start = [Sight {
+    let later = [sight(1, 4)];
+    expect_sights(&rt, LATER, 2, &Holds::new(rt.clone()?, between), &later)
+}
+
+// A sight of cell 0.
+fn sight(step: u32, value: u32) -> Sight {
+    Sight {
         cell: 0,
-        step: 0,
-        value: 0,
-    }; 3];
-    let later = [Sight {
-        cell: 0,
-        step: 1,
-        value: 4,
-    }];
-    let rows = [
-        (LATER, 1, both, &start[..0]),
-        (BELOW_ZERO, 4, before, start.as_slice()),
-        (LATER, 2, between, later.as_slice()),
-    ];
-    for (text, rounds, holds, first) in rows {
-        let gate = Holds::new(rt.clone()?, holds);
-        let sights = watched(&rt, text, rounds, &gate)?;
-        assert!(rt; sights.len() == rounds as usize);
-        holds_at(&rt, sights.as_slice().starts_with(first), text);
+        step,
+        value,
     }
-    Ok(())
 }
