@@ -76,8 +76,7 @@ struct Stand<'m> {
 }
 
 /// Takes the turns of the next processors that stand at this instruction. Each form that has a row
-/// here, or in a function that is called last, has a loop of its own, in which no other is looked
-/// at.
+/// here has a loop of its own, in which no other is looked at.
 #[inline(always)]
 fn take_form(stand: Stand<'_>, places: &mut [u32], running: &[u32], asked: &mut [Store]) -> Turns
     requires { StandsAt stand.at.job.now running.now places.old asked.old stand.turns
@@ -90,19 +89,16 @@ fn take_form(stand: Stand<'_>, places: &mut [u32], running: &[u32], asked: &mut 
         Instr::Pid(r) => take_as(stand, Instr::Pid(r), places, running, asked),
         Instr::Jz(r, index) => take_as(stand, Instr::Jz(r, index), places, running, asked),
         Instr::Jmp(index) => take_as(stand, Instr::Jmp(index), places, running, asked),
-        _ => take_place(stand, places, running, asked),
-    }
-}
-
-// The rows of the forms that name a place, and those after them.
-#[inline(always)]
-fn take_place(stand: Stand<'_>, places: &mut [u32], running: &[u32], asked: &mut [Store]) -> Turns
-    requires { StandsAt stand.at.job.now running.now places.old asked.old stand.turns
-        stand.at.counter }
-    ensures { GoesOn stand.entry.at.job.now running.now places.old asked.old stand.entry.turns
-        places.new asked.new result }
-{
-    match *stand.at.instr {
+        Instr::Add(r, a, b) => take_as(stand, Instr::Add(r, a, b), places, running, asked),
+        Instr::Sub(r, a, b) => take_as(stand, Instr::Sub(r, a, b), places, running, asked),
+        Instr::Mul(r, a, b) => take_as(stand, Instr::Mul(r, a, b), places, running, asked),
+        Instr::Shl(r, a, b) => take_as(stand, Instr::Shl(r, a, b), places, running, asked),
+        Instr::Shr(r, a, b) => take_as(stand, Instr::Shr(r, a, b), places, running, asked),
+        Instr::And(r, a, b) => take_as(stand, Instr::And(r, a, b), places, running, asked),
+        Instr::Or(r, a, b) => take_as(stand, Instr::Or(r, a, b), places, running, asked),
+        Instr::Xor(r, a, b) => take_as(stand, Instr::Xor(r, a, b), places, running, asked),
+        Instr::Lt(r, a, b) => take_as(stand, Instr::Lt(r, a, b), places, running, asked),
+        Instr::Eq(r, a, b) => take_as(stand, Instr::Eq(r, a, b), places, running, asked),
         Instr::Ld(r, Place::Cell(a)) => {
             take_as(stand, Instr::Ld(r, Place::Cell(a)), places, running, asked)
         }
@@ -127,42 +123,6 @@ fn take_place(stand: Stand<'_>, places: &mut [u32], running: &[u32], asked: &mut
                 asked,
             )
         }
-        _ => take_number(stand, places, running, asked),
-    }
-}
-
-// The rows of the forms that compute with numbers, and those after them.
-#[inline(always)]
-fn take_number(stand: Stand<'_>, places: &mut [u32], running: &[u32], asked: &mut [Store]) -> Turns
-    requires { StandsAt stand.at.job.now running.now places.old asked.old stand.turns
-        stand.at.counter }
-    ensures { GoesOn stand.entry.at.job.now running.now places.old asked.old stand.entry.turns
-        places.new asked.new result }
-{
-    match *stand.at.instr {
-        Instr::Add(r, a, b) => take_as(stand, Instr::Add(r, a, b), places, running, asked),
-        Instr::Sub(r, a, b) => take_as(stand, Instr::Sub(r, a, b), places, running, asked),
-        Instr::Mul(r, a, b) => take_as(stand, Instr::Mul(r, a, b), places, running, asked),
-        Instr::Shl(r, a, b) => take_as(stand, Instr::Shl(r, a, b), places, running, asked),
-        Instr::Shr(r, a, b) => take_as(stand, Instr::Shr(r, a, b), places, running, asked),
-        _ => take_bits(stand, places, running, asked),
-    }
-}
-
-// The rows of the forms that compute with bits, or compare. What is left needs no loop of its own.
-#[inline(always)]
-fn take_bits(stand: Stand<'_>, places: &mut [u32], running: &[u32], asked: &mut [Store]) -> Turns
-    requires { StandsAt stand.at.job.now running.now places.old asked.old stand.turns
-        stand.at.counter }
-    ensures { GoesOn stand.entry.at.job.now running.now places.old asked.old stand.entry.turns
-        places.new asked.new result }
-{
-    match *stand.at.instr {
-        Instr::And(r, a, b) => take_as(stand, Instr::And(r, a, b), places, running, asked),
-        Instr::Or(r, a, b) => take_as(stand, Instr::Or(r, a, b), places, running, asked),
-        Instr::Xor(r, a, b) => take_as(stand, Instr::Xor(r, a, b), places, running, asked),
-        Instr::Lt(r, a, b) => take_as(stand, Instr::Lt(r, a, b), places, running, asked),
-        Instr::Eq(r, a, b) => take_as(stand, Instr::Eq(r, a, b), places, running, asked),
         instr => take_as(stand, instr, places, running, asked),
     }
 }
