@@ -47,9 +47,11 @@ export class Link {
     return writeAddress(this.app, this.examples);
   }
 
-  // Which work is shown, and from which opening of the page on that says something.
+  // Which work is shown, and from which opening of the page on that says something; and which
+  // draft it is, for an opening that comes.
   get state() {
-    return { life: this.life, work: this.app.work.number };
+    const { number, draft } = this.app.work;
+    return { life: this.life, work: number, draft };
   }
 
   // Puts the address, and which work it shows, into the browser's history.
@@ -93,7 +95,7 @@ export class Link {
       if (this.isOpen) return;
     }
     this.isOpen = true;
-    this.onAddress(shown);
+    this.onAddress(shown, { draft: history.state?.draft });
     this.enter(location.hash);
     showWhole(await this.address());
   }
