@@ -34,6 +34,26 @@ function showWhole(address = '') {
   byId('whole').firstElementChild.href = whole.href;
 }
 
+const KEY = 'kaolinsilk shown';
+
+// Which draft was shown at which address, for the page when it is loaded anew.
+function keepShown(shown) {
+  try {
+    sessionStorage.setItem(KEY, JSON.stringify(shown));
+  } catch {
+    // A browser that keeps nothing shows the text of the address.
+  }
+}
+
+function draftShownAt(address) {
+  try {
+    const { hash, draft } = JSON.parse(sessionStorage.getItem(KEY) ?? '{}');
+    return hash === address ? draft : undefined;
+  } catch {
+    return undefined;
+  }
+}
+
 export class Link {
   constructor(app, examples, onAddress) {
     Object.assign(this, { app, examples, onAddress, written: '', isOpen: false });
@@ -47,17 +67,17 @@ export class Link {
     return writeAddress(this.app, this.examples);
   }
 
-  // Which work is shown, and from which opening of the page on that says something; and which
-  // draft it is, for an opening that comes.
+  // Which work is shown, and from which opening of the page on that says something.
   get state() {
-    const { number, draft } = this.app.work;
-    return { life: this.life, work: number, draft };
+    return { life: this.life, work: this.app.work.number };
   }
 
   // Puts the address, and which work it shows, into the browser's history.
   enter(hash) {
     this.written = hash;
     history.replaceState(this.state, '', hash || location.href);
+    const { drafts, work } = this.app;
+    keepShown({ hash: location.hash, draft: drafts.standing(work.draft) });
   }
 
   // The address follows what is shown, a moment after the last change.
@@ -95,7 +115,7 @@ export class Link {
       if (this.isOpen) return;
     }
     this.isOpen = true;
-    this.onAddress(shown, { draft: history.state?.draft });
+    this.onAddress(shown, { draft: draftShownAt(location.hash) });
     this.enter(location.hash);
     showWhole(await this.address());
   }
