@@ -20,8 +20,9 @@ let ask;
 
 const GREATEST = 2 ** 32 - 1;
 const THROWN = 150;
-const DOUBLED = [8, 16, 32, 64, 128, 256, 512];
-const SPARE = 4;
+const DOUBLED = [2, 4, 8, 16, 32, 64, 128, 256, 512];
+const SMALL = DOUBLED.indexOf(32);
+const SPARE = 8;
 
 let state = 1;
 
@@ -75,13 +76,12 @@ async function stepsOf(exercise, text, input) {
   return isRight && trial.cost.needs <= exercise.model ? trial.answer.step : undefined;
 }
 
-// What a doubling takes at most between these sizes, and a quarter more, is what each takes that
-// follows.
+// What a doubling takes at most up to n = 32, and a quarter more, is what each takes that follows.
 function isStraight(steps) {
-  const rises = steps.slice(1, 5).map((more, k) => more - steps[k]);
-  const rise = 1.25 * Math.max(0, ...rises) + SPARE;
-  const [base, ...others] = steps.slice(4);
-  return others.every((more, k) => more <= base + (k + 1) * rise);
+  const rises = steps.slice(1, SMALL + 1).map((more, k) => more - steps[k]);
+  const rise = 1.25 * Math.max(0, ...rises);
+  const [base, ...others] = steps.slice(SMALL);
+  return others.every((more, k) => more <= base + (k + 1) * rise + SPARE);
 }
 
 // Why lines that were judged right are not.
@@ -120,7 +120,8 @@ async function tryExercise(k) {
 
 function tryInThread(k) {
   return new Promise((done, fail) => {
-    const thread = new Worker(new URL(import.meta.url), { argv: process.argv.slice(2), workerData: k });
+    const given = { argv: process.argv.slice(2), workerData: k };
+    const thread = new Worker(new URL(import.meta.url), given);
     thread.on('message', done);
     thread.on('error', fail);
   });
@@ -138,8 +139,19 @@ async function tryAll() {
   return found;
 }
 
-function tell(found) {
+// Known wrong ones are doubted: what doubts is no dead letter.
+async function testDoubts(is) {
+  ask = askerOf(await coreOf(pagePath));
+  const inputs = EXERCISES.map(moreInputs);
+  for (const [k, code] of WRONG) {
+    const doubt = await doubtOf(EXERCISES[k], textWith(EXERCISES[k], code), inputs[k]);
+    is(`exercise ${k + 1}, wrong, is not doubted:\n${code}\n`, doubt === '', false);
+  }
+}
+
+async function tell(found) {
   const { is, end } = report();
+  await testDoubts(is);
   for (const [k, { passed }] of found.entries()) {
     for (const { code, doubt } of passed) {
       if (how.includes('--list')) console.log(`exercise ${k + 1}:\n${code}\n`);
@@ -153,7 +165,7 @@ function tell(found) {
 }
 
 if (isMainThread) {
-  tell(await tryAll());
+  await tell(await tryAll());
 } else {
   ask = askerOf(await coreOf(pagePath));
   parentPort.postMessage(await tryExercise(workerData));
