@@ -19,26 +19,26 @@ const WIDE = 2 ** 23 - 1;
 // Great ones, too: sums of them go round.
 const thrownWide = (n, seed) => thrown(n, seed, WIDE).map((value) => value * 511);
 
-// One that comes first is the input that one begins with.
+// One begins with an input of the first size.
 const FIRST = 16;
-// A line in the logarithm is drawn through what is taken with powers of two.
+
+// All have powers of two, since a line in the logarithm is drawn through what they take.
 export const POWERS = [FIRST, 2, 4, 8, 32, 64, 128, 1024];
 export const SIZES = [FIRST, 2, 3, 4, 5, 8, 12, 31, 32, 64, 100, 128, 1024];
 
 const MANY = 1024;
 
-// `value` stands in these places alone.
-const placed = (others, value, places) =>
-  others.map((other, i) => (places.includes(i) ? value : other));
+// `value` stands in this place alone.
+const placed = (others, value, place) => others.map((other, i) => (i === place ? value : other));
 
 function withValue(n, value) {
   const others = thrown(n, n, FEW - 1);
   const places = n === FIRST ? indices(n) : [0, n - 1];
-  return [...places.map((place) => placed(others, value, [place])), others];
+  return [...places.map((place) => placed(others, value, place)), others];
 }
 
 function valuesOf(n, value) {
-  if (n === MANY) return [placed(thrown(n, n, FEW), value, [n - 1]), thrownWide(n, n)];
+  if (n === MANY) return [placed(thrown(n, n, FEW), value, n - 1), thrownWide(n, n)];
   const all = indices(n);
   return [thrown(n, n === FIRST ? 1 : n + 1, 99), thrownWide(n, n), ...withValue(n, value),
     all.map(() => value), all.map(() => 0), all, [...all].reverse()];

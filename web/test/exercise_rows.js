@@ -19,9 +19,9 @@ function hasSteps(said, [few, many]) {
     : said.includes(`: ${few} steps with n = 16, `) && said.includes(`, ${many} with n = 64, `);
 }
 
-const TOO_MANY = new RegExp(' \\(n = \\d+\\): all is right, but ' +
-  '(in \\d+ steps; at most \\d+|not in steps that grow no faster than a line in log n: it took .*, ' +
-  'and takes [\\d,]+ here, where at most [\\d,]+) are allowed\\.$');
+const TOO_MANY = new RegExp(' \\(n = \\d+\\): all is right, but (in \\d+ steps; at most \\d+|' +
+  'not in steps that grow no faster than a line in log n: it took .*, and takes [\\d,]+ here, ' +
+  'where at most [\\d,]+) are allowed\\.$');
 
 async function testSolutions(is, judged) {
   for (const [k, exercise] of EXERCISES.entries()) {

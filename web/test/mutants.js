@@ -1,5 +1,5 @@
-// Lines of an exercise with one thing changed: a token that is another one, or is missing, one added
-// to an operand or taken from it, a line that is missing, said twice, or in another place.
+// Lines of an exercise with one thing changed: a token that is another one, or is missing, one
+// added to an operand or taken from it, a line that is missing, said twice, or in another place.
 const TOKEN = /:=|!=|<=|>=|<<|>>|[A-Za-z_]\w*|\d+|[^\s\w]/g;
 
 const CLASSES = [

@@ -56,7 +56,8 @@ function thrownList(n) {
   return next;
 }
 
-const isOfPowers = ({ inputs }) => inputs.every(({ length }) => Number.isInteger(Math.log2(length)));
+const isOfPowers = ({ inputs }) =>
+  inputs.every(({ length }) => Number.isInteger(Math.log2(length)));
 const isOfLists = ({ title }) => title === 'ranks in a list';
 
 // More inputs than the page has, of sizes that it has not, too.

@@ -3,7 +3,9 @@ import { readFileSync } from 'node:fs';
 import { inflateRawSync } from 'node:zlib';
 import { openCore } from '../src/core.js';
 
+const CORE = /<script type="text\/plain" id="core">([^<]*)</;
+
 export function coreOf(path) {
-  const [, packed] = /<script type="text\/plain" id="core">([^<]*)</.exec(readFileSync(path, 'utf8'));
+  const [, packed] = CORE.exec(readFileSync(path, 'utf8'));
   return openCore(inflateRawSync(Buffer.from(packed, 'base64')));
 }
