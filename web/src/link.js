@@ -36,23 +36,29 @@ function showWhole(address = '') {
 
 const KEY = 'kaolinsilk shown';
 
-// Which draft was shown at which address, for the page when it is loaded anew.
-function keepShown(shown) {
+const MOST_KEPT = 8;
+
+// Which draft was shown at which of the last addresses, for the page when it is loaded anew: a
+// browser may load the one before the last.
+function shownBefore() {
   try {
-    sessionStorage.setItem(KEY, JSON.stringify(shown));
+    const found = JSON.parse(sessionStorage.getItem(KEY) ?? '[]');
+    return Array.isArray(found) ? found : [];
+  } catch {
+    return [];
+  }
+}
+
+function keepShown(shown) {
+  const others = shownBefore().filter((one) => one?.hash !== shown.hash);
+  try {
+    sessionStorage.setItem(KEY, JSON.stringify([shown, ...others].slice(0, MOST_KEPT)));
   } catch {
     // A browser that keeps nothing shows the text of the address.
   }
 }
 
-function draftShownAt(address) {
-  try {
-    const { hash, draft } = JSON.parse(sessionStorage.getItem(KEY) ?? '{}');
-    return hash === address ? draft : undefined;
-  } catch {
-    return undefined;
-  }
-}
+const draftShownAt = (hash) => shownBefore().find((one) => one?.hash === hash)?.draft;
 
 export class Link {
   constructor(app, examples, onAddress) {
