@@ -23,6 +23,7 @@ const THROWN = 150;
 const DOUBLED = [2, 4, 8, 16, 32, 64, 128, 256, 512];
 const SMALL = DOUBLED.indexOf(32);
 const SPARE = 8;
+const MOST_LETTERS = 800;
 
 let state = 1;
 
@@ -97,11 +98,12 @@ async function doubtOf(exercise, text, inputs) {
   return isStraight(steps) ? '' : `too slow: ${steps}`;
 }
 
-// The lines that are changed.
+// The lines that are changed; not those that say one thing for each of many places.
 function codesOf(k) {
   if (how.includes('--short')) return [SOLUTIONS[k]];
   const others = [...OTHERS, ...WRONG].filter(([number]) => number === k);
-  return [SOLUTIONS[k], SLOW[k], ...others.map(([, code]) => code)];
+  return [SOLUTIONS[k], SLOW[k], ...others.map(([, code]) => code)]
+    .filter(({ length }) => length < MOST_LETTERS);
 }
 
 // Tells how many changed ones there are of an exercise, those that are judged right, and of these
