@@ -9,6 +9,9 @@ export const MEETS = ['read', 'write', 'write different values to'];
 const OTHERS = 'With other values at the start the same program may cost more, and need a ' +
   'stronger model.';
 
+const OF_STEPS = ' A model is judged by the steps of the machine, of which a line is several: two ' +
+  'who read one place in a line may read it in different steps.';
+
 const NUMBERS = [
   ['steps', ({ steps }) => steps],
   ['processors', ({ procs }) => procs],
@@ -47,7 +50,8 @@ export function openCosts(onStep) {
       if (!cost) return;
       fit(list, NUMBERS.length, makeNumber).forEach((part, k) =>
         setText(part.lastChild, grouped(NUMBERS[k][1](cost))));
-      setText(byId('cost-model'), `This run needs ${MODELS[cost.needs]}. ${OTHERS}`);
+      setText(byId('cost-model'), `This run needs ${MODELS[cost.needs]}. ${OTHERS}${
+        job.source ? OF_STEPS : ''}`);
       const ruling = cost.meetings.flatMap((meeting, model) =>
         (meeting.step > 0 ? [{ meeting, model }] : []));
       fit(reasons, ruling.length, makeReason).forEach((item, k) => {

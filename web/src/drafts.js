@@ -74,8 +74,9 @@ export class Drafts {
     return this.list.find((draft) => draft.number === standing);
   }
 
-  numberOf(text) {
-    return this.list.find((draft) => draft.text === text)?.number;
+  // The draft of a text that is opened; `known` is the one that was shown there before.
+  numberOf(text, known) {
+    return (this.find(known) ?? this.list.find((draft) => draft.text === text))?.number;
   }
 
   get freshNumber() {
@@ -98,6 +99,13 @@ export class Drafts {
   follow({ text: before, draft }, text) {
     if (text === '') return undefined;
     return this.keep(text, isAnother(before, text) ? undefined : draft);
+  }
+
+  // Keeps what is shown again after an undo: the draft is what one sees.
+  goBackTo({ text, draft }) {
+    if (draft !== undefined && text !== '' && this.find(draft)?.text !== text) {
+      this.keep(text, draft);
+    }
   }
 
   // A draft that another page changed stays as it is there; what was made of it here is another.

@@ -2,6 +2,7 @@
 // shown by a window on its lines, and of these only those in sight have a number drawn.
 import { byId, fit, make, setAttribute, setText } from './dom.js';
 import { Sheet } from './sheet.js';
+import { movedLines } from './text_lines.js';
 import { openWindow } from './window.js';
 
 const QUIET = 30;
@@ -40,6 +41,11 @@ function endOfChange(before, after) {
   return after.length - same;
 }
 
+// What is entered without data of its own.
+const ENTERED = { insertLineBreak: '\n', insertParagraph: '\n' };
+
+const withLines = (text) => text.replaceAll('\r\n', '\n').replaceAll('\r', '\n');
+
 export class Editor {
   // `on` has what follows a change of the text, undo, redo, and clicks on a line's number or stop.
   constructor(on) {
@@ -48,6 +54,7 @@ export class Editor {
     this.sheet = new Sheet();
     this.marks = new Map();
     this.stops = new Set();
+    this.isChosen = false;
     this.sight = openWindow('line', WINDOW, (line) => this.moveTo(line), 1);
     byId('lines').append(this.sight.bar);
     this.listen();
@@ -61,25 +68,51 @@ export class Editor {
     area.addEventListener('beforeinput', (event) => this.onInput(event));
     area.addEventListener('paste', (event) => this.onPaste(event, event.clipboardData));
     area.addEventListener('drop', (event) => this.onPaste(event, event.dataTransfer));
+    area.addEventListener('copy', (event) => this.onCopy(event));
+    area.addEventListener('cut', (event) => this.onCopy(event) && this.replaceAll(''));
+    area.addEventListener('compositionstart', () => this.isAll && this.replaceAll(''));
+    document.addEventListener('selectionchange', () => { this.isChosen &&= this.isAll; });
     byId('gutter').addEventListener('click', (event) => this.onClick(event.target));
     new ResizeObserver(() => this.measure()).observe(area);
     this.measure();
   }
 
-  // The page has its own undo: a text area forgets its own once a text is set.
+  // The page has its own undo: a text area forgets its own once a text is set. And it has its own
+  // choice of all, since a text area has a part of a long text.
   onKey(event) {
     const key = event.key.toLowerCase();
-    if (!(event.ctrlKey || event.metaKey) || event.altKey || (key !== 'z' && key !== 'y')) return;
+    if (!(event.ctrlKey || event.metaKey) || event.altKey || !'zya'.includes(key)) return;
+    if (key === 'a' && this.sheet.isWhole) return;
     event.preventDefault();
     event.stopPropagation();
     this.look();
-    if (key === 'y' || event.shiftKey) this.on.redo();
+    if (key === 'a') this.chooseAll();
+    else if (key === 'y' || event.shiftKey) this.on.redo();
     else this.on.undo();
+  }
+
+  chooseAll() {
+    this.area.select();
+    this.isChosen = true;
+  }
+
+  // Whether all of a text is chosen of which a part is in the text area.
+  get isAll() {
+    const { area, isChosen } = this;
+    return isChosen && area.selectionStart === 0 && area.selectionEnd === area.value.length;
+  }
+
+  onCopy(event) {
+    if (!this.isAll) return false;
+    event.clipboardData.setData('text/plain', this.sheet.text);
+    event.preventDefault();
+    return true;
   }
 
   onInput(event) {
     if (event.inputType === 'historyUndo') this.on.undo();
     else if (event.inputType === 'historyRedo') this.on.redo();
+    else if (this.isAll) this.replaceAll(event.data ?? ENTERED[event.inputType] ?? '');
     else if ((event.data?.length ?? 0) > LARGE) this.insert(event.data);
     else return;
     event.preventDefault();
@@ -87,17 +120,41 @@ export class Editor {
 
   onPaste(event, data) {
     const text = data?.getData('text/plain') ?? '';
-    if (text.length <= LARGE) return;
+    if (text.length <= LARGE && !this.isAll) return;
     event.preventDefault();
-    this.insert(text);
+    if (this.isAll) this.replaceAll(text);
+    else this.insert(text);
   }
 
   // A long text is put into the sheet, and not into the text area, which would take minutes.
   insert(text) {
     const { area, sheet } = this;
-    const lines = text.replaceAll('\r\n', '\n').replaceAll('\r', '\n');
-    this.showSheet(sheet.insert(lines, area.selectionStart, area.selectionEnd));
+    this.changeSheet(() => sheet.insert(withLines(text), area.selectionStart, area.selectionEnd));
+  }
+
+  replaceAll(text) {
+    const { sheet } = this;
+    this.changeSheet(() => {
+      sheet.set(withLines(text));
+      return sheet.text.length;
+    });
+  }
+
+  // `change` changes the sheet, and tells where the cursor is then.
+  changeSheet(change) {
+    const { sheet } = this;
+    const before = sheet.text;
+    const at = change();
+    this.isChosen = false;
+    this.moveStops(before);
+    this.showSheet(at);
     this.on.change(sheet.text);
+  }
+
+  // Stops stay with their lines, where the sheet had this text before.
+  moveStops(before) {
+    const { stops, sheet } = this;
+    if (stops.size > 0) this.stops = new Set(movedLines(stops, before, sheet.text));
   }
 
   onClick(target) {
@@ -120,7 +177,9 @@ export class Editor {
     if (!area.classList.contains('waits')) return;
     clearTimeout(this.timer);
     area.classList.remove('waits');
+    const before = sheet.text;
     sheet.write(area.value);
+    this.moveStops(before);
     if (sheet.isOver) this.showSheet(sheet.start + area.selectionEnd);
     this.drawAll();
     this.on.change(sheet.text);
@@ -178,13 +237,17 @@ export class Editor {
     gutter.parentElement.style.width = `${Math.max(String(sheet.lines).length, 2) + 3}ch`;
   }
 
-  // Has this text. Where it is another version of what stands there the cursor goes to the change.
+  // Has this text. Where it is another version of what stands there the cursor goes to the change,
+  // and stops stay; another text has none.
   set(text, isVersion = false) {
     const { area, sheet } = this;
     clearTimeout(this.timer);
     area.classList.remove('waits');
-    const at = isVersion ? endOfChange(sheet.text, text) : 0;
+    const before = sheet.text;
+    const at = isVersion ? endOfChange(before, text) : 0;
     sheet.set(text, isVersion ? sheet.first : 1);
+    if (isVersion) this.moveStops(before);
+    else this.stops.clear();
     this.showSheet(at);
     if (isVersion) this.show(sheet.lineAt(at));
     else area.scrollTop = 0;

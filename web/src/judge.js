@@ -1,8 +1,9 @@
 // Judges exercises: the core runs the learner's lines on hidden inputs, and says what they cost.
 import { CODE } from './core.js';
 import { MEETS, MODELS } from './costs.js';
-import { headerOf, keyOf, mostFor, ruleOf, sizesOf } from './exercises.js';
-import { counted, grouped } from './numbers.js';
+import { headerOf, keyOf, ruleOf } from './exercises.js';
+import { excessInWords, keepSteps } from './growth.js';
+import { grouped } from './numbers.js';
 import { wordsOfProgramFault } from './program_faults.js';
 import { Source } from './source.js';
 import { lineOf } from './text_lines.js';
@@ -72,58 +73,47 @@ function modelOf({ model }, trial, source) {
     `it needs ${MODELS[needs]}: ${meetingInWords(trial, source, meetings[met], MEETS[met])}.`;
 }
 
-function stepsOf(exercise, input, { answer: { step } }) {
-  const most = mostFor(exercise, input);
-  return step <= most ? ''
-    : `all is right, but in ${counted(step, 'step')}; at most ${most} are allowed.`;
-}
-
-async function troubleOf(ask, exercise, input, trial) {
+// `taken` has the steps of the inputs before, by their size.
+async function troubleOf(ask, exercise, input, trial, taken) {
   const source = new Source([], trial.made);
   return conflictOf(exercise, trial, source) ||
     await valueOf(ask, exercise, input, trial, source) ||
-    modelOf(exercise, trial, source) || stepsOf(exercise, input, trial);
+    modelOf(exercise, trial, source) ||
+    excessInWords(exercise.growth, input.length, trial.answer.step, taken);
 }
 
 const notYet = (said, given) => ({ isRight: false, said: `Not yet${said}`, given });
 
-// Tries one input: how many steps it took, or what is told of why it is not right.
-async function tryInput(ask, exercise, text, k) {
+// Tries one input, and keeps how many steps it took; or tells why it is not right.
+async function tryInput(ask, exercise, text, k, taken) {
   const input = exercise.inputs[k];
   const { given, missing } = withInput(text, exercise, input);
   if (missing) {
-    return { told: notYet(`: the line “${missing}” is missing. “Begin anew” brings it back.`) };
+    return notYet(`: the line “${missing}” is missing. “Begin anew” brings it back.`);
   }
-  const where = `, on input ${k + 1} of ${exercise.inputs.length} (n = ${input.length}): `;
+  const where = `, on input ${k + 1} of ${exercise.inputs.length} (n = ${
+    grouped(input.length)}): `;
   const trial = await ask('trial', [given]);
   const { made } = trial;
   if (made.code !== CODE.DONE) {
     const said = faultInWords(made, given);
-    return { told: made.fault === ENDLESS ? notYet(where + said, given) : notYet(`, ${said}`) };
+    return made.fault === ENDLESS ? notYet(where + said, given) : notYet(`, ${said}`);
   }
-  const trouble = await troubleOf(ask, exercise, input, trial);
-  return trouble ? { told: notYet(where + trouble, given) } : { steps: trial.answer.step };
-}
-
-// `made` has the steps of each input.
-function rightInWords(exercise, made) {
-  const { inputs, model } = exercise;
-  const steps = sizesOf(exercise).map((n, at) => {
-    const most = Math.max(...made.filter((_, k) => inputs[k].length === n));
-    return `${at === 0 ? counted(most, 'step') : grouped(most)} of at most ${
-      mostFor(exercise, { length: n })} with n = ${n}`;
-  });
-  return `Right on all ${inputs.length} inputs, under ${MODELS[model]}: ${steps.join(', ')}.`;
+  const trouble = await troubleOf(ask, exercise, input, trial, taken);
+  if (!trouble) keepSteps(taken, input.length, trial.answer.step);
+  return trouble ? notYet(where + trouble, given) : undefined;
 }
 
 // Tells whether all inputs come out right, in words, and the text with the first that does not.
 // `ask` calls the core, and promises what it tells.
 export async function judgeExercise(ask, exercise, text) {
-  const made = [];
-  for (let k = 0; k < exercise.inputs.length; k += 1) {
-    const { told, steps } = await tryInput(ask, exercise, text, k);
+  const { inputs, model, growth } = exercise;
+  const taken = new Map();
+  for (let k = 0; k < inputs.length; k += 1) {
+    const told = await tryInput(ask, exercise, text, k, taken);
     if (told) return told;
-    made.push(steps);
   }
-  return { isRight: true, said: rightInWords(exercise, made) };
+  const said = `Right on all ${inputs.length} inputs, under ${MODELS[model]}: ${
+    growth.tell(taken)}.`;
+  return { isRight: true, said };
 }

@@ -2,9 +2,10 @@
 import { readAddress } from './address.js';
 import { MODELS } from './costs.js';
 import { byId, make, onClick, setDisabled, setHidden, setText } from './dom.js';
-import { EXERCISES, isOf, mostFor, sizesOf, startOf } from './exercises.js';
+import { EXERCISES, isOf, sizesOf, startOf } from './exercises.js';
 import { Far } from './far.js';
 import { judgeExercise } from './judge.js';
+import { grouped } from './numbers.js';
 import { PUZZLES, judgePuzzle } from './puzzles.js';
 import { TOUR } from './tour.js';
 
@@ -15,23 +16,16 @@ const group = (label, options) => make('optgroup', { label }, ...options);
 const optionsOf = (kind, list) => list.map(({ number, title }) =>
   make('option', { value: `${kind} ${number}` }, `${number}: ${title}`));
 
-// The bar on steps, by n where it is not the same for all.
-function barInWords(exercise) {
-  const bars = sizesOf(exercise).map((n) => [n, mostFor(exercise, { length: n })]);
-  const isOne = bars.every(([, most]) => most === bars[0][1]);
-  return isOne ? `${bars[0][1]} steps`
-    : bars.map(([n, most]) => `${most} steps with n = ${n}`).join(' and ');
-}
-
 function taskInWords(exercise) {
-  return `${exercise.task} Under ${MODELS[exercise.model]}, in at most ${barInWords(exercise)}. ` +
-    `Judge tries your lines on inputs that you do not see, with n = ${
-      sizesOf(exercise).join(' and with n = ')}.`;
+  const sizes = sizesOf(exercise).map(grouped);
+  return `${exercise.task} Under ${MODELS[exercise.model]}, ${exercise.growth.words}. Judge ` +
+    `tries your lines on inputs that you do not see, with n = ${
+      sizes.slice(0, -1).join(', ')} and ${sizes.at(-1)}.`;
 }
 
 class Lessons {
   constructor(app) {
-    Object.assign(this, { app, lesson: undefined, stop: 0, far: new Far(app.far.bytes) });
+    Object.assign(this, { app, kind: '', stop: 0, far: new Far(app.far.bytes) });
     const menu = byId('lesson');
     menu.append(make('option', { value: 'tour 1' }, 'A tour: losing a worker'),
       group('Exercises', optionsOf('exercise', EXERCISES)),
@@ -41,7 +35,8 @@ class Lessons {
     onClick('lesson-on', () => this.moveBy(1));
     onClick('lesson-anew', () => this.begin(true));
     onClick('judge', () => this.judge());
-    onClick('lesson-try', () => app.choose(this.given, undefined, `${this.name}, this input`));
+    onClick('lesson-try', () =>
+      app.choose(this.given, { name: `${this.name}, this input`, lesson: this.lesson }));
     onClick('lesson-close', () => this.close());
   }
 
@@ -54,12 +49,35 @@ class Lessons {
     return `${kind} ${this.stop + 1}`;
   }
 
+  // Which one is shown, as works keep it.
+  get lesson() {
+    return { kind: this.kind, stop: this.stop };
+  }
+
   choose(value) {
     const [kind, number] = value.split(' ');
     this.kind = kind;
     this.stop = Number(number) - 1;
     if (kind === '') this.close();
     else this.begin();
+  }
+
+  // The panel is that of what is shown: one goes back to an earlier stop with its title, and the
+  // tour waits while one is elsewhere. A panel that was closed stays so.
+  follow(lesson) {
+    if (this.kind === '') return;
+    if (!lesson) {
+      if (this.kind === 'tour') this.leave();
+    } else if (byId('lesson-panel').hidden || lesson.kind !== this.kind ||
+      lesson.stop !== this.stop) {
+      Object.assign(this, lesson);
+      this.showPanel();
+    }
+  }
+
+  leave() {
+    byId('lesson').value = '';
+    setHidden(byId('lesson-panel'), true);
   }
 
   stopJudging() {
@@ -69,6 +87,7 @@ class Lessons {
 
   close() {
     this.stopJudging();
+    this.kind = '';
     byId('lesson').value = '';
     byId('lesson-panel').hidden = true;
     byId('lesson').focus();
@@ -78,13 +97,20 @@ class Lessons {
     const at = this.stop + count;
     if (at < 0 || at >= this.list.length) return;
     this.stop = at;
-    byId('lesson').value = this.kind === 'tour' ? 'tour 1' : `${this.kind} ${at + 1}`;
     this.begin();
   }
 
   // Shows the panel, and what the lesson begins with.
   begin(isAnew = false) {
     const lesson = this.list[this.stop];
+    this.showPanel();
+    if (this.kind === 'exercise') this.write(lesson, isAnew);
+    else this.visit(lesson.address);
+  }
+
+  showPanel() {
+    const lesson = this.list[this.stop];
+    byId('lesson').value = this.kind === 'tour' ? 'tour 1' : `${this.kind} ${this.stop + 1}`;
     setText(byId('lesson-title'), `${this.name} of ${this.list.length}: ${lesson.title}`);
     setText(byId('lesson-text'), this.kind === 'exercise' ? taskInWords(lesson) : lesson.task);
     byId('lesson-panel').hidden = false;
@@ -93,8 +119,6 @@ class Lessons {
     setDisabled(byId('lesson-back'), this.stop === 0);
     setDisabled(byId('lesson-on'), this.stop === this.list.length - 1);
     this.say({ isRight: false, said: '' });
-    if (this.kind === 'exercise') this.write(lesson, isAnew);
-    else this.visit(lesson.address);
   }
 
   // An exercise that was begun goes on; what someone sent stays. One that is only looked at is no
@@ -102,14 +126,18 @@ class Lessons {
   write(exercise, isAnew) {
     const { app } = this;
     if (app.view !== 'lockstep') app.turnTo('lockstep');
-    if (!isAnew && app.work.name === undefined && isOf(exercise, app.text)) return;
+    if (!isAnew && app.work.name === undefined && isOf(exercise, app.text)) {
+      app.work.lesson = this.lesson;
+      return;
+    }
     const begun = isAnew ? undefined : app.drafts.list.find(({ text }) => isOf(exercise, text));
-    app.choose(begun?.text ?? startOf(exercise), begun?.number, this.name);
+    const more = { draft: begun?.number, name: this.name, lesson: this.lesson };
+    app.choose(begun?.text ?? startOf(exercise), more);
   }
 
   async visit(address) {
-    const { app } = this;
-    app.showAddress(await readAddress(address, app.examples));
+    const { app, lesson } = this;
+    app.showAddress(await readAddress(address, app.examples), { lesson });
     app.link.push();
   }
 

@@ -34,6 +34,32 @@ function showWhole(address = '') {
   byId('whole').firstElementChild.href = whole.href;
 }
 
+const KEY = 'kaolinsilk shown';
+
+const MOST_KEPT = 8;
+
+// Which draft was shown at which of the last addresses, for the page when it is loaded anew: a
+// browser may load the one before the last.
+function shownBefore() {
+  try {
+    const found = JSON.parse(sessionStorage.getItem(KEY) ?? '[]');
+    return Array.isArray(found) ? found : [];
+  } catch {
+    return [];
+  }
+}
+
+function keepShown(shown) {
+  const others = shownBefore().filter((one) => one?.hash !== shown.hash);
+  try {
+    sessionStorage.setItem(KEY, JSON.stringify([shown, ...others].slice(0, MOST_KEPT)));
+  } catch {
+    // A browser that keeps nothing shows the text of the address.
+  }
+}
+
+const draftShownAt = (hash) => shownBefore().find((one) => one?.hash === hash)?.draft;
+
 export class Link {
   constructor(app, examples, onAddress) {
     Object.assign(this, { app, examples, onAddress, written: '', isOpen: false });
@@ -56,6 +82,8 @@ export class Link {
   enter(hash) {
     this.written = hash;
     history.replaceState(this.state, '', hash || location.href);
+    const { drafts, work } = this.app;
+    keepShown({ hash: location.hash, draft: drafts.standing(work.draft) });
   }
 
   // The address follows what is shown, a moment after the last change.
@@ -93,7 +121,7 @@ export class Link {
       if (this.isOpen) return;
     }
     this.isOpen = true;
-    this.onAddress(shown);
+    this.onAddress(shown, { draft: draftShownAt(location.hash) });
     this.enter(location.hash);
     showWhole(await this.address());
   }

@@ -1,4 +1,5 @@
 // A moment of the plain machine in words.
+import { STATE, activeOf } from './activity.js';
 import { CODE, STATUS } from './core.js';
 import { endInWords } from './ends.js';
 import { loopsAround } from './loop_names.js';
@@ -35,7 +36,8 @@ export function momentInWords(app, requests, fault) {
 
 // ---- a program
 
-// The variables of the loops around a line: each has one value for all that are there.
+// The variables of the loops around a line: each has one value for all that are there, active or
+// not. One that is gone keeps what it had.
 function loopsInWords({ job, text }, line, places, processor) {
   const { loops } = job.source;
   const names = loopsAround(text, line);
@@ -50,8 +52,8 @@ function clashInWords(job, line, requests, fault) {
     `${nameOfPlace(job, fault.cell)}: ${asks.join(', ')}. The program ends before it.`;
 }
 
-// What a line is about: `requests` are those of its last step.
-export function lineInWords(app, { line, number, places, active, requests, fault }) {
+// What a line is about: `requests` are those of its last step, `states` say who is active.
+export function lineInWords(app, { line, number, places, states, requests, fault }) {
   const { job, text } = app;
   if (fault) return clashInWords(job, line, requests, fault);
   const lines = `${counted(number, 'line')}, ${counted(app.step, 'step')} of the machine`;
@@ -60,7 +62,8 @@ export function lineInWords(app, { line, number, places, active, requests, fault
       endInWords(job, app.whole.fates())}`.trim();
   }
   const says = shortened(lineOf(text, line).split(';', 1)[0].trim(), 80);
-  const loops = loopsInWords(app, line, places, active[0] ?? 0);
+  const active = activeOf(states);
+  const loops = loopsInWords(app, line, places, states.findIndex((state) => state !== STATE.GONE));
   const who = active.length === 0 ? 'No processor is active'
     : `${named(active, 24)}, ${grouped(active.length)} of ${grouped(job.procs)}, ${
       active.length === 1 ? 'is' : 'are'} active`;

@@ -44,14 +44,14 @@ class Playground {
       toLine: (line) => this.toLine(line),
       stop: (line) => this.stopping.toggle(line),
     });
-    this.gallery = openGallery(examples, this.drafts, (text, draft) => this.choose(text, draft));
+    this.gallery = openGallery(examples, this.drafts, (text, draft) => this.choose(text, { draft }));
     this.views = { lockstep: new LockstepView(this), workers: new WorkersView(this) };
     this.stopping = openStops(this.editor, {
       onChange: () => this.show(), toLine: (line) => this.toLine(line),
     });
     this.tabs = openTabs((view) => this.turnTo(view));
-    openLessons(this);
-    this.link = new Link(this, examples, (shown) => this.showAddress(shown));
+    this.lessons = openLessons(this);
+    this.link = new Link(this, examples, (shown, more) => this.showAddress(shown, more));
     this.listen();
   }
 
@@ -132,10 +132,12 @@ class Playground {
   showNow() {
     this.pause();
     const { work, works } = this;
+    this.lessons.follow(work.lesson);
     this.far.forget();
     if (isNear(work.text, 0)) this.read(readText(this.core, work.text));
     else this.wait('readText', 'It is being read.', (told) => this.read(told));
     this.gallery.show(work);
+    this.stopping.show();
     setDisabled(byId('undo-text'), !works.canUndo);
     setDisabled(byId('redo-text'), !works.canRedo);
   }
@@ -185,7 +187,8 @@ class Playground {
     const isNew = now - this.written > PAUSE || draft !== work.draft || works.canRedo ||
       work.schedule.past.length > 0 || work.schedule.length > 0;
     this.written = now;
-    if (isNew) works.add(makeWork(text, new Schedule(work.schedule.workers), { draft }));
+    const more = { draft, lesson: work.lesson };
+    if (isNew) works.add(makeWork(text, new Schedule(work.schedule.workers), more));
     else Object.assign(work, { text, step: 0 });
     this.saved();
     this.showNow();
@@ -195,18 +198,18 @@ class Playground {
     this.editor.look();
     this.written = 0;
     this.works.moveBy(count);
+    this.drafts.goBackTo(this.work);
     this.editor.set(this.text, true);
     this.saved();
     this.showNow();
   }
 
-  // A chosen program, with a name where it is neither one's own nor of the gallery; the one before
-  // it stays, to be undone or gone back to.
-  choose(text, draft, name) {
+  // A chosen program, with a name where it is neither one's own nor of the gallery, and the lesson
+  // that it belongs to; the one before it stays, to be undone or gone back to.
+  choose(text, more) {
     this.editor.look();
     this.written = 0;
-    this.works.add(makeWork(text, new Schedule(this.schedule.workers), { draft, name }));
-    this.editor.stops.clear();
+    this.works.add(makeWork(text, new Schedule(this.schedule.workers), more));
     this.editor.set(text);
     this.link.push();
     this.showNow();
@@ -235,13 +238,14 @@ class Playground {
     this.views.lockstep.seekLine(line);
   }
 
-  // Shows what an address says, and the first example where it says nothing.
-  showAddress(shown) {
+  // Shows what an address says, and the first example where it says nothing; `draft` is the one
+  // that was shown there before, `lesson` the one that sends there.
+  showAddress(shown, { draft, lesson } = {}) {
     this.editor.look();
     const first = this.examples.find((example) => example.name === FIRST_EXAMPLE);
     const text = shown?.text ?? (first ?? this.examples[0]).text;
     const work = makeWork(text, shown?.schedule ?? new Schedule(WORKERS),
-      { step: shown?.step ?? 0, draft: this.drafts.numberOf(text) });
+      { step: shown?.step ?? 0, draft: this.drafts.numberOf(text, draft), lesson });
     if (this.text === '' && !this.works.canUndo) this.works = new Works(work);
     else this.works.add(work);
     this.view = shown?.view ?? this.view;

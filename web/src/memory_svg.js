@@ -33,8 +33,16 @@ const chipOf = (chip, frame) => [boxOf(chip, frame, 12), textOf(chip, frame)];
 const cellOf = (cell, frame) =>
   [boxOf(cell, frame, 5), ...[...cell.children].map((part) => textOf(part, frame))];
 
-export function saveMemory(words) {
+// Who reads and writes the place of a conflict: its box cuts that.
+function clashersInWords(picture) {
+  const [place, , note] = picture.querySelector('.is-disputed')?.children ?? [];
+  return place ? ` At ${place.textContent}: ${note.textContent}.` : '';
+}
+
+// The picture as the page has it now; nothing where it is out of sight.
+export function memoryPicture(words = '') {
   const picture = document.querySelector('#lockstep .picture');
+  if (!picture.checkVisibility()) return undefined;
   const frame = picture.getBoundingClientRect();
   const arrows = byId('arrows');
   const parts = [
@@ -44,5 +52,7 @@ export function saveMemory(words) {
   ];
   const group = makeSvg('g', { transform: `translate(${MARGIN} ${MARGIN})` }, ...parts);
   const [width, height] = [frame.width + 2 * MARGIN, frame.height + 2 * MARGIN];
-  saveSvg('memory.svg', pictureOf(width, height, [group], words));
+  return pictureOf(width, height, [group], words && words + clashersInWords(picture));
 }
+
+export const saveMemory = (words) => saveSvg('memory.svg', memoryPicture(words));

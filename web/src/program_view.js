@@ -25,11 +25,10 @@ export class ProgramView {
   }
 
   wordsOf(now, pace) {
-    const states = this.statesOf(now, pace);
     return lineInWords(this.app, {
       ...now,
       line: pace.lineAt(now.number),
-      active: activeOf(states),
+      states: this.statesOf(now, pace),
       requests: now.asked.at(-1) ?? [],
     });
   }

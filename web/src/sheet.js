@@ -1,21 +1,10 @@
 // The part of a text that a text area holds: all of a short one, and a window on a long one, since
 // browsers take seconds to lay out so many lines.
-import { countLines } from './text_lines.js';
+import { countLines, startOfLine } from './text_lines.js';
 
 const MOST_CHARACTERS = 40000;
 const MOST_LINES = 1000;
 const LINES = 400;
-
-// Where a line begins, counted from where another one does.
-function startOfLine(text, start, lines) {
-  let at = start;
-  for (let line = 0; line < lines; line += 1) {
-    const end = text.indexOf('\n', at);
-    if (end < 0) return at;
-    at = end + 1;
-  }
-  return at;
-}
 
 export class Sheet {
   constructor() {

@@ -47,7 +47,7 @@ export const TOUR = [
       'back with the slider and lose a worker elsewhere: try any moment at all.',
   },
   {
-    title: 'asleep, and late',
+    title: 'it slept, and is late',
     address: `${WORKERS}&acts=0.1.2*60~s2~0.1*100~w2`,
     task: 'A lost worker does nothing more. One that slept does: worker 2 wakes, as if no time ' +
       'had passed, and goes on with what it meant to do then. Step it six times and more: it ' +
@@ -60,7 +60,7 @@ export const TOUR = [
       'that, then the root, and works on at its leaf.',
   },
   {
-    title: 'the end',
+    title: 'one of three goes on',
     address: `${WORKERS}&acts=0.1.2*64~l2~0.1*80~l1`,
     task: 'Now two of three are lost. Click “To the end”: one worker is enough, and the answer ' +
       'is the plain machine’s. That holds for every program, each number of workers and any ' +

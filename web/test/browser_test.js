@@ -143,6 +143,35 @@ async function testHostile() {
 const linkTo = (content) =>
   writeAddress({ text: content, view: 'lockstep', step: 0, schedule: new Schedule(2) }, []);
 
+// What a copy would put on the clipboard.
+const COPIED = `(() => {
+  const data = new DataTransfer();
+  const how = { clipboardData: data, bubbles: true, cancelable: true };
+  document.getElementById('text').dispatchEvent(new ClipboardEvent('copy', how));
+  return data.getData('text/plain');
+})()`;
+
+// All of a text that a window shows a part of.
+async function testAllOfLongText(lines) {
+  await page.evaluate('document.getElementById("text").focus()');
+  await page.selectAll();
+  is('all is copied', await page.evaluate(COPIED) === lines, true);
+  await page.press('ArrowLeft');
+  is('a part is none of all', await page.evaluate(COPIED), '');
+  await page.selectAll();
+  await page.insert('pram 1');
+  await has('what is written takes its place', '#fault', 'Line 1: ');
+  is('it is all', await valueOf('#text'), 'pram 1');
+  await page.chord('z');
+  await has('and undone', '#answer', '4 cells');
+  await page.selectAll();
+  await page.press('Delete');
+  await page.until('document.getElementById("text").value === ""', 5);
+  is('all is deleted', await valueOf('#text'), '');
+  await page.chord('z');
+  await has('and is there again', '#answer', '4 cells');
+}
+
 // They come by a link: Chromium itself takes minutes to write so many lines into any text area.
 async function testLongTexts() {
   const comments = '; a line\n'.repeat(110000);
@@ -163,6 +192,7 @@ async function testLongTexts() {
   await page.chord('z');
   await has('and undone', '#answer', '4 cells');
   await picture('long-text');
+  await testAllOfLongText(lines);
   await open(`#${await linkTo('x'.repeat(1000000))}`);
   await has('a line of 1 MB', '#fault', 'Line 1: ');
   is('its words are cut', (await text('#fault')).length < 1000, true);

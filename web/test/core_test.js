@@ -5,10 +5,12 @@ import { execFileSync } from 'node:child_process';
 import { readFileSync, readdirSync, writeFileSync } from 'node:fs';
 import { tmpdir } from 'node:os';
 import { join } from 'node:path';
-import { inflateRawSync } from 'node:zlib';
-import { CODE, STATUS, openCore } from '../src/core.js';
+import { CODE, STATUS } from '../src/core.js';
+import { statesAt } from '../src/activity.js';
 import { effectOf } from '../src/effects.js';
 import { FAULT, INSTRUCTIONS, SENTENCES, wordsOfFault } from '../src/faults.js';
+import { lineInWords } from '../src/lockstep_words.js';
+import { LinePace } from '../src/paces.js';
 import { planOf } from '../src/plan.js';
 import { counterPlace } from '../src/places.js';
 import { statusOf } from '../src/processors.js';
@@ -19,6 +21,7 @@ import { MODELS } from '../src/costs.js';
 import { Schedule } from '../src/schedule.js';
 import { Source } from '../src/source.js';
 import { testExercises } from './exercise_rows.js';
+import { coreOf } from './page_parts.js';
 import { report } from './report.js';
 
 const MOST = 4294967295;
@@ -26,11 +29,6 @@ const [pagePath, folder, pramx] = process.argv.slice(2);
 const { is, end } = report();
 
 const page = readFileSync(pagePath, 'utf8');
-
-function coreOfPage() {
-  const found = /<script type="text\/plain" id="core">([^<]*)</.exec(page);
-  return openCore(inflateRawSync(Buffer.from(found[1], 'base64')));
-}
 
 // The table that the page's maker put into the page.
 function tableOfPage() {
@@ -240,6 +238,35 @@ function testNames(core) {
   is('it has no job of a program', core.compile('; pardo\npram 3\n').code, CODE.OTHER_LANGUAGE);
 }
 
+// Processor 0 is gone, nobody is active, and a loop goes on.
+const LOOP_WITHOUT_FIRST = 'pardo 1\nrule crew\nprocs i < 4\nshared A[4]\ncode\nif i = 0\n' +
+  '   A[i + 4] := 1\nend\nif i > 3\n   for h = 1 to 3\n      A[i] := h\n   end\nend\n';
+
+// Each moment of a program by its lines, in words.
+function momentsInWords(core, text) {
+  const source = sourceOf(core, text);
+  const sizes = core.judge(source.text);
+  const { step } = core.answer(source.text, sizes, MOST);
+  const { list } = core.starts(source.text, step, MOST, source.starts);
+  const job = { ...sizes, source, program: source.program };
+  const pace = new LinePace(list, job.program, step, false);
+  const app = { job, text, whole: { fates: () => undefined } };
+  return pace.steps.map((at, number) => {
+    const { places } = core.moment(source.text, sizes, at, MOST).state;
+    const line = pace.lineAt(number);
+    const states = statesAt(job, places, line);
+    return lineInWords({ ...app, step: at }, { line, number, places, states, requests: [] });
+  });
+}
+
+function testLoopsInWords(core) {
+  const words = momentsInWords(core, LOOP_WITHOUT_FIRST);
+  const inLoop = words.filter((said) => said.startsWith('Line 11: '));
+  is('a loop’s variable where processor 0 is gone', inLoop.map((said) => /h = \d/.exec(said)).join(),
+    'h = 1,h = 2,h = 3');
+  is('and nobody is active', inLoop.every((said) => said.includes('No processor is active')), true);
+}
+
 const PARDO_HEAD = 'pardo 1\nrule crew\nprocs i < 4\nshared s\nshared A[4]\n';
 
 // Texts that are no program: the kind, and the line.
@@ -426,13 +453,14 @@ function testFile() {
   const parts = page.match(/<(script|link|img|iframe|object|embed|base)\b[^>]*>/g);
   const outside = parts.filter((tag) => /\s(src|href|data)=/.test(tag) && !/="data:,"/.test(tag));
   is('no part stands elsewhere', outside.join(), '');
+  is('no link leads out of it', (page.match(/<a\b[^>]*\shref=/g) ?? []).join(), '');
   is('nor one of its style', /@import|url\(/.exec(page.split('<script', 1)[0])?.[0] ?? '', '');
 }
 
 INSTRUCTIONS.push(...tableOfPage());
 SENTENCES.push(...sentencesOfPage('SENTENCES'));
 PROGRAM_SENTENCES.push(...sentencesOfPage('PROGRAM_SENTENCES'));
-const core = await coreOfPage();
+const core = await coreOf(pagePath);
 const names = readdirSync(folder).filter((name) => name.endsWith('.pram')).sort();
 for (const name of names) testProgram(core, name.replace(/\.pram$/, ''));
 const programs = readdirSync(folder).filter((name) => name.endsWith('.pardo')).sort();
@@ -440,6 +468,7 @@ for (const name of programs) testPardo(core, name.replace(/\.pardo$/, ''));
 testFile();
 testNames(core);
 testPardoRefusals(core);
+testLoopsInWords(core);
 testActs();
 testPlan(core);
 await testAddress();

@@ -62,6 +62,14 @@ export async function open(hash = '') {
   is(`opens ${hash.slice(0, 60)}`, await page.open(folders.address + hash), true);
 }
 
+// Loads the page anew where it is.
+export async function reload() {
+  await page.evaluate('document.documentElement.setAttribute("data-old", "")');
+  await page.call('Page.reload');
+  await page.until(`document.documentElement?.hasAttribute('data-ready') &&
+    !document.documentElement.hasAttribute('data-old')`);
+}
+
 // Clicks on what saves a file of this name, and reads the file, which is empty at first.
 export async function saved(selector, name) {
   const path = join(folders.downloads, name);

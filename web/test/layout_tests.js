@@ -116,8 +116,50 @@ export async function testPaper() {
   await page.setScheme('light');
 }
 
+// In how many places an arrow of a drawing ends beside all of its boxes.
+const ASTRAY = `(() => {
+  const boxes = [...document.querySelectorAll('#printed-memory rect[rx]')]
+    .map((one) => one.getBoundingClientRect());
+  const ends = [...document.querySelectorAll('#printed-memory path[marker-end]')].flatMap((one) =>
+    [0, one.getTotalLength()].map((at) => {
+      const { x, y } = one.getPointAtLength(at);
+      return new DOMPoint(x, y).matrixTransform(one.getScreenCTM());
+    }));
+  const isBeside = ({ x, y }) => !boxes.some(({ left, right, top, bottom }) =>
+    x > left && x < right && y > top - 3 && y < bottom + 3);
+  return [ends.length, ends.filter(isBeside).length].join();
+})()`;
+
+// On paper of another width the arrows end at their cells.
+export async function testPaperOfMemory() {
+  for (const scheme of ['light', 'dark']) {
+    await page.setScheme(scheme);
+    await open('#example=prefix.pardo&step=12');
+    await has('a program', '#plain-said', 'are active with h = 0');
+    await page.evaluate('dispatchEvent(new Event("beforeprint"))');
+    await page.call('Emulation.setEmulatedMedia', { media: 'print' });
+    await page.resize(720, 1000);
+    is(`${scheme}: a drawing in place of the boxes`, [await isShown('#printed-memory svg'),
+      await isShown('#lockstep .cell')].join(), 'true,false');
+    is(`${scheme}: arrows that end at no cell`, await page.evaluate(ASTRAY), '42,0');
+    const wide = await page.evaluate('document.documentElement.scrollWidth');
+    is(`${scheme}: as wide as the paper`, wide <= 720 || wide, true);
+    is(`${scheme}: on white`, await page.evaluate(
+      'document.querySelector("#printed-memory rect").getAttribute("fill")'), 'rgb(255, 255, 255)');
+    await picture(`paper-memory-${scheme}`);
+    await page.call('Emulation.setEmulatedMedia', { media: '' });
+    await page.evaluate('dispatchEvent(new Event("afterprint"))');
+    is(`${scheme}: the boxes again`, await isShown('#lockstep .cell'), true);
+    await page.resize(1280, 900);
+  }
+  await page.setScheme('light');
+}
+
 const PARSED = (file) => `new DOMParser().parseFromString(${JSON.stringify(file)}, 'image/svg+xml')
   .querySelectorAll('parsererror, script').length`;
+
+// The words of a drawing, line by line.
+const wordsOf = (file) => [...file.matchAll(/<text[^>]*>([^<]*)</g)].map(([, one]) => one).join(' ');
 
 export async function testSavedPictures() {
   await open('#example=conflict');
@@ -125,6 +167,7 @@ export async function testSavedPictures() {
   const memory = await saved('#save-memory', 'memory.svg');
   is('a picture of the conflict', memory.includes('Conflict: step 4'), true);
   is('with arrows', memory.includes('marker-end'), true);
+  is('and all who write', wordsOf(memory).includes('At 0: written by P0-3.'), true);
   is('that is sound', await page.evaluate(PARSED(memory)), 0);
   await open(`#example=maximum&view=workers&workers=4${SHOWN}`);
   const tree = await saved('#save-tree', 'tree.svg');

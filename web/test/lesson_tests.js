@@ -35,10 +35,18 @@ export async function testCosts() {
     .map((one) => one.textContent).join(' ')`), '20 16 320 312 16 3 2');
   await has('a reason', '#cost-reasons li:nth-child(2)',
     'Not CREW: in step 15 processors 4 and 12 write cell 1.');
+  is('of a text of the machine no line is spoken of',
+    (await text('#cost-model')).includes('a line is several'), false);
   await page.click('#cost-reasons li:nth-child(2) button');
   is('a click goes to the step', await valueOf('#step'), '14');
   await page.choose('#example', 'sum');
   await has('a weaker model', '#cost-model', 'This run needs');
+  await open('#example=sum.pardo&step=12');
+  await has('two read one place in a line', '#plain-cells li:nth-child(3) .cell-note', 'P');
+  await has('yet not in one step', '#cost-model', 'This run needs EREW. With other values at the ' +
+    'start the same program may cost more, and need a stronger model. A model is judged by the ' +
+    'steps of the machine, of which a line is several: two who read one place in a line may read ' +
+    'it in different steps.');
 }
 
 export async function testPlot() {
@@ -59,8 +67,10 @@ export async function testPlot() {
 }
 
 // The text in the editor, with these lines in place of those from `code` on.
-const withLines = async (lines) =>
-  `${(await valueOf('#text')).split('\ncode\n', 1)[0]}\ncode\n${lines}\n`;
+async function withLines(code) {
+  const [declared, lines] = code.includes('===\n') ? code.split('===\n') : ['', code];
+  return `${(await valueOf('#text')).split('\ncode\n', 1)[0]}\n${declared}code\n${lines}\n`;
+}
 
 async function judged(what, wanted) {
   await page.click('#judge');
@@ -100,11 +110,11 @@ export async function testWrongSolutions() {
   await page.click('#lesson-try');
   await has('the input that is wrong', '#fault', 'still here after 1,048,576 steps');
   await has('has its name', '#example option:checked', 'Exercise 6, this input');
-  await begin(7);
-  await write(await withLines(WRONG[5][1]));
-  await judged('with more processors', '(n = 64): total holds 850, wanted 3,012;');
+  await begin(4);
+  await write(await withLines(WRONG[2][1]));
+  await judged('where n is no power of two', '(n = 3): B[0] holds ');
   await page.click('#lesson-try');
-  await has('the input that is wrong', '#answer', '64 processors');
+  await has('the input that is wrong', '#answer', '3 processors');
   await begin(2);
   await write('pram 1\n');
   await judged('no program', 'Not yet: the line “pardo 1” is missing.');
@@ -229,6 +239,34 @@ export async function testTour() {
   is('closed', await isShown('#lesson-panel'), false);
   is('with the focus in its menu', await focused(), 'lesson');
   await page.resize(1280, 900);
+}
+
+// The title is that of what is shown, when one goes back, and elsewhere.
+export async function testTourGoesBack() {
+  await open();
+  await page.click('h1');
+  await page.choose('#lesson', 'tour 1');
+  for (let k = 0; k < 4; k += 1) {
+    await page.click('#lesson-on');
+    await page.until(`history.state && document.getElementById('lesson-title').textContent
+      .startsWith('Tour ${k + 2} ')`, 5);
+    await page.until('false', 0.6);
+  }
+  await has('a worker is lost', '#cards li:nth-child(3) h4', 'lost');
+  await page.evaluate('history.back()');
+  await has('back in the history', '#lesson-title', 'Tour 4 of 9: the tree');
+  await has('with its state', '#cards li:nth-child(3) h4', 'awake');
+  await page.evaluate('history.forward()');
+  await has('and forward', '#lesson-title', 'Tour 5 of 9: a worker is lost');
+  await has('with its state', '#cards li:nth-child(3) h4', 'lost');
+  await page.choose('#example', 'sort');
+  is('elsewhere the tour is out of sight', await isShown('#lesson-panel'), false);
+  await page.click('#undo-text');
+  await has('back again', '#lesson-title', 'Tour 5 of 9: a worker is lost');
+  is('in sight', await isShown('#lesson-panel'), true);
+  await page.click('#lesson-close');
+  await page.click('#undo-text');
+  is('once closed it stays so', await isShown('#lesson-panel'), false);
 }
 
 // What the stop on sleep says: worker 2 finds all done, and changes nothing at its leaf.

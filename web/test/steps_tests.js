@@ -62,6 +62,40 @@ export async function testLinesAndStops() {
   await has('the line of the cursor', '#to-line', 'To line 1');
 }
 
+const marked = () => page.evaluate(`[...document.querySelectorAll('#gutter .stops')]
+  .map((one) => one.dataset.line).join()`);
+
+async function insertAt(offset, words) {
+  await page.evaluate('document.getElementById("text").focus()');
+  await page.evaluate(`document.getElementById("text").setSelectionRange(${offset}, ${offset})`);
+  await page.insert(words);
+  await page.until('!document.getElementById("text").classList.contains("waits")');
+}
+
+export async function testStopsMove() {
+  await open('#example=maximum');
+  const stop = (line) => page.click(`#gutter [data-line="${line}"] .stop`);
+  await stop(11);
+  await stop(13);
+  await insertAt(0, '; one line\n; and one more\n');
+  is('stops move with their lines', await marked(), '13,15');
+  await insertAt(0, '; and');
+  is('not where no line is new', await marked(), '13,15');
+  await page.chord('z');
+  await page.chord('z');
+  is('and back with an undo', await marked(), '11,13');
+  await page.evaluate(`(() => {
+    const area = document.getElementById('text');
+    const from = area.value.split('\\n').slice(0, 10).join('\\n').length + 1;
+    area.setSelectionRange(from, area.value.indexOf('\\n', from) + 1);
+  })()`);
+  await page.press('Delete');
+  await page.until('!document.getElementById("text").classList.contains("waits")');
+  is('one goes with its line', await marked(), '12');
+  await page.choose('#example', 'sum');
+  is('another program has none', await marked(), '');
+}
+
 export async function testSeeking() {
   await open('#example=prefix&view=workers&workers=3');
   await page.click('#next-change');

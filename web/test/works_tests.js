@@ -1,5 +1,5 @@
 // No work is lost: drafts, undo, and the browser's history.
-import { clicks, count, has, is, isShown, open, page, paste, text, valueOf, write }
+import { clicks, count, has, is, isShown, open, page, paste, reload, text, valueOf, write }
   from './drive.js';
 
 const HEAD = 'pram 1\ncells 2\nprocs 2\nsteps 2\ncode\n';
@@ -136,6 +136,32 @@ export async function testUndoOfText() {
   await page.choose('#example', 'sum');
   await page.click('#undo-text');
   is('a choice is undone', await valueOf('#text'), OWN);
+}
+
+// What one goes back to is kept as the same program, also where the page is loaded anew.
+export async function testReloadAfterUndo() {
+  await open();
+  await page.evaluate('localStorage.clear()');
+  await open();
+  await write(OWN);
+  await page.until('false', 1.1);
+  await write(`${OWN}; more\n`);
+  await page.chord('z');
+  is('undone', await valueOf('#text'), OWN);
+  await page.until('location.hash.includes("text=")');
+  await page.until('false', 0.6);
+  is('what is seen is kept', await kept(), OWN);
+  await reload();
+  is('loaded anew', await valueOf('#text'), OWN);
+  is('it is one’s own', await chosen(), 'your own: mine');
+  await writeAtStart('; on\n');
+  is('that goes on', await kept(), `; on\n${OWN}`);
+  await page.chord('z');
+  await reload();
+  is('also at once', await chosen(), 'your own: mine');
+  await writeAtStart('; last\n');
+  is('and is still one program', (await kept()).split('===').length, 1);
+  await page.evaluate('localStorage.clear()');
 }
 
 export async function testUndoOfSchedule() {
