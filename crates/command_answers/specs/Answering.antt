@@ -1,12 +1,12 @@
 -- What a status says of the words that the program was given.
-use Rattle.std.specs.Prelude.{◌≡◌, ◌≢◌, ◌⊎◌, ℕ, List, [], Option}
+use Rattle.std.specs.Prelude.{◌≡◌, ◌⊎◌, ℕ, List, Option}
 use Rattle.clap.specs.Words.{IsAmong, Text, fault_of, subcommand_of}
 use Rattle.clap.specs.declared.error.kind.ErrorKind.TheVariants.{DisplayHelp, DisplayVersion}
 use Rattle.command_data.specs.declared.line.Line.{Line}
 use Rattle.pram_commands.specs.Did.{Writing}
 use Rattle.pram_commands.specs.Files.{ServesFiles}
 use Rattle.pram_commands.specs.declared.refusal.TheConstants.{DONE, FAILED, MEMORY}
-use Rattle.command_line.specs.CommandLine.{AreRefused, IsMet, pramx}
+use Rattle.command_line.specs.CommandLine.{AreRefused, IsMet, MeanNoLine, pramx}
 
 -- The words mean a line, and it was served from the files that it names.
 pub record ServesWords (Holds : List ℕ → Option (List ℕ) → Type 0) (words : List Text)
@@ -20,10 +20,10 @@ abbrev pub AnswersWords : (List ℕ → Option (List ℕ) → Type 0) → List T
 AnswersWords Holds words writes status =
     ServesWords Holds words writes status ⊎ (AreRefused words ⊎ (status ≡ MEMORY))
 
--- Where the words are wrong, or ask for help or the version, the status is that of a failure, or
--- help or the version was shown; or memory ran out.
+-- Where the words mean no line, the status is that of a failure, or they ask for help or the
+-- version, which was shown; or memory ran out.
 abbrev pub EndsByWords : List Text → ℕ → Type 0
 EndsByWords words status =
-    fault_of pramx words ≢ [] → (status ≡ MEMORY) ⊎ ((status ≡ FAILED)
+    MeanNoLine words → (status ≡ MEMORY) ⊎ ((status ≡ FAILED)
     ⊎ ((status ≡ DONE) × (IsAmong DisplayHelp (fault_of pramx words)
     ⊎ IsAmong DisplayVersion (fault_of pramx words))))

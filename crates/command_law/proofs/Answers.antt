@@ -72,11 +72,13 @@ plain_prints text job bytes answer one comes =
 ended_so : (job : JobData) (plan : PlanData) (later : SeatData) (answer : RunAnswer) →
     EndsAt job plan later answer → IsAnswer job answer ⊎ IsCutOff plan (Some answer)
 ended_so job plan later (Final cells) at =
-    inl (subst (λ (j : JobData). IsAnswer j (Final cells)) at.opened.1.0 at.told.tells.0)
+    inl (subst (λ (j : JobData). IsAnswer j (Final cells)) at.opened.1.0
+    at.ran.answered.told.tells.0)
 ended_so job plan later (Conflict fault) at =
-    inl (subst (λ (j : JobData). IsAnswer j (Conflict fault)) at.opened.1.0 at.told.tells.0)
+    inl (subst (λ (j : JobData). IsAnswer j (Conflict fault)) at.opened.1.0
+    at.ran.answered.told.tells.0)
 ended_so job plan later (Unfinished step) at =
-    inr (record { stops = at.told.stops tt; step = step; is = refl })
+    inr (record { stops = at.ran.answered.told.stops tt; step = step; is = refl })
 
 pub runs_print : RunsPrintTheProgramsAnswer
 runs_print text job plan workers bytes answer one comes =

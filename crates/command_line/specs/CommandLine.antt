@@ -1,6 +1,6 @@
 -- The program's command, and what a line holds of the matches of its words.
-use Rattle.std.specs.Prelude.{◌≡◌, ◌<◌, ◌≤◌, ◌⊎◌, ◌-◌, ◌^◌, MatchOption, ℕ, Bool, true, false}
-use Rattle.std.specs.Prelude.{List, Option, Some, None, Result, IsErrAnd, IsSomeAnd, codes, pos}
+use Rattle.std.specs.Prelude.{◌≡◌, ◌≢◌, ◌<◌, ◌≤◌, ◌⊎◌, ◌-◌, ◌^◌, MatchOption, ℕ, Bool, true, false}
+use Rattle.std.specs.Prelude.{List, [], Option, Some, None, Result, IsErrAnd, IsSomeAnd, codes, pos}
 use Rattle.std.specs.Prelude.{IfSome, option_map}
 use Rattle.std.specs.Str.Parse.{digits_value, without_leading_plus}
 use Rattle.clap.specs.Words.{App, FailsBy, Row, Rule, Text}
@@ -150,12 +150,14 @@ abbrev pub IsNumberIfSet : Text → List Row → Option ℕ → Type 0
 IsNumberIfSet option rows number = MatchOption (first_of option rows) (number ≡ None)
     (λ _. IsSomeAnd number (IsNumberOf option rows))
 
--- The subcommand of this name was met, with this file, these steps, and a flag for rows alone.
+-- The subcommand of this name was met, with this file, these steps, of which there are some, and a
+-- flag for rows alone.
 pub record HasSteps (matches : Option (Text × List Row)) (name file : Text) (from to : ℕ)
     (alone : Bool) : Type 0 where
   pub of_file : HasFile matches name file
   pub has_from : IsNumberOr (codes "from") of_file.rows 1 from
   pub has_to : IsNumberOr (codes "to") of_file.rows (2 ^ 32 - 1) to
+  pub some : from ≤ to
   pub has_csv : IsFlag (one_of (codes "csv") of_file.rows) alone
 
 -- The size of the block is the number of its option; there is none where that is left out.
@@ -178,11 +180,12 @@ pub record HasRun (matches : Option (Text × List Row)) (name file : Text) (plan
   pub has_plan : first_of (codes "plan") of_file.rows ≡ plan
   pub has_manner : HasManner of_file.rows manner
 
--- The same, with this text for its cells and these rounds.
+-- The same, with this text for its cells, which names some, and these rounds.
 pub record HasWatch (matches : Option (Text × List Row)) (name file : Text) (plan : Option Text)
     (manner : Manner) (cells : Text) (rounds : ℕ) : Type 0 where
   pub has_run : HasRun matches name file plan manner
   pub has_cells : first_of (codes "cells") has_run.of_file.rows ≡ Some cells
+  pub spells : SpellsCells cells
   pub has_rounds : IsNumberOf (codes "rounds") has_run.of_file.rows rounds
 
 -- the line is what was met
@@ -230,7 +233,8 @@ pub record HasBadWindow (rows : List Row) : Type 0 where
 -- A value of the subcommand of this name is bad.
 abbrev pub IsBadIn : Text → List Row → Type 0
 IsBadIn name rows = ((name ≡ codes "watch") × HasBadCells rows)
-    ⊎ (HasBadBlock rows ⊎ ((name ≡ codes "steps") × HasBadWindow rows))
+    ⊎ ((((name ≡ codes "run") ⊎ (name ≡ codes "watch")) × HasBadBlock rows)
+    ⊎ ((name ≡ codes "steps") × HasBadWindow rows))
 
 -- A subcommand was met with a bad value.
 abbrev pub HasBadValue : Option (Text × List Row) → Type 0
@@ -239,6 +243,10 @@ HasBadValue matches = IsSomeAnd matches (λ met. IsBadIn met.0 met.1)
 -- The command does not take the words, or one of their values is bad.
 abbrev pub AreRefused : List Text → Type 0
 AreRefused words = (takes pramx words ≡ false) ⊎ HasBadValue (subcommand_of pramx words)
+
+-- The words mean no line: the command finds a fault in them, or one of their values is bad.
+abbrev pub MeanNoLine : List Text → Type 0
+MeanNoLine words = (fault_of pramx words ≢ []) ⊎ HasBadValue (subcommand_of pramx words)
 
 -- An error is of the kind that the command gives at the words, or of a bad value; or memory ran
 -- out.

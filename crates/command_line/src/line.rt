@@ -1,14 +1,16 @@
 //! The command line.
-ghost use Rattle.std.specs.Prelude.{◌≡◌, ◌≢◌, ◌-◌, ◌^◌, Some, codes};
+ghost use Rattle.std.specs.Prelude.{◌≡◌, ◌≢◌, ◌≤◌, ◌-◌, ◌^◌, Some, codes};
 ghost use Rattle.std.specs.Prelude.{true, false, map, IfOk, IfErr, IfSome};
 ghost use Rattle.clap.specs.Words.{App, Rule, app_of, first_of, found_of, kind_of, with_rule};
 ghost use Rattle.clap.specs.Words.{rows_of, rule_of, subcommand_of, subcommand_rows_of};
 ghost use Rattle.clap.specs.Words.{with_subcommand};
+ghost use Rattle.command_data.specs.CellLists.{SpellsCells};
 ghost use Rattle.command_data.specs.Manner.{is_told};
 ghost use Rattle.command_line.specs.CommandLine.{AreRefused, FailsByWords, HasBadBlock};
 ghost use Rattle.command_line.specs.CommandLine.{HasBadCells, HasBadValue, HasBadWindow};
 ghost use Rattle.command_line.specs.CommandLine.{HasManner, IsAsked, IsBlockIfSet, IsMet};
-ghost use Rattle.command_line.specs.CommandLine.{IsNumberIfSet, IsNumberOf, IsNumberOr, bare};
+ghost use Rattle.command_line.specs.CommandLine.{IsNumberIfSet, IsNumberOf, IsNumberOr};
+ghost use Rattle.command_line.specs.CommandLine.{MeanNoLine, bare};
 ghost use Rattle.command_line.specs.CommandLine.{flag_rule, needed, number_rule, on_file};
 ghost use Rattle.command_line.specs.CommandLine.{on_machine, on_plain, on_replay, on_run, on_steps};
 ghost use Rattle.command_line.specs.CommandLine.{on_watch, option_rule, placed_rule, pramx};
@@ -89,6 +91,8 @@ pub fn read_line<'a>(
 ) -> Result<Asked<'a>, Error>
     ensures met { IfOk result
         (IsAsked (subcommand_of pramx (map (λ word. word.now) words.entry.now))) }
+    ensures taken { IfOk result (λ asked. ¬ MeanNoLine (map (λ word. word.now)
+        words.entry.now)) }
     ensures refused { IfErr result (λ error. kind_of error ≢ ErrorKind.OutOfMemory
         → AreRefused (map (λ word. word.now) words.entry.now)) }
     ensures kinds { FailsByWords (map (λ word. word.now) words.entry.now) result }
@@ -485,7 +489,7 @@ fn line_of<'a>(matches: &ArgMatches<'a>, on_terminal: bool) -> Option<Line<'a>>
         }
         "cost" => Some(Line::Cost { file }),
         "steps" => {
-            let (from, to) = window_of(inner)?;
+            let (from, to) = steps_of(inner)?;
             Some(Line::Steps {
                 file,
                 from,
@@ -578,6 +582,18 @@ fn telling(wanted: bool, on_terminal: bool) -> Telling
     }
 }
 
+// The steps of a window that has some.
+fn steps_of(inner: &ArgMatches<'_>) -> Option<(u32, u32)>
+    ensures from { IfSome result (λ window. IsNumberOr (codes "from")
+        (rows_of (found_of inner.now)) 1 window.0) }
+    ensures to { IfSome result (λ window. IsNumberOr (codes "to")
+        (rows_of (found_of inner.now)) (2 ^ 32 - 1) window.1) }
+    ensures some { IfSome result (λ window. window.0 ≤ window.1) }
+{
+    let (from, to) = window_of(inner)?;
+    if from <= to { Some((from, to)) } else { None }
+}
+
 // The steps of a window.
 fn window_of(inner: &ArgMatches<'_>) -> Option<(u32, u32)>
     ensures from { IfSome result (λ window. IsNumberOr (codes "from")
@@ -626,6 +642,7 @@ fn block_if_set(inner: &ArgMatches<'_>) -> Option<Option<Block>>
 fn reads_of<'a>(inner: &ArgMatches<'a>) -> Option<(CellList<'a>, u32)>
     ensures cells { IfSome result (λ reads.
         first_of (codes "cells") (rows_of (found_of inner.now)) ≡ Some reads.0.text.now) }
+    ensures spells { IfSome result (λ reads. SpellsCells reads.0.text.now) }
     ensures rounds { IfSome result (λ reads. IsNumberOf (codes "rounds")
         (rows_of (found_of inner.now)) reads.1) }
 {

@@ -1,6 +1,6 @@
 -- What printing an answer as it is heard came to.
 use Rattle.std.proofs.Common.{◌≡◌, ◌∙◌, ℕ, Bool, List, Result, Ok, Err, IsTrue, sym, ap, subst, inl}
-use Rattle.std.specs.Prelude.{IfOk, IsErrOf, OnOk}
+use Rattle.std.specs.Prelude.{IfOk, IsErrOf}
 use Rattle.pram_job.specs.Job.{JobData}
 use Rattle.pram_step.specs.declared.answer.RunAnswer.{RunAnswer}
 use Rattle.pram_streams.specs.declared.print.PrintFault.{PrintFault}
@@ -8,7 +8,6 @@ use Rattle.pram_streams.specs.declared.print.PrintFault.TheVariants.{Device, Mem
 use Rattle.stop_plan.specs.Plan.{PlanData}
 use Rattle.pram_board.specs.Seats.{Desk, SeatData}
 use Rattle.pram_run.specs.Heard.{Ended, HasRunBeside}
-use Rattle.pram_run.specs.Running.{IsRun}
 use Rattle.pram_commands.specs.Did.{Writing, tells}
 use Rattle.pram_commands.specs.Inner.Hearing.{HasToldEnd}
 use Rattle.pram_commands.specs.Inner.Puts.{Puts, outcome}
@@ -40,8 +39,7 @@ module _ (why : Bool) (job_text : List ℕ) (job : JobData) (plan : PlanData) (w
 -- what a run on a new board came to
 pub ends_heard : (job : JobData) (plan : PlanData) (made : Desk × SeatData) (later : SeatData)
     (ended : Ended) → IsNewBoard job plan made →
-    OnOk ended (HasRunBeside made.0.task plan made.1 later) →
-    IfOk ended (IsRun made.0.task plan later.record_of) → IfOk ended (IsEnd job plan)
-ends_heard job plan made later (Ok answer) opened ran told =
-    (later, record { made = made; opened = opened; ran = ran; told = told })
-ends_heard job plan made later (Err refused) opened ran told = tt
+    IfOk ended (HasRunBeside made.0.task plan made.1 later) → IfOk ended (IsEnd job plan)
+ends_heard job plan made later (Ok answer) opened ran =
+    (later, record { made = made; opened = opened; ran = ran })
+ends_heard job plan made later (Err refused) opened ran = tt

@@ -49,10 +49,9 @@ watched_as task plan given later ended heard Reads Hears Reads' Hears' of reads 
         };
         looker = h.ran.looker;
         beside = h.ran.beside;
-        looked = h.ran.looked;
+        answered = h.ran.answered;
       };
       answer = h.answer;
-      told = h.told;
       given_if = h.given_if;
     }
 
@@ -81,9 +80,8 @@ told_by Reads Hears inputs cells rounds ended a b printed names by put =
             reads = put.watch;
             looker = all.ran.looker;
             beside = all.ran.beside;
-            looked = all.ran.looked;
+            answered = all.ran.answered;
           };
-          told = all.told;
         };
       };
       text = refl;

@@ -13,7 +13,6 @@ use Rattle.pram_board.specs.Seats.{Desk, SeatData, IsOpened}
 use Rattle.pram_run.specs.Heard.{HasRunBeside}
 use Rattle.pram_run.specs.Printed.{CellWords, by_numbers, sights_text}
 use Rattle.pardo_job.specs.Printed.{cell_text}
-use Rattle.pram_run.specs.Running.{IsRun}
 use Rattle.pram_run.specs.Watching.{HasReadBeside, IsWatch}
 use Rattle.pram_run.specs.declared.sight.Sight.{Sight}
 use Rattle.pram_commands.specs.CellLists.{AreCellsOf}
@@ -33,13 +32,12 @@ abbrev pub IsNewBoard : JobData → PlanData → Desk × SeatData → Type 0
 IsNewBoard job plan made = (grain : ℕ) × IsOpened job (Wide grain) plan.workers made
 
 -- The seat is the one that a run of workers of the plan came to, from the first seat of a new board
--- of the job; and its record tells the answer.
+-- of the job; and what it heard there told the answer.
 pub record EndsAt (job : JobData) (plan : PlanData) (later : SeatData) (answer : RunAnswer)
     : Type 0 where
   pub made : Desk × SeatData
   pub opened : IsNewBoard job plan made
-  pub ran : HasRunBeside made.0.task plan made.1 later
-  pub told : IsRun made.0.task plan later.record_of answer
+  pub ran : HasRunBeside made.0.task plan made.1 later answer
 
 -- some run came to the answer
 abbrev pub IsEnd : JobData → PlanData → RunAnswer → Type 0
@@ -69,14 +67,13 @@ pub record HasSights (job : JobData) (cells : List ℕ) (rounds : ℕ) (sights :
   pub rises : IsNonDecreasingBy (λ sight. sight.step) sights
 
 -- The seat is the one that such a run came to, with a reader of these cells beside its workers, who
--- saw the sights; and its record tells the answer.
+-- saw the sights; and what it heard there told the answer.
 pub record WatchEndsAt (job : JobData) (plan : PlanData) (cells : List ℕ) (rounds : ℕ)
     (later : SeatData) (sights : List Sight) (answer : RunAnswer) : Type 0 where
   pub made : Desk × SeatData
   pub opened : IsNewBoard job plan made
-  pub ran : HasReadBeside made.0.task plan made.1 later
+  pub ran : HasReadBeside made.0.task plan made.1 later answer
       (IsWatch made.0.task cells rounds made.1 sights)
-  pub told : IsRun made.0.task plan later.record_of answer
 
 -- some run came to the sights and the answer
 pub record IsWatchEnd (job : JobData) (plan : PlanData) (cells : List ℕ) (rounds : ℕ)

@@ -10,7 +10,7 @@ use Rattle.pram_step.specs.declared.answer.Fault.{Fault}
 use Rattle.pram_step.specs.declared.answer.RunAnswer.{RunAnswer}
 use Rattle.pram_step.specs.declared.answer.RunAnswer.TheVariants as answer
 use Rattle.pram_step.specs.declared.answer.RunAnswer.TheVariants.{Final, Unfinished}
-use Rattle.pram_step.specs.Runs.{IsFault, state_after}
+use Rattle.pram_step.specs.Runs.{IsAnswer, IsFault, state_after}
 use Rattle.pram_step.proofs.LawAnswer.{one_conflict}
 use Rattle.pram_words.specs.declared.words.Word.TheVariants.{Conflict, Node}
 use Rattle.pram_words.specs.Words.{LayoutData, number_of}
@@ -28,8 +28,8 @@ use Rattle.stop_plan.specs.declared.plan.Act.{Act}
 use Rattle.stop_plan.specs.declared.plan.Act.TheVariants as act
 use Rattle.stop_plan.specs.declared.plan.Row.{Row}
 use Rattle.stop_plan.specs.Plan.{PlanData}
-use Rattle.pram_run.specs.Obeyed.{Acts, HasLooked}
-use Rattle.pram_run.specs.Running.{IsRun, ShowsEnd, Tells, IsUnfinished}
+use Rattle.pram_run.specs.Obeyed.{Acts, HasLooked, HasRun, IsAnswered, LooksFor}
+use Rattle.pram_run.specs.Running.{ShowsEnd, Tells, IsUnfinished}
 use Rattle.pram_board.specs.declared.look.Progress.{Progress}
 use Rattle.pram_board.specs.declared.task.Task.{Task}
 use Rattle.pram_board.specs.declared.work.Stay.{Stay}
@@ -37,7 +37,8 @@ use Rattle.pram_board.specs.declared.work.Stay.TheVariants as stay
 use Rattle.pram_board.specs.Seats.{Desk, SeatData, Progressed, HasLoaded}
 use Rattle.pram_board.specs.Seats.{IsLoad, KnowsConflict, hears_all, unites}
 use Rattle.pram_board.specs.Worked.{EndShows, Worked, end_in}
-use Rattle.pram_run.specs.Inner.Obeying.{GoesOn, EndsOrStops, AllEndOrStop}
+use Rattle.pram_run.specs.Inner.Hearing.{HasTold}
+use Rattle.pram_run.specs.Inner.Obeying.{AllEndOrStop, AllWorked, EndsOrStops, GoesOn}
 use Rattle.pram_run.proofs.Records.{HasAll, begins_self, begins_trans, begins_afters, begins_all}
 use Rattle.pram_run.proofs.Records.{left_all, right_all, heard_all, shows_all, shows_earlier}
 
@@ -174,7 +175,7 @@ unended t p q progress h sound none low (inr s) =
     (none_named h.named progress.conflict h.conflict none) s.1
     (subst (λ (x : SeatData). Heard t.layout x.record_of Conflict s.0) h.is s.2)
 
--- ---- what a look at the board ends with
+-- ---- seats that go on by their steps
 
 pub worked_goes : (t : Task) (p : SeatData) (w : Walking) (limit : Option ℕ) (q : SeatData)
     (now : Walking) (stay : Stay) → Worked t p w limit q now stay → GoesOn p q
@@ -191,58 +192,6 @@ pub shows_goes : (y : LayoutData) (p q : SeatData) (t : ℕ) → GoesOn p q →
     Shows y p.record_of t → Shows y q.record_of t
 shows_goes y p q t goes s =
     shows_all y p.record_of q.record_of t (begins_all p.record_of q.record_of goes.begins) s
-
--- the last step is shown
-pub last_shown : (t : Task) (p q : SeatData) (progress : Progress) → Progressed t p q progress →
-    t.job.steps ≤ progress.step → Shows t.layout q.record_of t.job.steps
-last_shown t p q progress h le =
-    shows_earlier t.layout q.record_of progress.step t.job.steps le h.well.shows
-
--- the conflict that was heard is the one that is answered
-pub conflict_shown : (t : Task) (p q later : SeatData) (progress : Progress) (fault : Fault) →
-    Progressed t p q progress → is_some progress.conflict ≡ true →
-    GoesOn q later → IsFault t.job fault → Heard t.layout later.record_of Conflict fault.step
-conflict_shown t p q later progress fault h some goes is =
-    let c = h.well.conflict (some_named h.named progress.conflict h.conflict some) in
-    let same : h.named ≡ fault.step = sym c.step
-    ∙ ap (λ (f : Fault). f.step) (one_conflict t.job c.fault fault c.is.first is.first) in
-    subst (λ (u : ℕ). Heard t.layout later.record_of Conflict u) same
-    (heard_all t.layout q.record_of later.record_of Conflict h.named
-    (begins_all q.record_of later.record_of goes.begins) (heard_named t p q progress h))
-
--- there is an answer, also where memory is refused to tell it
-pub conflict_exists : (t : Task) (p q later : SeatData) (progress : Progress) →
-    Progressed t p q progress → is_some progress.conflict ≡ true → GoesOn q later →
-    (a : RunAnswer) × Tells t later.record_of a
-conflict_exists t p q later progress h some goes =
-    let c = h.well.conflict (some_named h.named progress.conflict h.conflict some) in
-    (answer.Conflict c.fault, (c.is, conflict_shown t p q later progress c.fault h some goes c.is))
-
-pub final_exists : (t : Task) (p q later : SeatData) (progress : Progress) →
-    Progressed t p q progress → t.job.steps ≤ progress.step → GoesOn q later →
-    (a : RunAnswer) × Tells t later.record_of a
-final_exists t p q later progress h le goes = (
-  Final (take t.job.cells (state_after t.job t.job.steps)),
-  (
-    (
-      state_after t.job t.job.steps,
-      record { reached = λ earlier lt. h.well.reached earlier (omega arith); state = refl },
-      refl,
-    ),
-    shows_goes t.layout q later t.job.steps goes (last_shown t p q progress h le),
-  ),
-)
-
-pub unfinished_shown : (t : Task) (p q : SeatData) (progress : Progress) →
-    Progressed t p q progress → Sound t.job t.layout q.record_of →
-    is_some progress.conflict ≡ false → progress.step < t.job.steps →
-    Tells t q.record_of (Unfinished progress.step)
-unfinished_shown t p q progress h sound none low = record {
-  seen = record { shows = h.well.shows; most = h.well.seen };
-  reached = h.well.reached;
-  below = low;
-  unended = λ shows. unended t p q progress h sound none low shows;
-}
 
 -- ---- loads of a look
 
@@ -289,6 +238,119 @@ progress_looks t p q progress h = (
   },
 )
 
+-- without a conflict it is one of an unfinished answer
+none_is : (o : Option ℕ) → is_some o ≡ false → o ≡ None
+none_is None none = refl
+none_is (Some n) none = cc none
+
+pub unfinished_looks : (t : Task) (p q : SeatData) (progress : Progress) →
+    Progressed t p q progress → is_some progress.conflict ≡ false →
+    LooksFor t p q (Unfinished progress.step)
+unfinished_looks t p q progress h none = record {
+  root = h.root;
+  named = h.named;
+  is = h.is;
+  step = h.step;
+  conflict = sym (none_is progress.conflict none) ∙ h.conflict;
+  well = h.well;
+}
+
+pub looks_looked : (t : Task) (p q : SeatData) (a : RunAnswer) → LooksFor t p q a → HasLooked p q
+looks_looked t p q (Final cells) h = h
+looks_looked t p q (answer.Conflict fault) h = h
+looks_looked t p q (Unfinished step) h =
+    progress_looks t p q (record { step = step; conflict = None }) h
+
+-- ---- what a look tells
+
+-- the last step is shown
+pub last_shown : (t : Task) (p q : SeatData) (progress : Progress) → Progressed t p q progress →
+    t.job.steps ≤ progress.step → Shows t.layout q.record_of t.job.steps
+last_shown t p q progress h le =
+    shows_earlier t.layout q.record_of progress.step t.job.steps le h.well.shows
+
+-- the conflict that was heard is the one that is answered
+pub conflict_shown : (t : Task) (p q later : SeatData) (progress : Progress) (fault : Fault) →
+    Progressed t p q progress → is_some progress.conflict ≡ true →
+    GoesOn q later → IsFault t.job fault → Heard t.layout later.record_of Conflict fault.step
+conflict_shown t p q later progress fault h some goes is =
+    let c = h.well.conflict (some_named h.named progress.conflict h.conflict some) in
+    let same : h.named ≡ fault.step = sym c.step
+    ∙ ap (λ (f : Fault). f.step) (one_conflict t.job c.fault fault c.is.first is.first) in
+    subst (λ (u : ℕ). Heard t.layout later.record_of Conflict u) same
+    (heard_all t.layout q.record_of later.record_of Conflict h.named
+    (begins_all q.record_of later.record_of goes.begins) (heard_named t p q progress h))
+
+pub conflict_told : (t : Task) (p q later : SeatData) (progress : Progress) (fault : Fault) →
+    Progressed t p q progress → is_some progress.conflict ≡ true → HasLooked q later →
+    Sound t.job t.layout later.record_of → IsFault t.job fault →
+    HasTold t p later (answer.Conflict fault)
+conflict_told t p q later progress fault h some looked sound is = record {
+  looks = looked_more p q later (progress_looks t p q progress h) looked;
+  sound = sound;
+  tells = (
+    is,
+    conflict_shown t p q later progress fault h some (looked_goes q later looked) is,
+  );
+}
+
+pub final_told : (t : Task) (p q later : SeatData) (progress : Progress) (cells : List ℕ) →
+    Progressed t p q progress → t.job.steps ≤ progress.step → HasLooked q later →
+    Sound t.job t.layout later.record_of → IsAnswer t.job (Final cells) →
+    HasTold t p later (Final cells)
+final_told t p q later progress cells h le looked sound is = record {
+  looks = looked_more p q later (progress_looks t p q progress h) looked;
+  sound = sound;
+  tells = (
+    is,
+    shows_goes t.layout q later t.job.steps (looked_goes q later looked)
+        (last_shown t p q progress h le),
+  );
+}
+
+-- there is an answer, also where memory is refused to tell it
+pub conflict_exists : (t : Task) (p q later : SeatData) (progress : Progress) →
+    Progressed t p q progress → is_some progress.conflict ≡ true → HasLooked q later →
+    Sound t.job t.layout later.record_of → (a : RunAnswer) × HasTold t p later a
+conflict_exists t p q later progress h some looked sound =
+    let c = h.well.conflict (some_named h.named progress.conflict h.conflict some) in (
+      answer.Conflict c.fault,
+      conflict_told t p q later progress c.fault h some looked sound c.is,
+    )
+
+pub final_exists : (t : Task) (p q later : SeatData) (progress : Progress) →
+    Progressed t p q progress → t.job.steps ≤ progress.step → HasLooked q later →
+    Sound t.job t.layout later.record_of → (a : RunAnswer) × HasTold t p later a
+final_exists t p q later progress h le looked sound =
+    let cells : List ℕ = take t.job.cells (state_after t.job t.job.steps) in (
+      Final cells,
+      final_told t p q later progress cells h le looked sound (
+        state_after t.job t.job.steps,
+        record { reached = λ earlier lt. h.well.reached earlier (omega arith); state = refl },
+        refl,
+      ),
+    )
+
+pub unfinished_told : (t : Task) (p q : SeatData) (progress : Progress) →
+    Progressed t p q progress → Sound t.job t.layout q.record_of →
+    is_some progress.conflict ≡ false → progress.step < t.job.steps →
+    HasTold t p q (Unfinished progress.step)
+unfinished_told t p q progress h sound none low = record {
+  looks = unfinished_looks t p q progress h none;
+  sound = sound;
+  tells = record {
+    seen = record { shows = h.well.shows; most = h.well.seen };
+    reached = h.well.reached;
+    below = low;
+    unended = λ shows. unended t p q progress h sound none low shows;
+  };
+}
+
+pub ok_tells : {E : Type 0} (t : Task) (p later : SeatData) (r : Result RunAnswer E) →
+    IfOk r (HasTold t p later) → IfOk r (Tells t later.record_of)
+ok_tells t p later (Ok a) h = h.tells
+ok_tells t p later (Err e) h = h
+
 -- ---- an act of a row
 
 pub acts_goes : (a : Act) (t : Task) (number ticks : ℕ) (p : SeatData) (w : Walking) (q : SeatData)
@@ -306,25 +368,33 @@ not_shown t r (Final cells) un h shows = un
 not_shown t r (answer.Conflict fault) un h shows = un
 not_shown t r (Unfinished step) un h shows = h.unended shows
 
-pub run_at : (t : Task) (plan : PlanData) (p later : SeatData) (a : RunAnswer) →
-    p.desk.task ≡ t → AllEndOrStop plan p → HasLooked p later → Tells t later.record_of a →
-    IsRun t plan later.record_of a
-run_at t plan p later a is all looked h = record {
-  tells = h;
-  stops = λ un worker lt. elim (all worker lt) [
-    | inl shows ↦ absurd (not_shown t later.record_of a un h (end_all t p.record_of later.record_of
-        (begins_all p.record_of later.record_of (looked_goes p later looked).begins)
-        (subst (λ (x : Task). ShowsEnd x p.record_of) is shows)))
-    | inr stops ↦ stops
-  ];
+pub answered_at : (t : Task) (plan : PlanData) (p later : SeatData) (a : RunAnswer) →
+    p.desk.task ≡ t → (IsUnfinished a → AllEndOrStop plan p) → HasTold t p later a →
+    IsAnswered t plan p later a
+answered_at t plan p later a is all h = record {
+  looks = h.looks;
+  sound = h.sound;
+  told = record {
+    tells = h.tells;
+    stops = λ un worker lt. elim (all un worker lt) [
+      | inl shows ↦ absurd (not_shown t later.record_of a un h.tells
+          (end_all t p.record_of later.record_of (begins_all p.record_of later.record_of
+          (looked_goes p later (looks_looked t p later a h.looks)).begins)
+          (subst (λ (x : Task). ShowsEnd x p.record_of) is shows)))
+      | inr stops ↦ stops
+    ];
+  };
 }
 
-pub run_of : {E : Type 0} (t : Task)
-    (plan : PlanData) (p later : SeatData) (r : Result RunAnswer E) →
-    p.desk.task ≡ t → AllEndOrStop plan p → HasLooked p later →
-    IfOk r (Tells t later.record_of) → IfOk r (IsRun t plan later.record_of)
-run_of t plan p later (Ok a) is all looked h = run_at t plan p later a is all looked h
-run_of t plan p later (Err e) is all looked h = h
+pub run_of : {E : Type 0} (t : Task) (plan : PlanData) (given p later : SeatData)
+    (r : Result RunAnswer E) → p.desk.task ≡ t → AllWorked t plan given p →
+    IfOk r (HasTold t p later) → IfOk r (HasRun t plan given later)
+run_of t plan given p later (Ok a) is all h = record {
+  seat = p;
+  obeyed = all.obeyed;
+  answered = answered_at t plan p later a is (λ un. all.ends) h;
+}
+run_of t plan given p later (Err e) is all h = h
 
 -- all that ended or stopped did so to a seat that is joined
 pub all_front : (plan : PlanData) (p q later : SeatData) → later ≡ unites p q →

@@ -8,12 +8,12 @@ use Rattle.pram_words.specs.declared.words.Word.TheVariants.{Conflict}
 use Rattle.walkx.specs.Records.{Record}
 use Rattle.stop_plan.specs.Plan.{PlanData}
 use Rattle.pram_board.specs.declared.task.Task.{Task}
-use Rattle.pram_board.specs.Seats.{Desk, SeatData}
+use Rattle.pram_board.specs.Seats.{Desk, SeatData, unites}
 use Rattle.pram_run.specs.Heard.{Ended, HasRunBeside}
-use Rattle.pram_run.specs.Inner.Hearing.{IsJoined, TellsEnd}
-use Rattle.pram_run.specs.Obeyed.{AllObeyed, HasLooked}
+use Rattle.pram_run.specs.Inner.Hearing.{HasTold, IsJoined, TellsEnd}
+use Rattle.pram_run.specs.Obeyed.{AllObeyed, HasLooked, IsAnswered}
 use Rattle.pram_run.specs.Running.{IsRun, IsUnfinished, Tells}
-use Rattle.pram_run.proofs.Endings.{run_at}
+use Rattle.pram_run.proofs.Endings.{answered_at, looked_same}
 use Rattle.pram_run.proofs.Records.{HasAll, heard_all, right_all, shows_all}
 
 -- the end of a job is told for good
@@ -38,46 +38,55 @@ told_run t plan r later a ends all h =
     record { tells = told_later t r later a ends all h; stops = λ un. absurd (ends un) }
 
 -- what the looker told before the threads were joined
-pub early_run : (t : Task) (plan : PlanData) (given looker : SeatData) (n : ℕ) (later : SeatData)
-    (r : Ended) → IsJoined t plan given looker n later → TellsEnd r →
-    IfOk r (Tells t looker.record_of) → IfOk r (IsRun t plan later.record_of)
-early_run t plan given looker n later (Ok (Final cells)) joined end h =
-    told_run t plan looker.record_of later.record_of (Final cells) (λ un. un)
-    (has_looked t plan given looker n later joined) h
-early_run t plan given looker n later (Ok (answer.Conflict fault)) joined end h =
-    told_run t plan looker.record_of later.record_of (answer.Conflict fault) (λ un. un)
-    (has_looked t plan given looker n later joined) h
-early_run t plan given looker n later (Ok (Unfinished step)) joined end h = absurd end
-early_run t plan given looker n later (Err refused) joined end h = absurd end
+pub early_answer : (t : Task) (plan : PlanData) (given looker : SeatData) (n : ℕ)
+    (later : SeatData) (r : Ended) (is : IsJoined t plan given looker n later) → TellsEnd r →
+    IfOk r (Tells t looker.record_of) → IfOk r (IsAnswered t plan (unites is.seat looker) later)
+early_answer t plan given looker n later (Ok (Final cells)) is end h = record {
+  looks = looked_same (unites is.seat looker) later is.is;
+  sound = is.sound;
+  told = told_run t plan looker.record_of later.record_of (Final cells) (λ un. un)
+      (has_looked t plan given looker n later is) h;
+}
+early_answer t plan given looker n later (Ok (answer.Conflict fault)) is end h = record {
+  looks = looked_same (unites is.seat looker) later is.is;
+  sound = is.sound;
+  told = told_run t plan looker.record_of later.record_of (answer.Conflict fault) (λ un. un)
+      (has_looked t plan given looker n later is) h;
+}
+early_answer t plan given looker n later (Ok (Unfinished step)) is end h = absurd end
+early_answer t plan given looker n later (Err refused) is end h = absurd end
 
 -- what the joined seat told
-pub late_run : (t : Task) (plan : PlanData) (given looker : SeatData) (n : ℕ)
-    (joined later : SeatData) (r : Ended) → IsJoined t plan given looker n joined →
-    given.desk.task ≡ t → HasLooked joined later → IfOk r (Tells t later.record_of) →
-    IfOk r (λ a. IsUnfinished a → n ≡ plan.workers) → IfOk r (IsRun t plan later.record_of)
-late_run t plan given looker n joined later (Ok a) is task looked h all = record {
-  tells = h;
-  stops = λ un. (run_at t plan joined later a
-      (ap (λ (d : Desk). d.task) is.goes_on.desk ∙ task)
-      (λ worker lt. is.ends worker
-      (subst (λ (k : ℕ). worker < k) (sym (all un)) lt)) looked h).stops un;
-}
-late_run t plan given looker n joined later (Err refused) is task looked h all = tt
+pub late_answer : (t : Task) (plan : PlanData) (given looker : SeatData) (n : ℕ)
+    (joined later : SeatData) (r : Ended) (is : IsJoined t plan given looker n joined) →
+    given.desk.task ≡ t → IfOk r (HasTold t joined later) →
+    IfOk r (λ a. IsUnfinished a → n ≡ plan.workers) →
+    IfOk r (IsAnswered t plan (unites is.seat looker) later)
+late_answer t plan given looker n joined later (Ok a) is task h all =
+    subst (λ (s : SeatData). IsAnswered t plan s later a) is.is
+    (answered_at t plan joined later a (ap (λ (d : Desk). d.task) is.goes_on.desk ∙ task)
+    (λ un worker lt. is.ends worker (subst (λ (k : ℕ). worker < k) (sym (all un)) lt)) h)
+late_answer t plan given looker n joined later (Err refused) is task h all = tt
 
 -- what the seat comes from that joins theirs and looked on
 pub ran_beside : (t : Task) (plan : PlanData) (first given looker : SeatData) (n : ℕ)
-    (joined later : SeatData) → IsJoined t plan given looker n joined → given ≡ first →
-    n ≤ plan.workers → HasLooked first looker → HasLooked joined later →
-    HasRunBeside t plan first later
-ran_beside t plan first given looker n joined later is same most beside looked = record {
-  started = n;
-  most = most;
-  seat = is.seat;
-  obeyed = subst (λ (s : SeatData). AllObeyed t plan.rows s n is.seat) same is.obeyed;
-  looker = looker;
-  beside = beside;
-  looked = subst (λ (s : SeatData). HasLooked s later) is.is looked;
-}
+    (joined later : SeatData) (r : Ended) (is : IsJoined t plan given looker n joined) →
+    given ≡ first → n ≤ plan.workers → HasLooked first looker →
+    IfOk r (λ a. IsUnfinished a → n ≡ plan.workers) →
+    IfOk r (IsAnswered t plan (unites is.seat looker) later) →
+    IfOk r (HasRunBeside t plan first later)
+ran_beside t plan first given looker n joined later (Ok a) is same most beside all answered =
+    record {
+      started = n;
+      most = most;
+      all = all;
+      seat = is.seat;
+      obeyed = subst (λ (s : SeatData). AllObeyed t plan.rows s n is.seat) same is.obeyed;
+      looker = looker;
+      beside = beside;
+      answered = answered;
+    }
+ran_beside t plan first given looker n joined later (Err refused) is same most beside all told = tt
 
 -- what an `Ok` brings
 at_ok : {X E A : Type 0} (r : Result X E) → is_ok r ≡ true → OnOk r A → A

@@ -20,15 +20,15 @@ use Rattle.pram_board.specs.Seats.{SeatData, WasRead, unites}
 use Rattle.pram_run.specs.declared.sight.Sight.{Sight}
 use Rattle.pram_run.specs.declared.watcher.Watched.{Watched}
 use Rattle.stop_plan.specs.Plan.{PlanData}
-use Rattle.pram_run.specs.Obeyed.{AllObeyed, HasLooked}
+use Rattle.pram_run.specs.Obeyed.{AllObeyed, HasLooked, IsAnswered}
 use Rattle.pram_run.specs.Heard.{Ended}
-use Rattle.pram_run.specs.Running.{IsRun}
 use Rattle.pram_run.specs.Watching.{HasRead, IsTrueSight, IsWatch, HasWatched, HasReadBeside}
 use Rattle.pram_run.specs.Watching.{HasWatchedWith}
 use Rattle.pram_run.specs.Inner.Hearing.{IsJoined, TellsEnd}
 use Rattle.pram_run.specs.Inner.Obeying.{GoesOn, IsToWatch}
+use Rattle.pram_run.specs.Inner.Reading.{IsWatchJoined}
 use Rattle.pram_run.proofs.Records.{begins_all, knows_all}
-use Rattle.pram_run.proofs.Endings.{goes_self, goes_trans, goes_all, looked_more, looked_same}
+use Rattle.pram_run.proofs.Endings.{goes_self, goes_trans, goes_all}
 
 abbrev Read : Task → SeatData → SeatData → Sight → Type 0
 Read t p q s = WasRead t p q s.cell (At s.step s.value)
@@ -148,55 +148,54 @@ watch_of t cells rounds first promise sights p promised task h =
 pub watched_of : (t : Task) (plan : PlanData)
     (cells : List ℕ) (rounds : ℕ) (first p q later : SeatData) (sights : List Sight) →
     AllObeyed t plan.rows first plan.workers p → IsWatch t cells rounds first sights q →
-    later ≡ unites p q → HasWatched t plan cells rounds first sights later
+    later ≡ unites p q → IsWatchJoined t plan cells rounds first sights later
 watched_of t plan cells rounds first p q later sights obeyed watch is =
-    record {
-      seat = p;
-      obeyed = obeyed;
-      reader = q;
-      watch = watch;
-      looked = looked_same (unites p q) later is;
-    }
+    record { seat = p; obeyed = obeyed; reader = q; watch = watch; is = is }
 
-pub watched_later : (t : Task) (plan : PlanData) (cells : List ℕ)
-    (rounds : ℕ) (first p q : SeatData)
-    (sights : List Sight) → HasWatched t plan cells rounds first sights p → HasLooked p q →
-    HasWatched t plan cells rounds first sights q
-watched_later t plan cells rounds first p q sights h looked = record {
+-- and looked at the board
+pub watched_later : (t : Task) (plan : PlanData) (cells : List ℕ) (rounds : ℕ)
+    (first p q : SeatData) (sights : List Sight) (a : RunAnswer) →
+    IsWatchJoined t plan cells rounds first sights p → IsAnswered t plan p q a →
+    HasWatched t plan cells rounds first sights q a
+watched_later t plan cells rounds first p q sights a h answered = record {
   seat = h.seat;
   obeyed = h.obeyed;
   reader = h.reader;
   watch = h.watch;
-  looked = looked_more (unites h.seat h.reader) p q h.looked looked;
+  answered = subst (λ (s : SeatData). IsAnswered t plan s q a) h.is answered;
 }
 
 -- the seats of the workers and of the reader are joined
 pub read_with : (t : Task) (plan : PlanData) (given looker : SeatData) (n : ℕ)
-    (joined later reader : SeatData) (Reads : SeatData → Type 0) →
-    IsJoined t plan given looker n joined → n ≡ plan.workers → HasLooked reader looker →
-    Reads reader → HasLooked joined later → HasReadBeside t plan given later Reads
-read_with t plan given looker n joined later reader Reads is count beside reads looked = record {
-  seat = is.seat;
-  obeyed = subst (λ (k : ℕ). AllObeyed t plan.rows given k is.seat) count is.obeyed;
-  reader = reader;
-  reads = reads;
-  looker = looker;
-  beside = beside;
-  looked = subst (λ (s : SeatData). HasLooked s later) is.is looked;
-}
+    (joined later reader : SeatData) (Reads : SeatData → Type 0)
+    (is : IsJoined t plan given looker n joined) → n ≡ plan.workers → HasLooked reader looker →
+    Reads reader → (a : RunAnswer) → IsAnswered t plan (unites is.seat looker) later a →
+    HasReadBeside t plan given later a Reads
+read_with t plan given looker n joined later reader Reads is count beside reads a answered =
+    record {
+      seat = is.seat;
+      obeyed = subst (λ (k : ℕ). AllObeyed t plan.rows given k is.seat) count is.obeyed;
+      reader = reader;
+      reads = reads;
+      looker = looker;
+      beside = beside;
+      answered = answered;
+    }
 
 -- such a watch, and its answer
-pub watched_with : (t : Task) (plan : PlanData) (given later : SeatData) (Reads : SeatData → Type 0)
-    (ended : Ended) → HasReadBeside t plan given later Reads →
-    (a : RunAnswer) × IsRun t plan later.record_of a → IfOk ended (IsRun t plan later.record_of) →
-    HasWatchedWith t plan given later Reads ended
-watched_with t plan given later Reads (Ok answer) ran some told =
-    record { ran = ran; answer = answer; told = told; given_if = refl }
-watched_with t plan given later Reads (Err refused) ran some told =
-    record { ran = ran; answer = some.0; told = some.1; given_if = tt }
+pub watched_with : (t : Task) (plan : PlanData) (given before later : SeatData)
+    (Reads : SeatData → Type 0) (ended : Ended) →
+    ((a : RunAnswer) → IsAnswered t plan before later a →
+    HasReadBeside t plan given later a Reads) →
+    (a : RunAnswer) × IsAnswered t plan before later a →
+    IfOk ended (IsAnswered t plan before later) → HasWatchedWith t plan given later Reads ended
+watched_with t plan given before later Reads (Ok answer) ran some answered =
+    record { answer = answer; ran = ran answer answered; given_if = refl }
+watched_with t plan given before later Reads (Err refused) ran some answered =
+    record { answer = some.0; ran = ran some.0 some.1; given_if = tt }
 
 -- where the end of the job was told there is an answer
-pub some_run : (t : Task) (plan : PlanData) (later : SeatData) (ended : Ended) → TellsEnd ended →
-    IfOk ended (IsRun t plan later.record_of) → (a : RunAnswer) × IsRun t plan later.record_of a
-some_run t plan later (Ok answer) ends told = (answer, told)
-some_run t plan later (Err refused) ends told = absurd ends
+pub some_answer : (P : RunAnswer → Type 0) (ended : Ended) → TellsEnd ended → IfOk ended P →
+    (a : RunAnswer) × P a
+some_answer P (Ok answer) ends told = (answer, told)
+some_answer P (Err refused) ends told = absurd ends

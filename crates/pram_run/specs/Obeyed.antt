@@ -1,14 +1,18 @@
 -- What the threads of a run make of the seat that they are given.
 use Rattle.std.specs.Prelude.{◌≡◌, ◌≢◌, ◌⊎◌, ℕ, zero, suc, List, [], ◌∷◌, Some, None}
+use Rattle.pram_step.specs.declared.answer.RunAnswer.{RunAnswer}
+use Rattle.pram_step.specs.declared.answer.RunAnswer.TheVariants.{Final, Conflict, Unfinished}
 use Rattle.walkx.specs.Walk.{Walking, started, come_back}
+use Rattle.lawful_walk.specs.Moments.{Sound}
 use Rattle.stop_plan.specs.declared.plan.Act.{Act}
 use Rattle.stop_plan.specs.declared.plan.Act.TheVariants.{Go, Sleep, Back, Stop}
 use Rattle.stop_plan.specs.declared.plan.Row.{Row}
 use Rattle.stop_plan.specs.Plan.{PlanData}
 use Rattle.pram_board.specs.declared.task.Task.{Task}
 use Rattle.pram_board.specs.declared.work.Stay.{Stay}
-use Rattle.pram_board.specs.Seats.{SeatData, HasLoaded, unites}
+use Rattle.pram_board.specs.Seats.{SeatData, HasLoaded, Progressed, unites}
 use Rattle.pram_board.specs.Worked.{Worked}
+use Rattle.pram_run.specs.Running.{IsRun}
 
 -- What an act makes of a worker at a seat: it works up to so many ticks; it does nothing; it
 -- comes back, knowing its number alone; or it is lost, and does nothing.
@@ -47,9 +51,25 @@ AllObeyed task rows given (suc worker) later = (before : SeatData) × (theirs : 
 abbrev pub HasLooked : SeatData → SeatData → Type 0
 HasLooked before later = (loads : ℕ) × HasLoaded loads before later
 
+-- The seat looked at the board for this answer: with some loads; for an unfinished one with one of
+-- the root and then one of word 0, which show this step, and no conflict.
+abbrev pub LooksFor : Task → SeatData → SeatData → RunAnswer → Type 0
+LooksFor task before later (Final cells) = HasLooked before later
+LooksFor task before later (Conflict fault) = HasLooked before later
+LooksFor task before later (Unfinished step) =
+    Progressed task before later (record { step = step; conflict = None })
+
+-- Such a look told the answer: the later record is sound, and tells it.
+pub record IsAnswered (task : Task) (plan : PlanData) (before later : SeatData)
+    (answer : RunAnswer) : Type 0 where
+  pub looks : LooksFor task before later answer
+  pub sound : Sound task.job task.layout later.record_of
+  pub told : IsRun task plan later.record_of answer
+
 -- The plan's workers obeyed it from the given seat, and the seat that joins theirs looked at the
--- board.
-pub record HasRun (task : Task) (plan : PlanData) (given later : SeatData) : Type 0 where
+-- board, which told the answer.
+pub record HasRun (task : Task) (plan : PlanData) (given later : SeatData) (answer : RunAnswer)
+    : Type 0 where
   pub seat : SeatData
   pub obeyed : AllObeyed task plan.rows given plan.workers seat
-  pub looked : HasLooked seat later
+  pub answered : IsAnswered task plan seat later answer

@@ -11,8 +11,7 @@ use Rattle.pram_board.specs.declared.task.Task.{Task}
 use Rattle.stop_plan.specs.Plan.{PlanData}
 use Rattle.pram_board.specs.Seats.{SeatData, WasRead, unites}
 use Rattle.pram_run.specs.Heard.{Ended}
-use Rattle.pram_run.specs.Obeyed.{AllObeyed, HasLooked}
-use Rattle.pram_run.specs.Running.{IsRun}
+use Rattle.pram_run.specs.Obeyed.{AllObeyed, HasLooked, IsAnswered}
 use Rattle.pram_run.specs.declared.assignment.Observation.{Observation}
 use Rattle.pram_run.specs.declared.sight.Sight.{Sight}
 
@@ -46,33 +45,34 @@ pub record IsWatch (task : Task) (cells : List ℕ) (rounds : ℕ) (before : Sea
   pub rises : IsNonDecreasingBy (λ sight. sight.step) sights
 
 -- The plan's workers obeyed it from the given seat, and a reader beside them made this watch from
--- it; the seat that joins theirs, the reader's last, looked at the board.
+-- it; the seat that joins theirs, the reader's last, looked at the board, which told the answer.
 pub record HasWatched (task : Task) (plan : PlanData) (cells : List ℕ) (rounds : ℕ)
-    (given : SeatData) (sights : List Sight) (later : SeatData) : Type 0 where
+    (given : SeatData) (sights : List Sight) (later : SeatData) (answer : RunAnswer)
+    : Type 0 where
   pub seat : SeatData
   pub obeyed : AllObeyed task plan.rows given plan.workers seat
   pub reader : SeatData
   pub watch : IsWatch task cells rounds given sights reader
-  pub looked : HasLooked (unites seat reader) later
+  pub answered : IsAnswered task plan (unites seat reader) later answer
 
 -- The plan's workers obeyed it from the given seat. A reader did this beside them, and then looked
--- at the board; the seat that joins theirs, the reader's last, looked at it too.
+-- at the board; the seat that joins theirs, the reader's last, looked at it too, which told the
+-- answer.
 pub record HasReadBeside (task : Task) (plan : PlanData) (given later : SeatData)
-    (Reads : SeatData → Type 0) : Type 0 where
+    (answer : RunAnswer) (Reads : SeatData → Type 0) : Type 0 where
   pub seat : SeatData
   pub obeyed : AllObeyed task plan.rows given plan.workers seat
   pub reader : SeatData
   pub reads : Reads reader
   pub looker : SeatData
   pub beside : HasLooked reader looker
-  pub looked : HasLooked (unites seat looker) later
+  pub answered : IsAnswered task plan (unites seat looker) later answer
 
--- So a reader did. The later seat's record tells an answer, which was given if memory was.
+-- So a reader did, and this answer was given if memory was.
 pub record HasWatchedWith (task : Task) (plan : PlanData) (given later : SeatData)
     (Reads : SeatData → Type 0) (ended : Ended) : Type 0 where
-  pub ran : HasReadBeside task plan given later Reads
   pub answer : RunAnswer
-  pub told : IsRun task plan later.record_of answer
+  pub ran : HasReadBeside task plan given later answer Reads
   pub given_if : IfOk ended (λ found. found ≡ answer)
 
 -- A reader read so up to a seat, and what it was then heard how the run ended.

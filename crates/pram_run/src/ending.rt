@@ -1,7 +1,7 @@
 //! What a board tells at the end of a run.
 ghost use Rattle.std.specs.Prelude.{◌≡◌, IfOk};
+ghost use Rattle.pram_run.specs.Inner.Hearing.{HasTold};
 ghost use Rattle.pram_run.specs.Obeyed.{HasLooked};
-ghost use Rattle.pram_run.specs.Running.{Tells};
 ghost use Rattle.pram_step.specs.declared.answer.RunAnswer.{RunAnswer};
 
 use pram_board::{Board, Seat};
@@ -18,9 +18,9 @@ pub(crate) fn answer(
 ) -> Result<RunAnswer, AllocError>
     requires job { board.now.task.job ≡ job.now }
     requires seat { seat.old.desk ≡ board.now }
-    ensures answer { IfOk result (Tells board.now.task seat.new.record_of) }
+    ensures told { IfOk result (HasTold board.now.task seat.old seat.new) }
     ensures looked { HasLooked seat.old seat.new }
-    ensures some { (answer : RunAnswer) × Tells board.now.task seat.new.record_of answer }
+    ensures some { (answer : RunAnswer) × HasTold board.now.task seat.old seat.new answer }
 {
     let progress = board.progress(seat);
     if progress.conflict.is_some() {

@@ -1,10 +1,11 @@
 //! Runs whose answer is heard before their threads are joined.
-ghost use Rattle.std.specs.Prelude.{◌≡◌, ◌↔◌, ◌<◌, ℕ, IfOk, IsTrue, OnOk, vec_len, slice_index_or};
+ghost use Rattle.std.specs.Prelude.{◌≡◌, ◌↔◌, ◌<◌, ℕ, IfOk, IsTrue, vec_len, slice_index_or};
 ghost use Rattle.lawful_walk.specs.Seen.{BeginsWith};
-ghost use Rattle.pram_run.specs.Heard.{HasRunBeside, HasRunOf, IsRunOf};
+ghost use Rattle.pram_run.specs.Heard.{HasRunBeside, HasRunOf};
 ghost use Rattle.pram_run.specs.Inner.Hearing.{HasTold, IsJoined, TellsEnd};
 ghost use Rattle.pram_run.specs.Inner.Obeying.{GoesOn, IsToObey};
-ghost use Rattle.pram_run.specs.Running.{IsBoardFor, IsRun, IsUnfinished};
+ghost use Rattle.pram_run.specs.Obeyed.{HasLooked};
+ghost use Rattle.pram_run.specs.Running.{IsBoardFor, IsUnfinished, Tells};
 
 use crate::assignment::Assignment;
 use crate::bell::Bell;
@@ -34,8 +35,7 @@ pub fn run_heard<R: Threads + Wait, G: Gate + Sync, H, L: Listener<Heard = H>>(
 ) -> (Seat, Result<RunAnswer, AllocError>, H)
     requires seat { seat.desk ≡ assignment.now.board.now }
     requires listener { L.can_hear listener }
-    ensures answer { IfOk result.1 (IsRunOf assignment.now result.0.record_of) }
-    ensures ran { OnOk result.1 (HasRunOf assignment.now seat result.0) }
+    ensures ran { IfOk result.1 (HasRunOf assignment.now seat result.0) }
     ensures heard { L.hears listener result.1 result.2 }
     ensures begins { BeginsWith seat.record_of result.0.record_of }
     ensures desk { result.0.desk ≡ assignment.now.board.now }
@@ -49,9 +49,7 @@ pub fn run_heard<R: Threads + Wait, G: Gate + Sync, H, L: Listener<Heard = H>>(
         |scope| -> (Seat, Result<RunAnswer, AllocError>, H)
             requires given { IsBoardFor job.now plan.now board.now seat }
             requires listener { L.can_hear listener }
-            ensures answer { IfOk result.1
-                (IsRun board.entry.now.task plan.entry.now result.0.record_of) }
-            ensures ran { OnOk result.1
+            ensures ran { IfOk result.1
                 (HasRunBeside board.entry.now.task plan.entry.now seat result.0) }
             ensures heard { L.hears listener result.1 result.2 }
             ensures goes_on { GoesOn seat result.0 }
@@ -83,9 +81,7 @@ fn work_heard<'s, E, R: Threads + Wait, G: Gate + Sync, H, L: Listener<Heard = H
 ) -> (Seat, Result<RunAnswer, AllocError>, H)
     requires seat { seat.desk ≡ shift.now.crew.board.now }
     requires listener { L.can_hear listener }
-    ensures answer { IfOk result.1
-        (IsRun shift.now.crew.board.now.task shift.now.crew.plan.now result.0.record_of) }
-    ensures ran { OnOk result.1
+    ensures ran { IfOk result.1
         (HasRunBeside shift.now.crew.board.now.task shift.now.crew.plan.now seat result.0) }
     ensures heard { L.hears listener result.1 result.2 }
     ensures goes_on { GoesOn seat result.0 }
@@ -119,7 +115,8 @@ pub(crate) fn await_end<R: Wait, G>(
     workers: u64,
 ) -> (Seat, Result<RunAnswer, AllocError>)
     requires { seat.desk ≡ shift.now.crew.board.now }
-    ensures { HasTold shift.now.crew.board.now.task seat result.0 result.1 }
+    ensures told { IfOk result.1 (Tells shift.now.crew.board.now.task result.0.record_of) }
+    ensures looked { HasLooked seat result.0 }
 {
     let (board, bell) = (shift.crew.board, shift.crew.bell);
     for _ in rt.forever() {
@@ -164,7 +161,9 @@ pub(crate) fn join_beside<'s, R: Threads, G: Gate + Sync>(
         (vec_len threads.entry) result }
 {
     let seat = join_all(rt, crew.board, seat, crew.plan, threads);
-    crew.board.join(seat, looker)
+    let seat = crew.board.join(seat, looker);
+    seat.facts();
+    seat
 }
 
 // What the board tells after the last join. Where a worker is missing, an end that was not reached
@@ -175,7 +174,8 @@ fn last_answer<G>(
     all_started: bool,
 ) -> (Seat, Result<RunAnswer, AllocError>)
     requires { seat.desk ≡ shift.now.crew.board.now }
-    ensures told { HasTold shift.now.crew.board.now.task seat result.0 result.1 }
+    ensures told { IfOk result.1 (HasTold shift.now.crew.board.now.task seat result.0) }
+    ensures looked { HasLooked seat result.0 }
     ensures all { IfOk result.1 (λ answer. IsUnfinished answer → IsTrue all_started) }
 {
     let told = answer(shift.alloc, shift.job, shift.crew.board, &mut seat);

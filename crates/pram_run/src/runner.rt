@@ -7,7 +7,7 @@ ghost use Rattle.lawful_walk.specs.Seen.{BeginsWith};
 ghost use Rattle.pram_run.specs.Inner.Obeying.{AllWorked, EndsOrStops, GoesOn, HasObeyed};
 ghost use Rattle.pram_run.specs.Inner.Obeying.{IsToObey};
 ghost use Rattle.pram_run.specs.Obeyed.{AllObeyed, DoesRow, HasRun, Obeys};
-ghost use Rattle.pram_run.specs.Running.{IsBoardFor, IsRun};
+ghost use Rattle.pram_run.specs.Running.{IsBoardFor};
 
 use crate::bell::Bell;
 use crate::crew::Crew;
@@ -38,8 +38,7 @@ pub fn run<R: Threads + Wait, G: Gate + Sync>(
     gate: &G,
 ) -> (Seat, Result<RunAnswer, AllocError>)
     requires given { IsBoardFor job.now plan.now board.now seat }
-    ensures answer { IfOk result.1 (IsRun board.now.task plan.now result.0.record_of) }
-    ensures ran { OnOk result.1 (HasRun board.now.task plan.now seat result.0) }
+    ensures ran { IfOk result.1 (HasRun board.now.task plan.now seat result.0) }
     ensures begins { BeginsWith seat.record_of result.0.record_of }
     ensures desk { result.0.desk ≡ board.now }
 {

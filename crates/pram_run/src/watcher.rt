@@ -4,8 +4,8 @@ ghost use Rattle.std.specs.Prelude.{vec_capacity};
 ghost use Rattle.walkx.specs.declared.operation.Reading.TheVariants.{At};
 ghost use Rattle.lawful_walk.specs.Seen.{BeginsWith};
 ghost use Rattle.pram_run.specs.Inner.Obeying.{AllEndOrStop, GoesOn, IsToWatch};
-ghost use Rattle.pram_run.specs.Inner.Reading.{ReadsRound};
-ghost use Rattle.pram_run.specs.Running.{IsBoardFor, IsRun};
+ghost use Rattle.pram_run.specs.Inner.Reading.{IsWatchJoined, ReadsRound};
+ghost use Rattle.pram_run.specs.Running.{IsBoardFor};
 ghost use Rattle.pram_run.specs.Watching.{HasWatched, IsWatch};
 
 use crate::bell::Bell;
@@ -41,9 +41,8 @@ pub fn watch<R: Threads + Wait, G: Gate + Sync>(
 ) -> (Seat, Result<(RunAnswer, Vec<Sight>), AllocError>)
     requires given { IsBoardFor job.now plan.now board.now seat }
     requires cells { All (λ c. c < board.now.task.job.cells) cells.now }
-    ensures answer { IfOk result.1 (λ r. IsRun board.now.task plan.now result.0.record_of r.0) }
-    ensures sights { IfOk result.1 (λ r. HasWatched board.now.task plan.now cells.now rounds seat
-        r.1.items result.0) }
+    ensures watched { IfOk result.1 (λ r. HasWatched board.now.task plan.now cells.now rounds seat
+        r.1.items result.0 r.0) }
     ensures begins { BeginsWith seat.record_of result.0.record_of }
     ensures desk { result.0.desk ≡ board.now }
 {
@@ -56,7 +55,7 @@ pub fn watch<R: Threads + Wait, G: Gate + Sync>(
             requires seat { seat.desk ≡ board.now }
             requires within { All (λ c. c < board.now.task.job.cells) cells.now }
             ensures ends { IfOk result.1 (λ sights. AllEndOrStop plan.entry.now result.0) }
-            ensures sights { IfOk result.1 (λ sights. HasWatched board.entry.now.task
+            ensures sights { IfOk result.1 (λ sights. IsWatchJoined board.entry.now.task
                 plan.entry.now cells.entry.now rounds seat sights.items result.0) }
             ensures goes_on { GoesOn seat result.0 }
         {
@@ -111,7 +110,7 @@ fn watch_in<'s, E, R: Threads, G: Gate + Sync>(
 ) -> (Seat, Result<Vec<Sight>, AllocError>)
     requires seat { seat.desk ≡ lookout.now.crew.board.now }
     ensures ends { IfOk result.1 (λ sights. AllEndOrStop lookout.now.crew.plan.now result.0) }
-    ensures sights { IfOk result.1 (λ sights. HasWatched lookout.now.crew.board.now.task
+    ensures sights { IfOk result.1 (λ sights. IsWatchJoined lookout.now.crew.board.now.task
         lookout.now.crew.plan.now lookout.now.cells.now lookout.now.rounds seat sights.items
         result.0) }
     ensures goes_on { GoesOn seat result.0 }

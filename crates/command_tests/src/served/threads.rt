@@ -1,7 +1,7 @@
 //! Runs and watches served: answers, reads, and cells that a job does not have. In texts `/` stands
 //! for a line feed.
 use crate::served::{FILE, Row, TWO, expect, expect_below, row_of, run_line, serve_rows};
-use pram_commands::{Block, CellList, Line, Manner, Telling};
+use pram_commands::{Block, CellList, Line, Manner, Telling, Workers};
 use std::alloc::Global;
 use std::process::Abort;
 use std::rt::Clock;
@@ -9,6 +9,12 @@ use std::sync::Wait;
 use std::test::Fail;
 use std::thread::Threads;
 use std::time::Duration;
+
+// One worker that does not wait.
+const ONE: Manner = Manner {
+    workers: Workers { count: 1 },
+    ..TWO
+};
 
 // Two workers that pause for four milliseconds.
 const SLOW: Manner = Manner {
@@ -83,6 +89,27 @@ fn watches_print_their_reads(rt: HostRuntime) -> Result<(), Fail> {
             let row = row_of(line).expect(&rt, line);
             expect_reads(&rt, rt.alloc(), row, rounds)?;
         }
+    }
+    Ok(())
+}
+
+const LEFT: &str = "\
+pram 1/cells 1/procs 1/steps 3/code/set r1 1/sub r2 r0 r1/st r0 r2/ under 0,go,28/0,stop,0/ \
+    | 3 unfinished step=0/
+pram 1/cells 1/procs 1/steps 3/code/set r1 1/sub r2 r0 r1/st r0 r2/ under 0,go,30/0,stop,0/ \
+    | 3 unfinished step=1/
+";
+
+// One worker finishes step 1 with its thirtieth tick: a run tells that step, and so does a watch
+// below its two reads.
+#[test]
+fn an_unfinished_step_is_told(rt: HostRuntime) -> Result<(), Fail> {
+    expect(&rt, rt.alloc(), &run_line(ONE), LEFT)?;
+    let watch = watch_line(ONE, cells_named(&rt, "0"), 2);
+    for line in LEFT.lines() {
+        let row = row_of(line).expect(&rt, line);
+        let served = serve_rows(&rt, rt.alloc(), &watch, row.text, row.plan)?;
+        expect_below(&rt, rt.alloc(), &served, row, 3)?;
     }
     Ok(())
 }

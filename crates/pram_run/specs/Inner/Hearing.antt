@@ -1,12 +1,14 @@
 -- How the answer of a run comes to be heard.
-use Rattle.std.specs.Prelude.{◌≡◌, ◌<◌, ℕ, Ok, Err, IfOk}
+use Rattle.std.specs.Prelude.{◌≡◌, ◌<◌, ℕ, Ok, Err}
+use Rattle.pram_step.specs.declared.answer.RunAnswer.{RunAnswer}
 use Rattle.pram_step.specs.declared.answer.RunAnswer.TheVariants.{Final, Conflict, Unfinished}
+use Rattle.lawful_walk.specs.Moments.{Sound}
 use Rattle.stop_plan.specs.Plan.{PlanData}
 use Rattle.pram_board.specs.declared.task.Task.{Task}
 use Rattle.pram_board.specs.Seats.{SeatData, unites}
 use Rattle.pram_run.specs.Heard.{Ended}
 use Rattle.pram_run.specs.Inner.Obeying.{EndsOrStops, GoesOn}
-use Rattle.pram_run.specs.Obeyed.{AllObeyed, HasLooked}
+use Rattle.pram_run.specs.Obeyed.{AllObeyed, LooksFor}
 use Rattle.pram_run.specs.Running.{Tells}
 
 -- the end of the job is told
@@ -17,12 +19,13 @@ TellsEnd (Ok (Unfinished step)) = ⊥
 TellsEnd (Err refused) = ⊥
 
 -- A seat looked at the board, which told it this.
-pub record HasTold (task : Task) (before later : SeatData) (ended : Ended) : Type 0 where
-  pub told : IfOk ended (Tells task later.record_of)
-  pub looked : HasLooked before later
+pub record HasTold (task : Task) (before later : SeatData) (answer : RunAnswer) : Type 0 where
+  pub looks : LooksFor task before later answer
+  pub sound : Sound task.job task.layout later.record_of
+  pub tells : Tells task later.record_of answer
 
 -- So many workers obeyed the plan from the given seat, and each ended or is stopped; their seats
--- and then the looker's were joined to it.
+-- and then the looker's were joined to it. What all of them heard is sound.
 pub record IsJoined (task : Task) (plan : PlanData) (given looker : SeatData) (count : ℕ)
     (later : SeatData) : Type 0 where
   pub seat : SeatData
@@ -30,3 +33,4 @@ pub record IsJoined (task : Task) (plan : PlanData) (given looker : SeatData) (c
   pub ends : (worker : ℕ) → worker < count → EndsOrStops plan.rows worker later
   pub is : later ≡ unites seat looker
   pub goes_on : GoesOn given later
+  pub sound : Sound task.job task.layout later.record_of

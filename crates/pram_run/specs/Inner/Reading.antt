@@ -3,12 +3,24 @@ use Rattle.std.specs.Prelude.{◌≡◌, ◌++◌, ℕ, List, Option, Ok, Err, O
 use Rattle.std.specs.Io.KnownBytes.{Appends}
 use Rattle.std.specs.List.{repeat}
 use Rattle.pram_streams.specs.Transfer.{AppendsBeginning}
+use Rattle.stop_plan.specs.Plan.{PlanData}
 use Rattle.pram_board.specs.declared.task.Task.{Task}
-use Rattle.pram_board.specs.Seats.{SeatData}
+use Rattle.pram_board.specs.Seats.{SeatData, unites}
+use Rattle.pram_run.specs.Obeyed.{AllObeyed}
 use Rattle.pram_run.specs.Printed.{CellWords, sight_lines, sights_text}
 use Rattle.pram_run.specs.PutReads.{Printing}
-use Rattle.pram_run.specs.Watching.{HasRead, cells_of}
+use Rattle.pram_run.specs.Watching.{HasRead, IsWatch, cells_of}
 use Rattle.pram_run.specs.declared.sight.Sight.{Sight}
+
+-- The plan's workers obeyed it from the given seat, and a reader beside them made this watch from
+-- it; their seats were joined, the reader's last.
+pub record IsWatchJoined (task : Task) (plan : PlanData) (cells : List ℕ) (rounds : ℕ)
+    (given : SeatData) (sights : List Sight) (later : SeatData) : Type 0 where
+  pub seat : SeatData
+  pub obeyed : AllObeyed task plan.rows given plan.workers seat
+  pub reader : SeatData
+  pub watch : IsWatch task cells rounds given sights reader
+  pub is : later ≡ unites seat reader
 
 -- Whatever was read before, a round through the cells was read after it.
 pub record ReadsRound (task : Task) (round : List ℕ) (sights : List Sight) (before : SeatData)

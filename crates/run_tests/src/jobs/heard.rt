@@ -1,7 +1,7 @@
 //! Answers that are heard while a worker is held, and after all have left.
 ghost use Rattle.std.specs.Prelude.{◌≡◌, ◌≤◌, ⊤};
 
-use crate::jobs::{SWAP, TWO_CELLS, holds_at, plan_of};
+use crate::jobs::{BELOW_ZERO, LATER, SWAP, TWO_CELLS, holds_at, plan_of};
 use pram_board::Board;
 use pram_run::{Assignment, Listener, run_heard};
 use pram_step::RunAnswer;
@@ -15,7 +15,7 @@ use std::test::Fail;
 use std::thread;
 use std::thread::Threads;
 use std::time::Duration;
-use stop_plan::Gate;
+use stop_plan::{Gate, Open};
 
 // The polls of a hold, a millisecond each.
 const LIMIT: u32 = 10_000;
@@ -90,28 +90,43 @@ impl Listener for Hears<'_> {
     }
 }
 
-// What is heard of a run of three workers under rows of a plan, the first one held. No hold meets
-// its limit.
+// What is heard of a run of so many workers under rows of a plan, at a gate.
+fn heard_at<G: Gate + Sync>(
+    rt: &(impl AllocGlobal + Abort + Threads + Wait),
+    text: &str,
+    workers: u32,
+    rows: &str,
+    gate: &G,
+    ear: &Ear,
+) -> Result<Sound, Fail>
+    requires some { 1 ≤ workers }
+    requires most { workers ≤ 64 }
+{
+    let alloc = rt.alloc();
+    let job = read_job(alloc, text.as_bytes())?;
+    let plan = plan_of(rt, workers, rows)?;
+    let (board, seat) = Board::open_wide(alloc, &job, workers)?;
+    let assignment = Assignment {
+        job: &job,
+        board: &board,
+        plan: &plan,
+        gate,
+    };
+    let (_seat, ended, sound) = run_heard(rt, alloc, &assignment, seat, Hears { ear });
+    assert!(rt; ended.is_ok());
+    Ok(sound)
+}
+
+// The same of three workers, the first one held. No hold meets its limit.
 fn heard<C: Clock + Sync + Drop>(
     rt: &(impl AllocGlobal + Abort + Threads + Wait),
     clock: C,
     text: &str,
     rows: &str,
 ) -> Result<Sound, Fail> {
-    let alloc = rt.alloc();
-    let job = read_job(alloc, text.as_bytes())?;
-    let plan = plan_of(rt, 3, rows)?;
-    let (board, seat) = Board::open_wide(alloc, &job, 3)?;
     let ear = Ear::new();
     let gate = Held { clock, ear: &ear };
-    let assignment = Assignment {
-        job: &job,
-        board: &board,
-        plan: &plan,
-        gate: &gate,
-    };
-    let (_seat, ended, sound) = run_heard(rt, alloc, &assignment, seat, Hears { ear: &ear });
-    assert!(rt; ended.is_ok());
+    let sound = heard_at(rt, text, 3, rows, &gate, &ear)?;
     assert!(rt; !ear.let_go.load(Ordering::SeqCst));
     Ok(sound)
 }
@@ -133,6 +148,22 @@ fn an_answer_is_heard_while_a_worker_is_held(rt: HostRuntime) -> Result<(), Fail
     for (text, plan, wanted) in rows {
         let sound = heard(&rt, rt.clone()?, text, plan)?;
         holds_at(&rt, sound == wanted, plan);
+    }
+    Ok(())
+}
+
+// One worker finishes step 1 with its thirtieth tick: what it leaves is told, and nothing less.
+#[test]
+fn an_unfinished_step_is_the_last_finished_one(rt: HostRuntime) -> Result<(), Fail> {
+    let rows = [
+        (BELOW_ZERO, "0,stop,0\n", 0),
+        (BELOW_ZERO, "0,go,28\n0,stop,0\n", 0),
+        (BELOW_ZERO, "0,go,30\n0,stop,0\n", 1),
+        (LATER, "0,go,30\n0,stop,0\n", 1),
+    ];
+    for (text, plan, step) in rows {
+        let sound = heard_at(&rt, text, 1, plan, &Open, &Ear::new())?;
+        holds_at(&rt, sound == Sound::Unfinished(step), plan);
     }
     Ok(())
 }

@@ -24,4 +24,5 @@ pub returns-in-run : goal.returns-in-run
 returns-in-run c =
     IfSome_then _ c.bad_block.ensures (λ bad block. met_bad c.args.matches.now
     c.in_ok-name.inner.now c.in_ok-name.name.now
-    (pair_of _ _ _ _ _ c.in_ok-name.ensures.name c.in_ok-name.ensures.rows) (inr (inl block)))
+    (pair_of _ _ _ _ _ c.in_ok-name.ensures.name c.in_ok-name.ensures.rows)
+    (inr (inl (inl c.in-run.is, block))))

@@ -30,6 +30,7 @@ returns-in_ok-from-in-steps c = rw (← c.in-steps.is) (record {
       met_file _ _ _ _ c.in_ok-name.ensures.name c.in_ok-name.ensures.rows c.in_ok-file.ensures;
   has_from = c.in_ok-from-in-steps.ensures.from;
   has_to = c.in_ok-from-in-steps.ensures.to;
+  some = c.in_ok-from-in-steps.ensures.some;
   has_csv = flag_of (found_of c.in_ok-name.inner.now) (codes "csv") _
       c.get_flag.ensures.none c.get_flag.ensures.value
       c.get_flag.ensures.other;

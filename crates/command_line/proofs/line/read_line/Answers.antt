@@ -10,6 +10,7 @@ use Rattle.clap.specs.declared.error.kind.ErrorKind.{ErrorKind}
 use Rattle.clap.specs.declared.error.kind.ErrorKind.TheVariants.{OutOfMemory}
 use Rattle.std.specs.Borrow.{Bor}
 use Rattle.command_line.specs.CommandLine.{AreRefused, HasBadValue, IsAsked, pramx}
+use Rattle.command_line.proofs.Values.{no_bad_value}
 use Rattle.command_line.proofs.line.read_line.Goals as goal
 
 err_from : {T E : Type 0} (r : Result T E) (P Q : E → Type 0) → IsErrAnd r P →
@@ -112,6 +113,17 @@ returns-in-Some-asked_of-clause-met c =
     subst (λ met. IsAsked met c.in-Some-asked_of.asked)
     (same_subcommand _ pramx _ _ c.in_ok-command.ensures is_simple_pramx
     c.in_ok-matches.ensures.matches) c.in-Some-asked_of.ensures
+
+pub returns-in-Some-asked_of-clause-taken : goal.returns-in-Some-asked_of-clause-taken
+returns-in-Some-asked_of-clause-taken c = λ none. elim none [
+  | inl fault ↦ fault (no_fault _ pramx _ c.in_ok-command.ensures is_simple_pramx
+      c.in_ok-matches.ensures.kinds)
+  | inr bad ↦
+      let asked = subst (λ met. IsAsked met c.in-Some-asked_of.asked)
+      (same_subcommand _ pramx _ _ c.in_ok-command.ensures is_simple_pramx
+      c.in_ok-matches.ensures.matches) c.in-Some-asked_of.ensures in
+      no_bad_value _ c.in-Some-asked_of.asked.line asked.line bad
+]
 
 pub returns-in-Some-asked_of-clause-kinds : goal.returns-in-Some-asked_of-clause-kinds
 returns-in-Some-asked_of-clause-kinds c =

@@ -6,6 +6,7 @@ use Rattle.command_line.proofs.line.reads_of.Goals as goal
 
 pub returns : goal.returns
 returns c = record {
+  spells = rw c.in_ok-cells.ensures.some (c.in_ok-cells.ensures.spells);
   cells = sym (c.in_ok-text.ensures ∙ first_value-rows (found_of c.args.inner.now) (codes "cells"))
       ∙ ap (λ t. Some t) (sym c.in_ok-cells.ensures.some);
   rounds = rw (← one_text-rows (found_of c.args.inner.now) (codes "rounds"))

@@ -26,6 +26,7 @@ returns-in_ok-cells-in-watch c = rw (← c.in-watch.is) (record {
     has_manner = c.in_ok-manner-in-watch.ensures;
   };
   has_cells = c.in_ok-cells-in-watch.ensures.cells;
+  spells = c.in_ok-cells-in-watch.ensures.spells;
   has_rounds = c.in_ok-cells-in-watch.ensures.rounds;
 })
 

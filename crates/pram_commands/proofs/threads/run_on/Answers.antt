@@ -12,4 +12,3 @@ returns-clause-ended g c =
     c.requires.opened in
     let run = c.run_heard-seat in
     ends_heard job plan (desk, seat) run.result.0 run.result.1 opened run.ensures.ran
-    run.ensures.answer

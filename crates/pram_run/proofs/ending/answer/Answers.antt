@@ -2,9 +2,9 @@ use Rattle.std.proofs.Common.{◌≤◌, ◌<◌, sym, ap, ◌∙◌, inl, arith
 use Rattle.pram_job.specs.Job.{JobData}
 use Rattle.pram_step.specs.declared.answer.RunAnswer.TheVariants.{Unfinished}
 use Rattle.pram_run.proofs.Endings.{progress_heard, progress_looks, looked_more}
-use Rattle.pram_run.proofs.Endings.{looked_same, loads_go, last_shown}
-use Rattle.pram_run.proofs.Endings.{conflict_shown, unfinished_shown, shows_goes}
-use Rattle.pram_run.proofs.Endings.{conflict_exists, final_exists, same_goes}
+use Rattle.pram_run.proofs.Endings.{looked_same, last_shown}
+use Rattle.pram_run.proofs.Endings.{conflict_told, final_told, unfinished_told}
+use Rattle.pram_run.proofs.Endings.{conflict_exists, final_exists}
 use Rattle.pram_run.proofs.ending.answer.Goals as goal
 
 pub fault-requires-clause-knows : goal.fault-requires-clause-knows
@@ -21,20 +21,22 @@ pub returns-in_err-fault-clause-some : goal.returns-in_err-fault-clause-some
 returns-in_err-fault-clause-some c =
     conflict_exists c.args.board.now.task c.args.seat.now c.progress-progress.new.seat
     c.fault.new.seat c.progress-progress.result c.progress-progress.ensures.progressed
-    (sym c.is_some.ensures ∙ c.if-is_some.true) (loads_go _ _ _ c.in_err-fault.ensures.refused.1)
+    (sym c.is_some.ensures ∙ c.if-is_some.true) (_, c.in_err-fault.ensures.refused.1)
+    c.in_err-fault.ensures.later.sound
 
 pub returns-then-is_some-clause-some : goal.returns-then-is_some-clause-some
 returns-then-is_some-clause-some c =
     conflict_exists c.args.board.now.task c.args.seat.now c.progress-progress.new.seat
     c.fault.new.seat c.progress-progress.result c.progress-progress.ensures.progressed
-    (sym c.is_some.ensures ∙ c.if-is_some.true) (loads_go _ _ _ c.in_ok-fault.ensures.loads)
+    (sym c.is_some.ensures ∙ c.if-is_some.true) (_, c.in_ok-fault.ensures.loads)
+    c.in_ok-fault.ensures.later.sound
 
 pub returns-then-progress-steps-clause-some : goal.returns-then-progress-steps-clause-some
 returns-then-progress-steps-clause-some c =
     let low : c.progress-progress.result.step < c.args.board.now.task.job.steps =
     omega (arith, c.steps.ensures.value, ap (λ (j : JobData). j.steps) c.requires.job) in (
       Unfinished c.progress-progress.result.step,
-      unfinished_shown c.args.board.now.task
+      unfinished_told c.args.board.now.task
           c.args.seat.now c.progress-progress.new.seat c.progress-progress.result
           c.progress-progress.ensures.progressed c.progress-progress.ensures.later.sound
           (sym c.is_some.ensures ∙ c.if-is_some.false) low,
@@ -46,7 +48,7 @@ returns-in_err-cells-clause-some c =
     omega (arith, c.steps.ensures.value, ap (λ (j : JobData). j.steps) c.requires.job) in
     final_exists c.args.board.now.task c.args.seat.now c.progress-progress.new.seat
     c.memory.new.seat c.progress-progress.result c.progress-progress.ensures.progressed high
-    (same_goes _ _ c.in_err-cells.ensures.refused)
+    (looked_same _ _ c.in_err-cells.ensures.refused) c.in_err-cells.ensures.later.sound
 
 pub returns-clause-some : goal.returns-clause-some
 returns-clause-some c =
@@ -54,27 +56,25 @@ returns-clause-some c =
     omega (arith, c.steps.ensures.value, ap (λ (j : JobData). j.steps) c.requires.job) in
     final_exists c.args.board.now.task c.args.seat.now c.progress-progress.new.seat
     c.memory.new.seat c.progress-progress.result c.progress-progress.ensures.progressed high
-    (loads_go _ _ _ c.in_ok-cells.ensures.loads)
+    (_, c.in_ok-cells.ensures.loads) c.in_ok-cells.ensures.later.sound
 
-pub returns-then-is_some-clause-answer : goal.returns-then-is_some-clause-answer
-returns-then-is_some-clause-answer c = (
-  c.in_ok-fault.ensures.fault,
-  conflict_shown c.args.board.now.task c.args.seat.now c.progress-progress.new.seat
-      c.fault.new.seat c.progress-progress.result c.in_ok-fault.fault
-      c.progress-progress.ensures.progressed (sym c.is_some.ensures ∙ c.if-is_some.true)
-      (loads_go _ _ _ c.in_ok-fault.ensures.loads) c.in_ok-fault.ensures.fault,
-)
+pub returns-then-is_some-clause-told : goal.returns-then-is_some-clause-told
+returns-then-is_some-clause-told c =
+    conflict_told c.args.board.now.task c.args.seat.now c.progress-progress.new.seat
+    c.fault.new.seat c.progress-progress.result c.in_ok-fault.fault
+    c.progress-progress.ensures.progressed (sym c.is_some.ensures ∙ c.if-is_some.true)
+    (_, c.in_ok-fault.ensures.loads) c.in_ok-fault.ensures.later.sound c.in_ok-fault.ensures.fault
 
 pub returns-then-is_some-clause-looked : goal.returns-then-is_some-clause-looked
 returns-then-is_some-clause-looked c =
     looked_more c.args.seat.now c.progress-progress.new.seat c.fault.new.seat
     (progress_looks _ _ _ _ c.progress-progress.ensures.progressed) (_, c.in_ok-fault.ensures.loads)
 
-pub returns-then-progress-steps-clause-answer : goal.returns-then-progress-steps-clause-answer
-returns-then-progress-steps-clause-answer c =
+pub returns-then-progress-steps-clause-told : goal.returns-then-progress-steps-clause-told
+returns-then-progress-steps-clause-told c =
     let low : c.progress-progress.result.step < c.args.board.now.task.job.steps =
     omega (arith, c.steps.ensures.value, ap (λ (j : JobData). j.steps) c.requires.job) in
-    unfinished_shown c.args.board.now.task
+    unfinished_told c.args.board.now.task
     c.args.seat.now c.progress-progress.new.seat c.progress-progress.result
     c.progress-progress.ensures.progressed c.progress-progress.ensures.later.sound
     (sym c.is_some.ensures ∙ c.if-is_some.false) low
@@ -95,17 +95,15 @@ returns-in_err-cells-clause-looked c =
     (progress_looks _ _ _ _ c.progress-progress.ensures.progressed)
     (looked_same c.progress-progress.new.seat c.memory.new.seat c.in_err-cells.ensures.refused)
 
-pub returns-clause-answer : goal.returns-clause-answer
-returns-clause-answer c =
+pub returns-clause-told : goal.returns-clause-told
+returns-clause-told c =
     let high : c.args.board.now.task.job.steps ≤ c.progress-progress.result.step =
     omega (arith, c.steps.ensures.value, ap (λ (j : JobData). j.steps) c.requires.job) in
-    let cells = c.in_ok-cells.ensures.cells in (
-      (cells.0, cells.1, c.new.ensures ∙ cells.2),
-      shows_goes c.args.board.now.task.layout
-          c.progress-progress.new.seat c.memory.new.seat c.args.board.now.task.job.steps
-          (loads_go _ _ _ c.in_ok-cells.ensures.loads)
-          (last_shown _ _ _ _ c.progress-progress.ensures.progressed high),
-    )
+    let cells = c.in_ok-cells.ensures.cells in
+    final_told c.args.board.now.task c.args.seat.now c.progress-progress.new.seat
+    c.memory.new.seat c.progress-progress.result _ c.progress-progress.ensures.progressed high
+    (_, c.in_ok-cells.ensures.loads) c.in_ok-cells.ensures.later.sound
+    (cells.0, cells.1, c.new.ensures ∙ cells.2)
 
 pub returns-clause-looked : goal.returns-clause-looked
 returns-clause-looked c =

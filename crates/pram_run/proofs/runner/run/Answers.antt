@@ -2,30 +2,17 @@ use Rattle.std.proofs.Common.{ap, ◌∙◌}
 use Rattle.pram_board.specs.Seats.{Desk}
 use Rattle.pram_run.specs.Inner.Obeying.{AllWorked}
 use Rattle.pram_run.proofs.Endings.{run_of, goes_trans, looked_goes}
-use Rattle.pram_run.proofs.Joining.{any_ok}
 use Rattle.pram_run.proofs.runner.run.Goals as goal
-
-pub returns-clause-answer : goal.returns-clause-answer
-returns-clause-answer g c =
-    let worked = c.scoped-seat in
-    let all : AllWorked c.args.board.now.task c.args.plan.now c.args.seat worked.result.0 =
-    rw c.in_default.is at worked.ensures.1.0 in
-    run_of c.args.board.now.task c.args.plan.now worked.result.0
-    c.answer-answer.new.seat c.answer-answer.result
-    (ap (λ (d : Desk). d.task) (worked.ensures.1.1.desk ∙ c.requires.given.2)) all.ends
-    c.answer-answer.ensures.looked c.answer-answer.ensures.answer
 
 pub returns-clause-ran : goal.returns-clause-ran
 returns-clause-ran g c =
     let worked = c.scoped-seat in
     let all : AllWorked c.args.board.now.task c.args.plan.now c.args.seat worked.result.0 =
     rw c.in_default.is at worked.ensures.1.0 in
-    any_ok c.answer-answer.result
-    (record {
-      seat = worked.result.0;
-      obeyed = all.obeyed;
-      looked = c.answer-answer.ensures.looked;
-    })
+    run_of c.args.board.now.task c.args.plan.now c.args.seat worked.result.0
+    c.answer-answer.new.seat c.answer-answer.result
+    (ap (λ (d : Desk). d.task) (worked.ensures.1.1.desk ∙ c.requires.given.2)) all
+    c.answer-answer.ensures.told
 
 pub returns-clause-begins : goal.returns-clause-begins
 returns-clause-begins g c =

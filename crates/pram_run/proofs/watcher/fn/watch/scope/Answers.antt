@@ -2,7 +2,7 @@ use Rattle.std.specs.Prelude.{IfOk}
 use Rattle.stop_plan.specs.Plan.{PlanData}
 use Rattle.pram_board.specs.Seats.{Desk}
 use Rattle.pram_run.specs.Inner.Obeying.{AllEndOrStop}
-use Rattle.pram_run.specs.Watching.{HasWatched}
+use Rattle.pram_run.specs.Inner.Reading.{IsWatchJoined}
 use Rattle.pram_run.proofs.Crews.{of_crew}
 use Rattle.pram_run.proofs.watcher.fn.watch.scope.Goals as goal
 
@@ -14,7 +14,7 @@ returns g c =
           IfOk c.watch_in.result.1 (λ sights. AllEndOrStop p later))
           _ _ _ _ crew.board crew.plan c.watch_in.ensures.ends;
       sights = of_crew (λ (d : Desk) (p : PlanData). IfOk c.watch_in.result.1 (λ sights.
-          HasWatched d.task p c.captures.cells.now c.captures.rounds c.captures.seat sights.items
+          IsWatchJoined d.task p c.captures.cells.now c.captures.rounds c.captures.seat sights.items
           later)) _ _ _ _ crew.board crew.plan c.watch_in.ensures.sights;
       goes_on = c.watch_in.ensures.goes_on;
     }
