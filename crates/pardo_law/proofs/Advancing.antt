@@ -36,21 +36,22 @@ use Rattle.pardo_job.specs.Operations.{is_shallow, register_of}
 use Rattle.pardo_job.specs.Values.{value_code, operand_of, takes, own_place, own_load}
 use Rattle.pardo_job.proofs.Assigning.{both_code}
 use Rattle.pardo_job.proofs.Shallow.{shallow_front, shallow_back, shallow_rest}
-use Rattle.pardo_law.specs.Locals.{Local, StandsAt, Standing, StoresAgree}
+use Rattle.pardo_law.specs.Locals.{Local, StandsAt, Standing, StoresAgree, memory_of}
 use Rattle.pardo_law.proofs.Bodies.{own_body, with_store, under, between}
 use Rattle.pardo_law.proofs.Effects.{private_pictured, masks_pictured, turned_pictured}
 use Rattle.pardo_law.proofs.Effects.{moved_pictured, there_before}
 use Rattle.pardo_law.proofs.Loops.{while_goes, jump_goes, none_goes, turn_makes, for_end_is}
 use Rattle.pardo_law.proofs.Loops.{last_goes, again_makes}
 use Rattle.pardo_law.proofs.Placing.{stands_back}
-use Rattle.pardo_law.proofs.Cutting.{site, is_inside, Below, StaysIn, made_in, gone_in}
+use Rattle.pardo_law.proofs.Cutting.{site, is_inside, Below, StaysIn, Unchanged, made_in, gone_in}
 use Rattle.pardo_law.proofs.Lengths.{code_len}
 use Rattle.pardo_law.proofs.Making.{Makes, Goes, IsMade, Went}
 use Rattle.pardo_law.proofs.Masks.{quiet, quiet_choice, masked_makes, choosing_makes, others_makes}
 use Rattle.pardo_law.proofs.Masks.{active_is}
 use Rattle.pardo_law.proofs.Picturing.{IsOf, IsHere, Pictured, memory_fits, procs_are, procs_same}
-use Rattle.pardo_law.proofs.Picturing.{layout_procs, shared_low, sees, code_is, row_low}
-use Rattle.pardo_law.proofs.Rows.{own_stores, own_agree, after_apart, place_is, own_of}
+use Rattle.pardo_law.proofs.Picturing.{layout_procs, shared_low, sees, code_is, row_low, held_low}
+use Rattle.pardo_law.proofs.Rows.{own_stores, own_agree, after_apart, after_before, place_is}
+use Rattle.pardo_law.proofs.Rows.{own_of, held_before, held_below}
 use Rattle.pardo_law.proofs.Straightness.{value_straight}
 use Rattle.pardo_law.proofs.Values.{decided, value_to, shared_to}
 
@@ -89,11 +90,18 @@ pub record Carried (program : ProgramData) (job : JobData) (source : Source) (t 
   pub standing : Standing job t memory locals
   pub pictured : Pictured program source memory locals
 
--- the same after a line, in all whose steps the processors stand in its code
+-- in these steps memory below a cell is what it was before them
+abbrev pub StillBelow : JobData → ℕ → ℕ → ℕ → Type 0
+StillBelow job low t n = (k cell : ℕ) → k < n → cell < low →
+    memory_of job (state_after job (t + k)) cell ≡ memory_of job (state_after job t) cell
+
+-- the same after a line, before all whose steps the processors stand in its code, and arrays and
+-- private variables are what they were
 pub record Advance (program : ProgramData) (job : JobData) (source : Source) (t c lo hi : ℕ) :
     Type 0 where
   pub carried : Carried program job source (t + c)
   pub stays : StaysIn job lo hi t c
+  pub still : StillBelow job (held_below (layout_of program)) t c
 
 here_below : (job : JobData) (lo hi place i : ℕ) (g : Option ℕ) (l : Local) →
     place < length job.code → IsHere g place i l →
@@ -129,6 +137,25 @@ stays_then job lo hi t u n m e first second k i lt less = ⊎_elim
 
 pub stays_none : (job : JobData) (lo hi t : ℕ) → StaysIn job lo hi t 0
 stays_none job lo hi t k i lt less = absurd (omega arith)
+
+pub still_all : (job : JobData) (low t n : ℕ) → Unchanged job t n → StillBelow job low t n
+still_all job low t n same k cell lt less = ap (λ (f : ℕ → ℕ). f cell) (same k lt)
+
+still_then : (job : JobData) (low t u n m : ℕ) → u ≡ t + n → StillBelow job low t n →
+    ((cell : ℕ) → cell < low →
+    memory_of job (state_after job u) cell ≡ memory_of job (state_after job t) cell) →
+    StillBelow job low u m →
+    StillBelow job low t (n + m)
+still_then job low t u n m e first between second k cell lt less = ⊎_elim
+    (λ (early : k < n). first k cell early less)
+    (λ (late : n ≤ k).
+    let same : t + k ≡ u + (k - n) = omega arith in
+    ap (λ (v : ℕ). memory_of job (state_after job v) cell) same
+    ∙ second (k - n) cell (omega arith) less ∙ between cell less)
+    (cases_lt k n)
+
+pub still_none : (job : JobData) (low t : ℕ) → StillBelow job low t 0
+still_none job low t k cell lt less = absurd (omega arith)
 
 -- the writes of a line agree with the machine's rule
 abbrev pub AgreesIn : ProgramData → JobData → Source → ℕ → Statement → Type 0
@@ -232,7 +259,7 @@ module _ (program : ProgramData) (job : JobData) (of : IsOf program job) (source
       let values : (ℕ → Option ℕ) = λ i. if is_active source depth i then value program source i
       tree else None in
       let done : IsMade job (suc (t + n)) memory (own_stores (layout_of program) x values) P ×
-      StaysIn job at hi t (suc n) =
+      StaysIn job at hi t (suc n) × Unchanged job t (suc n) =
       made_in job of.job_is at hi t n memory locals standing
       (own_stores (layout_of program) x values) P
       (λ i l. bounded (place_of program (source.at + 1)) i
@@ -266,6 +293,7 @@ module _ (program : ProgramData) (job : JobData) (of : IsOf program job) (source
       done.0 in
       record {
         stays = done.1;
+        still = still_all job (held_below (layout_of program)) t (suc n) done.2;
         carried = record {
           memory = made.now;
           locals = made.locals;
@@ -358,7 +386,7 @@ module _ (program : ProgramData) (job : JobData) (of : IsOf program job) (source
         let P : (ℕ → Local → Type 0) = λ i. IsHere (shared_gone i)
         (place_of program (source.at + 1)) i in
         let done : IsMade job (suc (t + shared_steps)) memory stores P ×
-        StaysIn job at hi t (suc shared_steps) =
+        StaysIn job at hi t (suc shared_steps) × Unchanged job t (suc shared_steps) =
         made_in job of.job_is at hi t shared_steps memory locals standing stores P
         (λ i l. bounded (place_of program (source.at + 1)) i (shared_gone i) l
         (place_low program job of (source.at + 1)))
@@ -375,6 +403,7 @@ module _ (program : ProgramData) (job : JobData) (of : IsOf program job) (source
         let enough : ((i : ℕ) → i < program.procs → i < (layout_of program).procs) =
         λ i lt. let e = layout_procs program in omega arith in record {
           stays = done.1;
+          still = still_all job (held_below (layout_of program)) t (suc shared_steps) done.2;
           carried = record {
             memory = made.now;
             locals = made.locals;
@@ -427,7 +456,7 @@ module _ (program : ProgramData) (job : JobData) (of : IsOf program job) (source
       then (if source.masks depth i then decided (value program source i tree) else Some 0) else
       None in
       let done : IsMade job (suc (t + n)) memory (own_stores (layout_of program) row values) P ×
-      StaysIn job at hi t (suc n) =
+      StaysIn job at hi t (suc n) × Unchanged job t (suc n) =
       made_in job of.job_is at hi t n memory locals standing
       (own_stores (layout_of program) row values) P
       (λ i l. bounded (place_of program (source.at + 1)) i (after.gone i) l
@@ -441,6 +470,7 @@ module _ (program : ProgramData) (job : JobData) (of : IsOf program job) (source
       done.0 in
       record {
         stays = done.1;
+        still = still_all job (held_below (layout_of program)) t (suc n) done.2;
         carried = record {
           memory = made.now;
           locals = made.locals;
@@ -523,7 +553,7 @@ module _ (program : ProgramData) (job : JobData) (of : IsOf program job) (source
       let values : (ℕ → Option ℕ) = λ i. if is_none (source.gone i)
       then Some (bit (source.masks depth i && not (source.masks (depth + 1) i))) else None in
       let done : IsMade job (suc (t + n)) memory (own_stores (layout_of program) row values) P ×
-      StaysIn job at hi t (suc n) =
+      StaysIn job at hi t (suc n) × Unchanged job t (suc n) =
       made_in job of.job_is at hi t n memory locals standing
       (own_stores (layout_of program) row values) P
       (λ i l. bounded (place_of program (source.at + 1)) i (source.gone i) l
@@ -537,6 +567,8 @@ module _ (program : ProgramData) (job : JobData) (of : IsOf program job) (source
       done.0 in
       record {
         stays = subst (StaysIn job at hi t) (sym others_length) done.1;
+        still = subst (StillBelow job (held_below (layout_of program)) t) (sym others_length)
+            (still_all job (held_below (layout_of program)) t (suc n) done.2);
         carried = record {
           memory = made.now;
           locals = made.locals;
@@ -566,7 +598,7 @@ module _ (program : ProgramData) (job : JobData) (of : IsOf program job) (source
       Advance program job (on_to next source) t n at hi
   went_on next n next_low goes =
       let done : Went job (t + n) memory (λ i. IsHere (source.gone i) (place_of program next) i) ×
-      StaysIn job at hi t n =
+      StaysIn job at hi t n × Unchanged job t n =
       gone_in job of.job_is at hi t n memory locals standing
       (λ i. IsHere (source.gone i) (place_of program next) i)
       (λ i l. bounded (place_of program next) i (source.gone i) l (place_low program job of next))
@@ -575,6 +607,7 @@ module _ (program : ProgramData) (job : JobData) (of : IsOf program job) (source
       done.0 in
       record {
         stays = done.1;
+        still = still_all job (held_below (layout_of program)) t n done.2;
         carried = record {
           memory = memory;
           locals = went.places;
@@ -682,7 +715,7 @@ module _ (program : ProgramData) (job : JobData) (of : IsOf program job) (source
           let P : (ℕ → Local → Type 0) = λ i. IsHere (source.gone i)
           (place_of program (source.at + 1)) i in
           let done : IsMade job (suc (t + k)) memory (own_stores (layout_of program) row values) P ×
-          StaysIn job at hi t (suc k) =
+          StaysIn job at hi t (suc k) × Unchanged job t (suc k) =
           made_in job of.job_is at hi t k memory locals standing
           (own_stores (layout_of program) row values) P
           (λ i l. bounded (place_of program (source.at + 1)) i (source.gone i) l
@@ -700,6 +733,7 @@ module _ (program : ProgramData) (job : JobData) (of : IsOf program job) (source
           done.0 in
           record {
             stays = done.1;
+            still = still_all job (held_below (layout_of program)) t (suc k) done.2;
             carried = record {
               memory = made.now;
               locals = made.locals;
@@ -763,7 +797,7 @@ module _ (program : ProgramData) (job : JobData) (of : IsOf program job) (source
           (next_turn up (source.loops nest)) else None in
           let P : (ℕ → Local → Type 0) = λ i. IsHere (source.gone i) place i in
           let done : IsMade job (suc (t + k)) memory (own_stores (layout_of program) row values) P ×
-          StaysIn job at hi t (suc k) =
+          StaysIn job at hi t (suc k) × Unchanged job t (suc k) =
           made_in job of.job_is at hi t k memory locals standing
           (own_stores (layout_of program) row values) P
           (λ i l. bounded place i (source.gone i) l place_is_low)
@@ -775,7 +809,7 @@ module _ (program : ProgramData) (job : JobData) (of : IsOf program job) (source
           done.0 in
           let left : Went job (suc (t + k) + 1) made.now
           (λ i. IsHere (source.gone i) (place_of program (begin + 1)) i)
-          × StaysIn job at hi (suc (t + k)) 1 =
+          × StaysIn job at hi (suc (t + k)) 1 × Unchanged job (suc (t + k)) 1 =
           gone_in job of.job_is at hi (suc (t + k)) 1 made.now made.locals made.standing
           (λ i. IsHere (source.gone i) (place_of program (begin + 1)) i)
           (λ i l. bounded (place_of program (begin + 1)) i (source.gone i) l
@@ -788,6 +822,15 @@ module _ (program : ProgramData) (job : JobData) (of : IsOf program job) (source
           record {
             stays = stays_then job at hi t (suc (t + k)) (suc k) 1
                 (let f : suc (t + k) ≡ t + suc k = omega arith in f) done.1 left.1;
+            still = still_then job (held_below (layout_of program)) t (suc (t + k)) (suc k) 1
+                (let f : suc (t + k) ≡ t + suc k = omega arith in f)
+                (still_all job (held_below (layout_of program)) t (suc k) done.2)
+                (λ cell less. ap (λ (f : ℕ → ℕ). f cell) made.standing.memory_is
+                ∙ made.cells cell (held_low program job of cell less)
+                ∙ after_before (layout_of program) job.procs row cell values memory
+                (held_before (layout_of program) row cell (omega arith) less)
+                ∙ sym (ap (λ (f : ℕ → ℕ). f cell) standing.memory_is))
+                (still_all job (held_below (layout_of program)) (suc (t + k)) 1 left.2);
             carried = record {
               memory = made.now;
               locals = went.places;

@@ -38,7 +38,7 @@ use Rattle.pardo_job.proofs.Shallow.{shallow_front}
 use Rattle.pardo_law.specs.Locals.{StandsAt}
 use Rattle.pardo_law.proofs.Advancing.{Carried, Advance, AgreesIn, cost, loop_cost, shallow_masked}
 use Rattle.pardo_law.proofs.Advancing.{shallow_choosing}
-use Rattle.pardo_law.proofs.Advancing.{stays_none, place_low}
+use Rattle.pardo_law.proofs.Advancing.{stays_none, still_none, place_low}
 use Rattle.pardo_law.proofs.Cutting.{site, stands_site}
 use Rattle.pardo_law.proofs.Making.{Makes}
 use Rattle.pardo_law.proofs.Masks.{quiet}
@@ -50,6 +50,7 @@ use Rattle.pardo_law.proofs.Effects.{moved_pictured}
 use Rattle.pardo_law.proofs.Lengths.{line_stands, length_is, place_next}
 use Rattle.pardo_law.proofs.Picturing.{IsOf, IsHere, code_is, rule_is, procs_are, private_count}
 use Rattle.pardo_law.proofs.Picturing.{loop_count, choice_count}
+use Rattle.pardo_law.proofs.Rows.{held_below}
 use Rattle.pardo_law.proofs.Starting.{starts_carried}
 
 pub all_at : {A : Type 0} (P : A → Type 0) (xs : List A) (k : ℕ) (x : A) → All P xs → slice_get xs k
@@ -85,6 +86,7 @@ module _ (program : ProgramData) (job : JobData) (of : IsOf program job) (source
     carried = same_time t (t + 0) source (omega arith) carried;
     stays =
         stays_none job at hi t;
+    still = still_none job (held_below (layout_of program)) t;
   }
 
   opened : (begin : ℕ) (opener : Statement) → begin < length program.lines →
@@ -189,6 +191,7 @@ module _ (program : ProgramData) (job : JobData) (of : IsOf program job) (source
         carried = same_time t (t + 0) (on_to (source.at + 1) source) (omega arith)
             (nothing_done (let e : at ≡ at + 0 = omega arith in e ∙ ends));
         stays = stays_none job at hi t;
+        still = still_none job (held_below (layout_of program)) t;
       }
   by_statement (While tree end) is few shallow stands ends agree =
       let jump : List Instr = Jz (register_of 0 (operand_of 0 tree)) (place_of program (end + 1)) ∷

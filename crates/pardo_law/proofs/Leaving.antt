@@ -63,7 +63,7 @@ loop_gone program begin i (EndWhile line) source = refl
 loop_gone program begin i (EndFor line) source = refl
 
 -- who is gone after a line, and was there before it, is gone in that line
-lost_in : (program : ProgramData) (text_line depth i number : ℕ) (statement : Statement)
+pub lost_in : (program : ProgramData) (text_line depth i number : ℕ) (statement : Statement)
     (source : Source) → source.gone i ≡ None →
     (after_statement program text_line depth statement source).gone i ≡ Some number → text_line ≡
     number
