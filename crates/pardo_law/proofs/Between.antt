@@ -10,22 +10,21 @@ use Rattle.pram_step.specs.Runs.{state_after, AgreesAfter}
 use Rattle.pram_step.specs.Runs as machine
 use Rattle.pram_step.proofs.LawCounters.{stopped_processor}
 use Rattle.pardo_text.specs.declared.statement.Line.{Line}
-use Rattle.pardo_text.specs.declared.statement.Statement.{Statement}
 use Rattle.pardo_text.specs.Program.{ProgramData}
 use Rattle.pardo_job.specs.Carries.{ComesFrom}
 use Rattle.pardo_job.specs.Compiled.{AreNumbers, IsWhole}
 use Rattle.pardo_job.specs.Conflicts.{Agrees, Dispute, IsDispute}
 use Rattle.pardo_job.specs.Layouts.{layout_of}
 use Rattle.pardo_job.specs.Lines.{place_of}
-use Rattle.pardo_job.specs.Meaning.{Source, after, after_statement, next}
+use Rattle.pardo_job.specs.Meaning.{Source, after, after_statement}
 use Rattle.pardo_job.specs.Runs.{IsConflict, IsEnd, IsOver, IsReached, line_number}
 use Rattle.pardo_job.proofs.Assigning.{both_code}
 use Rattle.pardo_job.proofs.Meanings.{asked_at, next_at}
-use Rattle.pardo_law.specs.Between.{AreMade, Executes, GoesThrough, Holds, IsInLine}
+use Rattle.pardo_law.specs.Between.{AreMade, Executes, Holds, IsInLine}
 use Rattle.pardo_law.specs.Between.{JobsGoThrough, LeavesIn, LinesNeverFall}
 use Rattle.pardo_law.specs.Locals.{memory_of}
 use Rattle.pardo_law.proofs.Advancing.{Carried, StillBelow, cost, place_low, still_all}
-use Rattle.pardo_law.proofs.Carrying.{carried_after, line_carried, line_next, step_cost, time_next}
+use Rattle.pardo_law.proofs.Carrying.{carried_after, line_carried, line_next, time_next}
 use Rattle.pardo_law.proofs.Carrying.{time_of}
 use Rattle.pardo_law.proofs.Cutting.{StaysIn, is_inside}
 use Rattle.pardo_law.proofs.Disputing.{InConflict, asks_nothing, decides, in_conflict, line_number_is}
