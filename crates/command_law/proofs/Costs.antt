@@ -1,6 +1,6 @@
 -- What costs say of a program's lines.
-use Rattle.std.proofs.Common.{◌≡◌, ◌∙◌, ◌++◌, ℕ, ◌+◌, ◌<◌, ◌≤◌, Bool, true, false, List, Option, Some}
-use Rattle.std.proofs.Common.{None, ap, sym, inl, inr, refl, codes, decimal, arith}
+use Rattle.std.proofs.Common.{◌≡◌, ◌∙◌, ◌++◌, ℕ, ◌<◌, Bool, true, List, Option, Some, nat_lt}
+use Rattle.std.proofs.Common.{None, ap, sym, inl, inr, refl, codes, decimal, arith, if◌then◌else◌}
 use Rattle.std.specs.Prelude.{IfSome, slice_index}
 use Rattle.std.proofs.lemmas.Bool.{cases_Bool, ltb-true}
 use Rattle.std.proofs.lemmas.Option.{none-some}
@@ -12,16 +12,16 @@ use Rattle.pram_step.specs.declared.answer.RunAnswer.TheVariants.{Conflict}
 use Rattle.pram_step.specs.Runs.{IsFault, IsReached, state_after}
 use Rattle.pram_step.proofs.LawAnswer.{conflict_ends}
 use Rattle.pram_step.proofs.LawFixed.{reached_down}
-use Rattle.pram_cost.specs.Accesses.{is_running}
+use Rattle.pram_cost.specs.Accesses.{is_running, put_to_cell, write_by}
 use Rattle.pram_cost.specs.Costs.{IsLength}
-use Rattle.pram_cost.specs.Meetings.{IsFirstMeeting, IsFirstOrNone, access_by}
+use Rattle.pram_cost.specs.Meetings.{IsFirstMeeting, IsFirstOrNone, Meet, access_by}
 use Rattle.pram_cost.specs.Printed.{cost_text}
 use Rattle.pram_cost.specs.declared.cost.Cost.{Cost}
 use Rattle.pram_cost.specs.declared.meeting.Meeting.{Meeting}
 use Rattle.pram_cost.specs.declared.meeting.Sharing.{Sharing}
 use Rattle.pram_cost.specs.declared.meeting.Sharing.TheVariants.{SameRead, SameWrite, OtherValue}
 use Rattle.pram_cost.proofs.Accessing.{idle_access}
-use Rattle.pardo_text.specs.Program.{ProgramData}
+use Rattle.pardo_job.specs.Layouts.{layout_of}
 use Rattle.pardo_job.specs.Meaning.{after}
 use Rattle.pardo_job.specs.Printed.{IsConflictText, cell_text}
 use Rattle.pardo_job.specs.Runs.{line_number}
@@ -32,7 +32,7 @@ use Rattle.pardo_answers.proofs.LawAnswers.{printed_answers_are_the_programs}
 use Rattle.pram_commands.specs.Costs.{TellsCost, cost_words, place_or_cell}
 use Rattle.pram_commands.specs.Names.{AreNames, IsNaming, NamingData}
 use Rattle.command_law.specs.Programs.{AreProgramsCosts, CostsTellTheProgramsLines, IsMeetingOf}
-use Rattle.command_law.specs.Programs.{IsProgramsJob}
+use Rattle.command_law.specs.Programs.{BothWrite, IsProgramsJob, MeetByMeaning}
 use Rattle.command_law.proofs.Executing.{halt_access, pid_access}
 use Rattle.command_law.proofs.Jobs.{lawful, no_machines, procs_are, programs_job}
 
@@ -73,9 +73,48 @@ module _ (text : List ℕ) (job : JobData) (naming : NamingData) (names : IsNami
   in_line sharing t n i cell value goes (inr (inr last)) =
       absurd (none-some (cell, value) (sym (halt_access sharing job t i last.1) ∙ goes))
 
+  -- what goes to a cell is put there
+  put_of : (put : Option (ℕ × ℕ)) (cell value : ℕ) → put_to_cell job put ≡ Some (cell, value) →
+      put ≡ Some (cell, value)
+  put_of None cell value e = absurd (none-some (cell, value) e)
+  put_of (Some put) cell value e = elim (cases_Bool (nat_lt put.0 job.cells)) [
+    | inl on ↦ sym (ap (λ (b : Bool). if b then Some put else None) on) ∙ e
+    | inr off ↦ absurd (none-some (cell, value)
+        (sym (ap (λ (b : Bool). if b then Some put else None) off) ∙ e))
+  ]
+
+  -- who writes to a place does so by the meaning
+  both_write : (sharing : Sharing) (before n : ℕ) (meeting : Meeting) → IsReached job before →
+      AreMade naming.program time before n → (meet : Meet sharing
+      (write_by job (state_after job before)) job.procs meeting.cell meeting.first
+      meeting.second) → meeting.cell < (layout_of naming.program).shared →
+      BothWrite sharing naming.program n meeting
+  both_write sharing before n meeting reached made meet below =
+      let e = procs_are naming.program job is.made in
+      let few = meet.within in
+      let few_too = meet.within_too in record {
+        value = meet.value;
+        other = meet.other;
+        writes = is.goes.writes before n meeting.cell meeting.first meet.value reached made
+            (omega arith) below (put_of _ meeting.cell meet.value meet.goes);
+        writes_too = is.goes.writes before n meeting.cell meeting.second meet.other reached made
+            (omega arith) below (put_of _ meeting.cell meet.other meet.goes_too);
+        differ = meet.differ;
+      }
+
+  by_meaning : (sharing : Sharing) (before n : ℕ) (meeting : Meeting) → IsReached job before →
+      AreMade naming.program time before n → Meet sharing
+      (access_by sharing job (state_after job before)) job.procs meeting.cell meeting.first
+      meeting.second → MeetByMeaning sharing naming.program n meeting
+  by_meaning SameRead before n meeting reached made meet = tt
+  by_meaning SameWrite before n meeting reached made meet =
+      both_write SameWrite before n meeting reached made meet
+  by_meaning OtherValue before n meeting reached made meet =
+      both_write OtherValue before n meeting reached made meet
+
   meeting_is : (sharing : Sharing) (n : ℕ) (meeting : Meeting) →
       ((before : ℕ) → before < n → IsReached job before) → IsFirstMeeting sharing job n meeting →
-      IsMeetingOf naming time meeting
+      IsMeetingOf sharing naming time meeting
   meeting_is sharing n meeting reached first =
       let at : IsReached job first.before = reached first.before first.within in
       let found : (k : ℕ) × AreMade naming.program time first.before k =
@@ -95,11 +134,12 @@ module _ (text : List ℕ) (job : JobData) (naming : NamingData) (names : IsNami
         are_made = found.1;
         told = ap (λ (number : ℕ). codes " line=" ++ decimal number
             ++ place_or_cell (cell_text naming.program.arrays meeting.cell) meeting) line;
+        meet = by_meaning sharing first.before found.0 meeting at found.1 meet;
       }
 
   meeting_or_none : (sharing : Sharing) (n : ℕ) (found : Option Meeting) →
       ((before : ℕ) → before < n → IsReached job before) → IsFirstOrNone sharing job n found →
-      IfSome found (IsMeetingOf naming time)
+      IfSome found (IsMeetingOf sharing naming time)
   meeting_or_none sharing n None reached none = tt
   meeting_or_none sharing n (Some meeting) reached first =
       meeting_is sharing n meeting reached first
@@ -140,6 +180,7 @@ by_names text job bytes answer one (Some naming) names tells same =
       cost = cost;
       pram = tells.pram;
       costs = tells.costs;
+      procs = tells.costs.cost_is.procs_are ∙ procs_are naming.program job is.made;
       needs = tells.needs;
       same_read = meeting_or_none text job naming names is SameRead cost.steps
           cost.meetings.same_read reached first.same_read;

@@ -1,6 +1,6 @@
 -- The two instructions that are of no line, and who executes them.
-use Rattle.std.proofs.Common.{◌≡◌, ◌∙◌, ◌≢◌, ℕ, ◌+◌, ◌<◌, ◌≤◌, Bool, false, true, Option, Some, None}
-use Rattle.std.proofs.Common.{ap, sym, subst, refl, arith, ⊎_elim, if◌then◌else◌}
+use Rattle.std.proofs.Common.{◌≡◌, ◌∙◌, ℕ, ◌+◌, ◌<◌, ◌≤◌, Bool, Option, Some, None}
+use Rattle.std.proofs.Common.{ap, sym, refl, arith, ⊎_elim, if◌then◌else◌}
 use Rattle.std.specs.Prelude.{slice_get}
 use Rattle.std.specs.Option.{option_map}
 use Rattle.std.proofs.lemmas.Bool.{cases_lt, le-ltb}
@@ -9,7 +9,7 @@ use Rattle.pram_job.specs.declared.instr.Instr.TheVariants.{Pid, Halt}
 use Rattle.pram_job.specs.Job.{JobData, IsJob}
 use Rattle.pram_machine.specs.declared.requests.Request.{Request}
 use Rattle.pram_machine.specs.Instructions.{decided, decided_in, goes_to, request_in}
-use Rattle.pram_machine.specs.Machine.{State, counter, halted, out_of_range, register_place}
+use Rattle.pram_machine.specs.Machine.{State, counter, halted, register_place}
 use Rattle.pram_step.specs.Runs.{state_after}
 use Rattle.pram_step.proofs.LawCounters.{stopped_processor}
 use Rattle.pram_fates.specs.Fates.{NamesNone}

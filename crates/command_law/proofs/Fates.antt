@@ -1,5 +1,5 @@
 -- What became of a program's processors.
-use Rattle.std.proofs.Common.{◌≡◌, ◌∙◌, ◌≢◌, ◌⊎◌, ◌++◌, ℕ, zero, suc, ◌+◌, ◌<◌, ◌≤◌, true, List}
+use Rattle.std.proofs.Common.{◌≡◌, ◌∙◌, ◌≢◌, ◌⊎◌, ℕ, zero, suc, ◌+◌, ◌<◌, ◌≤◌, List}
 use Rattle.std.proofs.Common.{◌-◌, ◌*◌, Option, Some, None, ap, sym, subst, inl, inr, refl, arith}
 use Rattle.std.proofs.Common.{⊎_elim, length, replicate}
 use Rattle.std.specs.Prelude.{MatchOption, is_some, slice_index}
@@ -20,14 +20,14 @@ use Rattle.pram_fates.specs.declared.fates.Lost.{Lost}
 use Rattle.pram_fates.specs.Fates.{AllName, AreFates, AreMade as AreStepsMade, IsEnd as IsEndAfter}
 use Rattle.pram_fates.specs.Fates.{IsFirstLost, IsFirstLostOrNone, NamesNone}
 use Rattle.pardo_text.specs.Program.{ProgramData}
-use Rattle.pardo_job.specs.Compiled.{IsWhole, Stops}
+use Rattle.pardo_job.specs.Compiled.{IsWhole}
 use Rattle.pardo_job.specs.Conflicts.{Dispute}
 use Rattle.pardo_job.specs.Leaving.{GoneIn, Leaves}
 use Rattle.pardo_job.specs.Meaning.{after}
 use Rattle.pardo_job.specs.Runs.{IsConflict, IsEnd, IsOver, line_number}
 use Rattle.pardo_job.specs.Runs as source
-use Rattle.pardo_law.specs.Between.{AreMade, GoesThrough, IsInLine, LeavesIn}
-use Rattle.pardo_law.proofs.Showing.{Whole, whole_at}
+use Rattle.pardo_law.specs.Between.{AreMade, IsInLine}
+use Rattle.pardo_law.proofs.Showing.{whole_at}
 use Rattle.pram_commands.specs.Names.{IsNaming, NamingData}
 use Rattle.pram_commands.specs.Why.{told_steps}
 use Rattle.command_law.specs.Programs.{AllThere, IsEndOf, IsFirstGone, IsLostOf, IsProgramsJob}
@@ -295,5 +295,7 @@ module _ (text : List ℕ) (job : JobData) (naming : NamingData) (names : IsNami
   pub fates_are : (ended : RunAnswer) (fates : Fates) → IsKnown job ended →
       AreFates job (told_steps job ended) fates →
       IsEndOf naming time job ended fates.end × IsLostOf naming time ended fates.lost
-  fates_are ended fates known are =
-      (end_is ended fates known are, lost_is ended are.made fates.lost known are.are_made are.lost_is)
+  fates_are ended fates known are = (
+    end_is ended fates known are,
+    lost_is ended are.made fates.lost known are.are_made are.lost_is,
+  )

@@ -40,8 +40,8 @@ pub programs_job : (text : List ℕ) (job : JobData) (naming : NamingData) →
     IsNaming text job naming → IsProgramsJob text job naming
 programs_job text job naming is =
     let nested : IsNested naming.program.lines =
-    subst (λ (r : Result ProgramData PardoFault). IfOk r (λ program. IsNested program.lines)) is.reads
-    (programs_are_nested text) in record {
+    subst (λ (r : Result ProgramData PardoFault). IfOk r (λ program. IsNested program.lines))
+    is.reads (programs_are_nested text) in record {
       reads = is.reads;
       made = is.makes.made;
       goes = jobs_go_through naming.program job (slice_index naming.numbers)

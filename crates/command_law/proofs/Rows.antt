@@ -1,6 +1,6 @@
 -- What the rows of steps say of a program's lines.
-use Rattle.std.proofs.Common.{◌≡◌, ◌∙◌, ◌&&◌, ◌++◌, ℕ, ◌<◌, ◌≤◌, Bool, true, false, List, [], Option}
-use Rattle.std.proofs.Common.{Some, None, ap, refl, subst, inl, inr, codes, decimal, nat_lt, arith}
+use Rattle.std.proofs.Common.{◌≡◌, ◌∙◌, ◌&&◌, ◌++◌, ℕ, ◌<◌, Bool, true, false, List, [], Option}
+use Rattle.std.proofs.Common.{Some, None, ap, refl, inl, inr, codes, decimal, nat_lt, arith}
 use Rattle.std.proofs.Common.{if◌then◌else◌}
 use Rattle.std.specs.Prelude.{slice_index}
 use Rattle.std.proofs.lemmas.Bool.{lt-ltb}
@@ -12,12 +12,12 @@ use Rattle.pram_rows.specs.Rows.{line_text, row_end, rows_text}
 use Rattle.pram_rows.specs.Shown.{last_step}
 use Rattle.pram_rows.specs.declared.window.Window.{Window}
 use Rattle.pardo_job.specs.Meaning.{after}
-use Rattle.pardo_job.specs.Runs.{IsOver, line_number}
+use Rattle.pardo_job.specs.Runs.{line_number}
 use Rattle.pardo_law.specs.Between.{IsInLine}
 use Rattle.pardo_answers.specs.Language.{is_program}
 use Rattle.pram_commands.specs.Did.{ending}
 use Rattle.pram_commands.specs.Names.{AreNames, NamingData}
-use Rattle.pram_commands.specs.Steps.{TellsSteps, lines_of}
+use Rattle.pram_commands.specs.Steps.{lines_of}
 use Rattle.command_law.specs.Programs.{AreProgramsSteps, IsEnding, IsProgramsJob}
 use Rattle.command_law.specs.Programs.{StepsTellTheProgramsLines, TellLines, told_line}
 use Rattle.command_law.proofs.Answers.{told_answer}
@@ -36,7 +36,8 @@ tell_lines text job naming is t n i reached made some goes_on lt runs =
     at : ℕ
     at = counter job (state_after job t) i
 
-    by_line : IsInLine naming.program job (slice_index naming.numbers) t (after naming.program n) i →
+    by_line : IsInLine naming.program job (slice_index naming.numbers) t
+        (after naming.program n) i →
         row_end (Some naming.numbers) job at
         ≡ codes "," ++ told_line (line_number naming.program (after naming.program n))
         ++ codes "\n"
@@ -63,6 +64,7 @@ module _ (text : List ℕ) (job : JobData) (window : Window) (bytes : List ℕ) 
         naming = naming;
         is = its;
         lines = tell_lines text job naming its;
+        writes = its.goes.writes;
         ended = ended;
         back = ending alone of_end ended job.steps;
         prints = prints;

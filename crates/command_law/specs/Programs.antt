@@ -1,8 +1,8 @@
--- What the commands print of a program, in the program's words: its lines, its places, and what these
--- hold by its meaning.
+-- What the commands print of a program, in the program's words: its lines, its places, and what
+-- these hold by its meaning.
 use Rattle.std.specs.Prelude.{◌≡◌, ◌⊎◌, ◌++◌, ℕ, ◌+◌, ◌<◌, ◌≤◌, Bool, true, false, List, []}
 use Rattle.std.specs.Prelude.{Option, Some, None, Ok, All, IfSome, map, codes, decimal}
-use Rattle.std.specs.Prelude.{nat_lt, if◌then◌else◌, slice_index}
+use Rattle.std.specs.Prelude.{nat_lt, if◌then◌else◌, slice_index, ⊤}
 use Rattle.std.specs.List.{repeat}
 use Rattle.std.specs.List.Sorted.{IsNonDecreasingBy}
 use Rattle.pram_job.specs.Job.{JobData}
@@ -20,27 +20,31 @@ use Rattle.pram_rows.specs.Rows.{row_end, rows_text}
 use Rattle.pram_rows.specs.Shown.{last_step}
 use Rattle.pram_rows.specs.declared.window.Window.{Window}
 use Rattle.pram_cost.specs.Costs.{IsCost}
+use Rattle.pram_cost.specs.Meetings.{Differ}
 use Rattle.pram_cost.specs.Models.{IsNeeded}
 use Rattle.pram_cost.specs.Printed.{cost_text}
 use Rattle.pram_cost.specs.declared.cost.Cost.{Cost}
 use Rattle.pram_cost.specs.declared.meeting.Meeting.{Meeting}
+use Rattle.pram_cost.specs.declared.meeting.Sharing.{Sharing}
+use Rattle.pram_cost.specs.declared.meeting.Sharing.TheVariants.{SameRead, SameWrite, OtherValue}
 use Rattle.pram_cost.specs.declared.pram.Pram.{Pram}
 use Rattle.stop_plan.specs.Plan.{PlanData}
 use Rattle.pram_run.specs.declared.sight.Sight.{Sight}
 use Rattle.pram_run.specs.Printed.{sights_text}
 use Rattle.pardo_text.specs.Program.{ProgramData}
 use Rattle.pardo_text.specs.Reading.{program_of}
+use Rattle.pardo_job.specs.Conflicts.{Writes}
 use Rattle.pardo_job.specs.Layouts.{layout_of, private_cells}
 use Rattle.pardo_job.specs.Lines.{job_of}
 use Rattle.pardo_job.specs.Meaning.{after}
 use Rattle.pardo_job.specs.Printed.{IsConflictText, cell_text}
 use Rattle.pardo_job.specs.Runs.{IsConflict, IsEnd, IsOver, line_number}
 use Rattle.pardo_job.specs.Runs as source
-use Rattle.pardo_law.specs.Between.{AreMade, GoesThrough}
+use Rattle.pardo_law.specs.Between.{AreMade, GoesThrough, PutsTo}
 use Rattle.pardo_answers.specs.Language.{is_program}
 use Rattle.pram_commands.specs.CellLists.{AreCellsOf}
 use Rattle.pram_commands.specs.Costs.{cost_words, costing, place_or_cell}
-use Rattle.pram_commands.specs.Names.{Means, NamingData, told}
+use Rattle.pram_commands.specs.Names.{Means, NamingData}
 use Rattle.pram_commands.specs.Plain.{checking, no_plan, plainly}
 use Rattle.pram_commands.specs.Steps.{stepping}
 use Rattle.pram_commands.specs.Threads.{cell_words, running, watching}
@@ -74,8 +78,8 @@ CheckTellsTheProgramsJob = (text : List ℕ) (job : JobData) (bytes : List ℕ)
 
 -- ---- `watch`
 
--- After the sight's step so many lines are made; and a place of the program, or a processor's private
--- variable, was seen to hold what it holds after these.
+-- After the sight's step so many lines are made; and a place of the program, or a processor's
+-- private variable, was seen to hold what it holds after these.
 pub record IsSightOf (program : ProgramData) (time : ℕ → ℕ) (sight : Sight) : Type 0 where
   pub lines : ℕ
   pub are_made : AreMade program time sight.step lines
@@ -122,17 +126,28 @@ TellLines text job naming is = (t n i : ℕ) → IsReached job t → Made text j
     row_end (Some naming.numbers) job (counter job (state_after job t) i)
     ≡ codes "," ++ told_line (line_number naming.program (after naming.program n)) ++ codes "\n"
 
+-- What a row has a processor write to a place of the program it writes there in that line, by the
+-- meaning.
+abbrev pub TellWrites : (text : List ℕ) (job : JobData) (naming : NamingData) →
+    IsProgramsJob text job naming → Type 0
+TellWrites text job naming is = (t n cell i value : ℕ) → IsReached job t →
+    Made text job naming is t n → i < naming.program.procs →
+    cell < (layout_of naming.program).shared → PutsTo job t cell i value →
+    Writes naming.program (after naming.program n) cell i value
+
 -- what follows the rows: the program's answer, unless they stand alone
 abbrev pub IsEnding : Bool → List ℕ → JobData → List ℕ → Type 0
 IsEnding true text job back = back ≡ []
 IsEnding false text job back = IsProgramsAnswer text job back
 
--- The bytes are rows of the program's job, whose lines are the program's, and its answer.
+-- The bytes are rows of the program's job, whose lines and writes are the program's, and then its
+-- answer.
 pub record AreProgramsSteps (alone : Bool) (window : Window) (text : List ℕ) (job : JobData)
     (bytes : List ℕ) : Type 0 where
   pub naming : NamingData
   pub is : IsProgramsJob text job naming
   pub lines : TellLines text job naming is
+  pub writes : TellWrites text job naming is
   pub ended : RunAnswer
   pub back : List ℕ
   pub prints : bytes ≡ rows_text (Some naming.numbers) job window.from window.to
@@ -147,8 +162,26 @@ StepsTellTheProgramsLines = (text : List ℕ) (job : JobData) (alone : Bool) (wi
 
 -- ---- `cost`
 
--- The meeting's step lies in this line of the program, and it is told by its number, and by the place.
-pub record IsMeetingOf (naming : NamingData) (time : ℕ → ℕ) (meeting : Meeting) : Type 0 where
+-- In the line after so many both write to the place, by the meaning.
+pub record BothWrite (sharing : Sharing) (program : ProgramData) (lines : ℕ) (meeting : Meeting)
+    : Type 0 where
+  pub value : ℕ
+  pub other : ℕ
+  pub writes : Writes program (after program lines) meeting.cell meeting.first value
+  pub writes_too : Writes program (after program lines) meeting.cell meeting.second other
+  pub differ : Differ sharing meeting.first value meeting.second other
+
+-- who meets at a place of the program by writing does so by the meaning; of what is read the
+-- meaning does not speak
+abbrev pub MeetByMeaning : Sharing → ProgramData → ℕ → Meeting → Type 0
+MeetByMeaning SameRead program lines meeting = ⊤
+MeetByMeaning sharing program lines meeting =
+    meeting.cell < (layout_of program).shared → BothWrite sharing program lines meeting
+
+-- The meeting's step lies in this line of the program, and it is told by its number, and by the
+-- place.
+pub record IsMeetingOf (sharing : Sharing) (naming : NamingData) (time : ℕ → ℕ)
+    (meeting : Meeting) : Type 0 where
   pub before : ℕ
   pub step : meeting.step ≡ before + 1
   pub lines : ℕ
@@ -156,18 +189,24 @@ pub record IsMeetingOf (naming : NamingData) (time : ℕ → ℕ) (meeting : Mee
   pub told : (cost_words (Some naming)).spot meeting ≡ codes " line="
       ++ decimal (line_number naming.program (after naming.program lines))
       ++ place_or_cell (cell_text naming.program.arrays meeting.cell) meeting
+  pub meet : MeetByMeaning sharing naming.program lines meeting
 
--- The bytes are the costs of the program's job, with meetings and a conflict in the program's lines.
+-- The bytes are the costs of the program's job, with meetings and a conflict in the program's
+-- lines.
 pub record AreProgramsCosts (text : List ℕ) (job : JobData) (bytes : List ℕ) : Type 0 where
   pub naming : NamingData
   pub is : IsProgramsJob text job naming
   pub cost : Cost
   pub pram : Pram
   pub costs : IsCost job cost
+  pub procs : cost.procs ≡ naming.program.procs
   pub needs : IsNeeded job cost.steps pram
-  pub same_read : IfSome cost.meetings.same_read (IsMeetingOf naming is.goes.carries.time)
-  pub same_write : IfSome cost.meetings.same_write (IsMeetingOf naming is.goes.carries.time)
-  pub other_value : IfSome cost.meetings.other_value (IsMeetingOf naming is.goes.carries.time)
+  pub same_read : IfSome cost.meetings.same_read
+      (IsMeetingOf SameRead naming is.goes.carries.time)
+  pub same_write : IfSome cost.meetings.same_write
+      (IsMeetingOf SameWrite naming is.goes.carries.time)
+  pub other_value : IfSome cost.meetings.other_value
+      (IsMeetingOf OtherValue naming is.goes.carries.time)
   pub conflict : IfSome cost.conflict (λ fault.
       IsConflictText naming.program ((cost_words (Some naming)).conflict fault))
   pub prints : bytes ≡ cost_text (cost_words (Some naming)) cost pram

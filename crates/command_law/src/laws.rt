@@ -34,13 +34,15 @@ pub fn watches_tell_the_programs()
 {}
 
 /// What `steps` prints of a program are rows of the program's job, with the line of the program in
-/// which each step lies; and what follows is the program's answer.
+/// which each step lies, which writes what they have written to a place; and what follows is the
+/// program's answer.
 pub fn steps_tell_the_programs_lines()
     ensures { StepsTellTheProgramsLines }
 {}
 
 /// What `cost` prints of a program are the costs of its job; each meeting is told by the line of
-/// the program in which its step lies, and a conflict is the program's.
+/// the program in which its step lies, two who write to one place do so in it, and a conflict is
+/// the program's.
 pub fn costs_tell_the_programs_lines()
     ensures { CostsTellTheProgramsLines }
 {}

@@ -1,34 +1,42 @@
 -- The job in the midst of lines.
 use Rattle.std.proofs.Common.{◌≡◌, ◌≢◌, ℕ, zero, suc, ◌+◌, ◌-◌, ◌<◌, ◌≤◌, ◌⊎◌, true, Option}
-use Rattle.std.proofs.Common.{false, Some, None, refl, sym, ap, ◌∙◌, subst, inl, inr, ⊎_elim, arith, length}
+use Rattle.std.proofs.Common.{false, Some, None, refl, sym, ap, ◌∙◌, subst, inl, inr, ⊎_elim, arith}
+use Rattle.std.proofs.Common.{◌*◌, length}
 use Rattle.std.specs.Prelude.{is_some, slice_get}
 use Rattle.std.proofs.lemmas.Bool.{cases_lt}
+use Rattle.std.proofs.lemmas.Option.{none-some, some_pair_parts}
+use Rattle.pram_job.specs.declared.instr.Instr.{Instr}
 use Rattle.pram_job.specs.declared.instr.Instr.TheVariants.{Pid, Halt}
 use Rattle.pram_job.specs.Job.{JobData}
+use Rattle.pram_machine.specs.declared.requests.Request.{Request}
+use Rattle.pram_machine.specs.Instructions.{decided, decided_in, goes_to, request_in}
 use Rattle.pram_machine.specs.Machine.{State, IsStopped, counter, halted, out_of_range}
+use Rattle.pram_machine.specs.Machine.{register_place}
 use Rattle.pram_step.specs.Runs.{state_after, AgreesAfter}
 use Rattle.pram_step.specs.Runs as machine
 use Rattle.pram_step.proofs.LawCounters.{stopped_processor}
+use Rattle.pram_step.proofs.LawStopped.{stopped_request}
 use Rattle.pardo_text.specs.declared.statement.Line.{Line}
 use Rattle.pardo_text.specs.Program.{ProgramData}
 use Rattle.pardo_job.specs.Carries.{ComesFrom}
 use Rattle.pardo_job.specs.Compiled.{AreNumbers, IsWhole}
-use Rattle.pardo_job.specs.Conflicts.{Agrees, Dispute, IsDispute}
+use Rattle.pardo_job.specs.Conflicts.{Agrees, Dispute, IsDispute, Writes}
 use Rattle.pardo_job.specs.Layouts.{layout_of}
 use Rattle.pardo_job.specs.Lines.{place_of}
-use Rattle.pardo_job.specs.Meaning.{Source, after, after_statement}
+use Rattle.pardo_job.specs.Meaning.{Source, after, after_statement, asked_in}
 use Rattle.pardo_job.specs.Runs.{IsConflict, IsEnd, IsOver, IsReached, line_number}
 use Rattle.pardo_job.proofs.Assigning.{both_code}
 use Rattle.pardo_job.proofs.Meanings.{asked_at, next_at}
 use Rattle.pardo_law.specs.Between.{AreMade, Executes, Holds, IsInLine}
-use Rattle.pardo_law.specs.Between.{JobsGoThrough, LeavesIn, LinesNeverFall}
+use Rattle.pardo_law.specs.Between.{JobsGoThrough, LeavesIn, LinesNeverFall, PutsTo}
 use Rattle.pardo_law.specs.Locals.{memory_of}
 use Rattle.pardo_law.proofs.Advancing.{Carried, StillBelow, cost, place_low, still_all}
 use Rattle.pardo_law.proofs.Carrying.{carried_after, line_carried, line_next, time_next}
 use Rattle.pardo_law.proofs.Carrying.{time_of}
-use Rattle.pardo_law.proofs.Cutting.{StaysIn, is_inside}
-use Rattle.pardo_law.proofs.Disputing.{InConflict, asks_nothing, decides, in_conflict, line_number_is}
-use Rattle.pardo_law.proofs.Disputing.{lost_here, number_at, stays_here, unchanged_here}
+use Rattle.pardo_law.proofs.Cutting.{PutOnly, StaysIn, is_inside}
+use Rattle.pardo_law.proofs.Disputing.{InConflict, asks_nothing, decides, in_conflict}
+use Rattle.pardo_law.proofs.Disputing.{line_number_is, lost_here, number_at, puts_here, stays_here}
+use Rattle.pardo_law.proofs.Disputing.{unchanged_here}
 use Rattle.pardo_law.proofs.Finishing.{decide_over, finishes, reached_next}
 use Rattle.pardo_law.proofs.Leaving.{lost_in}
 use Rattle.pardo_law.proofs.Masks.{quiet}
@@ -66,21 +74,28 @@ lines_never_fall program time t u n m rises is later le = ⊎_elim
 -- ---- a line
 
 -- before all steps of a line the processors stand in it, and arrays and private variables stay
-record Keeps (program : ProgramData) (job : JobData) (source : Source) (t c : ℕ) : Type 0 where
+record Keeps (program : ProgramData) (job : JobData) (asked : ℕ → Option (ℕ × ℕ))
+    (source : Source) (t c : ℕ) : Type 0 where
   stays : StaysIn job (place_of program source.at) (place_of program (source.at + 1)) t c
   still : StillBelow job (held_below (layout_of program)) t c
+  puts : PutOnly job (layout_of program).shared t c asked
 
 module _ (program : ProgramData) (job : JobData) (of : IsOf program job) (source : Source) (t : ℕ)
     (carried : Carried program job source t) (line : Line)
     (is : slice_get program.lines source.at ≡ Some line) where
-  agreed : Agrees program source →
-      Keeps program job source t (cost program source line.depth line.statement)
+  abbrev asked_here : ℕ → Option (ℕ × ℕ)
+  asked_here = asked_in program source line.depth line.statement
+
+  abbrev KeptHere : Type 0
+  KeptHere =
+      Keeps program job asked_here source t (cost program source line.depth line.statement)
+
+  agreed : Agrees program source → KeptHere
   agreed agrees =
       let advance = line_carried program job of source t carried line is agrees in
-      record { stays = advance.stays; still = advance.still }
+      record { stays = advance.stays; still = advance.still; puts = advance.puts }
 
-  disputed : (dispute : Dispute) → IsDispute program source dispute →
-      Keeps program job source t (cost program source line.depth line.statement)
+  disputed : (dispute : Dispute) → IsDispute program source dispute → KeptHere
   disputed dispute d =
       let it = asks_nothing program source line.depth dispute.first line.statement dispute.cell
       d.clash.value
@@ -94,9 +109,13 @@ module _ (program : ProgramData) (job : JobData) (of : IsOf program job) (source
         still = subst (StillBelow job (held_below (layout_of program)) t) costs
             (still_all job (held_below (layout_of program)) t (suc n)
             (unchanged_here program job of source t carried line is it.0 it.1 it.2 it.3));
+        puts = λ k i cell value lt less below put.
+            ap (λ s. asked_in program source line.depth s i) it.3
+            ∙ puts_here program job of source t carried line is it.0 it.1 it.2 it.3 k i cell value
+            (subst (λ m. k < m) (sym costs) lt) less (shared_low program job of cell below) put;
       }
 
-  keeps : Keeps program job source t (cost program source line.depth line.statement)
+  keeps : KeptHere
   keeps = ⊎_elim agreed (λ (d : (dispute : Dispute) × IsDispute program source dispute).
       disputed d.0 d.1) (decides program job of source t carried line is)
 
@@ -228,7 +247,8 @@ module _ (program : ProgramData) (job : JobData) (of : IsOf program job) (line_o
       }
 
   kept : (t n : ℕ) → Made t n → (m : Midst t n) →
-      Keeps program job (after program n) (time_of program n)
+      Keeps program job (asked_in program (after program n) m.line.depth m.line.statement)
+      (after program n) (time_of program n)
       (cost program (after program n) m.line.depth m.line.statement)
   kept t n is m = keeps program job of (after program n) (time_of program n)
       (carried n is.reached) m.line m.is
@@ -422,6 +442,74 @@ module _ (program : ProgramData) (job : JobData) (of : IsOf program job) (line_o
   lines_at zero n i is lt runs = inr (inl (refl, starts i lt))
   lines_at (suc t) n i is lt runs = lines_from (suc t) n i (omega arith) is lt runs
 
+  -- ---- what is written
+
+  pid_puts : (t cell i value : ℕ) → cell < job.cells → Executes job t i (Pid 3) →
+      PutsTo job t cell i value → ⊥
+  unfolding request_in decided
+  pid_puts t cell i value below is put =
+      let s : State = state_after job t in
+      let asks : request_in job s i ≡ decided_in job s i (Pid 3) =
+      ap (λ (o : Option Instr). elim o as (λ (x : Option Instr). Request) [
+        | None ↦ goes_to (counter job s i)
+        | Some one ↦ decided_in job s i one
+      ]) is in
+      let parts = some_pair_parts (register_place job i 3) cell i value
+      (sym (ap (λ (r : Request). r.put) asks) ∙ put) in
+      let e : register_place job i 3 ≡ cell = parts.0 in
+      omega arith
+
+  halt_puts : (t cell i value : ℕ) → Executes job t i Halt → PutsTo job t cell i value → ⊥
+  unfolding request_in decided
+  halt_puts t cell i value is put =
+      let s : State = state_after job t in
+      let asks : request_in job s i ≡ decided_in job s i Halt =
+      ap (λ (o : Option Instr). elim o as (λ (x : Option Instr). Request) [
+        | None ↦ goes_to (counter job s i)
+        | Some one ↦ decided_in job s i one
+      ]) is in
+      none-some (cell, value) (sym (ap (λ (r : Request). r.put) asks) ∙ put)
+
+  stopped_puts : (t cell i value : ℕ) → halted job ≤ counter job (state_after job t) i →
+      PutsTo job t cell i value → ⊥
+  stopped_puts t cell i value past put = none-some (cell, value)
+      (sym (ap (λ (r : Request). r.put) (stopped_request job (state_after job t) i past)) ∙ put)
+
+  over_puts : (t n cell i value : ℕ) → time_of program n ≤ t → IsReached program n →
+      IsOver program (after program n) → i < program.procs → PutsTo job t cell i value → ⊥
+  over_puts t n cell i value late reached over lt put = ⊎_elim
+      (λ (runs : counter job (state_after job t) i < halted job).
+      halt_puts t cell i value (ends t n i late reached over lt runs) put)
+      (λ (past : halted job ≤ counter job (state_after job t) i).
+      stopped_puts t cell i value past put)
+      (cases_lt (counter job (state_after job t) i) (halted job))
+
+  midst_puts : (t n cell i value : ℕ) → Made t n → Midst t n → i < program.procs →
+      cell < (layout_of program).shared → PutsTo job t cell i value →
+      Writes program (after program n) cell i value
+  midst_puts t n cell i value is m lt below put = (
+    lt,
+    asked_at program (after program n) m.line i m.is
+        ∙ (kept t n is m).puts m.steps i cell value m.within (low i lt) below
+        (subst (λ (k : ℕ). PutsTo job k cell i value) (sym m.at_step) put),
+  )
+
+  puts_from : (t n cell i value : ℕ) → 1 ≤ t → Made t n → i < program.procs →
+      cell < (layout_of program).shared → PutsTo job t cell i value →
+      Writes program (after program n) cell i value
+  puts_from t n cell i value some is lt below put = ⊎_elim
+      (λ over. absurd (over_puts t n cell i value (begun t n some is) is.reached over lt put))
+      (λ on. midst_puts t n cell i value is (midst t n some is on.0) lt below put)
+      (decide_over program (after program n))
+
+  pub puts_at : (t n cell i value : ℕ) → Made t n → i < program.procs →
+      cell < (layout_of program).shared → PutsTo job t cell i value →
+      Writes program (after program n) cell i value
+  puts_at zero n cell i value is lt below put =
+      absurd (pid_puts 0 cell i value (shared_low program job of cell below) (starts i lt) put)
+  puts_at (suc t) n cell i value is lt below put =
+      puts_from (suc t) n cell i value (omega arith) is lt below put
+
   -- ---- who leaves
 
   -- one whose counter says that it is gone is gone
@@ -534,6 +622,9 @@ jobs_go_through program job line_of lawful nested compiled =
           holds_at program job is line_of compiled.numbers compiled.whole t n made;
       lines = λ t n i reached made lt runs.
           lines_at program job is line_of compiled.numbers compiled.whole t n i made lt runs;
+      writes = λ t n cell i value reached made lt below put.
+          puts_at program job is line_of compiled.numbers compiled.whole t n cell i value made lt
+          below put;
       leaves = λ t n i reached made lt leaves.
           leaves_at program job is line_of compiled.numbers compiled.whole t n i made reached lt
           leaves;

@@ -7,20 +7,23 @@ use Rattle.std.proofs.Common.{length}
 use Rattle.std.specs.Prelude.{slice_get}
 use Rattle.std.specs.Option.{option_map}
 use Rattle.std.proofs.lemmas.Bool.{cases_lt, cases_Bool}
-use Rattle.std.proofs.lemmas.Option.{slice_get_past}
+use Rattle.std.proofs.lemmas.Option.{none-some, slice_get_past}
 use Rattle.pram_job.specs.declared.instr.Instr.{Instr}
 use Rattle.pram_job.specs.declared.instr.Instr.TheVariants.{Ld, St, Jz, Jmp, Halt}
 use Rattle.pram_job.specs.declared.instr.Operand.TheVariants.{Number}
 use Rattle.pram_job.specs.declared.instr.Place.TheVariants.{Cell, Named}
 use Rattle.pram_job.specs.Job.{JobData, IsJob}
 use Rattle.pram_machine.specs.Machine.{counter, out_of_range}
+use Rattle.pram_machine.specs.Instructions.{request_in}
 use Rattle.pram_step.specs.Runs.{state_after}
+use Rattle.pram_step.proofs.LawFixed.{length-state_after}
 use Rattle.pardo_job.specs.Straight.{Registers}
 use Rattle.pardo_law.specs.Locals.{Local, after_instr, after_fetched, next_local, store_at}
 use Rattle.pardo_law.specs.Locals.{store_of, IsNamedAt}
 use Rattle.pardo_law.specs.Locals.{StandsAt, Standing, StoresAgree, IsLocal, memory_of}
 use Rattle.pardo_law.proofs.Making.{Makes, Goes, IsMade, Went, all_make, all_go, moved, runs_moved}
-use Rattle.pardo_law.proofs.Running.{Runs, quiet_run}
+use Rattle.pardo_law.proofs.Running.{IsQuiet, Runs, quiet_run}
+use Rattle.pardo_law.proofs.Stepping.{each_by_itself}
 
 -- an instruction that names no array
 abbrev unnamed : Instr
@@ -250,6 +253,12 @@ StaysIn job lo hi t n = (k i : ℕ) → k < n → i < job.procs →
     (counter job (state_after job (t + k)) i ≡ out_of_range job)
     ⊎ (is_inside lo hi (counter job (state_after job (t + k)) i) ≡ true)
 
+-- what processors put to a cell in one of these steps they asked for
+abbrev pub PutOnly : JobData → ℕ → ℕ → ℕ → (ℕ → Option (ℕ × ℕ)) → Type 0
+PutOnly job low t n asked = (k i cell value : ℕ) → k < n → i < job.procs → cell < low →
+    (request_in job (state_after job (t + k)) i).put ≡ Some (cell, value) →
+    asked i ≡ Some (cell, value)
+
 -- and memory is what it was before them
 abbrev pub Unchanged : JobData → ℕ → ℕ → Type 0
 Unchanged job t n = (k : ℕ) → k < n →
@@ -280,6 +289,32 @@ module _ (job : JobData) (is_job : IsJob job) (lo hi t n : ℕ) (memory : ℕ �
       at_step k i (moved job memory i k (locals i)) (inside i k less lt)
       ((there_after mids runs k (omega arith)).locals_are i less)
 
+  -- where it runs it is quiet
+  runs_quiet : (i m k : ℕ) (l mid : Local) → Runs job memory i m l mid → k < m →
+      IsQuiet job (moved job memory i k l)
+  runs_quiet i zero k l mid runs lt = absurd (omega arith)
+  runs_quiet i (suc m) zero l mid runs lt = runs.0
+  runs_quiet i (suc m) (suc k) l mid runs lt =
+      runs_quiet i m k (next_local job memory i l) mid runs.1 (omega arith)
+
+  -- what is put is what is stored
+  stored : (mids : ℕ → Local) → AllRun mids → (k i cell value : ℕ) → k < suc n → i < job.procs →
+      cell < job.cells → IsNamedAt job (moved job memory i k (locals i)) →
+      (request_in job (state_after job (t + k)) i).put ≡ Some (cell, value) →
+      store_of job (moved job memory i k (locals i)) ≡ Some (cell, value)
+  stored mids runs k i cell value lt less low named put =
+      (each_by_itself job (state_after job (t + k)) i (moved job memory i k (locals i)) is_job
+      (length-state_after job (t + k) is_job) less
+      ((there_after mids runs k lt).locals_are i less) named).wrote cell value low put
+
+  quiet_puts : (mids : ℕ → Local) → AllRun mids → (k i cell value : ℕ) → k < n → i < job.procs →
+      cell < job.cells →
+      (request_in job (state_after job (t + k)) i).put ≡ Some (cell, value) → ⊥
+  quiet_puts mids runs k i cell value lt less low put =
+      let quiet = runs_quiet i n k (locals i) (mids i) (runs i less) lt in
+      none-some (cell, value) (sym quiet.1
+      ∙ stored mids runs k i cell value (omega arith) less low quiet.0 put)
+
   unchanged : (m : ℕ) (mids : ℕ → Local) → AllRun mids → m ≤ suc n → Unchanged job t m
   unchanged m mids runs few k lt =
       (there_after mids runs k (omega arith)).memory_is ∙ sym standing.memory_is
@@ -306,12 +341,36 @@ module _ (job : JobData) (is_job : IsJob job) (lo hi t n : ℕ) (memory : ℕ �
     made_unchanged =
         unchanged (suc n) (λ i. moved job memory i n (locals i)) kept_runs (omega arith)
 
+    last_puts : (i cell value : ℕ) → i < job.procs → cell < job.cells →
+        (request_in job (state_after job (t + n)) i).put ≡ Some (cell, value) →
+        stores i ≡ Some (cell, value)
+    last_puts i cell value lt low put =
+        let made = (kept_in i lt).makes in
+        let same : moved job memory i n (locals i) ≡ made.mid =
+        runs_moved job memory i n (locals i) made.mid made.runs in
+        sym made.stores ∙ ap (store_of job) (sym same)
+        ∙ stored (λ j. moved job memory j n (locals j)) kept_runs n i cell value (omega arith) lt
+        low (subst (IsNamedAt job) (sym same) made.named) put
+
+    pub made_puts : PutOnly job job.cells t (suc n) stores
+    made_puts k i cell value lt less low put = ⊎_elim
+        (λ (early : k < n). absurd (quiet_puts (λ j. moved job memory j n (locals j)) kept_runs k i
+        cell value early less low put))
+        (λ (late : n ≤ k).
+        let e : k ≡ n = omega arith in
+        last_puts i cell value less low
+        (subst (λ (m : ℕ). (request_in job (state_after job (t + m)) i).put ≡ Some (cell, value)) e
+        put))
+        (cases_lt k n)
+
     pub made_in : StoresAgree job stores → IsMade job (suc (t + n)) memory stores P ×
-        StaysIn job lo hi t (suc n) × Unchanged job t (suc n)
+        StaysIn job lo hi t (suc n) × Unchanged job t (suc n) ×
+        PutOnly job job.cells t (suc n) stores
     made_in agree = (
       all_make job is_job t n memory locals standing stores P (λ i lt. (kept_in i lt).makes) agree,
       made_stays,
       made_unchanged,
+      made_puts,
     )
 
   module _ (P : ℕ → Local → Type 0) (bound : (i : ℕ) (x : Local) → P i x → Below lo hi job x)
@@ -324,10 +383,17 @@ module _ (job : JobData) (is_job : IsJob job) (lo hi t n : ℕ) (memory : ℕ �
         (sym (runs_moved job memory i n (locals i) (going i lt).goes.now (going i lt).goes.runs))
         (going i lt).goes.runs
 
-    pub gone_in : Went job (t + n) memory P × StaysIn job lo hi t n × Unchanged job t n
+    going_puts : PutOnly job job.cells t n (λ i. None)
+    going_puts k i cell value lt less low put =
+        absurd (quiet_puts (λ j. moved job memory j n (locals j)) going_runs k i cell value lt less
+        low put)
+
+    pub gone_in : Went job (t + n) memory P × StaysIn job lo hi t n × Unchanged job t n ×
+        PutOnly job job.cells t n (λ i. None)
     gone_in = (
       all_go job is_job t n memory locals standing P (λ i lt. (going i lt).goes),
       stays n (λ i. moved job memory i n (locals i)) going_runs (omega arith)
           (λ i k lt less. (going i lt).inside k less),
       unchanged n (λ i. moved job memory i n (locals i)) going_runs (omega arith),
+      going_puts,
     )

@@ -33,7 +33,8 @@ use Rattle.pardo_law.proofs.Advancing.{Carried, asked_shared, cost, place_low}
 use Rattle.pardo_law.proofs.Carrying.{stores_make, line_is, stands_site_here, ends_here, forbids_to}
 use Rattle.pardo_law.proofs.Carrying.{forbids_from}
 use Rattle.pardo_law.proofs.Cutting.{site, is_inside, Within, Below, MakesIn, makes_in, inside_back}
-use Rattle.pardo_law.proofs.Cutting.{StaysIn, Unchanged, made_stays, made_unchanged}
+use Rattle.pardo_law.proofs.Cutting.{PutOnly, StaysIn, Unchanged, made_puts, made_stays}
+use Rattle.pardo_law.proofs.Cutting.{made_unchanged}
 use Rattle.pardo_law.proofs.Lengths.{place_next}
 use Rattle.pardo_law.proofs.Making.{Makes, before, mid_is, mids_named, mids_store, mids}
 use Rattle.pardo_law.proofs.Masks.{quiet}
@@ -234,6 +235,10 @@ module _ (program : ProgramData) (job : JobData) (of : IsOf program job) (source
         dispute_to d.0 d.1,
       ))
       (agrees_or_dispute job (requests_in job (state_after job (t + steps))))
+
+  pub puts_here : PutOnly job job.cells t (suc steps) stores
+  puts_here = made_puts job of.job_is lo hi t steps carried.memory carried.locals
+      carried.standing stores Comes bound site_makes
 
   -- who is out of range before the stores is gone after the line
   none_there : (i : ℕ) (l : Local) → Within lo hi job l →

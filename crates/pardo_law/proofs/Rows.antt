@@ -120,6 +120,13 @@ after_shared layout which cell values memory low =
     let e : own_of layout which i ≡ cell =
     (own_parts (own_of layout which i) cell w (values i) is).0 in omega arith)
 
+-- no shared cell is of a row
+pub own_high : (layout : LayoutData) (which i cell v : ℕ) (values : ℕ → Option ℕ) →
+    cell < layout.shared → own_stores layout which values i ≡ Some (cell, v) → ⊥
+own_high layout which i cell v values low is =
+    let e : own_of layout which i ≡ cell =
+    (own_parts (own_of layout which i) cell v (values i) is).0 in omega arith
+
 -- the cells of arrays and of private variables are those below
 abbrev pub held_below : LayoutData → ℕ
 held_below layout = layout.shared + layout.privates * layout.procs

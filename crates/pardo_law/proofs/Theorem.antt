@@ -36,7 +36,8 @@ pub record IsStep (program : ProgramData) (job : JobData) (line_of : ℕ → ℕ
     second = dispute.second;
   })
   pub comes : ComesFrom job line_of before dispute.first (line_number program (after program n))
-  pub comes_too : ComesFrom job line_of before dispute.second (line_number program (after program n))
+  pub comes_too : ComesFrom job line_of before dispute.second
+      (line_number program (after program n))
 
 module _ (program : ProgramData) (job : JobData) (line_of : ℕ → ℕ) (lawful : IsProgram program)
     (nested : IsNested program.lines)

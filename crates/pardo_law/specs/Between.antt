@@ -4,6 +4,7 @@ use Rattle.pram_job.specs.declared.instr.Instr.{Instr}
 use Rattle.pram_job.specs.declared.instr.Instr.TheVariants.{Pid, Halt}
 use Rattle.pram_job.specs.Job.{JobData}
 use Rattle.pram_machine.specs.Machine.{State, counter, halted, out_of_range}
+use Rattle.pram_machine.specs.Instructions.{request_in}
 use Rattle.pram_step.specs.Runs.{state_after}
 use Rattle.pram_step.specs.Runs as machine
 use Rattle.pardo_text.specs.Lawful.{IsProgram}
@@ -11,6 +12,7 @@ use Rattle.pardo_text.specs.Nested.{IsNested}
 use Rattle.pardo_text.specs.Program.{ProgramData}
 use Rattle.pardo_job.specs.Carries.{Carries, ComesFrom}
 use Rattle.pardo_job.specs.Compiled.{IsCompiled}
+use Rattle.pardo_job.specs.Conflicts.{Writes}
 use Rattle.pardo_job.specs.Layouts.{layout_of, private_cells}
 use Rattle.pardo_job.specs.Meaning.{Source, after}
 use Rattle.pardo_job.specs.Runs.{IsOver, IsReached, line_number}
@@ -18,8 +20,8 @@ use Rattle.pardo_job.specs.Shows.{own_cell}
 
 -- ---- which lines are made
 
--- After t steps n lines are made, and no more, where the first k lines take `time k` steps. The first
--- step comes before all lines.
+-- After t steps n lines are made, and no more, where the first k lines take `time k` steps. The
+-- first step comes before all lines.
 pub record AreMade (program : ProgramData) (time : ℕ → ℕ) (t n : ℕ) : Type 0 where
   pub reached : IsReached program n
   pub made : (n ≡ 0) ⊎ (time n ≤ t)
@@ -44,8 +46,8 @@ pub record Holds (program : ProgramData) (source : Source) (state : State) : Typ
 abbrev pub Executes : JobData → ℕ → ℕ → Instr → Type 0
 Executes job t i instr = slice_get job.code (counter job (state_after job t) i) ≡ Some instr
 
--- In the step after t processor i executes an instruction of the line that is next; but in the first
--- step `pid`, and after the last line `halt`.
+-- In the step after t processor i executes an instruction of the line that is next; but in the
+-- first step `pid`, and after the last line `halt`.
 abbrev pub IsInLine : ProgramData → JobData → (ℕ → ℕ) → ℕ → Source → ℕ → Type 0
 IsInLine program job line_of t source i = ComesFrom job line_of t i (line_number program source)
     ⊎ (((t ≡ 0) × Executes job t i (Pid 3)) ⊎ (IsOver program source × Executes job t i Halt))
@@ -55,9 +57,14 @@ pub record LeavesIn (job : JobData) (t i : ℕ) : Type 0 where
   pub was_there : counter job (state_after job t) i ≢ out_of_range job
   pub is_gone : counter job (state_after job (t + 1)) i ≡ out_of_range job
 
+-- In the step after t processor i puts this value to this cell.
+abbrev pub PutsTo : JobData → ℕ → ℕ → ℕ → ℕ → Type 0
+PutsTo job t cell i value = (request_in job (state_after job t) i).put ≡ Some (cell, value)
+
 -- The job carries the program's run, and goes through its lines. After each step so many are made:
 -- arrays and private variables hold what they hold after these, and who runs in the next step
--- executes the line that is next. Who leaves in it is gone in that line.
+-- executes the line that is next. What is put to a place of the program in that step is written in
+-- that line, and who leaves in it is gone in that line.
 pub record GoesThrough (program : ProgramData) (job : JobData) (line_of : ℕ → ℕ) : Type 0 where
   pub carries : Carries program job line_of
   pub made : (t : ℕ) → machine.IsReached job t → (n : ℕ) × AreMade program carries.time t n
@@ -66,6 +73,9 @@ pub record GoesThrough (program : ProgramData) (job : JobData) (line_of : ℕ �
   pub lines : (t n i : ℕ) → machine.IsReached job t → AreMade program carries.time t n →
       i < program.procs → counter job (state_after job t) i < halted job →
       IsInLine program job line_of t (after program n) i
+  pub writes : (t n cell i value : ℕ) → machine.IsReached job t →
+      AreMade program carries.time t n → i < program.procs → cell < (layout_of program).shared →
+      PutsTo job t cell i value → Writes program (after program n) cell i value
   pub leaves : (t n i : ℕ) → machine.IsReached job (t + 1) → AreMade program carries.time t n →
       i < program.procs → LeavesIn job t i →
       (after program (n + 1)).gone i ≡ Some (line_number program (after program n))
