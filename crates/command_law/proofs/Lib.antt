@@ -3,6 +3,7 @@ pub mod Texts
 pub mod Jobs
 pub mod Watches
 pub mod Rows
+pub mod Replays
 pub mod Executing
 pub mod Costs
 pub mod Fates

@@ -30,7 +30,8 @@ use Rattle.pram_cost.specs.declared.meeting.Sharing.TheVariants.{SameRead, SameW
 use Rattle.pram_cost.specs.declared.pram.Pram.{Pram}
 use Rattle.stop_plan.specs.Plan.{PlanData}
 use Rattle.pram_run.specs.declared.sight.Sight.{Sight}
-use Rattle.pram_run.specs.Printed.{sights_text}
+use Rattle.pram_run.specs.declared.trace.TraceRow.{TraceRow}
+use Rattle.pram_run.specs.Printed.{sights_text, trace_text}
 use Rattle.pardo_text.specs.Program.{ProgramData}
 use Rattle.pardo_text.specs.Reading.{program_of}
 use Rattle.pardo_job.specs.Conflicts.{Writes}
@@ -46,6 +47,7 @@ use Rattle.pram_commands.specs.CellLists.{AreCellsOf}
 use Rattle.pram_commands.specs.Costs.{cost_words, costing, place_or_cell}
 use Rattle.pram_commands.specs.Names.{Means, NamingData}
 use Rattle.pram_commands.specs.Plain.{checking, no_plan, plainly}
+use Rattle.pram_commands.specs.Replayed.{replaying}
 use Rattle.pram_commands.specs.Steps.{stepping}
 use Rattle.pram_commands.specs.Threads.{cell_words, running, watching}
 use Rattle.command_law.specs.Laws.{IsCutOff, IsProgramsAnswer}
@@ -159,6 +161,29 @@ StepsTellTheProgramsLines = (text : List ℕ) (job : JobData) (alone : Bool) (wi
     (bytes : List ℕ) (answer : Option RunAnswer) → is_program text ≡ true →
     (stepping alone window).Comes text job no_plan bytes answer →
     AreProgramsSteps alone window text job bytes
+
+-- ---- `replay`
+
+-- what follows the trace: the program's answer, or the plan stops every worker
+abbrev pub IsReplaysEnding : Bool → List ℕ → JobData → PlanData → Option RunAnswer → List ℕ →
+    Type 0
+IsReplaysEnding true text job plan answer back = back ≡ []
+IsReplaysEnding false text job plan answer back =
+    IsProgramsAnswer text job back ⊎ IsCutOff plan answer
+
+-- The bytes are a trace, and then the program's answer, unless the trace stands alone.
+pub record IsProgramsReplay (alone : Bool) (text : List ℕ) (job : JobData) (plan : PlanData)
+    (bytes : List ℕ) (answer : Option RunAnswer) : Type 0 where
+  pub trace : List TraceRow
+  pub back : List ℕ
+  pub prints : bytes ≡ trace_text trace ++ back
+  pub ends : IsReplaysEnding alone text job plan answer back
+
+abbrev pub ReplaysPrintTheProgramsAnswer : Type 0
+ReplaysPrintTheProgramsAnswer = (text : List ℕ) (job : JobData) (plan : PlanData) (alone : Bool)
+    (workers : ℕ) (bytes : List ℕ) (answer : Option RunAnswer) → is_program text ≡ true →
+    (replaying alone workers).Comes text job plan bytes answer →
+    IsProgramsReplay alone text job plan bytes answer
 
 -- ---- `cost`
 

@@ -2,7 +2,8 @@
 ghost use Rattle.command_law.specs.Laws.{CompilePrintsTheSameJob, PlainPrintsTheProgramsAnswer};
 ghost use Rattle.command_law.specs.Laws.{RunsPrintTheProgramsAnswer};
 ghost use Rattle.command_law.specs.Programs.{CheckTellsTheProgramsJob, CostsTellTheProgramsLines};
-ghost use Rattle.command_law.specs.Programs.{PlainTellsWhy, RunsTellWhy};
+ghost use Rattle.command_law.specs.Programs.{PlainTellsWhy, ReplaysPrintTheProgramsAnswer};
+ghost use Rattle.command_law.specs.Programs.{RunsTellWhy};
 ghost use Rattle.command_law.specs.Programs.{StepsTellTheProgramsLines, WatchesTellThePrograms};
 
 /// What `plain` prints of a program is the program's answer, by its meaning.
@@ -38,6 +39,12 @@ pub fn watches_tell_the_programs()
 /// program's answer.
 pub fn steps_tell_the_programs_lines()
     ensures { StepsTellTheProgramsLines }
+{}
+
+/// What a replay of a program prints after its trace is the program's answer, unless its plan stops
+/// every worker.
+pub fn replays_print_the_programs_answer()
+    ensures { ReplaysPrintTheProgramsAnswer }
 {}
 
 /// What `cost` prints of a program are the costs of its job; each meeting is told by the line of
