@@ -50,7 +50,7 @@ by_names text job naming answer is answers =
     }
 
 -- the text of a program is no text of the machine
-told_answer : (text : List ℕ) (job : JobData) (names : Option NamingData) (answer : RunAnswer) →
+pub told_answer : (text : List ℕ) (job : JobData) (names : Option NamingData) (answer : RunAnswer) →
     is_program text ≡ true → AreNames text job names → IsAnswer job answer →
     IsProgramsAnswer text job (told names answer job.steps)
 told_answer text job None answer one is answers = absurd (false≢true (sym is.is_none ∙ one))
@@ -69,7 +69,7 @@ plain_prints text job bytes answer one comes =
     comes.follows (told_answer text job comes.names comes.ended one comes.are_names comes.ends)
 
 -- how a run ended
-ended_so : (job : JobData) (plan : PlanData) (later : SeatData) (answer : RunAnswer) →
+pub ended_so : (job : JobData) (plan : PlanData) (later : SeatData) (answer : RunAnswer) →
     EndsAt job plan later answer → IsAnswer job answer ⊎ IsCutOff plan (Some answer)
 ended_so job plan later (Final cells) at =
     inl (subst (λ (j : JobData). IsAnswer j (Final cells)) at.opened.1.0

@@ -1,2 +1,10 @@
 pub mod Answers
 pub mod Texts
+pub mod Jobs
+pub mod Watches
+pub mod Rows
+pub mod Replays
+pub mod Executing
+pub mod Costs
+pub mod Fates
+pub mod Whys

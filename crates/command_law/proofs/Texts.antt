@@ -1,6 +1,6 @@
 -- What is printed of a job is a text of the machine, whose one job it is.
 use Rattle.std.proofs.Common.{◌≡◌, ◌∙◌, ℕ, List, [], ◌∷◌, ◌++◌, Option, Some, None, Result, Ok}
-use Rattle.std.proofs.Common.{Err, Bool, true, false, ap, sym, subst, refl, codes, bytes_eq, map}
+use Rattle.std.proofs.Common.{false, ap, sym, subst, refl, codes, bytes_eq, map}
 use Rattle.std.proofs.Common.{IfOk, ⊎_elim, filter}
 use Rattle.std.specs.Prelude.{slice_index}
 use Rattle.std.specs.List.{flat_map}
@@ -12,8 +12,6 @@ use Rattle.text_lines.specs.Lines.{Line, Word, is_filled, lines_of, words_of, wo
 use Rattle.pram_text.specs.Text.{Spells, code_line}
 use Rattle.pram_text.proofs.LawOneJob.{spells_once}
 use Rattle.pram_text.proofs.Lawful.{spells_lawful}
-use Rattle.pram_step.specs.declared.answer.RunAnswer.{RunAnswer}
-use Rattle.job_text.specs.Laws.{JumpsLand}
 use Rattle.job_text.specs.Printed.{text_of}
 use Rattle.job_text.proofs.Landing.{jumps_land as spelled_jumps_land}
 use Rattle.job_text.proofs.ReadBack.{read_back}
@@ -24,7 +22,7 @@ use Rattle.pardo_text.proofs.LawLawful.{programs_are_lawful}
 use Rattle.pardo_answers.specs.Language.{begins_program, is_program}
 use Rattle.pardo_answers.proofs.Landing.{jumps_land}
 use Rattle.command_law.specs.Laws.{CompilePrintsTheSameJob, IsTextOf}
-use Rattle.pram_commands.specs.Names.{AreNames, IsMachines, Means, NamingData}
+use Rattle.pram_commands.specs.Names.{AreNames, NamingData}
 
 -- ---- a text of the machine is no program
 

@@ -1,6 +1,10 @@
 //! Laws of what is printed: each function does nothing, and says to a proof that its law holds.
 ghost use Rattle.command_law.specs.Laws.{CompilePrintsTheSameJob, PlainPrintsTheProgramsAnswer};
 ghost use Rattle.command_law.specs.Laws.{RunsPrintTheProgramsAnswer};
+ghost use Rattle.command_law.specs.Programs.{CheckTellsTheProgramsJob, CostsTellTheProgramsLines};
+ghost use Rattle.command_law.specs.Programs.{PlainTellsWhy, ReplaysPrintTheProgramsAnswer};
+ghost use Rattle.command_law.specs.Programs.{RunsTellWhy};
+ghost use Rattle.command_law.specs.Programs.{StepsTellTheProgramsLines, WatchesTellThePrograms};
 
 /// What `plain` prints of a program is the program's answer, by its meaning.
 pub fn plain_prints_the_programs_answer()
@@ -17,4 +21,47 @@ pub fn runs_print_the_programs_answer()
 /// means: so all that another command tells of it is told of that very job.
 pub fn compile_prints_the_same_job()
     ensures { CompilePrintsTheSameJob }
+{}
+
+/// What `check` prints of a program is the summary of the program's job.
+pub fn check_tells_the_programs_job()
+    ensures { CheckTellsTheProgramsJob }
+{}
+
+/// Each line of a watch of a program says what the place holds by the program's meaning, after the
+/// lines that are made at that step; and what follows is the program's answer.
+pub fn watches_tell_the_programs()
+    ensures { WatchesTellThePrograms }
+{}
+
+/// What `steps` prints of a program are rows of the program's job, with the line of the program in
+/// which each step lies, which writes what they have written to a place; and what follows is the
+/// program's answer.
+pub fn steps_tell_the_programs_lines()
+    ensures { StepsTellTheProgramsLines }
+{}
+
+/// What a replay of a program prints after its trace is the program's answer, unless its plan stops
+/// every worker.
+pub fn replays_print_the_programs_answer()
+    ensures { ReplaysPrintTheProgramsAnswer }
+{}
+
+/// What `cost` prints of a program are the costs of its job; each meeting is told by the line of
+/// the program in which its step lies, two who write to one place do so in it, and a conflict is
+/// the program's.
+pub fn costs_tell_the_programs_lines()
+    ensures { CostsTellTheProgramsLines }
+{}
+
+/// With `--why` what `plain` prints of a program is the program's answer, and then who of its
+/// processors was gone first, in which line.
+pub fn plain_tells_why()
+    ensures { PlainTellsWhy }
+{}
+
+/// With `--why` a run on threads prints that too, unless its plan stops every worker; then it tells
+/// the line in which the least processor that runs stands.
+pub fn runs_tell_why()
+    ensures { RunsTellWhy }
 {}

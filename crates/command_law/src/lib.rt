@@ -1,5 +1,5 @@
-//! What the commands print of a program of `pardo` is the program's answer, by its meaning; and what
-//! is printed of a job spells that very job.
+//! What the commands print of a program of `pardo` is told of it by its meaning: its answer, its
+//! lines and places, and who is gone. And what is printed of a job spells that very job.
 #![tactic(auto)]
 
 pub mod laws;

@@ -14,6 +14,7 @@ use Rattle.pram_job.specs.declared.instr.Operand.TheVariants.{Register, Number}
 use Rattle.pram_job.specs.declared.instr.Place.TheVariants.{Named}
 use Rattle.pram_job.specs.Job.{JobData}
 use Rattle.pram_machine.specs.Machine.{counter, out_of_range}
+use Rattle.pram_machine.specs.Instructions.{request_in}
 use Rattle.pram_step.specs.Runs.{state_after}
 use Rattle.pardo_text.specs.declared.statement.Statement.{Statement}
 use Rattle.pardo_text.specs.declared.statement.Statement.TheVariants.{Assign, If, Else, EndIf, For}
@@ -36,21 +37,23 @@ use Rattle.pardo_job.specs.Operations.{is_shallow, register_of}
 use Rattle.pardo_job.specs.Values.{value_code, operand_of, takes, own_place, own_load}
 use Rattle.pardo_job.proofs.Assigning.{both_code}
 use Rattle.pardo_job.proofs.Shallow.{shallow_front, shallow_back, shallow_rest}
-use Rattle.pardo_law.specs.Locals.{Local, StandsAt, Standing, StoresAgree}
+use Rattle.pardo_law.specs.Locals.{Local, StandsAt, Standing, StoresAgree, memory_of}
 use Rattle.pardo_law.proofs.Bodies.{own_body, with_store, under, between}
 use Rattle.pardo_law.proofs.Effects.{private_pictured, masks_pictured, turned_pictured}
 use Rattle.pardo_law.proofs.Effects.{moved_pictured, there_before}
 use Rattle.pardo_law.proofs.Loops.{while_goes, jump_goes, none_goes, turn_makes, for_end_is}
 use Rattle.pardo_law.proofs.Loops.{last_goes, again_makes}
 use Rattle.pardo_law.proofs.Placing.{stands_back}
-use Rattle.pardo_law.proofs.Cutting.{site, is_inside, Below, StaysIn, made_in, gone_in}
+use Rattle.pardo_law.proofs.Cutting.{site, is_inside, Below, PutOnly, StaysIn, Unchanged, made_in}
+use Rattle.pardo_law.proofs.Cutting.{gone_in}
 use Rattle.pardo_law.proofs.Lengths.{code_len}
 use Rattle.pardo_law.proofs.Making.{Makes, Goes, IsMade, Went}
 use Rattle.pardo_law.proofs.Masks.{quiet, quiet_choice, masked_makes, choosing_makes, others_makes}
 use Rattle.pardo_law.proofs.Masks.{active_is}
 use Rattle.pardo_law.proofs.Picturing.{IsOf, IsHere, Pictured, memory_fits, procs_are, procs_same}
-use Rattle.pardo_law.proofs.Picturing.{layout_procs, shared_low, sees, code_is, row_low}
-use Rattle.pardo_law.proofs.Rows.{own_stores, own_agree, after_apart, place_is, own_of}
+use Rattle.pardo_law.proofs.Picturing.{layout_procs, shared_low, sees, code_is, row_low, held_low}
+use Rattle.pardo_law.proofs.Rows.{own_stores, own_agree, after_apart, after_before, place_is}
+use Rattle.pardo_law.proofs.Rows.{own_of, own_high, held_before, held_below}
 use Rattle.pardo_law.proofs.Straightness.{value_straight}
 use Rattle.pardo_law.proofs.Values.{decided, value_to, shared_to}
 
@@ -89,11 +92,19 @@ pub record Carried (program : ProgramData) (job : JobData) (source : Source) (t 
   pub standing : Standing job t memory locals
   pub pictured : Pictured program source memory locals
 
--- the same after a line, in all whose steps the processors stand in its code
-pub record Advance (program : ProgramData) (job : JobData) (source : Source) (t c lo hi : ℕ) :
-    Type 0 where
+-- in these steps memory below a cell is what it was before them
+abbrev pub StillBelow : JobData → ℕ → ℕ → ℕ → Type 0
+StillBelow job low t n = (k cell : ℕ) → k < n → cell < low →
+    memory_of job (state_after job (t + k)) cell ≡ memory_of job (state_after job t) cell
+
+-- the same after a line, before all whose steps the processors stand in its code, and arrays and
+-- private variables are what they were
+pub record Advance (program : ProgramData) (job : JobData) (asked : ℕ → Option (ℕ × ℕ))
+    (source : Source) (t c lo hi : ℕ) : Type 0 where
   pub carried : Carried program job source (t + c)
   pub stays : StaysIn job lo hi t c
+  pub still : StillBelow job (held_below (layout_of program)) t c
+  pub puts : PutOnly job (layout_of program).shared t c asked
 
 here_below : (job : JobData) (lo hi place i : ℕ) (g : Option ℕ) (l : Local) →
     place < length job.code → IsHere g place i l →
@@ -129,6 +140,40 @@ stays_then job lo hi t u n m e first second k i lt less = ⊎_elim
 
 pub stays_none : (job : JobData) (lo hi t : ℕ) → StaysIn job lo hi t 0
 stays_none job lo hi t k i lt less = absurd (omega arith)
+
+pub still_all : (job : JobData) (low t n : ℕ) → Unchanged job t n → StillBelow job low t n
+still_all job low t n same k cell lt less = ap (λ (f : ℕ → ℕ). f cell) (same k lt)
+
+still_then : (job : JobData) (low t u n m : ℕ) → u ≡ t + n → StillBelow job low t n →
+    ((cell : ℕ) → cell < low →
+    memory_of job (state_after job u) cell ≡ memory_of job (state_after job t) cell) →
+    StillBelow job low u m →
+    StillBelow job low t (n + m)
+still_then job low t u n m e first between second k cell lt less = ⊎_elim
+    (λ (early : k < n). first k cell early less)
+    (λ (late : n ≤ k).
+    let same : t + k ≡ u + (k - n) = omega arith in
+    ap (λ (v : ℕ). memory_of job (state_after job v) cell) same
+    ∙ second (k - n) cell (omega arith) less ∙ between cell less)
+    (cases_lt k n)
+
+puts_then : (job : JobData) (low t u n m : ℕ) (asked : ℕ → Option (ℕ × ℕ)) → u ≡ t + n →
+    PutOnly job low t n asked → PutOnly job low u m asked →
+    PutOnly job low t (n + m) asked
+puts_then job low t u n m asked e first second k i cell value lt less below put = ⊎_elim
+    (λ (early : k < n). first k i cell value early less below put)
+    (λ (late : n ≤ k).
+    let same : t + k ≡ u + (k - n) = omega arith in
+    second (k - n) i cell value (omega arith) less below
+    (subst (λ (v : ℕ). (request_in job (state_after job v) i).put ≡ Some (cell, value)) same put))
+    (cases_lt k n)
+
+pub puts_none : (job : JobData) (low t : ℕ) (asked : ℕ → Option (ℕ × ℕ)) →
+    PutOnly job low t 0 asked
+puts_none job low t asked k i cell value lt less below put = absurd (omega arith)
+
+pub still_none : (job : JobData) (low t : ℕ) → StillBelow job low t 0
+still_none job low t k cell lt less = absurd (omega arith)
 
 -- the writes of a line agree with the machine's rule
 abbrev pub AgreesIn : ProgramData → JobData → Source → ℕ → Statement → Type 0
@@ -208,6 +253,14 @@ module _ (program : ProgramData) (job : JobData) (of : IsOf program job) (source
   next_low : source.at + 1 ≤ length program.lines
   next_low = omega arith
 
+  -- stores to the own cells of a row go to no place of the program
+  none_put : (u n row : ℕ) (values : ℕ → Option ℕ) →
+      PutOnly job job.cells u n (own_stores (layout_of program) row values) →
+      PutOnly job (layout_of program).shared u n (λ i. None)
+  none_put u n row values puts k i cell value lt less below put =
+      absurd (own_high (layout_of program) row i cell value values below
+      (puts k i cell value lt less (shared_low program job of cell below) put))
+
   -- ---- `x := e`
 
   pub private_advances : (x : ℕ) (tree : Tree) → x < (layout_of program).privates →
@@ -220,7 +273,7 @@ module _ (program : ProgramData) (job : JobData) (of : IsOf program job) (source
       at + length (masked (layout_of program) at depth (value_code (layout_of program) 0 tree
       ++ St (own_place (private_cells (layout_of program) x)) (operand_of 0 tree) ∷ [])) ≡
       place_of program (source.at + 1) →
-      Advance program job (on_to (source.at + 1)
+      Advance program job (λ i. None) (on_to (source.at + 1)
       (private_assigned program text_line depth x tree source)) t
       (suc (quiet depth (length (value_code (layout_of program) 0 tree)))) at hi
   private_advances x tree x_low is few_ifs shallow stands ends =
@@ -232,7 +285,8 @@ module _ (program : ProgramData) (job : JobData) (of : IsOf program job) (source
       let values : (ℕ → Option ℕ) = λ i. if is_active source depth i then value program source i
       tree else None in
       let done : IsMade job (suc (t + n)) memory (own_stores (layout_of program) x values) P ×
-      StaysIn job at hi t (suc n) =
+      StaysIn job at hi t (suc n) × Unchanged job t (suc n)
+      × PutOnly job job.cells t (suc n) (own_stores (layout_of program) x values) =
       made_in job of.job_is at hi t n memory locals standing
       (own_stores (layout_of program) x values) P
       (λ i l. bounded (place_of program (source.at + 1)) i
@@ -266,6 +320,8 @@ module _ (program : ProgramData) (job : JobData) (of : IsOf program job) (source
       done.0 in
       record {
         stays = done.1;
+        still = still_all job (held_below (layout_of program)) t (suc n) done.2;
+        puts = none_put t (suc n) x values done.3;
         carried = record {
           memory = made.now;
           locals = made.locals;
@@ -350,7 +406,7 @@ module _ (program : ProgramData) (job : JobData) (of : IsOf program job) (source
         stands)
 
     pub shared_advances : AgreesIn program job source depth (Assign (Shared array index) tree) →
-        Advance program job (on_to (source.at + 1)
+        Advance program job (asked_of array index tree) (on_to (source.at + 1)
         (shared_assigned program text_line depth array index tree source)) t (suc shared_steps) at
         hi
     shared_advances agree =
@@ -358,7 +414,8 @@ module _ (program : ProgramData) (job : JobData) (of : IsOf program job) (source
         let P : (ℕ → Local → Type 0) = λ i. IsHere (shared_gone i)
         (place_of program (source.at + 1)) i in
         let done : IsMade job (suc (t + shared_steps)) memory stores P ×
-        StaysIn job at hi t (suc shared_steps) =
+        StaysIn job at hi t (suc shared_steps) × Unchanged job t (suc shared_steps)
+        × PutOnly job job.cells t (suc shared_steps) stores =
         made_in job of.job_is at hi t shared_steps memory locals standing stores P
         (λ i l. bounded (place_of program (source.at + 1)) i (shared_gone i) l
         (place_low program job of (source.at + 1)))
@@ -375,6 +432,9 @@ module _ (program : ProgramData) (job : JobData) (of : IsOf program job) (source
         let enough : ((i : ℕ) → i < program.procs → i < (layout_of program).procs) =
         λ i lt. let e = layout_procs program in omega arith in record {
           stays = done.1;
+          still = still_all job (held_below (layout_of program)) t (suc shared_steps) done.2;
+          puts = λ k i cell value lt less low put.
+              done.3 k i cell value lt less (shared_low program job of cell low) put;
           carried = record {
             memory = made.now;
             locals = made.locals;
@@ -415,7 +475,8 @@ module _ (program : ProgramData) (job : JobData) (of : IsOf program job) (source
       (condition_code (layout_of program) tree)) →
       at + length (choosing (layout_of program) at depth (condition_code (layout_of program) tree))
       ≡ place_of program (source.at + 1) →
-      Advance program job (on_to (source.at + 1) (chosen program text_line depth tree source)) t
+      Advance program job (λ i. None)
+      (on_to (source.at + 1) (chosen program text_line depth tree source)) t
       (suc (quiet_choice depth (length (condition_code (layout_of program) tree)))) at hi
   choice_advances tree is few_ifs shallow stands ends =
       let n : ℕ = quiet_choice depth (length (condition_code (layout_of program) tree)) in
@@ -427,7 +488,8 @@ module _ (program : ProgramData) (job : JobData) (of : IsOf program job) (source
       then (if source.masks depth i then decided (value program source i tree) else Some 0) else
       None in
       let done : IsMade job (suc (t + n)) memory (own_stores (layout_of program) row values) P ×
-      StaysIn job at hi t (suc n) =
+      StaysIn job at hi t (suc n) × Unchanged job t (suc n)
+      × PutOnly job job.cells t (suc n) (own_stores (layout_of program) row values) =
       made_in job of.job_is at hi t n memory locals standing
       (own_stores (layout_of program) row values) P
       (λ i l. bounded (place_of program (source.at + 1)) i (after.gone i) l
@@ -441,6 +503,8 @@ module _ (program : ProgramData) (job : JobData) (of : IsOf program job) (source
       done.0 in
       record {
         stays = done.1;
+        still = still_all job (held_below (layout_of program)) t (suc n) done.2;
+        puts = none_put t (suc n) row values done.3;
         carried = record {
           memory = made.now;
           locals = made.locals;
@@ -510,7 +574,7 @@ module _ (program : ProgramData) (job : JobData) (of : IsOf program job) (source
   pub else_advances : depth + 1 ≤ (layout_of program).choices →
       StandsAt (site at hi job) at (others (layout_of program) depth) →
       at + length (others (layout_of program) depth) ≡ place_of program (source.at + 1) →
-      Advance program job (on_to (source.at + 1) (otherwise depth source)) t
+      Advance program job (λ i. None) (on_to (source.at + 1) (otherwise depth source)) t
       (length (others (layout_of program) depth)) at hi
   else_advances few_ifs stands ends =
       let n : ℕ = length (own_load 0 (mask_cells (layout_of program) (depth + 1))
@@ -523,7 +587,8 @@ module _ (program : ProgramData) (job : JobData) (of : IsOf program job) (source
       let values : (ℕ → Option ℕ) = λ i. if is_none (source.gone i)
       then Some (bit (source.masks depth i && not (source.masks (depth + 1) i))) else None in
       let done : IsMade job (suc (t + n)) memory (own_stores (layout_of program) row values) P ×
-      StaysIn job at hi t (suc n) =
+      StaysIn job at hi t (suc n) × Unchanged job t (suc n)
+      × PutOnly job job.cells t (suc n) (own_stores (layout_of program) row values) =
       made_in job of.job_is at hi t n memory locals standing
       (own_stores (layout_of program) row values) P
       (λ i l. bounded (place_of program (source.at + 1)) i (source.gone i) l
@@ -537,6 +602,10 @@ module _ (program : ProgramData) (job : JobData) (of : IsOf program job) (source
       done.0 in
       record {
         stays = subst (StaysIn job at hi t) (sym others_length) done.1;
+        still = subst (StillBelow job (held_below (layout_of program)) t) (sym others_length)
+            (still_all job (held_below (layout_of program)) t (suc n) done.2);
+        puts = subst (λ m. PutOnly job (layout_of program).shared t m (λ i. None))
+            (sym others_length) (none_put t (suc n) row values done.3);
         carried = record {
           memory = made.now;
           locals = made.locals;
@@ -563,10 +632,10 @@ module _ (program : ProgramData) (job : JobData) (of : IsOf program job) (source
   went_on : (next n : ℕ) → next ≤ length program.lines →
       ((i : ℕ) → i < job.procs → Goes (site at hi job) memory i n (locals i)
       (IsHere (source.gone i) (place_of program next) i)) →
-      Advance program job (on_to next source) t n at hi
+      Advance program job (λ i. None) (on_to next source) t n at hi
   went_on next n next_low goes =
       let done : Went job (t + n) memory (λ i. IsHere (source.gone i) (place_of program next) i) ×
-      StaysIn job at hi t n =
+      StaysIn job at hi t n × Unchanged job t n × PutOnly job job.cells t n (λ i. None) =
       gone_in job of.job_is at hi t n memory locals standing
       (λ i. IsHere (source.gone i) (place_of program next) i)
       (λ i l. bounded (place_of program next) i (source.gone i) l (place_low program job of next))
@@ -575,6 +644,9 @@ module _ (program : ProgramData) (job : JobData) (of : IsOf program job) (source
       done.0 in
       record {
         stays = done.1;
+        still = still_all job (held_below (layout_of program)) t n done.2;
+        puts = λ k i cell value lt less low put.
+            done.3 k i cell value lt less (shared_low program job of cell low) put;
         carried = record {
           memory = memory;
           locals = went.places;
@@ -591,7 +663,7 @@ module _ (program : ProgramData) (job : JobData) (of : IsOf program job) (source
       StandsAt (site at hi job) at (while_code (layout_of program) tree ++
       Jz (register_of 0 (operand_of 0 tree)) (place_of program (end + 1)) ∷ []) →
       at + length (while_code (layout_of program) tree) + 1 ≡ place_of program (source.at + 1) →
-      Advance program job
+      Advance program job (λ i. None)
       (if common_value program source tree == 0 then on_to (end + 1) source else on_to
       (source.at + 1) source)
       t (length (while_code (layout_of program) tree) + 1) at hi
@@ -611,7 +683,8 @@ module _ (program : ProgramData) (job : JobData) (of : IsOf program job) (source
           (few i lt) tree (place_of program (end + 1)) is shallow stands)
 
       by_value : (b : Bool) → (common_value program source tree == 0) ≡ b →
-          Advance program job (if b then on_to (end + 1) source else on_to (source.at + 1) source)
+          Advance program job (λ i. None)
+          (if b then on_to (end + 1) source else on_to (source.at + 1) source)
           t (length (while_code (layout_of program) tree) + 1) at hi
       by_value true e = went_on (end + 1) (length (while_code (layout_of program) tree) + 1)
           (omega arith)
@@ -624,7 +697,7 @@ module _ (program : ProgramData) (job : JobData) (of : IsOf program job) (source
 
   pub back_advances : (begin : ℕ) → begin < length program.lines →
       StandsAt (site at hi job) at (Jmp (place_of program begin) ∷ []) →
-      Advance program job (on_to begin source) t 1 at hi
+      Advance program job (λ i. None) (on_to begin source) t 1 at hi
   back_advances begin begin_low stands = went_on begin 1 (omega arith)
       (λ i lt. jump_goes (site at hi job) memory i at (place_of program begin) [] stands
       (source.gone i) (locals i) (pictured.here i (few i lt)))
@@ -643,7 +716,7 @@ module _ (program : ProgramData) (job : JobData) (of : IsOf program job) (source
       ++ (Jz 0 (at + length (none_code (layout_of program) up first last) + 2) ∷
       (Jmp (place_of program (end + 1))
       ∷ first_code (layout_of program) nest first))) ≡ place_of program (source.at + 1) →
-      Advance program job
+      Advance program job (λ i. None)
       (if has_none up (common_value program source first) (common_value program source last) then
       on_to (end + 1) source
       else on_to (source.at + 1) (turned nest (common_value program source first) source))
@@ -663,7 +736,8 @@ module _ (program : ProgramData) (job : JobData) (of : IsOf program job) (source
 
       by_value : (b : Bool) → has_none up (common_value program source first)
           (common_value program source last) ≡ b →
-          Advance program job (if b then on_to (end + 1) source else on_to (source.at + 1)
+          Advance program job (λ i. None)
+          (if b then on_to (end + 1) source else on_to (source.at + 1)
           (turned nest (common_value program source first) source))
           t (if b then length (none_code (layout_of program) up first last) + 1 + 1
           else suc ((length (none_code (layout_of program) up first last) + 1) +
@@ -682,7 +756,8 @@ module _ (program : ProgramData) (job : JobData) (of : IsOf program job) (source
           let P : (ℕ → Local → Type 0) = λ i. IsHere (source.gone i)
           (place_of program (source.at + 1)) i in
           let done : IsMade job (suc (t + k)) memory (own_stores (layout_of program) row values) P ×
-          StaysIn job at hi t (suc k) =
+          StaysIn job at hi t (suc k) × Unchanged job t (suc k)
+          × PutOnly job job.cells t (suc k) (own_stores (layout_of program) row values) =
           made_in job of.job_is at hi t k memory locals standing
           (own_stores (layout_of program) row values) P
           (λ i l. bounded (place_of program (source.at + 1)) i (source.gone i) l
@@ -700,6 +775,8 @@ module _ (program : ProgramData) (job : JobData) (of : IsOf program job) (source
           done.0 in
           record {
             stays = done.1;
+            still = still_all job (held_below (layout_of program)) t (suc k) done.2;
+            puts = none_put t (suc k) row values done.3;
             carried = record {
               memory = made.now;
               locals = made.locals;
@@ -735,7 +812,7 @@ module _ (program : ProgramData) (job : JobData) (of : IsOf program job) (source
       (next_value up ∷ (own_store (loop_cells (layout_of program) nest)
       ∷ (Jmp (place_of program (begin + 1)) ∷ []))))) →
       at + length (turn_code (layout_of program) nest last) + 1 + 1 + 1 < hi →
-      Advance program job
+      Advance program job (λ i. None)
       (if source.loops nest == common_value program source last then on_to (end + 1) source
       else on_to (begin + 1) (turned nest (next_turn up (source.loops nest)) source))
       t (if source.loops nest == common_value program source last
@@ -745,7 +822,7 @@ module _ (program : ProgramData) (job : JobData) (of : IsOf program job) (source
       by_value (source.loops nest == common_value program source last) refl
     where
       by_value : (b : Bool) → (source.loops nest == common_value program source last) ≡ b →
-          Advance program job (if b then on_to (end + 1) source else on_to (begin + 1)
+          Advance program job (λ i. None) (if b then on_to (end + 1) source else on_to (begin + 1)
           (turned nest (next_turn up (source.loops nest)) source))
           t (if b then length (turn_code (layout_of program) nest last) + 1
           else suc ((length (turn_code (layout_of program) nest last) + 1) + 1) + 1) at hi
@@ -763,7 +840,8 @@ module _ (program : ProgramData) (job : JobData) (of : IsOf program job) (source
           (next_turn up (source.loops nest)) else None in
           let P : (ℕ → Local → Type 0) = λ i. IsHere (source.gone i) place i in
           let done : IsMade job (suc (t + k)) memory (own_stores (layout_of program) row values) P ×
-          StaysIn job at hi t (suc k) =
+          StaysIn job at hi t (suc k) × Unchanged job t (suc k)
+          × PutOnly job job.cells t (suc k) (own_stores (layout_of program) row values) =
           made_in job of.job_is at hi t k memory locals standing
           (own_stores (layout_of program) row values) P
           (λ i l. bounded place i (source.gone i) l place_is_low)
@@ -775,7 +853,8 @@ module _ (program : ProgramData) (job : JobData) (of : IsOf program job) (source
           done.0 in
           let left : Went job (suc (t + k) + 1) made.now
           (λ i. IsHere (source.gone i) (place_of program (begin + 1)) i)
-          × StaysIn job at hi (suc (t + k)) 1 =
+          × StaysIn job at hi (suc (t + k)) 1 × Unchanged job (suc (t + k)) 1
+          × PutOnly job job.cells (suc (t + k)) 1 (λ i. None) =
           gone_in job of.job_is at hi (suc (t + k)) 1 made.now made.locals made.standing
           (λ i. IsHere (source.gone i) (place_of program (begin + 1)) i)
           (λ i l. bounded (place_of program (begin + 1)) i (source.gone i) l
@@ -788,6 +867,20 @@ module _ (program : ProgramData) (job : JobData) (of : IsOf program job) (source
           record {
             stays = stays_then job at hi t (suc (t + k)) (suc k) 1
                 (let f : suc (t + k) ≡ t + suc k = omega arith in f) done.1 left.1;
+            still = still_then job (held_below (layout_of program)) t (suc (t + k)) (suc k) 1
+                (let f : suc (t + k) ≡ t + suc k = omega arith in f)
+                (still_all job (held_below (layout_of program)) t (suc k) done.2)
+                (λ cell less. ap (λ (f : ℕ → ℕ). f cell) made.standing.memory_is
+                ∙ made.cells cell (held_low program job of cell less)
+                ∙ after_before (layout_of program) job.procs row cell values memory
+                (held_before (layout_of program) row cell (omega arith) less)
+                ∙ sym (ap (λ (f : ℕ → ℕ). f cell) standing.memory_is))
+                (still_all job (held_below (layout_of program)) (suc (t + k)) 1 left.2);
+            puts = puts_then job (layout_of program).shared t (suc (t + k)) (suc k) 1 (λ i. None)
+                (let f : suc (t + k) ≡ t + suc k = omega arith in f)
+                (none_put t (suc k) row values done.3)
+                (λ n i cell value lt less low put.
+                left.3 n i cell value lt less (shared_low program job of cell low) put);
             carried = record {
               memory = made.now;
               locals = went.places;

@@ -38,7 +38,7 @@ use Rattle.pardo_job.proofs.Shallow.{shallow_front}
 use Rattle.pardo_law.specs.Locals.{StandsAt}
 use Rattle.pardo_law.proofs.Advancing.{Carried, Advance, AgreesIn, cost, loop_cost, shallow_masked}
 use Rattle.pardo_law.proofs.Advancing.{shallow_choosing}
-use Rattle.pardo_law.proofs.Advancing.{stays_none, place_low}
+use Rattle.pardo_law.proofs.Advancing.{stays_none, still_none, puts_none, place_low}
 use Rattle.pardo_law.proofs.Cutting.{site, stands_site}
 use Rattle.pardo_law.proofs.Making.{Makes}
 use Rattle.pardo_law.proofs.Masks.{quiet}
@@ -50,6 +50,7 @@ use Rattle.pardo_law.proofs.Effects.{moved_pictured}
 use Rattle.pardo_law.proofs.Lengths.{line_stands, length_is, place_next}
 use Rattle.pardo_law.proofs.Picturing.{IsOf, IsHere, code_is, rule_is, procs_are, private_count}
 use Rattle.pardo_law.proofs.Picturing.{loop_count, choice_count}
+use Rattle.pardo_law.proofs.Rows.{held_below}
 use Rattle.pardo_law.proofs.Starting.{starts_carried}
 
 pub all_at : {A : Type 0} (P : A → Type 0) (xs : List A) (k : ℕ) (x : A) → All P xs → slice_get xs k
@@ -80,11 +81,13 @@ module _ (program : ProgramData) (job : JobData) (of : IsOf program job) (source
   hi_low : hi ≤ length job.code
   hi_low = let e = place_low program job of (source.at + 1) in omega arith
 
-  stays_here : Advance program job source t 0 at hi
+  stays_here : Advance program job (λ i. None) source t 0 at hi
   stays_here = record {
     carried = same_time t (t + 0) source (omega arith) carried;
     stays =
         stays_none job at hi t;
+    still = still_none job (held_below (layout_of program)) t;
+    puts = puts_none job (layout_of program).shared t (λ i. None);
   }
 
   opened : (begin : ℕ) (opener : Statement) → begin < length program.lines →
@@ -92,7 +95,7 @@ module _ (program : ProgramData) (job : JobData) (of : IsOf program job) (source
       is_shallow (loop_end (layout_of program) (λ j. 0) begin opener) ≡ true →
       StandsAt (site at hi job) at (loop_end (layout_of program) (place_of program) begin opener) →
       at + length (loop_end (layout_of program) (place_of program) begin opener) ≡ hi →
-      Advance program job (loop_ended program begin opener source) t
+      Advance program job (λ i. None) (loop_ended program begin opener source) t
       (loop_cost program source opener) at hi
   opened begin (For nest first last up end) begin_low is shallow stands ends =
       let tail : List Instr = Jz 1 (place_of program (end + 1)) ∷
@@ -153,7 +156,8 @@ module _ (program : ProgramData) (job : JobData) (of : IsOf program job) (source
       at + length (line_code program (place_of program) at depth statement) ≡
       place_of program (source.at + 1) →
       AgreesIn program job source depth statement →
-      Advance program job (after_statement program text_line depth statement source) t
+      Advance program job (asked_in program source depth statement)
+      (after_statement program text_line depth statement source) t
       (cost program source depth statement) at hi
   unfolding line_code assignment_code
   by_statement (Assign (Private x) tree) is few shallow stands ends agree =
@@ -189,6 +193,8 @@ module _ (program : ProgramData) (job : JobData) (of : IsOf program job) (source
         carried = same_time t (t + 0) (on_to (source.at + 1) source) (omega arith)
             (nothing_done (let e : at ≡ at + 0 = omega arith in e ∙ ends));
         stays = stays_none job at hi t;
+        still = still_none job (held_below (layout_of program)) t;
+        puts = puts_none job (layout_of program).shared t (λ i. None);
       }
   by_statement (While tree end) is few shallow stands ends agree =
       let jump : List Instr = Jz (register_of 0 (operand_of 0 tree)) (place_of program (end + 1)) ∷
@@ -324,10 +330,12 @@ module _ (program : ProgramData) (job : JobData) (of : IsOf program job) (source
       (let e = ends_here in omega arith)
 
   pub line_carried : Agrees program source →
-      Advance program job (next program source) t (cost program source line.depth line.statement)
+      Advance program job (asked_in program source line.depth line.statement)
+      (next program source) t (cost program source line.depth line.statement)
       place (place_of program (source.at + 1))
   line_carried agree =
-      subst (λ s. Advance program job s t (cost program source line.depth line.statement) place
+      subst (λ s. Advance program job (asked_in program source line.depth line.statement) s t
+      (cost program source line.depth line.statement) place
       (place_of program (source.at + 1)))
       (sym (next_at program source line is))
       (by_statement program job of source t carried line.number line.depth

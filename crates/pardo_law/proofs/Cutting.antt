@@ -7,20 +7,23 @@ use Rattle.std.proofs.Common.{length}
 use Rattle.std.specs.Prelude.{slice_get}
 use Rattle.std.specs.Option.{option_map}
 use Rattle.std.proofs.lemmas.Bool.{cases_lt, cases_Bool}
-use Rattle.std.proofs.lemmas.Option.{slice_get_past}
+use Rattle.std.proofs.lemmas.Option.{none-some, slice_get_past}
 use Rattle.pram_job.specs.declared.instr.Instr.{Instr}
 use Rattle.pram_job.specs.declared.instr.Instr.TheVariants.{Ld, St, Jz, Jmp, Halt}
 use Rattle.pram_job.specs.declared.instr.Operand.TheVariants.{Number}
 use Rattle.pram_job.specs.declared.instr.Place.TheVariants.{Cell, Named}
 use Rattle.pram_job.specs.Job.{JobData, IsJob}
 use Rattle.pram_machine.specs.Machine.{counter, out_of_range}
+use Rattle.pram_machine.specs.Instructions.{request_in}
 use Rattle.pram_step.specs.Runs.{state_after}
+use Rattle.pram_step.proofs.LawFixed.{length-state_after}
 use Rattle.pardo_job.specs.Straight.{Registers}
 use Rattle.pardo_law.specs.Locals.{Local, after_instr, after_fetched, next_local, store_at}
 use Rattle.pardo_law.specs.Locals.{store_of, IsNamedAt}
-use Rattle.pardo_law.specs.Locals.{StandsAt, Standing, StoresAgree, IsLocal}
+use Rattle.pardo_law.specs.Locals.{StandsAt, Standing, StoresAgree, IsLocal, memory_of}
 use Rattle.pardo_law.proofs.Making.{Makes, Goes, IsMade, Went, all_make, all_go, moved, runs_moved}
-use Rattle.pardo_law.proofs.Running.{Runs, quiet_run}
+use Rattle.pardo_law.proofs.Running.{IsQuiet, Runs, quiet_run}
+use Rattle.pardo_law.proofs.Stepping.{each_by_itself}
 
 -- an instruction that names no array
 abbrev unnamed : Instr
@@ -250,6 +253,17 @@ StaysIn job lo hi t n = (k i : ℕ) → k < n → i < job.procs →
     (counter job (state_after job (t + k)) i ≡ out_of_range job)
     ⊎ (is_inside lo hi (counter job (state_after job (t + k)) i) ≡ true)
 
+-- what processors put to a cell in one of these steps they asked for
+abbrev pub PutOnly : JobData → ℕ → ℕ → ℕ → (ℕ → Option (ℕ × ℕ)) → Type 0
+PutOnly job low t n asked = (k i cell value : ℕ) → k < n → i < job.procs → cell < low →
+    (request_in job (state_after job (t + k)) i).put ≡ Some (cell, value) →
+    asked i ≡ Some (cell, value)
+
+-- and memory is what it was before them
+abbrev pub Unchanged : JobData → ℕ → ℕ → Type 0
+Unchanged job t n = (k : ℕ) → k < n →
+    memory_of job (state_after job (t + k)) ≡ memory_of job (state_after job t)
+
 module _ (job : JobData) (is_job : IsJob job) (lo hi t n : ℕ) (memory : ℕ → ℕ) (locals : ℕ → Local)
     (standing : Standing job t memory locals) where
   at_step : (k i : ℕ) (l : Local) → Within lo hi job l → IsLocal job (state_after job (t + k)) i l →
@@ -258,46 +272,128 @@ module _ (job : JobData) (is_job : IsJob job) (lo hi t n : ℕ) (memory : ℕ �
   at_step k i None is local = inl local
   at_step k i (Some at_it) is local = inr (ap (is_inside lo hi) local.0 ∙ is)
 
-  stays : (m : ℕ) (mids : ℕ → Local) →
-      ((i : ℕ) → i < job.procs → Runs job memory i n (locals i) (mids i)) → m ≤ suc n →
+  -- all of them run so, to these places
+  abbrev AllRun : (ℕ → Local) → Type 0
+  AllRun mids = (i : ℕ) → i < job.procs → Runs job memory i n (locals i) (mids i)
+
+  there_after : (mids : ℕ → Local) → AllRun mids → (k : ℕ) → k < suc n →
+      Standing job (t + k) memory (λ j. moved job memory j k (locals j))
+  there_after mids runs k lt =
+      quiet_run job is_job k t memory locals (λ j. moved job memory j k (locals j)) standing
+      (λ j low. runs_front job memory j n k (locals j) (mids j) (runs j low) lt)
+
+  stays : (m : ℕ) (mids : ℕ → Local) → AllRun mids → m ≤ suc n →
       ((i k : ℕ) → i < job.procs → k < m → Within lo hi job (moved job memory i k (locals i))) →
       StaysIn job lo hi t m
   stays m mids runs few inside k i lt less =
-      let there : Standing job (t + k) memory (λ j. moved job memory j k (locals j)) =
-      quiet_run job is_job k t memory locals (λ j. moved job memory j k (locals j)) standing
-      (λ j low. runs_front job memory j n k (locals j) (mids j) (runs j low) (omega arith)) in
-      at_step k i (moved job memory i k (locals i)) (inside i k less lt) (there.locals_are i less)
+      at_step k i (moved job memory i k (locals i)) (inside i k less lt)
+      ((there_after mids runs k (omega arith)).locals_are i less)
 
-  pub made_in : (stores : ℕ → Option (ℕ × ℕ)) (P : ℕ → Local → Type 0) →
-      ((i : ℕ) (x : Local) → P i x → Below lo hi job x) →
-      ((i : ℕ) → i < job.procs → Makes (site lo hi job) memory i n (locals i) (stores i) (P i)) →
-      StoresAgree job stores → IsMade job (suc (t + n)) memory stores P ×
-      StaysIn job lo hi t (suc n)
-  made_in stores P bound makes agree = (
-    all_make job is_job t n memory locals standing stores P
-        (λ i lt. (makes_in lo hi job memory i n (locals i) (stores i) (P i) (bound i)
-        (makes i lt)).makes) agree,
-    stays (suc n) (λ i. moved job memory i n (locals i))
-        (λ i lt. let c = makes_in lo hi job memory i n (locals i) (stores i) (P i) (bound i)
-        (makes i lt) in
-        subst (Runs job memory i n (locals i))
-        (sym (runs_moved job memory i n (locals i) c.makes.mid c.makes.runs)) c.makes.runs)
-        (omega arith)
-        (λ i k lt less. (makes_in lo hi job memory i n (locals i) (stores i) (P i) (bound i)
-        (makes i lt)).inside k less),
-  )
+  -- where it runs it is quiet
+  runs_quiet : (i m k : ℕ) (l mid : Local) → Runs job memory i m l mid → k < m →
+      IsQuiet job (moved job memory i k l)
+  runs_quiet i zero k l mid runs lt = absurd (omega arith)
+  runs_quiet i (suc m) zero l mid runs lt = runs.0
+  runs_quiet i (suc m) (suc k) l mid runs lt =
+      runs_quiet i m k (next_local job memory i l) mid runs.1 (omega arith)
 
-  pub gone_in : (P : ℕ → Local → Type 0) → ((i : ℕ) (x : Local) → P i x → Below lo hi job x) →
-      ((i : ℕ) → i < job.procs → Goes (site lo hi job) memory i n (locals i) (P i)) →
-      Went job (t + n) memory P × StaysIn job lo hi t n
-  gone_in P bound goes = (
-    all_go job is_job t n memory locals standing P
-        (λ i lt. (goes_in lo hi job memory i n (locals i) (P i) (bound i) (goes i lt)).goes),
-    stays n (λ i. moved job memory i n (locals i))
-        (λ i lt. let c = goes_in lo hi job memory i n (locals i) (P i) (bound i) (goes i lt) in
-        subst (Runs job memory i n (locals i))
-        (sym (runs_moved job memory i n (locals i) c.goes.now c.goes.runs)) c.goes.runs)
-        (omega arith)
-        (λ i k lt less. (goes_in lo hi job memory i n (locals i) (P i) (bound i) (goes i lt)).inside
-        k less),
-  )
+  -- what is put is what is stored
+  stored : (mids : ℕ → Local) → AllRun mids → (k i cell value : ℕ) → k < suc n → i < job.procs →
+      cell < job.cells → IsNamedAt job (moved job memory i k (locals i)) →
+      (request_in job (state_after job (t + k)) i).put ≡ Some (cell, value) →
+      store_of job (moved job memory i k (locals i)) ≡ Some (cell, value)
+  stored mids runs k i cell value lt less low named put =
+      (each_by_itself job (state_after job (t + k)) i (moved job memory i k (locals i)) is_job
+      (length-state_after job (t + k) is_job) less
+      ((there_after mids runs k lt).locals_are i less) named).wrote cell value low put
+
+  quiet_puts : (mids : ℕ → Local) → AllRun mids → (k i cell value : ℕ) → k < n → i < job.procs →
+      cell < job.cells →
+      (request_in job (state_after job (t + k)) i).put ≡ Some (cell, value) → ⊥
+  quiet_puts mids runs k i cell value lt less low put =
+      let quiet = runs_quiet i n k (locals i) (mids i) (runs i less) lt in
+      none-some (cell, value) (sym quiet.1
+      ∙ stored mids runs k i cell value (omega arith) less low quiet.0 put)
+
+  unchanged : (m : ℕ) (mids : ℕ → Local) → AllRun mids → m ≤ suc n → Unchanged job t m
+  unchanged m mids runs few k lt =
+      (there_after mids runs k (omega arith)).memory_is ∙ sym standing.memory_is
+
+  module _ (stores : ℕ → Option (ℕ × ℕ)) (P : ℕ → Local → Type 0)
+      (bound : (i : ℕ) (x : Local) → P i x → Below lo hi job x)
+      (makes : (i : ℕ) → i < job.procs →
+      Makes (site lo hi job) memory i n (locals i) (stores i) (P i)) where
+    kept_in : (i : ℕ) → i < job.procs →
+        MakesIn lo hi job memory i n (locals i) (stores i) (P i)
+    kept_in i lt =
+        makes_in lo hi job memory i n (locals i) (stores i) (P i) (bound i) (makes i lt)
+
+    kept_runs : AllRun (λ i. moved job memory i n (locals i))
+    kept_runs i lt = subst (Runs job memory i n (locals i))
+        (sym (runs_moved job memory i n (locals i) (kept_in i lt).makes.mid
+        (kept_in i lt).makes.runs)) (kept_in i lt).makes.runs
+
+    pub made_stays : StaysIn job lo hi t (suc n)
+    made_stays = stays (suc n) (λ i. moved job memory i n (locals i)) kept_runs (omega arith)
+        (λ i k lt less. (kept_in i lt).inside k less)
+
+    pub made_unchanged : Unchanged job t (suc n)
+    made_unchanged =
+        unchanged (suc n) (λ i. moved job memory i n (locals i)) kept_runs (omega arith)
+
+    last_puts : (i cell value : ℕ) → i < job.procs → cell < job.cells →
+        (request_in job (state_after job (t + n)) i).put ≡ Some (cell, value) →
+        stores i ≡ Some (cell, value)
+    last_puts i cell value lt low put =
+        let made = (kept_in i lt).makes in
+        let same : moved job memory i n (locals i) ≡ made.mid =
+        runs_moved job memory i n (locals i) made.mid made.runs in
+        sym made.stores ∙ ap (store_of job) (sym same)
+        ∙ stored (λ j. moved job memory j n (locals j)) kept_runs n i cell value (omega arith) lt
+        low (subst (IsNamedAt job) (sym same) made.named) put
+
+    pub made_puts : PutOnly job job.cells t (suc n) stores
+    made_puts k i cell value lt less low put = ⊎_elim
+        (λ (early : k < n). absurd (quiet_puts (λ j. moved job memory j n (locals j)) kept_runs k i
+        cell value early less low put))
+        (λ (late : n ≤ k).
+        let e : k ≡ n = omega arith in
+        last_puts i cell value less low
+        (subst (λ (m : ℕ). (request_in job (state_after job (t + m)) i).put ≡ Some (cell, value)) e
+        put))
+        (cases_lt k n)
+
+    pub made_in : StoresAgree job stores → IsMade job (suc (t + n)) memory stores P ×
+        StaysIn job lo hi t (suc n) × Unchanged job t (suc n) ×
+        PutOnly job job.cells t (suc n) stores
+    made_in agree = (
+      all_make job is_job t n memory locals standing stores P (λ i lt. (kept_in i lt).makes) agree,
+      made_stays,
+      made_unchanged,
+      made_puts,
+    )
+
+  module _ (P : ℕ → Local → Type 0) (bound : (i : ℕ) (x : Local) → P i x → Below lo hi job x)
+      (goes : (i : ℕ) → i < job.procs → Goes (site lo hi job) memory i n (locals i) (P i)) where
+    going : (i : ℕ) → i < job.procs → GoesIn lo hi job memory i n (locals i) (P i)
+    going i lt = goes_in lo hi job memory i n (locals i) (P i) (bound i) (goes i lt)
+
+    going_runs : AllRun (λ i. moved job memory i n (locals i))
+    going_runs i lt = subst (Runs job memory i n (locals i))
+        (sym (runs_moved job memory i n (locals i) (going i lt).goes.now (going i lt).goes.runs))
+        (going i lt).goes.runs
+
+    going_puts : PutOnly job job.cells t n (λ i. None)
+    going_puts k i cell value lt less low put =
+        absurd (quiet_puts (λ j. moved job memory j n (locals j)) going_runs k i cell value lt less
+        low put)
+
+    pub gone_in : Went job (t + n) memory P × StaysIn job lo hi t n × Unchanged job t n ×
+        PutOnly job job.cells t n (λ i. None)
+    gone_in = (
+      all_go job is_job t n memory locals standing P (λ i lt. (going i lt).goes),
+      stays n (λ i. moved job memory i n (locals i)) going_runs (omega arith)
+          (λ i k lt less. (going i lt).inside k less),
+      unchanged n (λ i. moved job memory i n (locals i)) going_runs (omega arith),
+      going_puts,
+    )

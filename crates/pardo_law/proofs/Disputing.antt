@@ -6,7 +6,7 @@ use Rattle.std.proofs.lemmas.Option.{none-some, slice_get_within}
 use Rattle.pram_job.specs.Job.{JobData}
 use Rattle.pram_step.specs.declared.answer.Dispute.{Dispute as Disputed}
 use Rattle.pram_machine.specs.Instructions.{requests_in}
-use Rattle.pram_machine.specs.Machine.{counter}
+use Rattle.pram_machine.specs.Machine.{counter, out_of_range}
 use Rattle.pram_step.specs.Runs.{state_after, IsReached, AgreesAfter, IsFirstConflict}
 use Rattle.pram_step.specs.Steps as machine
 use Rattle.pram_step.proofs.LawDisputes.{agrees_or_dispute}
@@ -28,12 +28,15 @@ use Rattle.pardo_job.specs.Runs.{line_number}
 use Rattle.pardo_job.proofs.Assigning.{both_code}
 use Rattle.pardo_job.proofs.Meanings.{asked_at}
 use Rattle.pardo_law.specs.Locals.{Local, IsLocal, IsNamedAt, Standing, store_of, StandsAt}
+use Rattle.pardo_law.specs.Locals.{next_local}
 use Rattle.pardo_law.proofs.Advancing.{Carried, asked_shared, cost, place_low}
 use Rattle.pardo_law.proofs.Carrying.{stores_make, line_is, stands_site_here, ends_here, forbids_to}
 use Rattle.pardo_law.proofs.Carrying.{forbids_from}
 use Rattle.pardo_law.proofs.Cutting.{site, is_inside, Within, Below, MakesIn, makes_in, inside_back}
+use Rattle.pardo_law.proofs.Cutting.{PutOnly, StaysIn, Unchanged, made_puts, made_stays}
+use Rattle.pardo_law.proofs.Cutting.{made_unchanged}
 use Rattle.pardo_law.proofs.Lengths.{place_next}
-use Rattle.pardo_law.proofs.Making.{Makes, before, mids_named, mids_store, mids}
+use Rattle.pardo_law.proofs.Making.{Makes, before, mid_is, mids_named, mids_store, mids}
 use Rattle.pardo_law.proofs.Masks.{quiet}
 use Rattle.pardo_law.proofs.Picturing.{IsOf, IsHere, procs_are, shared_low}
 use Rattle.pardo_law.proofs.Running.{writer_stores, store_writes}
@@ -91,14 +94,15 @@ module _ (program : ProgramData) (job : JobData) (of : IsOf program job) (source
   few : line.depth ≤ program.choices
   few = let e = (line_is program job of source t carried line is).1 in omega arith
 
-  pub makes : (i : ℕ) → i < job.procs →
-      MakesIn lo hi job carried.memory i steps (carried.locals i) (stores i) (Comes i)
-  makes i lt = makes_in lo hi job carried.memory i steps (carried.locals i) (stores i) (Comes i)
-      (λ l. here_within job lo hi hi i
+  bound : (i : ℕ) (l : Local) → Comes i l → Below lo hi job l
+  bound i l = here_within job lo hi hi i
       (losing line.number line.depth (λ j. is_some (write_of program source array j index tree))
       source i) l
-      (place_low program job of (source.at + 1)))
-      (stores_make program job of source t carried line.number line.depth
+      (place_low program job of (source.at + 1))
+
+  site_makes : (i : ℕ) → i < job.procs →
+      Makes (site lo hi job) carried.memory i steps (carried.locals i) (stores i) (Comes i)
+  site_makes i lt = stores_make program job of source t carried line.number line.depth
       (slice_get_within program.lines source.at line is) array index tree
       (subst (IsStatement (bounds_of program)) statement_is
       (line_is program job of source t carried line is).0) few
@@ -109,7 +113,21 @@ module _ (program : ProgramData) (job : JobData) (of : IsOf program job) (source
       (stands_site_here program job of source t carried line is))
       (subst (λ s. lo + length (line_code program (place_of program) lo line.depth s) ≡ hi)
       statement_is
-      (ends_here program job of source t carried line is)) i lt)
+      (ends_here program job of source t carried line is)) i lt
+
+  pub makes : (i : ℕ) → i < job.procs →
+      MakesIn lo hi job carried.memory i steps (carried.locals i) (stores i) (Comes i)
+  makes i lt = makes_in lo hi job carried.memory i steps (carried.locals i) (stores i) (Comes i)
+      (bound i) (site_makes i lt)
+
+  -- up to the stores all stay in the line, and memory is unchanged
+  pub stays_here : StaysIn job lo hi t (suc steps)
+  stays_here = made_stays job of.job_is lo hi t steps carried.memory carried.locals
+      carried.standing stores Comes bound site_makes
+
+  pub unchanged_here : Unchanged job t (suc steps)
+  unchanged_here = made_unchanged job of.job_is lo hi t steps carried.memory carried.locals
+      carried.standing stores Comes bound site_makes
 
   pub made : (i : ℕ) → i < job.procs →
       Makes job carried.memory i steps (carried.locals i) (stores i) (Comes i)
@@ -217,6 +235,37 @@ module _ (program : ProgramData) (job : JobData) (of : IsOf program job) (source
         dispute_to d.0 d.1,
       ))
       (agrees_or_dispute job (requests_in job (state_after job (t + steps))))
+
+  pub puts_here : PutOnly job job.cells t (suc steps) stores
+  puts_here = made_puts job of.job_is lo hi t steps carried.memory carried.locals
+      carried.standing stores Comes bound site_makes
+
+  -- who is out of range before the stores is gone after the line
+  none_there : (i : ℕ) (l : Local) → Within lo hi job l →
+      IsLocal job (state_after job (t + steps)) i l →
+      counter job (state_after job (t + steps)) i ≡ out_of_range job → l ≡ None
+  none_there i None inside local out = refl
+  none_there i (Some at_it) inside local out =
+      let bounds = inside_back lo hi at_it.0 inside in
+      let low = place_low program job of (source.at + 1) in
+      let e : counter job (state_after job (t + steps)) i ≡ at_it.0 = local.0 in
+      absurd (omega arith)
+
+  gone_none : (i : ℕ) (g : Option ℕ) → IsHere g hi i None → (number : ℕ) × (g ≡ Some number)
+  gone_none i None here = absurd (none-some (hi, here.held) here.is)
+  gone_none i (Some number) here = (number, refl)
+
+  pub lost_here : (i : ℕ) → i < job.procs →
+      counter job (state_after job (t + steps)) i ≡ out_of_range job →
+      (number : ℕ) × (losing line.number line.depth
+      (λ j. is_some (write_of program source array j index tree)) source i ≡ Some number)
+  lost_here i lt out =
+      let none : mid i ≡ None = none_there i (mid i) ((makes i lt).inside steps (omega arith))
+      (then_standing.locals_are i lt) out in
+      let it : (made i lt).mid ≡ None = sym (mid_is job of.job_is t steps carried.memory
+      carried.locals carried.standing stores Comes made i lt) ∙ none in
+      gone_none i _ (subst (λ (l : Local). Comes i (next_local job carried.memory i l)) it
+      (made i lt).goes)
 
   -- where a writer stands
   stands_by : (i v cell : ℕ) (l : Local) → store_of job l ≡ Some (cell, v) → Within lo hi job l →

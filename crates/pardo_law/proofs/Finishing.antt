@@ -100,7 +100,7 @@ decide_gone source (suc n) = ⊎_elim
 abbrev Still : ProgramData → Source → Type 0
 Still program source = (i : ℕ) × (i < program.procs) × (source.gone i ≡ None)
 
-decide_over : (program : ProgramData) (source : Source) → IsOver program source
+pub decide_over : (program : ProgramData) (source : Source) → IsOver program source
     ⊎ ((IsOver program source → ⊥) × Still program source)
 decide_over program source = ⊎_elim
     (λ (at_end : length program.lines ≡ source.at). inl (inl at_end))
@@ -117,7 +117,7 @@ decide_over program source = ⊎_elim
     not_gone : (i : ℕ) → source.gone i ≡ None → IsTrue (is_some (source.gone i)) → ⊥
     not_gone i e is = let no : false ≡ true = sym (ap is_some e) ∙ is in absurd (cc)
 
-reached_next : (program : ProgramData) (n : ℕ) → IsReached program n →
+pub reached_next : (program : ProgramData) (n : ℕ) → IsReached program n →
     (IsOver program (after program n) → ⊥) →
     Agrees program (after program n) → IsReached program (suc n)
 reached_next program n reached goes_on agrees earlier lt = ⊎_elim

@@ -19,7 +19,7 @@ use Rattle.pardo_job.specs.Leaving.{Leaves}
 use Rattle.pardo_job.specs.Lines.{place_of}
 use Rattle.pardo_job.specs.Meaning.{Source, after, next, after_statement, losing, loop_ended}
 use Rattle.pardo_job.specs.Meaning.{statement_at}
-use Rattle.pardo_job.specs.Meaning.{common_value, has_none, is_active, value, write_of}
+use Rattle.pardo_job.specs.Meaning.{asked_in, common_value, has_none, is_active, value, write_of}
 use Rattle.pardo_job.specs.Runs.{IsReached}
 use Rattle.pardo_job.proofs.Meanings.{next_at, gone_for_good}
 use Rattle.pardo_law.proofs.Advancing.{Carried, Advance, cost, place_low}
@@ -63,7 +63,7 @@ loop_gone program begin i (EndWhile line) source = refl
 loop_gone program begin i (EndFor line) source = refl
 
 -- who is gone after a line, and was there before it, is gone in that line
-lost_in : (program : ProgramData) (text_line depth i number : ℕ) (statement : Statement)
+pub lost_in : (program : ProgramData) (text_line depth i number : ℕ) (statement : Statement)
     (source : Source) → source.gone i ≡ None →
     (after_statement program text_line depth statement source).gone i ≡ Some number → text_line ≡
     number
@@ -136,7 +136,8 @@ module _ (program : ProgramData) (job : JobData) (of : IsOf program job) (line_o
     (numbers : AreNumbers program line_of) where
   newly : (source : Source) (t i : ℕ) (line : Line) → Carried program job source t →
       slice_get program.lines source.at ≡ Some line →
-      Advance program job (next program source) t (cost program source line.depth line.statement)
+      Advance program job (asked_in program source line.depth line.statement)
+      (next program source) t (cost program source line.depth line.statement)
       (place_of program source.at) (place_of program (source.at + 1)) → i < program.procs →
       source.gone i ≡ None → (number : ℕ) → (next program source).gone i ≡ Some number →
       Leaves job line_of (t + cost program source line.depth line.statement) i number

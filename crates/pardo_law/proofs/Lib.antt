@@ -25,3 +25,4 @@ pub mod Leaving
 pub mod Ending
 pub mod Ruling
 pub mod Answering
+pub mod Between

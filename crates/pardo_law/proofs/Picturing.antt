@@ -2,6 +2,7 @@
 use Rattle.std.proofs.Common.{◌≡◌, ℕ, suc, ◌+◌, ◌*◌, ◌^◌, ◌<◌, ◌≤◌, true, Option, Some, None}
 use Rattle.std.proofs.Common.{refl, sym, ap, ◌∙◌, subst, ⊎_elim, arith, if◌then◌else◌, length}
 use Rattle.std.specs.Prelude.{slice_index, max}
+use Rattle.std.proofs.Math.Nat.{mul-le-mul_left}
 use Rattle.std.proofs.lemmas.Bool.{cases_lt, le-ltb, lt-ltb}
 use Rattle.pram_job.specs.Job.{JobData, IsJob}
 use Rattle.pram_step.specs.Runs.{state_after}
@@ -20,7 +21,7 @@ use Rattle.pardo_job.specs.Meaning.{Source, statement_at}
 use Rattle.pardo_job.specs.Sees.{Sees}
 use Rattle.pardo_law.specs.Locals.{Local, Standing}
 use Rattle.pardo_law.proofs.Bodies.{IsThere}
-use Rattle.pardo_law.proofs.Rows.{own_of, row_within, place_is, place_outside}
+use Rattle.pardo_law.proofs.Rows.{held_below, own_of, row_within, place_is, place_outside}
 
 -- ---- the job
 
@@ -92,6 +93,13 @@ module _ (program : ProgramData) (job : JobData) (of : IsOf program job) where
 
   pub shared_low : (cell : ℕ) → cell < (layout_of program).shared → cell < job.cells
   shared_low cell lt = let b = all_cells in omega arith
+
+  pub held_low : (cell : ℕ) → cell < held_below (layout_of program) → cell < job.cells
+  held_low cell lt =
+      let b = all_cells in
+      let few : (layout_of program).privates ≤ (layout_of program).privates
+      + (layout_of program).loops + (layout_of program).choices = omega arith in
+      omega (arith, mul-le-mul_left (layout_of program).procs few)
 
   pub private_count : (layout_of program).privates ≡ length program.privates
   unfolding layout_of

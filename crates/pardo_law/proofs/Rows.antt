@@ -120,6 +120,32 @@ after_shared layout which cell values memory low =
     let e : own_of layout which i ≡ cell =
     (own_parts (own_of layout which i) cell w (values i) is).0 in omega arith)
 
+-- no shared cell is of a row
+pub own_high : (layout : LayoutData) (which i cell v : ℕ) (values : ℕ → Option ℕ) →
+    cell < layout.shared → own_stores layout which values i ≡ Some (cell, v) → ⊥
+own_high layout which i cell v values low is =
+    let e : own_of layout which i ≡ cell =
+    (own_parts (own_of layout which i) cell v (values i) is).0 in omega arith
+
+-- the cells of arrays and of private variables are those below
+abbrev pub held_below : LayoutData → ℕ
+held_below layout = layout.shared + layout.privates * layout.procs
+
+-- and each cell before the row
+pub after_before : (layout : LayoutData) (procs which cell : ℕ) (values : ℕ → Option ℕ)
+    (memory : ℕ → ℕ) → cell < own_of layout which 0 →
+    after_stores procs (own_stores layout which values) memory cell ≡ memory cell
+after_before layout procs which cell values memory low =
+    after_apart procs cell (own_stores layout which values) memory
+    (λ i w less is.
+    let e : own_of layout which i ≡ cell =
+    (own_parts (own_of layout which i) cell w (values i) is).0 in omega arith)
+
+-- as those of arrays and of private variables are before the other rows
+pub held_before : (layout : LayoutData) (which cell : ℕ) → layout.privates ≤ which →
+    cell < held_below layout → cell < own_of layout which 0
+held_before layout which cell high low = omega (arith, mul-le-mul_left layout.procs high)
+
 not_forbidden : (rule : Rule) (i v j w : ℕ) → i ≡ j → v ≡ w → Forbids rule i v j w → ⊥
 not_forbidden Common i v j w same equal forbidden = forbidden equal
 not_forbidden Priority i v j w same equal forbidden = forbidden

@@ -14,11 +14,11 @@ use Rattle.pram_step.proofs.LawStopped.{stopped_stays, stopped_later}
 use Rattle.pardo_text.specs.Operations.{bit}
 use Rattle.pardo_text.specs.Program.{ProgramData}
 use Rattle.pardo_job.specs.Compiled.{Stops, IsWhole}
-use Rattle.pardo_job.specs.Layouts.{layout_of, mask_cells}
+use Rattle.pardo_job.specs.Layouts.{layout_of, mask_cells, private_cells}
 use Rattle.pardo_job.specs.Lines.{place_of}
 use Rattle.pardo_job.specs.Meaning.{Source}
 use Rattle.pardo_job.specs.Runs.{IsOver}
-use Rattle.pardo_job.specs.Shows.{Shows, IsThere as IsStill}
+use Rattle.pardo_job.specs.Shows.{Shows, IsThere as IsStill, own_cell}
 use Rattle.pardo_law.specs.Locals.{Local, IsLocal}
 use Rattle.pardo_law.proofs.Advancing.{Carried}
 use Rattle.pardo_law.proofs.Bodies.{IsThere, there_at}
@@ -166,6 +166,15 @@ module _ (program : ProgramData) (job : JobData) (of : IsOf program job) (source
     last_cells cell lt = same_cell job (state_after job (t + 1)) cell
         (shared_low program job of cell lt)
         ∙ ap (λ (f : ℕ → ℕ). f cell) last.standing.memory_is ∙ carried.pictured.cells cell lt
+
+    pub last_privates : (x i : ℕ) → x < (layout_of program).privates → i < program.procs →
+        own_cell (state_after job (t + 1)) (private_cells (layout_of program) x) i
+        ≡ source.privates x i
+    last_privates x i lt less = same_cell job (state_after job (t + 1))
+        (own_of (layout_of program) x i)
+        (row_low program job of x i (omega arith) (few i less))
+        ∙ ap (λ (f : ℕ → ℕ). f (own_of (layout_of program) x i)) last.standing.memory_is
+        ∙ carried.pictured.privates x i lt less
 
     pub last_there : (i : ℕ) → i < program.procs → source.gone i ≡ None →
         counter job (state_after job (t + 1)) i ≡ halted job

@@ -123,7 +123,7 @@ module _ (program : ProgramData) (job : JobData) (of : IsOf program job) where
       ∙ get_or_past (given_values program) (own_of (layout_of program) w i) 0
       (let e = given_long in omega (arith, mul-le-mul_left (layout_of program).procs high))
 
-  held_private : (x i : ℕ) → x < (layout_of program).privates → i < program.procs →
+  pub held_private : (x i : ℕ) → x < (layout_of program).privates → i < program.procs →
       memory_of job (start job) (own_of (layout_of program) x i) ≡ meaning.private_start program x i
   unfolding layout_of
   held_private x i low lt =
@@ -134,7 +134,7 @@ module _ (program : ProgramData) (job : JobData) (of : IsOf program job) where
       ∙ get_or-append-add arrays_given privates_given (x * program.procs + i) 0
       ∙ private_at program.procs x i program.privates of.program_is.privates lt low
 
-  held_shared : (cell : ℕ) → cell < (layout_of program).shared →
+  pub held_shared : (cell : ℕ) → cell < (layout_of program).shared →
       memory_of job (start job) cell ≡ slice_index arrays_given cell
   held_shared cell lt = held_at cell (shared_low program job of cell lt)
       ∙ get_or_append_left arrays_given privates_given 0 cell (let e = shared_long in omega arith)
@@ -155,7 +155,7 @@ module _ (program : ProgramData) (job : JobData) (of : IsOf program job) where
       (le-ltb which 4 many))
       (cases_lt which 4)
 
-  first_standing : Standing job 0 (memory_of job (start job)) (λ i. Some (0, λ which. 0))
+  pub first_standing : Standing job 0 (memory_of job (start job)) (λ i. Some (0, λ which. 0))
   unfolding state_after
   first_standing = record {
     reached = λ earlier lt. absurd (omega arith);

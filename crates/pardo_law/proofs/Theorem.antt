@@ -24,19 +24,20 @@ tied : (program : ProgramData) → IsNested program.lines → TurnsAreTied progr
 tied program nested j begin e = turns_tied program.lines nested j begin e
 
 -- the step of a line in conflict
-record IsStep (program : ProgramData) (job : JobData) (line_of : ℕ → ℕ) (n : ℕ)
+pub record IsStep (program : ProgramData) (job : JobData) (line_of : ℕ → ℕ) (n : ℕ)
     (dispute : Dispute) : Type 0 where
-  before : ℕ
-  time_is : time_of program (n + 1) ≡ before + 1
-  steps_are : job.steps ≡ before + 1
-  fault : IsFault job (record {
+  pub before : ℕ
+  pub time_is : time_of program (n + 1) ≡ before + 1
+  pub steps_are : job.steps ≡ before + 1
+  pub fault : IsFault job (record {
     step = before + 1;
     cell = dispute.cell;
     first = dispute.first;
     second = dispute.second;
   })
-  comes : ComesFrom job line_of before dispute.first (line_number program (after program n))
-  comes_too : ComesFrom job line_of before dispute.second (line_number program (after program n))
+  pub comes : ComesFrom job line_of before dispute.first (line_number program (after program n))
+  pub comes_too : ComesFrom job line_of before dispute.second
+      (line_number program (after program n))
 
 module _ (program : ProgramData) (job : JobData) (line_of : ℕ → ℕ) (lawful : IsProgram program)
     (nested : IsNested program.lines)
@@ -50,7 +51,7 @@ module _ (program : ProgramData) (job : JobData) (line_of : ℕ → ℕ) (lawful
     tied = tied program nested;
   }
 
-  step_of : (n : ℕ) (dispute : Dispute) → IsConflict program n dispute →
+  pub step_of : (n : ℕ) (dispute : Dispute) → IsConflict program n dispute →
       IsStep program job line_of n dispute
   step_of n dispute is =
       let t : ℕ = time_of program n in
@@ -72,7 +73,7 @@ module _ (program : ProgramData) (job : JobData) (line_of : ℕ → ℕ) (lawful
         comes_too = found.comes_too ∙ sym named;
       }
 
-  pub carries : Carries program job line_of
+  unfoldable pub carries : Carries program job line_of
   carries = record {
     job_is = compiled.job_is;
     time = time_of program;

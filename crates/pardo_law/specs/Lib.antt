@@ -1,2 +1,3 @@
 pub mod Locals
 pub mod Theorem
+pub mod Between

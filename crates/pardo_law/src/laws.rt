@@ -2,6 +2,7 @@
 //! its law holds.
 ghost use Rattle.pardo_job.specs.Laws.{AnyWriterCounts, CrewIsAccepted, OneDispute};
 ghost use Rattle.pardo_job.specs.Laws.{RuleChangesNoState, UnwrittenIsKept};
+ghost use Rattle.pardo_law.specs.Between.{JobsGoThrough, LinesNeverFall};
 ghost use Rattle.pardo_law.specs.Locals.{EachByItself, ExpressionsAreStraight, IdlingStays};
 ghost use Rattle.pardo_law.specs.Locals.{StoresAreMade, StraightCodeRuns};
 ghost use Rattle.pardo_law.specs.Theorem.{AnswersAreThePrograms, JobsCarryPrograms};
@@ -11,6 +12,18 @@ ghost use Rattle.pardo_law.specs.Theorem.{RuleChangesNoRun, RunsEndOnce};
 /// program line by line, and it ends as the program does, or in its first conflict.
 pub fn jobs_carry_programs()
     ensures { JobsCarryPrograms }
+{}
+
+/// What the compiler makes of a program goes through its lines: after each step arrays and private
+/// variables hold what they hold after the lines that are made, and the next step lies in the next
+/// line.
+pub fn jobs_go_through()
+    ensures { JobsGoThrough }
+{}
+
+/// With the steps of a job the number of lines that are made never falls.
+pub fn lines_never_fall()
+    ensures { LinesNeverFall }
 {}
 
 /// A run of a program ends once, and in one way.

@@ -1,0 +1,199 @@
+-- What costs say of a program's lines.
+use Rattle.std.proofs.Common.{◌≡◌, ◌∙◌, ◌++◌, ℕ, ◌<◌, Bool, true, List, Option, Some, nat_lt}
+use Rattle.std.proofs.Common.{None, ap, sym, inl, inr, refl, codes, decimal, arith, if◌then◌else◌}
+use Rattle.std.specs.Prelude.{IfSome, slice_index}
+use Rattle.std.proofs.lemmas.Bool.{cases_Bool, ltb-true}
+use Rattle.std.proofs.lemmas.Option.{none-some}
+use Rattle.pram_job.specs.Job.{JobData}
+use Rattle.pram_machine.specs.Machine.{counter, halted}
+use Rattle.pram_step.specs.declared.answer.Fault.{Fault}
+use Rattle.pram_step.specs.declared.answer.RunAnswer.{RunAnswer}
+use Rattle.pram_step.specs.declared.answer.RunAnswer.TheVariants.{Conflict}
+use Rattle.pram_step.specs.Runs.{IsFault, IsReached, state_after}
+use Rattle.pram_step.proofs.LawAnswer.{conflict_ends}
+use Rattle.pram_step.proofs.LawFixed.{reached_down}
+use Rattle.pram_cost.specs.Accesses.{is_running, put_to_cell, write_by}
+use Rattle.pram_cost.specs.Costs.{IsLength}
+use Rattle.pram_cost.specs.Meetings.{IsFirstMeeting, IsFirstOrNone, Meet, access_by}
+use Rattle.pram_cost.specs.Printed.{cost_text}
+use Rattle.pram_cost.specs.declared.cost.Cost.{Cost}
+use Rattle.pram_cost.specs.declared.meeting.Meeting.{Meeting}
+use Rattle.pram_cost.specs.declared.meeting.Sharing.{Sharing}
+use Rattle.pram_cost.specs.declared.meeting.Sharing.TheVariants.{SameRead, SameWrite, OtherValue}
+use Rattle.pram_cost.proofs.Accessing.{idle_access}
+use Rattle.pardo_job.specs.Layouts.{layout_of}
+use Rattle.pardo_job.specs.Meaning.{after}
+use Rattle.pardo_job.specs.Printed.{IsConflictText, cell_text}
+use Rattle.pardo_job.specs.Runs.{line_number}
+use Rattle.pardo_law.specs.Between.{AreMade, IsInLine}
+use Rattle.pardo_answers.specs.Language.{is_program}
+use Rattle.pardo_answers.specs.Laws.{IsAnswerText, IsCarrying}
+use Rattle.pardo_answers.proofs.LawAnswers.{printed_answers_are_the_programs}
+use Rattle.pram_commands.specs.Costs.{TellsCost, cost_words, place_or_cell}
+use Rattle.pram_commands.specs.Names.{AreNames, IsNaming, NamingData}
+use Rattle.command_law.specs.Programs.{AreProgramsCosts, CostsTellTheProgramsLines, IsMeetingOf}
+use Rattle.command_law.specs.Programs.{BothWrite, IsProgramsJob, MeetByMeaning}
+use Rattle.command_law.proofs.Executing.{halt_access, pid_access}
+use Rattle.command_law.proofs.Jobs.{lawful, no_machines, procs_are, programs_job}
+
+-- the steps before the last one of a run are reached
+reached_within : (job : JobData) (n : ℕ) (conflict : Option Fault) → IsLength job n conflict →
+    (before : ℕ) → before < n → IsReached job before
+reached_within job n None length before lt = reached_down job before n (omega arith) length.1
+reached_within job n (Some fault) length before lt =
+    let first = length.1.first in
+    let step = first.step in
+    let same = length.0 in
+    reached_down job before first.before (omega arith) first.reached
+
+module _ (text : List ℕ) (job : JobData) (naming : NamingData) (names : IsNaming text job naming)
+    (is : IsProgramsJob text job naming) where
+  abbrev time : ℕ → ℕ
+  time = is.goes.carries.time
+
+  -- one that goes to a cell runs
+  runs : (sharing : Sharing) (t i cell value : ℕ) →
+      access_by sharing job (state_after job t) i ≡ Some (cell, value) →
+      counter job (state_after job t) i < halted job
+  runs sharing t i cell value goes = elim (cases_Bool (is_running job (state_after job t) i)) [
+    | inl on ↦ ltb-true (counter job (state_after job t) i) (halted job) on
+    | inr off ↦ absurd (none-some (cell, value)
+        (sym (idle_access sharing job (state_after job t) i off) ∙ goes))
+  ]
+
+  -- by an instruction of the line that is next
+  in_line : (sharing : Sharing) (t n i cell value : ℕ) →
+      access_by sharing job (state_after job t) i ≡ Some (cell, value) →
+      IsInLine naming.program job (slice_index naming.numbers) t (after naming.program n) i →
+      slice_index naming.numbers (counter job (state_after job t) i)
+      ≡ line_number naming.program (after naming.program n)
+  in_line sharing t n i cell value goes (inl comes) = comes
+  in_line sharing t n i cell value goes (inr (inl first)) =
+      absurd (none-some (cell, value) (sym (pid_access sharing job t i first.1) ∙ goes))
+  in_line sharing t n i cell value goes (inr (inr last)) =
+      absurd (none-some (cell, value) (sym (halt_access sharing job t i last.1) ∙ goes))
+
+  -- what goes to a cell is put there
+  put_of : (put : Option (ℕ × ℕ)) (cell value : ℕ) → put_to_cell job put ≡ Some (cell, value) →
+      put ≡ Some (cell, value)
+  put_of None cell value e = absurd (none-some (cell, value) e)
+  put_of (Some put) cell value e = elim (cases_Bool (nat_lt put.0 job.cells)) [
+    | inl on ↦ sym (ap (λ (b : Bool). if b then Some put else None) on) ∙ e
+    | inr off ↦ absurd (none-some (cell, value)
+        (sym (ap (λ (b : Bool). if b then Some put else None) off) ∙ e))
+  ]
+
+  -- who writes to a place does so by the meaning
+  both_write : (sharing : Sharing) (before n : ℕ) (meeting : Meeting) → IsReached job before →
+      AreMade naming.program time before n → (meet : Meet sharing
+      (write_by job (state_after job before)) job.procs meeting.cell meeting.first
+      meeting.second) → meeting.cell < (layout_of naming.program).shared →
+      BothWrite sharing naming.program n meeting
+  both_write sharing before n meeting reached made meet below =
+      let e = procs_are naming.program job is.made in
+      let few = meet.within in
+      let few_too = meet.within_too in record {
+        value = meet.value;
+        other = meet.other;
+        writes = is.goes.writes before n meeting.cell meeting.first meet.value reached made
+            (omega arith) below (put_of _ meeting.cell meet.value meet.goes);
+        writes_too = is.goes.writes before n meeting.cell meeting.second meet.other reached made
+            (omega arith) below (put_of _ meeting.cell meet.other meet.goes_too);
+        differ = meet.differ;
+      }
+
+  by_meaning : (sharing : Sharing) (before n : ℕ) (meeting : Meeting) → IsReached job before →
+      AreMade naming.program time before n → Meet sharing
+      (access_by sharing job (state_after job before)) job.procs meeting.cell meeting.first
+      meeting.second → MeetByMeaning sharing naming.program n meeting
+  by_meaning SameRead before n meeting reached made meet = tt
+  by_meaning SameWrite before n meeting reached made meet =
+      both_write SameWrite before n meeting reached made meet
+  by_meaning OtherValue before n meeting reached made meet =
+      both_write OtherValue before n meeting reached made meet
+
+  meeting_is : (sharing : Sharing) (n : ℕ) (meeting : Meeting) →
+      ((before : ℕ) → before < n → IsReached job before) → IsFirstMeeting sharing job n meeting →
+      IsMeetingOf sharing naming time meeting
+  meeting_is sharing n meeting reached first =
+      let at : IsReached job first.before = reached first.before first.within in
+      let found : (k : ℕ) × AreMade naming.program time first.before k =
+      is.goes.made first.before at in
+      let meet = first.least.meet in
+      let low : meeting.first < naming.program.procs =
+      (let e = procs_are naming.program job is.made in let f = meet.within in omega arith) in
+      let goes_on = runs sharing first.before meeting.first meeting.cell meet.value meet.goes in
+      let line : slice_index naming.numbers meeting.counter
+      ≡ line_number naming.program (after naming.program found.0) =
+      ap (slice_index naming.numbers) first.stands
+      ∙ in_line sharing first.before found.0 meeting.first meeting.cell meet.value meet.goes
+      (is.goes.lines first.before found.0 meeting.first at found.1 low goes_on) in record {
+        before = first.before;
+        step = first.step;
+        lines = found.0;
+        are_made = found.1;
+        told = ap (λ (number : ℕ). codes " line=" ++ decimal number
+            ++ place_or_cell (cell_text naming.program.arrays meeting.cell) meeting) line;
+        meet = by_meaning sharing first.before found.0 meeting at found.1 meet;
+      }
+
+  meeting_or_none : (sharing : Sharing) (n : ℕ) (found : Option Meeting) →
+      ((before : ℕ) → before < n → IsReached job before) → IsFirstOrNone sharing job n found →
+      IfSome found (IsMeetingOf sharing naming time)
+  meeting_or_none sharing n None reached none = tt
+  meeting_or_none sharing n (Some meeting) reached first =
+      meeting_is sharing n meeting reached first
+
+  no_end : (fault : Fault) (bytes : List ℕ) → IsFault job fault →
+      IsAnswerText naming.program job.steps bytes → IsConflictText naming.program bytes
+  no_end fault bytes is_fault (inl end) =
+      absurd (conflict_ends job fault job.steps is_fault.first is_fault.within
+      (is.goes.carries.ends end.0 end.1).0.reached)
+  no_end fault bytes is_fault (inr conflict) = conflict
+
+  conflict_is : (n : ℕ) (conflict : Option Fault) → IsLength job n conflict →
+      IfSome conflict (λ fault.
+      IsConflictText naming.program ((cost_words (Some naming)).conflict fault))
+  conflict_is n None length = tt
+  conflict_is n (Some fault) length =
+      let c : IsCarrying naming.program job (slice_index naming.numbers) = record {
+        lawful = lawful text job naming names;
+        made = is.made;
+        carries = is.goes.carries;
+      } in
+      no_end fault _ length.1 (printed_answers_are_the_programs naming.program job
+      (slice_index naming.numbers) (Conflict fault) naming.ended.lines c length.1
+      names.ends.ends_in)
+
+by_names : (text : List ℕ) (job : JobData) (bytes : List ℕ) (answer : Option RunAnswer) →
+    is_program text ≡ true → (names : Option NamingData) → AreNames text job names →
+    (tells : TellsCost text job bytes answer) → tells.names ≡ names →
+    AreProgramsCosts text job bytes
+by_names text job bytes answer one None names tells same = no_machines text job one names
+by_names text job bytes answer one (Some naming) names tells same =
+    let is = programs_job text job naming names in
+    let cost : Cost = tells.cost in
+    let first = tells.costs.cost_is.first_are in
+    let reached = reached_within job cost.steps cost.conflict tells.costs.length_is in record {
+      naming = naming;
+      is = is;
+      cost = cost;
+      pram = tells.pram;
+      costs = tells.costs;
+      procs = tells.costs.cost_is.procs_are ∙ procs_are naming.program job is.made;
+      needs = tells.needs;
+      same_read = meeting_or_none text job naming names is SameRead cost.steps
+          cost.meetings.same_read reached first.same_read;
+      same_write = meeting_or_none text job naming names is SameWrite cost.steps
+          cost.meetings.same_write reached first.same_write;
+      other_value = meeting_or_none text job naming names is OtherValue cost.steps
+          cost.meetings.other_value reached first.other_value;
+      conflict = conflict_is text job naming names is cost.steps cost.conflict
+          tells.costs.length_is;
+      prints = tells.prints ∙ ap (λ (n : Option NamingData).
+          cost_text (cost_words n) cost tells.pram) same;
+    }
+
+pub costs_tell : CostsTellTheProgramsLines
+costs_tell text job bytes answer one comes =
+    by_names text job bytes answer one comes.names comes.are_names comes refl

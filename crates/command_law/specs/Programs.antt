@@ -1,0 +1,308 @@
+-- What the commands print of a program, in the program's words: its lines, its places, and what
+-- these hold by its meaning.
+use Rattle.std.specs.Prelude.{◌≡◌, ◌⊎◌, ◌++◌, ℕ, ◌+◌, ◌<◌, ◌≤◌, Bool, true, false, List, []}
+use Rattle.std.specs.Prelude.{Option, Some, None, Ok, All, IfSome, map, codes, decimal}
+use Rattle.std.specs.Prelude.{nat_lt, if◌then◌else◌, slice_index, ⊤}
+use Rattle.std.specs.List.{repeat}
+use Rattle.std.specs.List.Sorted.{IsNonDecreasingBy}
+use Rattle.pram_job.specs.Job.{JobData}
+use Rattle.pram_machine.specs.Machine.{counter, halted}
+use Rattle.pram_step.specs.declared.answer.RunAnswer.{RunAnswer}
+use Rattle.pram_step.specs.declared.answer.RunAnswer.TheVariants.{Final, Conflict, Unfinished}
+use Rattle.pram_step.specs.Runs.{IsReached, state_after}
+use Rattle.pram_streams.specs.Printed.{summary}
+use Rattle.pram_fates.specs.declared.fates.End.{End}
+use Rattle.pram_fates.specs.declared.fates.End.TheVariants.{Running, Stopped}
+use Rattle.pram_fates.specs.declared.fates.Fates.{Fates}
+use Rattle.pram_fates.specs.declared.fates.Lost.{Lost}
+use Rattle.pram_fates.specs.Told.{fates_text}
+use Rattle.pram_rows.specs.Rows.{row_end, rows_text}
+use Rattle.pram_rows.specs.Shown.{last_step}
+use Rattle.pram_rows.specs.declared.window.Window.{Window}
+use Rattle.pram_cost.specs.Costs.{IsCost}
+use Rattle.pram_cost.specs.Meetings.{Differ}
+use Rattle.pram_cost.specs.Models.{IsNeeded}
+use Rattle.pram_cost.specs.Printed.{cost_text}
+use Rattle.pram_cost.specs.declared.cost.Cost.{Cost}
+use Rattle.pram_cost.specs.declared.meeting.Meeting.{Meeting}
+use Rattle.pram_cost.specs.declared.meeting.Sharing.{Sharing}
+use Rattle.pram_cost.specs.declared.meeting.Sharing.TheVariants.{SameRead, SameWrite, OtherValue}
+use Rattle.pram_cost.specs.declared.pram.Pram.{Pram}
+use Rattle.stop_plan.specs.Plan.{PlanData}
+use Rattle.pram_run.specs.declared.sight.Sight.{Sight}
+use Rattle.pram_run.specs.declared.trace.TraceRow.{TraceRow}
+use Rattle.pram_run.specs.Printed.{sights_text, trace_text}
+use Rattle.pardo_text.specs.Program.{ProgramData}
+use Rattle.pardo_text.specs.Reading.{program_of}
+use Rattle.pardo_job.specs.Conflicts.{Writes}
+use Rattle.pardo_job.specs.Layouts.{layout_of, private_cells}
+use Rattle.pardo_job.specs.Lines.{job_of}
+use Rattle.pardo_job.specs.Meaning.{after}
+use Rattle.pardo_job.specs.Printed.{IsConflictText, cell_text}
+use Rattle.pardo_job.specs.Runs.{IsConflict, IsEnd, IsOver, line_number}
+use Rattle.pardo_job.specs.Runs as source
+use Rattle.pardo_law.specs.Between.{AreMade, GoesThrough, PutsTo}
+use Rattle.pardo_answers.specs.Language.{is_program}
+use Rattle.pram_commands.specs.CellLists.{AreCellsOf}
+use Rattle.pram_commands.specs.Costs.{cost_words, costing, place_or_cell}
+use Rattle.pram_commands.specs.Names.{Means, NamingData}
+use Rattle.pram_commands.specs.Plain.{checking, no_plan, plainly}
+use Rattle.pram_commands.specs.Replayed.{replaying}
+use Rattle.pram_commands.specs.Steps.{stepping}
+use Rattle.pram_commands.specs.Threads.{cell_words, running, watching}
+use Rattle.command_law.specs.Laws.{IsCutOff, IsProgramsAnswer}
+
+-- ---- the program and its job
+
+-- The text is a program, and this is its job, which goes through its lines.
+pub record IsProgramsJob (text : List ℕ) (job : JobData) (naming : NamingData) : Type 0 where
+  pub reads : program_of text ≡ Ok naming.program
+  pub made : job ≡ job_of naming.program job.steps
+  pub goes : GoesThrough naming.program job (slice_index naming.numbers)
+
+-- so many lines are made after a step
+abbrev pub Made : (text : List ℕ) (job : JobData) (naming : NamingData) →
+    IsProgramsJob text job naming → ℕ → ℕ → Type 0
+Made text job naming is = AreMade naming.program is.goes.carries.time
+
+-- ---- `check`
+
+-- The summary is that of the program's job.
+pub record IsProgramsSummary (text : List ℕ) (job : JobData) (bytes : List ℕ) : Type 0 where
+  pub naming : NamingData
+  pub is : IsProgramsJob text job naming
+  pub prints : bytes ≡ summary (job_of naming.program job.steps)
+
+abbrev pub CheckTellsTheProgramsJob : Type 0
+CheckTellsTheProgramsJob = (text : List ℕ) (job : JobData) (bytes : List ℕ)
+    (answer : Option RunAnswer) → is_program text ≡ true → Means text job →
+    checking.Comes text job no_plan bytes answer → IsProgramsSummary text job bytes
+
+-- ---- `watch`
+
+-- After the sight's step so many lines are made; and a place of the program, or a processor's
+-- private variable, was seen to hold what it holds after these.
+pub record IsSightOf (program : ProgramData) (time : ℕ → ℕ) (sight : Sight) : Type 0 where
+  pub lines : ℕ
+  pub are_made : AreMade program time sight.step lines
+  pub place : sight.cell < (layout_of program).shared →
+      sight.value ≡ (after program lines).cells sight.cell
+  pub private : (x i : ℕ) → x < (layout_of program).privates → i < program.procs →
+      sight.cell ≡ (private_cells (layout_of program) x).base + i →
+      sight.value ≡ (after program lines).privates x i
+
+-- The bytes tell what was seen of these cells, so many rounds, and then the program's answer.
+pub record IsProgramsWatch (parts : List (List ℕ)) (rounds : ℕ) (text : List ℕ) (job : JobData)
+    (plan : PlanData) (bytes : List ℕ) (answer : Option RunAnswer) : Type 0 where
+  pub naming : NamingData
+  pub is : IsProgramsJob text job naming
+  pub cells : List ℕ
+  pub named : AreCellsOf (Some naming) parts cells
+  pub sights : List Sight
+  pub listed : map (λ sight. sight.cell) sights ≡ repeat rounds cells
+  pub tell : All (λ sight. IsSightOf naming.program is.goes.carries.time sight) sights
+  pub rises : IsNonDecreasingBy (λ sight. sight.step) sights
+  pub back : List ℕ
+  pub prints : bytes ≡ sights_text (cell_words (Some naming)) sights ++ back
+  pub ends : IsProgramsAnswer text job back ⊎ IsCutOff plan answer
+
+abbrev pub WatchesTellThePrograms : Type 0
+WatchesTellThePrograms = (text : List ℕ) (job : JobData) (plan : PlanData) (workers rounds : ℕ)
+    (parts : List (List ℕ)) (bytes : List ℕ) (answer : Option RunAnswer) →
+    is_program text ≡ true → (watching workers parts rounds).Comes text job plan bytes answer →
+    IsProgramsWatch parts rounds text job plan bytes answer
+
+-- ---- `steps`
+
+-- a line as a row tells it; 0 is none
+abbrev pub told_line : ℕ → List ℕ
+told_line number = if nat_lt 0 number then decimal number else []
+
+-- In each step each processor that runs is told with the line of the program that is next; but not
+-- in the first step, nor after the last line.
+abbrev pub TellLines : (text : List ℕ) (job : JobData) (naming : NamingData) →
+    IsProgramsJob text job naming → Type 0
+TellLines text job naming is = (t n i : ℕ) → IsReached job t → Made text job naming is t n →
+    1 ≤ t → (IsOver naming.program (after naming.program n) → ⊥) → i < naming.program.procs →
+    counter job (state_after job t) i < halted job →
+    row_end (Some naming.numbers) job (counter job (state_after job t) i)
+    ≡ codes "," ++ told_line (line_number naming.program (after naming.program n)) ++ codes "\n"
+
+-- What a row has a processor write to a place of the program it writes there in that line, by the
+-- meaning.
+abbrev pub TellWrites : (text : List ℕ) (job : JobData) (naming : NamingData) →
+    IsProgramsJob text job naming → Type 0
+TellWrites text job naming is = (t n cell i value : ℕ) → IsReached job t →
+    Made text job naming is t n → i < naming.program.procs →
+    cell < (layout_of naming.program).shared → PutsTo job t cell i value →
+    Writes naming.program (after naming.program n) cell i value
+
+-- what follows the rows: the program's answer, unless they stand alone
+abbrev pub IsEnding : Bool → List ℕ → JobData → List ℕ → Type 0
+IsEnding true text job back = back ≡ []
+IsEnding false text job back = IsProgramsAnswer text job back
+
+-- The bytes are rows of the program's job, whose lines and writes are the program's, and then its
+-- answer.
+pub record AreProgramsSteps (alone : Bool) (window : Window) (text : List ℕ) (job : JobData)
+    (bytes : List ℕ) : Type 0 where
+  pub naming : NamingData
+  pub is : IsProgramsJob text job naming
+  pub lines : TellLines text job naming is
+  pub writes : TellWrites text job naming is
+  pub ended : RunAnswer
+  pub back : List ℕ
+  pub prints : bytes ≡ rows_text (Some naming.numbers) job window.from window.to
+      (last_step job ended) ++ back
+  pub ends : IsEnding alone text job back
+
+abbrev pub StepsTellTheProgramsLines : Type 0
+StepsTellTheProgramsLines = (text : List ℕ) (job : JobData) (alone : Bool) (window : Window)
+    (bytes : List ℕ) (answer : Option RunAnswer) → is_program text ≡ true →
+    (stepping alone window).Comes text job no_plan bytes answer →
+    AreProgramsSteps alone window text job bytes
+
+-- ---- `replay`
+
+-- what follows the trace: the program's answer, or the plan stops every worker
+abbrev pub IsReplaysEnding : Bool → List ℕ → JobData → PlanData → Option RunAnswer → List ℕ →
+    Type 0
+IsReplaysEnding true text job plan answer back = back ≡ []
+IsReplaysEnding false text job plan answer back =
+    IsProgramsAnswer text job back ⊎ IsCutOff plan answer
+
+-- The bytes are a trace, and then the program's answer, unless the trace stands alone.
+pub record IsProgramsReplay (alone : Bool) (text : List ℕ) (job : JobData) (plan : PlanData)
+    (bytes : List ℕ) (answer : Option RunAnswer) : Type 0 where
+  pub trace : List TraceRow
+  pub back : List ℕ
+  pub prints : bytes ≡ trace_text trace ++ back
+  pub ends : IsReplaysEnding alone text job plan answer back
+
+abbrev pub ReplaysPrintTheProgramsAnswer : Type 0
+ReplaysPrintTheProgramsAnswer = (text : List ℕ) (job : JobData) (plan : PlanData) (alone : Bool)
+    (workers : ℕ) (bytes : List ℕ) (answer : Option RunAnswer) → is_program text ≡ true →
+    (replaying alone workers).Comes text job plan bytes answer →
+    IsProgramsReplay alone text job plan bytes answer
+
+-- ---- `cost`
+
+-- In the line after so many both write to the place, by the meaning.
+pub record BothWrite (sharing : Sharing) (program : ProgramData) (lines : ℕ) (meeting : Meeting)
+    : Type 0 where
+  pub value : ℕ
+  pub other : ℕ
+  pub writes : Writes program (after program lines) meeting.cell meeting.first value
+  pub writes_too : Writes program (after program lines) meeting.cell meeting.second other
+  pub differ : Differ sharing meeting.first value meeting.second other
+
+-- who meets at a place of the program by writing does so by the meaning; of what is read the
+-- meaning does not speak
+abbrev pub MeetByMeaning : Sharing → ProgramData → ℕ → Meeting → Type 0
+MeetByMeaning SameRead program lines meeting = ⊤
+MeetByMeaning sharing program lines meeting =
+    meeting.cell < (layout_of program).shared → BothWrite sharing program lines meeting
+
+-- The meeting's step lies in this line of the program, and it is told by its number, and by the
+-- place.
+pub record IsMeetingOf (sharing : Sharing) (naming : NamingData) (time : ℕ → ℕ)
+    (meeting : Meeting) : Type 0 where
+  pub before : ℕ
+  pub step : meeting.step ≡ before + 1
+  pub lines : ℕ
+  pub are_made : AreMade naming.program time before lines
+  pub told : (cost_words (Some naming)).spot meeting ≡ codes " line="
+      ++ decimal (line_number naming.program (after naming.program lines))
+      ++ place_or_cell (cell_text naming.program.arrays meeting.cell) meeting
+  pub meet : MeetByMeaning sharing naming.program lines meeting
+
+-- The bytes are the costs of the program's job, with meetings and a conflict in the program's
+-- lines.
+pub record AreProgramsCosts (text : List ℕ) (job : JobData) (bytes : List ℕ) : Type 0 where
+  pub naming : NamingData
+  pub is : IsProgramsJob text job naming
+  pub cost : Cost
+  pub pram : Pram
+  pub costs : IsCost job cost
+  pub procs : cost.procs ≡ naming.program.procs
+  pub needs : IsNeeded job cost.steps pram
+  pub same_read : IfSome cost.meetings.same_read
+      (IsMeetingOf SameRead naming is.goes.carries.time)
+  pub same_write : IfSome cost.meetings.same_write
+      (IsMeetingOf SameWrite naming is.goes.carries.time)
+  pub other_value : IfSome cost.meetings.other_value
+      (IsMeetingOf OtherValue naming is.goes.carries.time)
+  pub conflict : IfSome cost.conflict (λ fault.
+      IsConflictText naming.program ((cost_words (Some naming)).conflict fault))
+  pub prints : bytes ≡ cost_text (cost_words (Some naming)) cost pram
+
+abbrev pub CostsTellTheProgramsLines : Type 0
+CostsTellTheProgramsLines = (text : List ℕ) (job : JobData) (bytes : List ℕ)
+    (answer : Option RunAnswer) → is_program text ≡ true →
+    costing.Comes text job no_plan bytes answer → AreProgramsCosts text job bytes
+
+-- ---- `--why`
+
+-- the answer speaks of the program after so many lines
+abbrev pub SpeaksOf : ProgramData → (ℕ → ℕ) → RunAnswer → ℕ → Type 0
+SpeaksOf program time (Final cells) n = IsEnd program n
+SpeaksOf program time (Conflict fault) n =
+    IsConflict program n (record { cell = fault.cell; first = fault.first; second = fault.second })
+SpeaksOf program time (Unfinished step) n = AreMade program time step n
+
+-- nobody is gone after so many lines
+abbrev pub AllThere : ProgramData → ℕ → Type 0
+AllThere program n = (i : ℕ) → i < program.procs → (after program n).gone i ≡ None
+
+-- In the line of this number processor i is gone, and before it nobody is.
+pub record IsFirstGone (program : ProgramData) (i number : ℕ) : Type 0 where
+  pub lines : ℕ
+  pub reached : source.IsReached program lines
+  pub all_there : AllThere program lines
+  pub leaves : (after program (lines + 1)).gone i ≡ Some number
+  pub in_line : number ≡ line_number program (after program lines)
+
+-- who is told as lost: the first who is gone, in that line; or nobody
+abbrev pub IsLostOf : NamingData → (ℕ → ℕ) → RunAnswer → Option Lost → Type 0
+IsLostOf naming time ended None =
+    (n : ℕ) → SpeaksOf naming.program time ended n → AllThere naming.program n
+IsLostOf naming time ended (Some lost) =
+    IsFirstGone naming.program lost.processor (slice_index naming.numbers lost.index)
+
+-- how the processors are told at the end: after `done` all have stopped with the last step, after a
+-- conflict nothing is told, and where the run is cut off the least that runs stands in the line
+-- that is next
+abbrev pub IsEndOf : NamingData → (ℕ → ℕ) → JobData → RunAnswer → Option End → Type 0
+IsEndOf naming time job (Final cells) end = end ≡ Some (Stopped job.steps)
+IsEndOf naming time job (Conflict fault) end = end ≡ None
+IsEndOf naming time job (Unfinished step) end = (count first index : ℕ)
+    × (end ≡ Some (Running count first index))
+    × ((n : ℕ) → 1 ≤ step → AreMade naming.program time step n →
+    (IsOver naming.program (after naming.program n) → ⊥) →
+    slice_index naming.numbers index ≡ line_number naming.program (after naming.program n))
+
+-- The bytes are the program's answer, and then what became of its processors.
+pub record IsProgramsWhy (text : List ℕ) (job : JobData) (bytes : List ℕ)
+    (answer : Option RunAnswer) (Ends : List ℕ → Type 0) : Type 0 where
+  pub naming : NamingData
+  pub is : IsProgramsJob text job naming
+  pub ended : RunAnswer
+  pub gives : answer ≡ Some ended
+  pub front : List ℕ
+  pub ends : Ends front
+  pub fates : Fates
+  pub end : IsEndOf naming is.goes.carries.time job ended fates.end
+  pub lost : IsLostOf naming is.goes.carries.time ended fates.lost
+  pub prints : bytes ≡ front ++ fates_text (slice_index naming.numbers) fates
+
+abbrev pub PlainTellsWhy : Type 0
+PlainTellsWhy = (text : List ℕ) (job : JobData) (bytes : List ℕ) (answer : Option RunAnswer) →
+    is_program text ≡ true → (plainly true).Comes text job no_plan bytes answer →
+    IsProgramsWhy text job bytes answer (IsProgramsAnswer text job)
+
+abbrev pub RunsTellWhy : Type 0
+RunsTellWhy = (text : List ℕ) (job : JobData) (plan : PlanData) (workers : ℕ) (bytes : List ℕ)
+    (answer : Option RunAnswer) → is_program text ≡ true →
+    (running true workers).Comes text job plan bytes answer →
+    IsProgramsWhy text job bytes answer
+    (λ front. IsProgramsAnswer text job front ⊎ IsCutOff plan answer)
