@@ -2,7 +2,7 @@
 ghost use Rattle.std.specs.Prelude.{◌≡◌, ◌≢◌, ◌⊎◌, ◌≤◌, false, map};
 ghost use Rattle.clap.specs.Words.{kind_of};
 ghost use Rattle.pram_commands.specs.Did.{writing};
-ghost use Rattle.command_answers.specs.Answering.{AnswersWords, EndsByWords};
+ghost use Rattle.command_answers.specs.Answering.{AnswersWords, EndsByWords, RefusesQuietly};
 
 use clap::error::ErrorKind;
 use command_line::read_line;
@@ -26,8 +26,10 @@ pub fn answer_words<'a, R: Eprint + Threads + Wait + Clock + Sync, F: Folder, O:
     requires err { E.has_failed console.old.err ≡ false }
     ensures status { result ≤ MEMORY }
     ensures words { EndsByWords (map (λ word. word.now) words.entry.now) result }
+    ensures quiet { RefusesQuietly (map (λ word. word.now) words.entry.now)
+        (writing O.Sink console.old.out console.new.out) }
     ensures answers { AnswersWords (F.holds folder.now) (map (λ word. word.now) words.entry.now)
-        (writing O.Sink console.old.out console.new.out) result }
+        console.old.is_terminal (writing O.Sink console.old.out console.new.out) result }
 {
     match read_line(alloc, words, console.is_terminal) {
         Ok(asked) => {
@@ -49,9 +51,9 @@ fn refusal_status<O: Sink, E: Sink>(
     requires err { E.has_failed console.old.err ≡ false }
     ensures status { result ≤ MEMORY }
     ensures memory { kind_of error.now ≡ ErrorKind.OutOfMemory → result ≡ MEMORY }
-    ensures wrong { kind_of error.now ≢ ErrorKind.OutOfMemory
-        → kind_of error.now ≢ ErrorKind.DisplayHelp
-        → kind_of error.now ≢ ErrorKind.DisplayVersion → (result ≡ FAILED) ⊎ (result ≡ MEMORY) }
+    ensures wrong { kind_of error.now ≢ ErrorKind.DisplayHelp
+        → kind_of error.now ≢ ErrorKind.DisplayVersion
+        → ((result ≡ FAILED) ⊎ (result ≡ MEMORY)) × (console.new.out ≡ console.old.out) }
     ensures shown { (result ≡ DONE) ⊎ (FAILED ≤ result) }
 {
     if error.kind() == ErrorKind::OutOfMemory {

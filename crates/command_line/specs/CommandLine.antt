@@ -1,5 +1,6 @@
 -- The program's command, and what a line holds of the matches of its words.
 use Rattle.std.specs.Prelude.{◌≡◌, ◌≢◌, ◌<◌, ◌≤◌, ◌⊎◌, ◌-◌, ◌^◌, MatchOption, ℕ, Bool, true, false}
+use Rattle.std.specs.Prelude.{⊤}
 use Rattle.std.specs.Prelude.{List, [], Option, Some, None, Result, IsErrAnd, IsSomeAnd, codes, pos}
 use Rattle.std.specs.Prelude.{IfSome, option_map}
 use Rattle.std.specs.Str.Parse.{digits_value, without_leading_plus}
@@ -15,6 +16,8 @@ use Rattle.command_data.specs.Line.{text_of}
 use Rattle.command_data.specs.Manner.{IsGrain, is_told, size_of}
 use Rattle.command_data.specs.declared.block.Block.{Block}
 use Rattle.command_data.specs.declared.manner.Manner.{Manner}
+use Rattle.command_data.specs.declared.manner.Telling.{Telling}
+use Rattle.command_data.specs.declared.manner.Telling.TheVariants.{Silent, Lines, OneLine}
 use Rattle.command_data.specs.declared.line.Line.{Line}
 use Rattle.command_line.specs.declared.line.Asked.{Asked}
 use Rattle.command_data.specs.declared.line.Line.TheVariants.{Check, Compile, Plain, Cost}
@@ -205,9 +208,24 @@ IsMet matches (Watch file plan manner cells rounds) =
 IsMet matches (Replay file workers plan alone) =
     HasWorkers matches (codes "replay") file.now workers.count (text_of plan) alone
 
--- The line is what was met, and so is whether a refusal is to be explained.
-pub record IsAsked (matches : Option (Text × List Row)) (asked : Asked) : Type 0 where
+-- how a line tells how far the workers are
+abbrev pub telling_of : Line → Telling
+telling_of (Run file plan manner why) = manner.progress
+telling_of (Watch file plan manner cells rounds) = manner.progress
+telling_of _ = Silent
+
+-- What is told goes on one line of a terminal, and elsewhere on one line after the other.
+abbrev pub SuitsTerminal : Bool → Telling → Type 0
+SuitsTerminal on_terminal Silent = ⊤
+SuitsTerminal on_terminal Lines = on_terminal ≡ false
+SuitsTerminal on_terminal OneLine = on_terminal ≡ true
+
+-- The line is what was met, and so is whether a refusal is to be explained; what the line tells
+-- suits the device.
+pub record IsAsked (on_terminal : Bool) (matches : Option (Text × List Row))
+    (asked : Asked) : Type 0 where
   pub line : IsMet matches asked.line
+  pub telling : SuitsTerminal on_terminal (telling_of asked.line)
   pub explain : HasFlag (codes "explain") matches asked.explain
 
 -- What stands for cells names none.

@@ -14,6 +14,7 @@ ghost use Rattle.command_line.specs.CommandLine.{MeanNoLine, bare};
 ghost use Rattle.command_line.specs.CommandLine.{flag_rule, needed, number_rule, on_file};
 ghost use Rattle.command_line.specs.CommandLine.{on_machine, on_plain, on_replay, on_run, on_steps};
 ghost use Rattle.command_line.specs.CommandLine.{on_watch, option_rule, placed_rule, pramx};
+ghost use Rattle.command_line.specs.CommandLine.{SuitsTerminal, telling_of};
 ghost use Rattle.command_line.specs.CommandLine.{with_manner, with_progress, with_workers};
 
 use clap::builder::ValueParser;
@@ -90,7 +91,7 @@ pub fn read_line<'a>(
     on_terminal: bool,
 ) -> Result<Asked<'a>, Error>
     ensures met { IfOk result
-        (IsAsked (subcommand_of pramx (map (λ word. word.now) words.entry.now))) }
+        (IsAsked on_terminal (subcommand_of pramx (map (λ word. word.now) words.entry.now))) }
     ensures taken { IfOk result (λ asked. ¬ MeanNoLine (map (λ word. word.now)
         words.entry.now)) }
     ensures refused { IfErr result (λ error. kind_of error ≢ ErrorKind.OutOfMemory
@@ -465,7 +466,7 @@ fn needed<'a>(arg: Arg<'a>) -> Arg<'a>
 }
 
 fn asked_of<'a>(matches: &ArgMatches<'a>, on_terminal: bool) -> Option<Asked<'a>>
-    ensures { IfSome result (IsAsked (subcommand_rows_of matches.now)) }
+    ensures { IfSome result (IsAsked on_terminal (subcommand_rows_of matches.now)) }
 {
     let line = line_of(matches, on_terminal)?;
     let (_, inner) = matches.subcommand()?;
@@ -476,7 +477,8 @@ fn asked_of<'a>(matches: &ArgMatches<'a>, on_terminal: bool) -> Option<Asked<'a>
 }
 
 fn line_of<'a>(matches: &ArgMatches<'a>, on_terminal: bool) -> Option<Line<'a>>
-    ensures { IfSome result (IsMet (subcommand_rows_of matches.now)) }
+    ensures met { IfSome result (IsMet (subcommand_rows_of matches.now)) }
+    ensures suits { IfSome result (λ line. SuitsTerminal on_terminal (telling_of line)) }
 {
     let (name, inner) = matches.subcommand()?;
     let file = inner.get_str("file")?;
@@ -503,7 +505,8 @@ fn line_of<'a>(matches: &ArgMatches<'a>, on_terminal: bool) -> Option<Line<'a>>
 
 // The same of the lines that have workers.
 fn workers_line_of<'a>(matches: &ArgMatches<'a>, on_terminal: bool) -> Option<Line<'a>>
-    ensures { IfSome result (IsMet (subcommand_rows_of matches.now)) }
+    ensures met { IfSome result (IsMet (subcommand_rows_of matches.now)) }
+    ensures suits { IfSome result (λ line. SuitsTerminal on_terminal (telling_of line)) }
 {
     let (name, inner) = matches.subcommand()?;
     let file = inner.get_str("file")?;
@@ -556,7 +559,8 @@ fn workers_of(inner: &ArgMatches<'_>) -> Option<Workers>
 
 // How a run or a watch goes on threads.
 fn manner_of(inner: &ArgMatches<'_>, on_terminal: bool) -> Option<Manner>
-    ensures { IfSome result (HasManner (rows_of (found_of inner.now))) }
+    ensures has { IfSome result (HasManner (rows_of (found_of inner.now))) }
+    ensures suits { IfSome result (λ manner. SuitsTerminal on_terminal manner.progress) }
 {
     let workers = workers_of(inner)?;
     let wanted = inner.get_flag("progress");
@@ -573,7 +577,8 @@ fn manner_of(inner: &ArgMatches<'_>, on_terminal: bool) -> Option<Manner>
 
 // How standard error is told how far a run or a watch is, where that is wanted.
 fn telling(wanted: bool, on_terminal: bool) -> Telling
-    ensures { is_told result ≡ wanted }
+    ensures told { is_told result ≡ wanted }
+    ensures suits { SuitsTerminal on_terminal result }
 {
     match (wanted, on_terminal) {
         (false, _) => Telling::Silent,

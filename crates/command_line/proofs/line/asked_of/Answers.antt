@@ -5,7 +5,8 @@ use Rattle.command_line.proofs.line.asked_of.Goals as goal
 
 pub returns : goal.returns
 returns c = record {
-  line = c.in_ok-line.ensures;
+  line = c.in_ok-line.ensures.met;
+  telling = c.in_ok-line.ensures.suits;
   explain = has_flag _ _ (found_of c.in_ok-inner.inner.now) (codes "explain") _
       (pair_of _ _ _ _ _ c.in_ok-inner.ensures.name c.in_ok-inner.ensures.rows)
       (flag_of (found_of c.in_ok-inner.inner.now) (codes "explain") _ c.get_flag.ensures.none

@@ -3,16 +3,16 @@ use Rattle.clap.specs.Words.{found_of}
 use Rattle.command_line.proofs.Matches.{flag_of, has_flag, met_file, pair_of}
 use Rattle.command_line.proofs.line.line_of.Goals as goal
 
-pub returns-in-check : goal.returns-in-check
-returns-in-check c = rw (← c.in-check.is)
+pub returns-in-check-clause-met : goal.returns-in-check-clause-met
+returns-in-check-clause-met c = rw (← c.in-check.is)
     (met_file _ _ _ _ c.in_ok-name.ensures.name c.in_ok-name.ensures.rows c.in_ok-file.ensures)
 
-pub returns-in-compile : goal.returns-in-compile
-returns-in-compile c = rw (← c.in-compile.is)
+pub returns-in-compile-clause-met : goal.returns-in-compile-clause-met
+returns-in-compile-clause-met c = rw (← c.in-compile.is)
     (met_file _ _ _ _ c.in_ok-name.ensures.name c.in_ok-name.ensures.rows c.in_ok-file.ensures)
 
-pub returns-in-plain : goal.returns-in-plain
-returns-in-plain c = rw (← c.in-plain.is) (
+pub returns-in-plain-clause-met : goal.returns-in-plain-clause-met
+returns-in-plain-clause-met c = rw (← c.in-plain.is) (
   met_file _ _ _ _ c.in_ok-name.ensures.name c.in_ok-name.ensures.rows c.in_ok-file.ensures,
   has_flag _ _ (found_of c.in_ok-name.inner.now) (codes "why") _
       (pair_of _ _ _ _ _ c.in_ok-name.ensures.name c.in_ok-name.ensures.rows)
@@ -20,12 +20,12 @@ returns-in-plain c = rw (← c.in-plain.is) (
       c.get_flag-why.ensures.value c.get_flag-why.ensures.other),
 )
 
-pub returns-in-cost : goal.returns-in-cost
-returns-in-cost c = rw (← c.in-cost.is)
+pub returns-in-cost-clause-met : goal.returns-in-cost-clause-met
+returns-in-cost-clause-met c = rw (← c.in-cost.is)
     (met_file _ _ _ _ c.in_ok-name.ensures.name c.in_ok-name.ensures.rows c.in_ok-file.ensures)
 
-pub returns-in_ok-from-in-steps : goal.returns-in_ok-from-in-steps
-returns-in_ok-from-in-steps c = rw (← c.in-steps.is) (record {
+pub returns-in_ok-from-in-steps-clause-met : goal.returns-in_ok-from-in-steps-clause-met
+returns-in_ok-from-in-steps-clause-met c = rw (← c.in-steps.is) (record {
   of_file =
       met_file _ _ _ _ c.in_ok-name.ensures.name c.in_ok-name.ensures.rows c.in_ok-file.ensures;
   has_from = c.in_ok-from-in-steps.ensures.from;

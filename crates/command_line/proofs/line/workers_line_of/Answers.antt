@@ -3,13 +3,13 @@ use Rattle.clap.specs.Words.{found_of}
 use Rattle.command_line.proofs.Matches.{flag_of, has_flag, met_file, met_plan, pair_of}
 use Rattle.command_line.proofs.line.workers_line_of.Goals as goal
 
-pub returns-in_ok-manner-in-run : goal.returns-in_ok-manner-in-run
-returns-in_ok-manner-in-run c = rw (← c.in-run.is) (
+pub returns-in_ok-manner-in-run-clause-met : goal.returns-in_ok-manner-in-run-clause-met
+returns-in_ok-manner-in-run-clause-met c = rw (← c.in-run.is) (
   record {
     of_file =
         met_file _ _ _ _ c.in_ok-name.ensures.name c.in_ok-name.ensures.rows c.in_ok-file.ensures;
     has_plan = met_plan c.in_ok-name.inner.now _ c.get_str-plan.ensures;
-    has_manner = c.in_ok-manner-in-run.ensures;
+    has_manner = c.in_ok-manner-in-run.ensures.has;
   },
   has_flag _ _ (found_of c.in_ok-name.inner.now) (codes "why") _
       (pair_of _ _ _ _ _ c.in_ok-name.ensures.name c.in_ok-name.ensures.rows)
@@ -17,21 +17,21 @@ returns-in_ok-manner-in-run c = rw (← c.in-run.is) (
       c.get_flag.ensures.value c.get_flag.ensures.other),
 )
 
-pub returns-in_ok-cells-in-watch : goal.returns-in_ok-cells-in-watch
-returns-in_ok-cells-in-watch c = rw (← c.in-watch.is) (record {
+pub returns-in_ok-cells-in-watch-clause-met : goal.returns-in_ok-cells-in-watch-clause-met
+returns-in_ok-cells-in-watch-clause-met c = rw (← c.in-watch.is) (record {
   has_run = record {
     of_file =
         met_file _ _ _ _ c.in_ok-name.ensures.name c.in_ok-name.ensures.rows c.in_ok-file.ensures;
     has_plan = met_plan c.in_ok-name.inner.now _ c.get_str-plan.ensures;
-    has_manner = c.in_ok-manner-in-watch.ensures;
+    has_manner = c.in_ok-manner-in-watch.ensures.has;
   };
   has_cells = c.in_ok-cells-in-watch.ensures.cells;
   spells = c.in_ok-cells-in-watch.ensures.spells;
   has_rounds = c.in_ok-cells-in-watch.ensures.rounds;
 })
 
-pub returns-in_ok-workers-in-replay : goal.returns-in_ok-workers-in-replay
-returns-in_ok-workers-in-replay c = rw (← c.in-replay.is) (record {
+pub returns-in_ok-workers-in-replay-clause-met : goal.returns-in_ok-workers-in-replay-clause-met
+returns-in_ok-workers-in-replay-clause-met c = rw (← c.in-replay.is) (record {
   of_file =
       met_file _ _ _ _ c.in_ok-name.ensures.name c.in_ok-name.ensures.rows c.in_ok-file.ensures;
   has_workers = c.in_ok-workers-in-replay.ensures;
