@@ -14,13 +14,14 @@ use Rattle.pram_cost.specs.declared.meeting.Sharing.{Sharing}
 use Rattle.pram_cost.specs.declared.meeting.Sharing.TheVariants.{SameRead, SameWrite, OtherValue}
 use Rattle.pram_machine.specs.declared.requests.Request.{Request}
 use Rattle.pram_cost.specs.Accesses.{is_running, running_in, cell_by, put_to_cell, write_by}
+use Rattle.pram_cost.specs.declared.found.Access.{Access}
 use Rattle.pram_cost.specs.Costs.{has_access}
+use Rattle.pram_cost.specs.Inner.Found.{access_at, AreAccesses}
 use Rattle.pram_machine.specs.Instructions.{goes_to, request_in}
 use Rattle.pram_machine.specs.Machine.{State, counter, halted}
 use Rattle.pram_cost.specs.Meetings.{access_by}
 use Rattle.pram_step.proofs.LawStopped.{stopped_request}
-use Rattle.pram_cost.proofs.Runners.{runner_at, range_below, running_below, front, front_next}
-use Rattle.pram_cost.proofs.Runners.{none_before_first, none_between}
+use Rattle.pram_cost.proofs.Runners.{range_below}
 
 -- ---- one that has stopped
 
@@ -38,51 +39,6 @@ idle_access SameWrite job s i idle =
     ap (λ (r : Request). put_to_cell job r.put) (idle_request job s i idle)
 idle_access OtherValue job s i idle =
     ap (λ (r : Request). put_to_cell job r.put) (idle_request job s i idle)
-
--- before the first one that runs, and between one and the next, none goes to a cell
-pub none_goes_before : (sharing : Sharing) (job : JobData) (s : State) (i : ℕ) → 0 ≤ i →
-    i < front job s 0 → access_by sharing job s i ≡ None
-none_goes_before sharing job s i from low =
-    idle_access sharing job s i (none_before_first job s i low)
-
-pub none_goes_between : (sharing : Sharing) (job : JobData) (s : State) (q i : ℕ) →
-    q < length (running_in job s) → get_or (running_in job s) q 0 + 1 ≤ i →
-    i < front job s (q + 1) → access_by sharing job s i ≡ None
-none_goes_between sharing job s q i lt from low =
-    idle_access sharing job s i (none_between job s q i lt (omega arith) low)
-
--- the same of a list that is that of the processors that run
-module _ (job : JobData) (s : State) (xs : List ℕ) (runs : xs ≡ running_in job s) where
-  pub list_below : (q : ℕ) → q < length xs → get_or xs q 0 < job.procs
-  list_below = subst (λ (ys : List ℕ). (q : ℕ) → q < length ys → get_or ys q 0 < job.procs)
-      (sym runs) (λ q lt. running_below job s q 0 lt)
-
-  pub list_first : (sharing : Sharing) (i : ℕ) → 0 ≤ i → i < get_or xs 0 job.procs →
-      access_by sharing job s i ≡ None
-  list_first sharing = subst (λ (ys : List ℕ). (i : ℕ) → 0 ≤ i → i < get_or ys 0 job.procs →
-      access_by sharing job s i ≡ None) (sym runs) (none_goes_before sharing job s)
-
-  pub list_between : (sharing : Sharing) (q : ℕ) → q < length xs → (i : ℕ) →
-      get_or xs q 0 + 1 ≤ i → i < get_or xs (q + 1) job.procs → access_by sharing job s i ≡ None
-  list_between sharing q = subst (λ (ys : List ℕ). q < length ys → (i : ℕ) →
-      get_or ys q 0 + 1 ≤ i → i < get_or ys (q + 1) job.procs → access_by sharing job s i ≡ None)
-      (sym runs) (λ lt i. none_goes_between sharing job s q i lt)
-
-  pub list_next : (q : ℕ) → q < length xs → get_or xs q 0 + 1 ≤ get_or xs (q + 1) job.procs
-  list_next q = subst (λ (ys : List ℕ). q < length ys →
-      get_or ys q 0 + 1 ≤ get_or ys (q + 1) job.procs) (sym runs) (front_next job s q)
-
-  -- where those of the list have a property that the others have, all have it
-  pub list_all : (P : ℕ → Type 0) → ((i : ℕ) → is_running job s i ≡ false → P i) →
-      ((q : ℕ) → q < length xs → P (get_or xs q 0)) → (i : ℕ) → i < job.procs → P i
-  list_all P idle = subst (λ (ys : List ℕ). ((q : ℕ) → q < length ys → P (get_or ys q 0)) →
-      (i : ℕ) → i < job.procs → P i) (sym runs) (λ listed i below.
-      elim (cases_Bool (is_running job s i)) [
-        | inl runs_too ↦
-            let at = runner_at job s i below runs_too in
-            subst P at.2 (listed at.0 at.1)
-        | inr stopped ↦ idle i stopped
-      ])
 
 -- ---- whether some processor has an access
 
@@ -102,6 +58,27 @@ has_access_none sharing job s none =
     list_any_none (λ j. is_some (access_by sharing job s j)) (range_with_len 0 job.procs)
     (λ k d lt. ap (λ (o : Option (ℕ × ℕ)). is_some o)
     (none (get_or (range_with_len 0 job.procs) k d) (range_below job.procs k d lt)))
+
+-- by the list of all such accesses
+pub no_access : (sharing : Sharing) (job : JobData) (s : State) (list : List Access) →
+    AreAccesses job.cells (access_by sharing job s) job.procs list → length list ≡ 0 →
+    has_access sharing job s ≡ false
+no_access sharing job s list are none = has_access_none sharing job s (λ i low.
+    by_access i low (access_by sharing job s i) refl)
+  where
+    by_access : (i : ℕ) → i < job.procs → (o : Option (ℕ × ℕ)) → access_by sharing job s i ≡ o →
+        access_by sharing job s i ≡ None
+    by_access i low None is = is
+    by_access i low (Some (cell, value)) is =
+        absurd (are.all i cell value low is (λ k inside. absurd (omega arith)))
+
+pub some_access : (sharing : Sharing) (job : JobData) (s : State) (list : List Access) →
+    AreAccesses job.cells (access_by sharing job s) job.procs list → 0 < length list →
+    has_access sharing job s ≡ true
+some_access sharing job s list are some =
+    let first = are.each 0 (record { processor = 0; cell = 0; value = 0 }) some in
+    has_access_at sharing job s (access_at list 0).processor first.within
+    (ap (λ (o : Option (ℕ × ℕ)). is_some o) first.goes)
 
 -- ---- a write is what is put to a cell
 

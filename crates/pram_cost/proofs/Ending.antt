@@ -55,3 +55,8 @@ pub disputed : (job : JobData) (t : ℕ) (s : State) (made : Option Fault) (faul
     IsFirstConflict job fault × (fault.step ≡ t + 1)
 disputed job t s made fault is = subst (λ (o : Option Fault). IsStepMade job t s o →
     IsFirstConflict job fault × (fault.step ≡ t + 1)) (sym is) (λ step. step)
+
+pub undisputed : (job : JobData) (t : ℕ) (s : State) (made : Option Fault) → made ≡ None →
+    IsStepMade job t s made → IsStateAfter job (t + 1) s
+undisputed job t s made is = subst (λ (o : Option Fault). IsStepMade job t s o →
+    IsStateAfter job (t + 1) s) (sym is) (λ after. after)

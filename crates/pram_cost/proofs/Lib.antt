@@ -1,5 +1,8 @@
 pub mod Runners
 pub mod Accessing
+pub mod Visiting
+pub mod Finding
+pub mod Searching
 pub mod Staying
 pub mod Meets
 pub mod Repeated

@@ -4,13 +4,14 @@ use Rattle.std.proofs.Common.{◌⊎◌, Option, Some, None, refl, sym, ap, subs
 use Rattle.std.specs.Prelude.{sum_by, max, IfSome}
 use Rattle.std.proofs.lemmas.Bool.{cases_lt}
 use Rattle.std.proofs.lemmas.List.FromFn.{sum_by-map-range_with_len_more}
-use Rattle.std.proofs.lemmas.Option.{none-some, same_Some}
+use Rattle.std.proofs.lemmas.Option.{none-some, same_Some, some_pair_parts}
 use Rattle.std.proofs.Math.Nat.{le-max_left, le-max_right, max-eq_left, max-eq_right}
 use Rattle.pram_job.specs.Job.{JobData}
 use Rattle.pram_cost.specs.declared.meeting.Meeting.{Meeting}
 use Rattle.pram_cost.specs.declared.meeting.Sharing.{Sharing}
-use Rattle.pram_cost.specs.declared.meeting.Sharing.TheVariants.{SameRead, SameWrite}
+use Rattle.pram_cost.specs.declared.meeting.Sharing.TheVariants.{SameRead, SameWrite, OtherValue}
 use Rattle.pram_cost.specs.declared.work.Work.{Work}
+use Rattle.pram_cost.specs.Accesses.{write_by}
 use Rattle.pram_cost.specs.Costs.{at_work, has_access, executed, steps_with, first_states}
 use Rattle.pram_cost.specs.Costs.{IsMost, IsWork}
 use Rattle.pram_cost.specs.Inner.Repeats.{Repeats}
@@ -178,3 +179,19 @@ first_repeats job n s sharing k None some same none = λ t below. elim (cases_lt
 ]
 first_repeats job n s sharing k (Some meeting) some same first =
     first_stays job (n + 1) s sharing (n + k) meeting (omega arith) first
+
+-- where no two write to one cell, none write different values there
+pub none_differ : (job : JobData) (n : ℕ) → IsFirstOrNone SameWrite job n None →
+    IsFirstOrNone OtherValue job n None
+none_differ job n none t below cell i j met = none t below cell i j (record {
+  value = met.value;
+  other = met.other;
+  within = met.within;
+  within_too = met.within_too;
+  goes = met.goes;
+  goes_too = met.goes_too;
+  differ = λ same.
+      let at_j = subst (λ k. write_by job (state_after job t) k ≡ Some (cell, met.value)) same
+      met.goes in
+      met.differ (some_pair_parts cell cell met.value met.other (sym at_j ∙ met.goes_too)).1;
+})

@@ -1,20 +1,20 @@
--- The processors that run in a state, as a list.
+-- The processors that run in a state, as a list, and lists that have all of them.
 use Rattle.std.proofs.Common.{◌≡◌, ℕ, zero, suc, ◌+◌, ◌<◌, ◌≤◌, Bool, true, false, cond}
 use Rattle.std.proofs.Common.{List, [], ◌∷◌, ◌++◌, length, get_or, refl, sym, ap, subst, ◌∙◌}
-use Rattle.std.proofs.Common.{inl, inr, arith, add-one, append-nil}
-use Rattle.std.specs.Prelude.{filter, All, AllPairs, nat_lt, ◌&&◌}
+use Rattle.std.proofs.Common.{inl, inr, arith, add-one, length-append}
+use Rattle.std.specs.Prelude.{filter, All}
 use Rattle.std.specs.List.{range_with_len}
 use Rattle.std.specs.List.Sorted.{IsStrictlyIncreasing}
-use Rattle.std.proofs.lemmas.Bool.{cases_lt, ltb-false, lt-ltb, le-ltb, false_from_ne_true}
-use Rattle.std.proofs.lemmas.Grind.{get_or_default_zero}
-use Rattle.std.proofs.lemmas.List.{get_or_past}
+use Rattle.std.proofs.lemmas.Bool.{cases_Bool, cases_lt, ltb-true, ltb-false, lt-ltb, le-ltb}
+use Rattle.std.proofs.lemmas.List.{get_or_default}
 use Rattle.std.proofs.lemmas.List.Elements.{All-filter, filter-append}
 use Rattle.std.proofs.lemmas.List.FromFn.{length-range_with_len, get_or-range_with_len}
-use Rattle.std.proofs.lemmas.List.Kept.{IsStrictlyIncreasing-filter, AllPairs-from_increasing}
+use Rattle.std.proofs.lemmas.List.Kept.{IsStrictlyIncreasing-filter}
 use Rattle.std.proofs.Math.Nat.{add-zero}
 use Rattle.pram_job.specs.Job.{JobData, IsJob}
 use Rattle.pram_cost.specs.Accesses.{is_running, running_in}
 use Rattle.pram_machine.specs.Machine.{State, counter, halted}
+use Rattle.pram_step.specs.Inner.Passes.{AreRunning}
 use Rattle.pram_step.specs.Runs.{state_after}
 use Rattle.pram_step.proofs.LawCounters.{stopped_processor}
 
@@ -60,21 +60,6 @@ kept p (x ∷ xs) (suc k) lt passes =
     behind true (q, lt, is) = (suc q, omega arith, is)
     behind false later = later
 
--- what passes a test of which the second test is a part
-filter_filter : (p q r : ℕ → Bool) (xs : List ℕ) → All (λ x. r x ≡ (p x && q x)) xs →
-    filter q (filter p xs) ≡ filter r xs
-filter_filter p q r [] same = refl
-filter_filter p q r (x ∷ xs) same =
-    let here : r x ≡ (p x && q x) = same 0 x (omega arith) in
-    let rest = filter_filter p q r xs (λ k d lt. same (suc k) d (omega arith)) in
-    rw here (by_test rest (p x))
-  where
-    by_test : filter q (filter p xs) ≡ filter r xs → (b : Bool) →
-        filter q (cond b (x ∷ filter p xs) (filter p xs))
-        ≡ cond (b && q x) (x ∷ filter r xs) (filter r xs)
-    by_test rest true = ap (λ (ys : List ℕ). cond (q x) (x ∷ ys) ys) rest
-    by_test rest false = rest
-
 filter_more : (p : ℕ → Bool) (n : ℕ) →
     filter p (range_with_len 0 (n + 1)) ≡ filter p (range_with_len 0 n) ++ filter p (n ∷ [])
 filter_more p n =
@@ -90,150 +75,96 @@ running_below job s =
     All-filter (is_running job s) (λ i. i < job.procs) (range_with_len 0 job.procs)
     (range_below job.procs)
 
-running_increases : (job : JobData) (s : State) → AllPairs (λ x y. x < y) (running_in job s)
-running_increases job s = AllPairs-from_increasing (running_in job s)
-    (IsStrictlyIncreasing-filter (is_running job s) (range_with_len 0 job.procs)
-    (range_increases job.procs))
-
--- each of them is in the list
-pub runner_at : (job : JobData) (s : State) (i : ℕ) → i < job.procs →
-    is_running job s i ≡ true →
-    (q : ℕ) × (q < length (running_in job s)) × (get_or (running_in job s) q 0 ≡ i)
-runner_at job s i lt runs =
-    let there : get_or (range_with_len 0 job.procs) i 0 ≡ i =
-    omega (arith, get_or-range_with_len 0 job.procs i 0 lt) in
-    let found = kept (is_running job s) (range_with_len 0 job.procs) i
-    (omega (arith, length-range_with_len 0 job.procs))
-    (subst (λ (j : ℕ). is_running job s j ≡ true) (sym there) runs) in
-    (found.0, found.1, found.2 ∙ there)
-
--- the q-th processor that runs, or the number of all processors past the last one
-abbrev pub front : JobData → State → ℕ → ℕ
-front job s q = get_or (running_in job s) q job.procs
-
-front_at : (job : JobData) (s : State) (q : ℕ) → q < length (running_in job s) →
-    front job s q ≡ get_or (running_in job s) q 0
-front_at job s q lt = get_or_default_zero (running_in job s) q job.procs lt
-
-pub front_within : (job : JobData) (s : State) (q : ℕ) → front job s q ≤ job.procs
-front_within job s q = elim (cases_lt q (length (running_in job s))) [
-  | inl lt ↦ (let below = running_below job s q job.procs lt in omega arith)
-  | inr past ↦ omega (arith, get_or_past (running_in job s) q job.procs past)
-]
-
--- a processor that runs and comes before the q-th stands before it in the list
-before_front : (job : JobData) (s : State) (q i : ℕ) → i < job.procs → i < front job s q →
-    is_running job s i ≡ true →
-    (k : ℕ) × (k < q) × (k < length (running_in job s)) × (get_or (running_in job s) k 0 ≡ i)
-before_front job s q i lt low runs =
-    let at = runner_at job s i lt runs in
-    elim (cases_lt at.0 q) [
-      | inl early ↦ (at.0, early, at.1, at.2)
-      | inr late ↦
-          let there = front_at job s q (omega (arith, at.1)) in
-          absurd (elim (cases_lt q at.0) [
-            | inl less ↦
-                let up = running_increases job s q at.0 0 less at.1 in
-                omega (arith, at.2, up, there)
-            | inr more ↦
-                let same : at.0 ≡ q = omega arith in
-                let is = subst (λ (k : ℕ). get_or (running_in job s) k 0 ≡ i) same at.2 in
-                omega (arith, there)
-          ])
-    ]
-
--- none that comes before the first one runs
-pub none_before_first : (job : JobData) (s : State) (i : ℕ) → i < front job s 0 →
-    is_running job s i ≡ false
-none_before_first job s i low = false_from_ne_true (is_running job s i) (λ runs.
-    let within = front_within job s 0 in
-    let at = before_front job s 0 i (omega arith) low runs in
-    let never = at.1 in omega arith)
-
--- none between the q-th one and the next runs
-pub none_between : (job : JobData) (s : State) (q i : ℕ) → q < length (running_in job s) →
-    get_or (running_in job s) q 0 < i → i < front job s (q + 1) → is_running job s i ≡ false
-none_between job s q i lt above low = false_from_ne_true (is_running job s i) (λ runs.
-    let within = front_within job s (q + 1) in
-    let at = before_front job s (q + 1) i (omega arith) low runs in
-    elim (cases_lt at.0 q) [
-      | inl less ↦
-          let up = running_increases job s at.0 q 0 less lt in
-          omega (arith, at.3, up)
-      | inr more ↦
-          let same : at.0 ≡ q = omega (arith, at.1) in
-          let is = subst (λ (k : ℕ). get_or (running_in job s) k 0 ≡ i) same at.3 in
-          omega arith
-    ])
-
--- the next one comes later
-pub front_next : (job : JobData) (s : State) (q : ℕ) → q < length (running_in job s) →
-    get_or (running_in job s) q 0 + 1 ≤ front job s (q + 1)
-front_next job s q lt = elim (cases_lt (q + 1) (length (running_in job s))) [
-  | inl more ↦
-      let up = running_increases job s q (q + 1) 0 (omega arith) more in
-      let there = front_at job s (q + 1) more in
-      omega arith
-  | inr past ↦
-      let below = running_below job s q 0 lt in
-      let there = get_or_past (running_in job s) (q + 1) job.procs past in
-      omega arith
-]
-
--- one processor more that runs, and one that does not
-pub one_more_runs : (job : JobData) (s : State) (n : ℕ) (xs : List ℕ) →
-    is_running job s n ≡ true → xs ≡ filter (is_running job s) (range_with_len 0 n) →
-    xs ++ n ∷ [] ≡ filter (is_running job s) (range_with_len 0 (n + 1))
-one_more_runs job s n xs runs is =
+-- so many of n run, and of one more
+pub count_runs : (job : JobData) (s : State) (n : ℕ) → is_running job s n ≡ true →
+    length (filter (is_running job s) (range_with_len 0 (n + 1)))
+    ≡ length (filter (is_running job s) (range_with_len 0 n)) + 1
+count_runs job s n runs =
     let p = is_running job s in
-    let last : filter p (n ∷ []) ≡ n ∷ [] = ap (λ (b : Bool). cond b (n ∷ []) []) runs in
-    ap (λ (ys : List ℕ). ys ++ n ∷ []) is
-    ∙ ap (λ (ys : List ℕ). filter p (range_with_len 0 n) ++ ys) (sym last)
-    ∙ sym (filter_more p n)
+    let last : length (filter p (n ∷ [])) ≡ 1 =
+    ap (λ (b : Bool). length (cond b (n ∷ []) [])) runs in
+    omega (
+      arith,
+      ap length (filter_more p n),
+      length-append (filter p (range_with_len 0 n)) (filter p (n ∷ [])),
+      last,
+    )
 
-pub one_more_stopped : (job : JobData) (s : State) (n : ℕ) (xs : List ℕ) →
-    is_running job s n ≡ false → xs ≡ filter (is_running job s) (range_with_len 0 n) →
-    xs ≡ filter (is_running job s) (range_with_len 0 (n + 1))
-one_more_stopped job s n xs stopped is =
+pub count_stopped : (job : JobData) (s : State) (n : ℕ) → is_running job s n ≡ false →
+    length (filter (is_running job s) (range_with_len 0 (n + 1)))
+    ≡ length (filter (is_running job s) (range_with_len 0 n))
+count_stopped job s n stopped =
     let p = is_running job s in
-    let last : filter p (n ∷ []) ≡ [] = ap (λ (b : Bool). cond b (n ∷ []) []) stopped in
-    is ∙ sym (append-nil (filter p (range_with_len 0 n)))
-    ∙ ap (λ (ys : List ℕ). filter p (range_with_len 0 n) ++ ys) (sym last)
-    ∙ sym (filter_more p n)
+    let last : length (filter p (n ∷ [])) ≡ 0 =
+    ap (λ (b : Bool). length (cond b (n ∷ []) [])) stopped in
+    omega (
+      arith,
+      ap length (filter_more p n),
+      length-append (filter p (range_with_len 0 n)) (filter p (n ∷ [])),
+      last,
+    )
+
+-- ---- lists that have all of them
+
+pub all_run : (job : JobData) (s : State) → AreRunning job s (range_with_len 0 job.procs)
+all_run job s = record {
+  within = range_below job.procs;
+  rises = range_increases job.procs;
+  all = λ i low runs. (
+    i,
+    omega (arith, length-range_with_len 0 job.procs),
+    omega (arith, get_or-range_with_len 0 job.procs i i low),
+  );
+}
+
+-- without some that have stopped
+pub fewer_run : (job : JobData) (s : State) (p : ℕ → Bool) (listed : List ℕ) →
+    ((i : ℕ) → i < job.procs → is_running job s i ≡ true → p i ≡ true) →
+    AreRunning job s listed → AreRunning job s (filter p listed)
+fewer_run job s p listed passes are = record {
+  within = All-filter p (λ i. i < job.procs) listed are.within;
+  rises = IsStrictlyIncreasing-filter p listed are.rises;
+  all = λ i low runs.
+      let at = are.all i low runs in
+      let here : get_or listed at.0 0 ≡ i = get_or_default listed at.0 0 i at.1 ∙ at.2 in
+      let is = passes i low (lt-ltb (counter job s i) (halted job) runs) in
+      let found = kept p listed at.0 at.1 (ap p here ∙ is) in (
+        found.0,
+        found.1,
+        get_or_default (filter p listed) found.0 i 0 found.1 ∙ found.2 ∙ here,
+      );
+}
+
+-- where those of the list have a property that the others have, all have it
+pub all_from_listed : (job : JobData) (s : State) (listed : List ℕ) → AreRunning job s listed →
+    (P : ℕ → Type 0) → ((i : ℕ) → is_running job s i ≡ false → P i) →
+    ((q : ℕ) → q < length listed → P (get_or listed q 0)) → (i : ℕ) → i < job.procs → P i
+all_from_listed job s listed are P idle here i below = elim (cases_Bool (is_running job s i)) [
+  | inl runs ↦
+      let at = are.all i below (ltb-true (counter job s i) (halted job) runs) in
+      subst P (get_or_default listed at.0 0 i at.1 ∙ at.2) (here at.0 at.1)
+  | inr stopped ↦ idle i stopped
+]
 
 -- ---- a step more
 
--- a processor that has stopped does not run after the step either
-stays_stopped : (job : JobData) (t i : ℕ) → IsJob job → i < job.procs →
-    is_running job (state_after job t) i ≡ false →
-    is_running job (state_after job (t + 1)) i ≡ false
-stays_stopped job t i is_job lt stopped =
-    let past = ltb-false (counter job (state_after job t) i) (halted job) stopped in
-    let same = (stopped_processor job t 1 i is_job lt past).0 in
-    le-ltb (counter job (state_after job (t + 1)) i) (halted job) (omega (arith, same))
-
-still_running : (job : JobData) (t : ℕ) → IsJob job →
-    filter (λ i. nat_lt i job.procs && is_running job (state_after job (t + 1)) i)
-    (running_in job (state_after job t)) ≡ running_in job (state_after job (t + 1))
-still_running job t is_job =
-    filter_filter (is_running job (state_after job t))
-    (λ i. nat_lt i job.procs && is_running job (state_after job (t + 1)) i)
-    (is_running job (state_after job (t + 1))) (range_with_len 0 job.procs) (λ k d lt.
-    let i = get_or (range_with_len 0 job.procs) k d in
-    let below : i < job.procs = range_below job.procs k d lt in
-    rw (lt-ltb i job.procs below) (by_test i below (is_running job (state_after job t) i) refl))
+-- a list of all that run before a step has all that run after it
+pub run_after : (job : JobData) (t : ℕ) (s next : State) (listed : List ℕ) → IsJob job →
+    s ≡ state_after job t → next ≡ state_after job (t + 1) → AreRunning job s listed →
+    AreRunning job next listed
+run_after job t s next listed is_job is is_next are = record {
+  within = are.within;
+  rises = are.rises;
+  all = λ i low runs. are.all i low (ran i low runs);
+}
   where
-    by_test : (i : ℕ) → i < job.procs → (b : Bool) → is_running job (state_after job t) i ≡ b →
-        is_running job (state_after job (t + 1)) i
-        ≡ (b && is_running job (state_after job (t + 1)) i)
-    by_test i below true is = refl
-    by_test i below false is = stays_stopped job t i is_job below is
-
--- the same of a state that is the one after the step, and a list that is that of before it
-pub kept_running : (job : JobData) (t : ℕ) (s : State) (xs : List ℕ) → IsJob job →
-    s ≡ state_after job (t + 1) → xs ≡ running_in job (state_after job t) →
-    filter (λ i. nat_lt i job.procs && is_running job s i) xs ≡ running_in job s
-kept_running job t s xs is_job is runs =
-    ap (filter (λ i. nat_lt i job.procs && is_running job s i)) runs
-    ∙ subst (λ (r : State). filter (λ i. nat_lt i job.procs && is_running job r i)
-    (running_in job (state_after job t)) ≡ running_in job r) (sym is) (still_running job t is_job)
+    ran : (i : ℕ) → i < job.procs → counter job next i < halted job →
+        counter job s i < halted job
+    ran i low runs = elim (cases_lt (counter job s i) (halted job)) [
+      | inl early ↦ early
+      | inr past ↦
+          let there = subst (λ (r : State). halted job ≤ counter job r i) is past in
+          let same = (stopped_processor job t 1 i is_job low there).0 in
+          let now = ap (λ (r : State). counter job r i) is_next in
+          absurd (omega (arith, same, there, now))
+    ]

@@ -1,14 +1,15 @@
 //! What a run costs.
 ghost use Rattle.std.specs.Prelude.{◌≡◌, ℕ, ◌+◌, ◌*◌, ◌<◌, ◌≤◌, ◌↔◌, length, IfOk, IsNone, IsTrue};
-ghost use Rattle.pram_cost.specs.Accesses.{running_in};
+ghost use Rattle.std.specs.List.{range_with_len};
 ghost use Rattle.pram_cost.specs.Costs.{IsCost, IsCostOf};
 ghost use Rattle.pram_cost.specs.Inner.Repeats.{AllStay, Repeats, Stays};
 ghost use Rattle.pram_machine.specs.Machine.{place_count};
 ghost use Rattle.pram_cost.specs.Models.{IsNeeded};
-ghost use Rattle.pram_step.specs.Runs.{IsStateAfter, state_after};
+ghost use Rattle.pram_step.specs.Inner.Passes.{AreRunning};
 ghost use Rattle.pram_job.specs.Job.{JobData};
 
 use crate::access::is_running;
+use crate::found::Accesses;
 use crate::meeting::Meetings;
 use crate::moment::Moment;
 use crate::pram::Pram;
@@ -94,7 +95,7 @@ impl Cost {
 ///
 /// It takes time in the number of processors that run in each step, beside the steps themselves,
 /// and once a step changes nothing the cost is there at once, whatever number of steps is left.
-/// Memory is taken once.
+/// Memory is taken for the cells and the processors alone.
 pub fn cost_of(alloc: Global, job: &Job) -> Result<Cost, AllocError>
     ensures { IfOk result (IsCost job.now) }
 {
@@ -102,17 +103,20 @@ pub fn cost_of(alloc: Global, job: &Job) -> Result<Cost, AllocError>
     laws::states_have_all_places();
     job.limits_hold();
     let mut state = State::start(alloc, job)?;
-    let mut running = all_running(alloc, job, &state)?;
+    let mut listed = all_processors(alloc, job)?;
+    let mut accesses = Accesses::new(alloc);
     let mut marks = vec![in alloc; 0; job.cells() as usize]?;
     let mut cost = Cost::of_no_step(job);
     for made in 0..job.steps() {
+        accesses.find(job, &state, listed.as_slice())?;
+        keep_running(job, &state, &accesses, &mut listed);
         let moment = Moment {
             job,
             state: &state,
-            running: running.as_slice(),
+            accesses: &accesses,
             made,
         };
-        if all_stay(&moment) {
+        if all_stay(&moment, listed.as_slice()) {
             return Ok(cost.after(&moment, &mut marks, job.steps() - made));
         }
         cost = cost.after(&moment, &mut marks, 1);
@@ -122,42 +126,38 @@ pub fn cost_of(alloc: Global, job: &Job) -> Result<Cost, AllocError>
                 ..cost
             });
         }
-        keep_running(job, &state, &mut running);
     }
     Ok(cost)
 }
 
-// The processors that run in a state.
-fn all_running(alloc: Global, job: &Job, state: &State) -> Result<Vec<u32>, AllocError>
-    requires { length state.now ≡ place_count job.now }
-    ensures { IfOk result (λ running. running.items ≡ running_in job.now state.now) }
+// All processors, in order.
+fn all_processors(alloc: Global, job: &Job) -> Result<Vec<u32>, AllocError>
+    ensures { IfOk result (λ listed. listed.items ≡ range_with_len 0 job.now.procs) }
 {
-    let mut running = Vec::with_capacity(alloc, job.procs() as usize)?;
+    let mut listed = Vec::with_capacity(alloc, job.procs() as usize)?;
     for processor in 0..job.procs() {
-        if is_running(job, state, processor) {
-            running.push(processor)?;
-        }
+        listed.push(processor)?;
     }
-    Ok(running)
+    Ok(listed)
 }
 
-// The processors that still run after a step, of those that ran before it.
-fn keep_running(job: &Job, state: &State, running: &mut Vec<u32>)
-    requires { (t : ℕ) × IsStateAfter job.now (t + 1) state.now
-        × (running.old.items ≡ running_in job.now (state_after job.now t)) }
-    ensures { running.new.items ≡ running_in job.now state.now }
+// Leaves out those that have stopped, where fewer run than are listed.
+fn keep_running(job: &Job, state: &State, accesses: &Accesses, listed: &mut Vec<u32>)
+    requires places { length state.now ≡ place_count job.now }
+    requires listed { AreRunning job.now state.now listed.old.items }
+    ensures { AreRunning job.now state.now listed.new.items }
 {
-    laws::states_have_all_places();
-    job.limits_hold();
-    running.retain(|processor| *processor < job.procs() && is_running(job, state, *processor));
+    if (accesses.running as usize) < listed.len() {
+        listed.retain(|processor| *processor < job.procs() && is_running(job, state, *processor));
+    }
 }
 
 // Whether each processor asks for nothing but its counter, so that the step changes nothing.
-fn all_stay(moment: &Moment<'_>) -> bool
+fn all_stay(moment: &Moment<'_>, listed: &[u32]) -> bool
+    requires { AreRunning moment.now.job.now moment.now.state.now listed.now }
     ensures { IsTrue result ↔ AllStay moment.now.job.now moment.now.state.now }
 {
-    let running = moment.running;
-    for processor in running {
+    for processor in listed {
         if !stays(moment, *processor) {
             return false;
         }

@@ -4,6 +4,7 @@
 mod access;
 mod cost;
 mod cost_names;
+mod found;
 pub mod laws;
 mod meeting;
 mod moment;

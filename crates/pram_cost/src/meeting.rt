@@ -1,12 +1,13 @@
 //! Where processors first meet at a cell.
-ghost use Rattle.std.specs.Prelude.{◌≡◌, ◌≢◌, ℕ, ◌+◌, ◌<◌, length, slice_index};
-ghost use Rattle.std.specs.Prelude.{MatchOption, MatchBool, IfSome};
+ghost use Rattle.std.specs.Prelude.{◌≡◌, ◌≢◌, ℕ, ◌+◌, ◌<◌, length, MatchBool, IfSome};
 ghost use Rattle.pram_cost.specs.Costs.{AreFirst};
+ghost use Rattle.pram_cost.specs.Inner.Found.{of_kind, TellsFirst};
 ghost use Rattle.pram_cost.specs.Inner.Repeats.{Repeats};
-ghost use Rattle.pram_cost.specs.Inner.Seen.{HasLooked, GoesBefore, IsOfStep};
+ghost use Rattle.pram_cost.specs.Inner.Seen.{HasSearched, IsOfStep};
 ghost use Rattle.pram_cost.specs.Meetings.{access_by, Differ, IsLeastOrNone, IsFirstOrNone};
+ghost use Rattle.pram_cost.specs.declared.meeting.Sharing.TheVariants.{SameWrite, OtherValue};
 
-use crate::access::{read_of, write_of};
+use crate::found::Access;
 use crate::moment::Moment;
 use pram_step::{counter, laws};
 
@@ -61,11 +62,33 @@ impl Meetings {
         requires repeats { Repeats moment.now.job.now moment.now.made times moment.now.state.now }
         ensures { AreFirst moment.now.job.now (moment.now.made + times) result }
     {
+        let same_read = next(Sharing::SameRead, moment, marks, self.same_read);
+        let same_write = next(Sharing::SameWrite, moment, marks, self.same_write);
+        let other_value = next_other(moment, marks, same_write, self.other_value);
         Meetings {
-            same_read: next(Sharing::SameRead, moment, marks, self.same_read),
-            same_write: next(Sharing::SameWrite, moment, marks, self.same_write),
-            other_value: next(Sharing::OtherValue, moment, marks, self.other_value),
+            same_read,
+            same_write,
+            other_value,
         }
+    }
+}
+
+// The first writes of different values, the next step being looked at too. Where none have written
+// to one cell there is nothing to look for.
+fn next_other(
+    moment: &Moment<'_>,
+    marks: &mut [u32],
+    same_write: Option<Meeting>,
+    found: Option<Meeting>,
+) -> Option<Meeting>
+    requires marks { length marks.old ≡ moment.now.job.now.cells }
+    requires write { IsFirstOrNone SameWrite moment.now.job.now (moment.now.made + 1) same_write }
+    requires found { IsFirstOrNone OtherValue moment.now.job.now moment.now.made found }
+    ensures { IsFirstOrNone OtherValue moment.now.job.now (moment.now.made + 1) result }
+{
+    match same_write {
+        None => None,
+        Some(_) => next(Sharing::OtherValue, moment, marks, found),
     }
 }
 
@@ -86,7 +109,7 @@ fn next(
     }
 }
 
-// The least meeting in the next step. It costs time in the number of processors that run.
+// The least meeting in the next step. It costs time in the number of its accesses.
 fn least(sharing: Sharing, moment: &Moment<'_>, marks: &mut [u32]) -> Option<Meeting>
     requires { length marks.old ≡ moment.now.job.now.cells }
     ensures least { IsLeastOrNone sharing (access_by sharing moment.now.job.now
@@ -94,41 +117,41 @@ fn least(sharing: Sharing, moment: &Moment<'_>, marks: &mut [u32]) -> Option<Mee
     ensures step { IfSome result (IsOfStep moment.now.job.now moment.now.state.now
         (moment.now.made + 1)) }
 {
+    moment.job.limits_hold();
+    let count = moment.accesses.of_kind(sharing).len() as u32;
     let mut found = None;
-    let running = moment.running;
-    for processor in running {
-        found = look(sharing, moment, marks, *processor, found);
+    for k in 0..count {
+        found = look(sharing, moment, marks, k, found);
     }
     found
 }
 
-// The least meeting so far, this processor being looked at too. The marks are those of the
-// processors before it, and then of this one too.
+// The least meeting so far, access k being looked at too. The mark of a cell is the number of the
+// first access to it, of those before access k, and then of this one too.
 fn look(
     sharing: Sharing,
     moment: &Moment<'_>,
     marks: &mut [u32],
-    processor: u32,
+    k: u32,
     found: Option<Meeting>,
 ) -> Option<Meeting>
-    requires processor { processor < moment.now.job.now.procs }
+    requires access { k < length (of_kind sharing moment.now.accesses.now) }
     requires marks { length marks.old ≡ moment.now.job.now.cells }
-    requires looked { HasLooked sharing moment.now.job.now moment.now.state.now
-        (moment.now.made + 1) processor marks.old found }
-    ensures { HasLooked sharing moment.now.job.now moment.now.state.now
-        (moment.now.made + 1) (processor + 1) marks.new result }
+    requires looked { HasSearched sharing moment.now.job.now moment.now.state.now
+        (moment.now.made + 1) (of_kind sharing moment.now.accesses.now) k marks.old found }
+    ensures { HasSearched sharing moment.now.job.now moment.now.state.now
+        (moment.now.made + 1) (of_kind sharing moment.now.accesses.now) (k + 1) marks.new result }
 {
     laws::states_have_all_places();
     moment.job.limits_hold();
-    let Some((cell, value)) = access_of(sharing, moment, processor) else {
+    let accesses = moment.accesses.of_kind(sharing);
+    let access = accesses[k as usize];
+    let cell = access.cell;
+    let Some(first) = first_to(accesses, marks[cell as usize], k) else {
+        marks[cell as usize] = k;
         return found;
     };
-    let first = marks[cell as usize];
-    let Some(other) = value_before(sharing, moment, first, processor, cell) else {
-        marks[cell as usize] = processor;
-        return found;
-    };
-    if !differ(sharing, other, value) {
+    if !differ(sharing, first.value, access.value) {
         return found;
     }
     match found {
@@ -136,49 +159,27 @@ fn look(
         _ => Some(Meeting {
             step: moment.made + 1,
             cell,
-            first,
-            second: processor,
-            counter: counter(moment.job, moment.state, first),
+            first: first.processor,
+            second: access.processor,
+            counter: counter(moment.job, moment.state, first.processor),
         }),
     }
 }
 
-// The value that a processor brings to the cell, if it comes before the other and goes there.
-fn value_before(
-    sharing: Sharing,
-    moment: &Moment<'_>,
-    processor: u32,
-    other: u32,
-    cell: u32,
-) -> Option<u32>
-    requires { other < moment.now.job.now.procs }
-    ensures { let before = GoesBefore (access_by sharing moment.now.job.now moment.now.state.now)
-        processor other cell in MatchOption result ((v : ℕ) → before v → ⊥) before }
+// The access that a mark names, if it comes before access k and goes to the same cell.
+#[inline(always)]
+fn first_to(accesses: &[Access], mark: u32, k: u32) -> Option<Access>
+    requires { k < length accesses.now }
+    ensures { TellsFirst accesses.now mark k result }
 {
-    if processor >= other {
+    if mark >= k {
         return None;
     }
-    let (place, value) = access_of(sharing, moment, processor)?;
-    if place == cell { Some(value) } else { None }
-}
-
-/// The cell that a processor goes to, and the value that it writes there.
-pub(crate) fn access_of(sharing: Sharing, moment: &Moment<'_>, processor: u32) -> Option<(u32, u32)>
-    requires { processor < moment.now.job.now.procs }
-    ensures access { result
-        ≡ access_by sharing moment.now.job.now moment.now.state.now processor }
-    ensures cell { IfSome result (λ a. a.0 < moment.now.job.now.cells) }
-{
-    laws::states_have_all_places();
-    moment.job.limits_hold();
-    match sharing {
-        Sharing::SameRead => {
-            let cell = read_of(moment.job, moment.state, processor)?;
-            Some((cell, 0))
-        }
-        Sharing::SameWrite | Sharing::OtherValue => {
-            write_of(moment.job, moment.state, processor)
-        }
+    let first = accesses[mark as usize];
+    if first.cell == accesses[k as usize].cell {
+        Some(first)
+    } else {
+        None
     }
 }
 

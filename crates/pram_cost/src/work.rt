@@ -3,7 +3,7 @@ ghost use Rattle.std.specs.Prelude.{◌≡◌, ◌+◌, ◌<◌, ◌≤◌, if�
 ghost use Rattle.pram_cost.specs.Costs.{IsWork, has_access};
 ghost use Rattle.pram_cost.specs.Inner.Repeats.{Repeats};
 
-use crate::meeting::{Sharing, access_of};
+use crate::meeting::Sharing;
 use crate::moment::Moment;
 
 /// What the steps of a run do.
@@ -37,7 +37,7 @@ impl Work {
         ensures { IsWork moment.now.job.now (moment.now.made + times) result }
     {
         moment.job.limits_hold();
-        let running = moment.running.len() as u32;
+        let running = moment.accesses.running;
         let reading = steps_with(Sharing::SameRead, moment, times);
         let writing = steps_with(Sharing::SameWrite, moment, times);
         Work {
@@ -54,22 +54,9 @@ fn steps_with(sharing: Sharing, moment: &Moment<'_>, times: u32) -> u32
     ensures { result ≡ (if has_access sharing moment.now.job.now moment.now.state.now
         then times else 0) }
 {
-    if has_access(sharing, moment) {
-        times
-    } else {
+    if moment.accesses.of_kind(sharing).is_empty() {
         0
+    } else {
+        times
     }
-}
-
-// Whether some processor has such an access in the next step.
-fn has_access(sharing: Sharing, moment: &Moment<'_>) -> bool
-    ensures { result ≡ has_access sharing moment.now.job.now moment.now.state.now }
-{
-    let running = moment.running;
-    for processor in running {
-        if access_of(sharing, moment, *processor).is_some() {
-            return true;
-        }
-    }
-    false
 }

@@ -1,7 +1,9 @@
 -- What a search for a meeting knows of the processors that it has looked at.
-use Rattle.std.specs.Prelude.{◌≡◌, ℕ, ◌<◌, ◌≤◌, List, slice_index, Option, Some, IfSome}
+use Rattle.std.specs.Prelude.{◌≡◌, ℕ, ◌<◌, ◌≤◌, List, map, slice_index, slice_index_or}
+use Rattle.std.specs.Prelude.{Option, Some, IfSome}
 use Rattle.pram_job.specs.Job.{JobData}
 use Rattle.pram_machine.specs.Machine.{State, counter}
+use Rattle.pram_cost.specs.declared.found.Access.{Access}
 use Rattle.pram_cost.specs.declared.meeting.Meeting.{Meeting}
 use Rattle.pram_cost.specs.declared.meeting.Sharing.{Sharing}
 use Rattle.pram_cost.specs.Meetings.{access_by, IsLeastOrNone}
@@ -28,3 +30,16 @@ pub record HasLooked (sharing : Sharing) (job : JobData) (state : State) (step n
 -- processor i comes before j, goes to the cell, and brings this value
 abbrev pub GoesBefore : (ℕ → Option (ℕ × ℕ)) → ℕ → ℕ → ℕ → ℕ → Type 0
 GoesBefore access i j cell value = (i < j) × (access i ≡ Some (cell, value))
+
+-- ---- by the accesses of a step
+
+-- the processor of access k, or the number of all processors past the last one
+abbrev pub goer : ℕ → List Access → ℕ → ℕ
+goer procs list k =
+    (slice_index_or list k (record { processor = procs; cell = 0; value = 0 })).processor
+
+-- All processors before that of access k were looked at. A mark is the number of an access.
+abbrev pub HasSearched : Sharing → JobData → State → ℕ → List Access → ℕ → List ℕ →
+    Option Meeting → Type 0
+HasSearched sharing job state step list k marks found =
+    HasLooked sharing job state step (goer job.procs list k) (map (goer job.procs list) marks) found

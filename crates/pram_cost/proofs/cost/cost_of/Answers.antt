@@ -1,6 +1,9 @@
-use Rattle.std.proofs.Common.{◌-◌, arith}
+use Rattle.std.proofs.Common.{◌-◌, rules, sym, subst, arith}
 use Rattle.pram_cost.proofs.Ending.{cost_done, cost_stays, cost_disputed, disputed}
-use Rattle.pram_cost.proofs.Staying.{stay_repeats}
+use Rattle.pram_cost.proofs.Ending.{undisputed}
+use Rattle.pram_step.specs.Inner.Passes.{AreRunning}
+use Rattle.pram_cost.proofs.Runners.{all_run, run_after}
+use Rattle.pram_cost.proofs.Staying.{one_repeats, stay_repeats}
 use Rattle.pram_cost.proofs.cost.cost_of.Goals as goal
 
 pub after-requires-clause-repeats : goal.after-requires-clause-repeats
@@ -27,3 +30,34 @@ pub returns : goal.returns
 returns c =
     cost_done c.args.job.now c.loop-made.made c.loop-made.cost c.loop-made.invariant.cost
     c.loop-made.invariant.agrees (omega arith) c.loop-made.invariant.after.reached
+
+pub loop-made-init : goal.loop-made-init
+loop-made-init c = record {
+  after = search rules;
+  lists = subst (AreRunning c.args.job.now c.in_ok-state.state) (sym c.in_ok-listed.ensures)
+      (all_run c.args.job.now c.in_ok-state.state);
+  len = search rules;
+  cost = search rules;
+  agrees = search rules;
+}
+
+pub after-cost-requires-clause-repeats : goal.after-cost-requires-clause-repeats
+after-cost-requires-clause-repeats c =
+    one_repeats c.args.job.now c.loop-made.made c.loop-made.state c.loop-made.invariant.after
+
+pub loop-made-preserved : goal.loop-made-preserved
+loop-made-preserved c =
+    let job = c.args.job.now in
+    let made = c.loop-made.made in
+    let next = c.make_step.new.state in
+    let after = undisputed job made next c.in_ok-fault.field-0 c.in_default.is
+    c.in_ok-fault.ensures in
+    record {
+      after = after;
+      lists = run_after job made c.loop-made.state next c.keep_running.new.listed.items
+          c.limits_hold.ensures c.loop-made.invariant.after.state after.state
+          c.keep_running.ensures;
+      len = search rules;
+      cost = c.after-cost.ensures.cost;
+      agrees = c.after-cost.ensures.agrees;
+    }

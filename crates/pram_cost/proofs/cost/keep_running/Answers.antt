@@ -1,15 +1,18 @@
-use Rattle.std.proofs.Common.{◌∙◌, ℕ, rules}
+use Rattle.std.proofs.Common.{◌∙◌, ℕ, rules, sym, subst}
 use Rattle.std.specs.Prelude.{nat_lt, ◌&&◌}
+use Rattle.std.proofs.lemmas.Bool.{lt-ltb}
 use Rattle.std.proofs.lemmas.Fn.{filter_same}
 use Rattle.pram_cost.specs.Accesses.{is_running}
-use Rattle.pram_cost.proofs.Runners.{kept_running}
+use Rattle.pram_step.specs.Inner.Passes.{AreRunning}
+use Rattle.pram_cost.proofs.Runners.{fewer_run}
 use Rattle.pram_cost.proofs.cost.keep_running.Goals as goal
 
-pub returns : goal.returns
-returns c =
+pub returns-then-accesses-len : goal.returns-then-accesses-len
+returns-then-accesses-len c =
     let job = c.args.job.now in
     let state = c.args.state.now in
-    filter_same _ (λ (i : ℕ). nat_lt i job.procs && is_running job state i) _
-    (λ x b f k. search rules) _ _ c.retain.ensures.filtered
-    ∙ kept_running job c.requires.0 state c.args.running.now.items c.limits_hold.ensures
-    c.requires.1.state c.requires.2
+    let test = λ (i : ℕ). nat_lt i job.procs && is_running job state i in
+    subst (AreRunning job state)
+    (sym (filter_same _ test _ (λ x b f k. search rules) _ _ c.retain.ensures.filtered))
+    (fewer_run job state test c.args.listed.now.items
+    (λ i low runs. rw (lt-ltb i job.procs low) runs) c.requires.listed)

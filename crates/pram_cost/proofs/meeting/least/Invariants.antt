@@ -1,9 +1,8 @@
-use Rattle.std.proofs.Common.{◌+◌, get_or}
-use Rattle.pram_cost.specs.Inner.Seen.{HasLooked}
+use Rattle.std.proofs.Common.{◌+◌}
+use Rattle.pram_cost.specs.Inner.Found.{of_kind}
+use Rattle.pram_cost.specs.Inner.Seen.{HasSearched}
 use Rattle.pram_cost.proofs.meeting.least.Given as goal
 
--- all processors before the next one that runs were looked at
-abbrev pub invariant-loop-processor : goal.invariant-loop-processor
-invariant-loop-processor l =
-    HasLooked l.sharing l.moment.job.now l.moment.state.now (l.moment.made + 1)
-    (get_or l.running l.processor-index l.moment.job.now.procs) l.marks l.found
+abbrev pub invariant-loop-k : goal.invariant-loop-k
+invariant-loop-k l = HasSearched l.sharing l.moment.job.now l.moment.state.now (l.moment.made + 1)
+    (of_kind l.sharing l.moment.accesses.now) l.k l.marks l.found

@@ -9,10 +9,10 @@ returns c =
     let state = moment.state.now in
     let made = moment.made in
     record {
-      same_read = first_repeats job made state SameRead c.args.times c.next.result
-          c.requires.some c.requires.repeats c.next.ensures;
-      same_write = first_repeats job made state SameWrite c.args.times c.next-2.result
-          c.requires.some c.requires.repeats c.next-2.ensures;
-      other_value = first_repeats job made state OtherValue c.args.times c.next-3.result
-          c.requires.some c.requires.repeats c.next-3.ensures;
+      same_read = first_repeats job made state SameRead c.args.times c.next-same_read.result
+          c.requires.some c.requires.repeats c.next-same_read.ensures;
+      same_write = first_repeats job made state SameWrite c.args.times c.next-same_write.result
+          c.requires.some c.requires.repeats c.next-same_write.ensures;
+      other_value = first_repeats job made state OtherValue c.args.times c.next_other-other_value.result
+          c.requires.some c.requires.repeats c.next_other-other_value.ensures;
     }

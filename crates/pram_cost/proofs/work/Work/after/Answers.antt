@@ -1,22 +1,16 @@
 use Rattle.std.proofs.Common.{◌+◌, ◌*◌, ap, ap₂, ◌∙◌, arith, length, ℕ}
 use Rattle.std.specs.Prelude.{max}
 use Rattle.pram_cost.specs.declared.meeting.Sharing.TheVariants.{SameRead, SameWrite}
-use Rattle.pram_cost.proofs.LawCosts.{at_most_all, work_fits, count_fits}
+use Rattle.pram_cost.proofs.LawCosts.{work_fits, count_fits}
 use Rattle.pram_cost.proofs.Repeated.{work_more}
 use Rattle.pram_cost.proofs.work.Work.after.Goals as goal
-
-pub overflow_cast-running : goal.overflow_cast-running
-overflow_cast-running c =
-    let moment = c.args.moment.now in
-    let few = c.limits_hold.ensures.procs.1 in
-    omega (arith, ap length moment.runs, at_most_all moment.job.now moment.state.now)
 
 pub overflow_mul-result : goal.overflow_mul-result
 overflow_mul-result c =
     let moment = c.args.moment.now in
     let fits = work_fits moment.job.now moment.state.now moment.made c.args.times c.from.result
     c.from-2.result c.args.self.executed c.limits_hold.ensures c.requires.fits c.from.ensures
-    (c.from-2.ensures ∙ ap length moment.runs) c.requires.work.executed_is in
+    (c.from-2.ensures ∙ moment.found.count) c.requires.work.executed_is in
     omega (arith, fits)
 
 pub overflow_add-result : goal.overflow_add-result
@@ -24,7 +18,7 @@ overflow_add-result c =
     let moment = c.args.moment.now in
     let fits = work_fits moment.job.now moment.state.now moment.made c.args.times c.from.result
     c.from-2.result c.args.self.executed c.limits_hold.ensures c.requires.fits c.from.ensures
-    (c.from-2.ensures ∙ ap length moment.runs) c.requires.work.executed_is in
+    (c.from-2.ensures ∙ moment.found.count) c.requires.work.executed_is in
     omega (arith, fits)
 
 pub overflow_add-result-2 : goal.overflow_add-result-2
@@ -44,7 +38,7 @@ overflow_add-result-3 c =
 pub returns : goal.returns
 returns c =
     let moment = c.args.moment.now in
-    let runs = ap length moment.runs in
+    let runs = moment.found.count in
     work_more moment.job.now moment.made moment.state.now c.args.times c.args.self _
     c.requires.work c.requires.some c.requires.repeats
     (ap (λ (m : ℕ). c.args.self.executed + m)

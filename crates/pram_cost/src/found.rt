@@ -1,0 +1,106 @@
+//! All accesses of a step, found in one pass over the processors.
+ghost use Rattle.std.specs.Prelude.{◌≡◌, ◌+◌, ◌<◌, length, OnOk};
+ghost use Rattle.pram_cost.specs.Inner.Found.{AreFound, of_kind};
+ghost use Rattle.pram_machine.specs.Machine.{place_count};
+ghost use Rattle.pram_step.specs.Inner.Passes.{AreRunning};
+
+use crate::access::{Visit, visit_of};
+use crate::meeting::Sharing;
+use pram_job::Job;
+use pram_step::State;
+use std::alloc::{AllocError, Global};
+
+/// A processor, the cell that it goes to, and the value that it writes there; of a read that is 0.
+#[derive(Clone, Copy)]
+pub(crate) struct Access {
+    pub processor: u32,
+    pub cell: u32,
+    pub value: u32,
+}
+
+/// The accesses of a step, each kind in the order of the processors, and how many processors run.
+#[derive(Drop)]
+pub(crate) struct Accesses {
+    pub running: u32,
+    pub reads: Vec<Access>,
+    pub writes: Vec<Access>,
+}
+
+impl Accesses {
+    /// None.
+    pub(crate) fn new(alloc: Global) -> Self {
+        Accesses {
+            running: 0,
+            reads: Vec::new(alloc),
+            writes: Vec::new(alloc),
+        }
+    }
+
+    /// Finds those of the step after a state, where all that run are listed. Memory is taken only
+    /// where a step has more accesses than each before it.
+    pub(crate) fn find(
+        &mut self,
+        job: &Job,
+        state: &State,
+        listed: &[u32],
+    ) -> Result<(), AllocError>
+        requires places { length state.now ≡ place_count job.now }
+        requires listed { AreRunning job.now state.now listed.now }
+        ensures { OnOk result (AreFound job.now state.now job.now.procs self.new) }
+    {
+        self.running = 0;
+        self.reads.clear();
+        self.writes.clear();
+        for processor in listed {
+            self.take_up(job, state, *processor)?;
+        }
+        Ok(())
+    }
+
+    // Takes up what a processor does, after those before it.
+    #[inline(always)]
+    fn take_up(&mut self, job: &Job, state: &State, processor: u32) -> Result<(), AllocError>
+        requires processor { processor < job.now.procs }
+        requires places { length state.now ≡ place_count job.now }
+        requires before { AreFound job.now state.now processor self.old }
+        ensures { OnOk result (AreFound job.now state.now (processor + 1) self.new) }
+    {
+        job.limits_hold();
+        match visit_of(job, state, processor) {
+            Visit::Stopped => Ok(()),
+            Visit::Elsewhere => {
+                self.running += 1;
+                Ok(())
+            }
+            Visit::Reads(cell) => {
+                self.running += 1;
+                self.reads.push(Access {
+                    processor,
+                    cell,
+                    value: 0,
+                })?;
+                Ok(())
+            }
+            Visit::Writes(cell, value) => {
+                self.running += 1;
+                self.writes.push(Access {
+                    processor,
+                    cell,
+                    value,
+                })?;
+                Ok(())
+            }
+        }
+    }
+
+    /// Those that may be such a meeting.
+    #[inline(always)]
+    pub(crate) fn of_kind(&self, sharing: Sharing) -> &[Access]
+        ensures { result.now ≡ of_kind sharing self.now }
+    {
+        match sharing {
+            Sharing::SameRead => self.reads.as_slice(),
+            Sharing::SameWrite | Sharing::OtherValue => self.writes.as_slice(),
+        }
+    }
+}
