@@ -24,7 +24,6 @@ use Rattle.pram_commands.specs.Names.{AreNames, IsNaming, NamingData}
 use Rattle.pram_commands.specs.Threads.{WatchEndsAt}
 use Rattle.command_law.specs.Laws.{IsCutOff}
 use Rattle.command_law.specs.Programs.{CheckTellsTheProgramsJob, IsProgramsJob}
-use Rattle.command_law.specs.Programs.{IsProgramsSummary}
 
 -- the text of a program is no text of the machine
 pub no_machines : (text : List ℕ) (job : JobData) → is_program text ≡ true →
@@ -48,17 +47,17 @@ programs_job text job naming is =
           (lawful text job naming is) nested is.makes;
     }
 
+-- a program's text has its job
+pub its_job : (text : List ℕ) (job : JobData) (names : Option NamingData) →
+    is_program text ≡ true → AreNames text job names →
+    (naming : NamingData) × IsProgramsJob text job naming
+its_job text job None one is = no_machines text job one is
+its_job text job (Some naming) one is = (naming, programs_job text job naming is)
+
 pub check_tells : CheckTellsTheProgramsJob
-check_tells text job bytes answer one means comes = by_names means.0 means.1
-  where
-    by_names : (names : Option NamingData) → AreNames text job names →
-        IsProgramsSummary text job bytes
-    by_names None is = no_machines text job one is
-    by_names (Some naming) is = record {
-      naming = naming;
-      is = programs_job text job naming is;
-      prints = comes.0 ∙ ap summary is.makes.made;
-    }
+check_tells text job bytes answer one means comes =
+    let its = its_job text job means.0 one means.1 in
+    record { naming = its.0; is = its.1; prints = comes.0 ∙ ap summary its.1.made }
 
 pub procs_are : (program : ProgramData) (job : JobData) → job ≡ job_of program job.steps →
     job.procs ≡ program.procs

@@ -16,6 +16,7 @@ use Rattle.pram_commands.specs.Names.{AreNames, NamingData}
 use Rattle.command_law.specs.Laws.{IsCutOff}
 use Rattle.command_law.specs.Programs.{IsReplaysEnding, ReplaysPrintTheProgramsAnswer}
 use Rattle.command_law.proofs.Answers.{told_answer}
+use Rattle.command_law.proofs.Jobs.{its_job}
 
 -- how a replay ended
 ended_so : (job : JobData) (plan : PlanData) (trace : List TraceRow) (ended : RunAnswer) →
@@ -41,8 +42,13 @@ module _ (text : List ℕ) (job : JobData) (plan : PlanData) (answer : Option Ru
 
 pub replays_print : ReplaysPrintTheProgramsAnswer
 replays_print text job plan alone workers bytes answer one comes =
-    let back : List ℕ = ending alone comes.names comes.ended job.steps in record {
+    let back : List ℕ = ending alone comes.names comes.ended job.steps in
+    let its = its_job text job comes.names one comes.are_names in record {
+      naming = its.0;
+      is = its.1;
+      ended = comes.ended;
       trace = comes.ends.0;
+      replays = comes.ends.1;
       back = back;
       prints = comes.prints ∙ ap (λ (front : List ℕ). front ++ back) comes.ends.2;
       ends = ends_so text job plan answer one comes.names comes.ended comes.are_names comes.gives

@@ -66,6 +66,7 @@ module _ (text : List ℕ) (job : JobData) (window : Window) (bytes : List ℕ) 
         lines = tell_lines text job naming its;
         writes = its.goes.writes;
         ended = ended;
+        answers = answers;
         back = ending alone of_end ended job.steps;
         prints = prints;
         ends = ends_so alone of_end are answers;

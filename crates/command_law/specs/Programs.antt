@@ -9,7 +9,7 @@ use Rattle.pram_job.specs.Job.{JobData}
 use Rattle.pram_machine.specs.Machine.{counter, halted}
 use Rattle.pram_step.specs.declared.answer.RunAnswer.{RunAnswer}
 use Rattle.pram_step.specs.declared.answer.RunAnswer.TheVariants.{Final, Conflict, Unfinished}
-use Rattle.pram_step.specs.Runs.{IsReached, state_after}
+use Rattle.pram_step.specs.Runs.{IsAnswer, IsReached, state_after}
 use Rattle.pram_streams.specs.Printed.{summary}
 use Rattle.pram_fates.specs.declared.fates.End.{End}
 use Rattle.pram_fates.specs.declared.fates.End.TheVariants.{Running, Stopped}
@@ -32,6 +32,7 @@ use Rattle.stop_plan.specs.Plan.{PlanData}
 use Rattle.pram_run.specs.declared.sight.Sight.{Sight}
 use Rattle.pram_run.specs.declared.trace.TraceRow.{TraceRow}
 use Rattle.pram_run.specs.Printed.{sights_text, trace_text}
+use Rattle.pram_run.specs.Replays.{IsReplay}
 use Rattle.pardo_text.specs.Program.{ProgramData}
 use Rattle.pardo_text.specs.Reading.{program_of}
 use Rattle.pardo_job.specs.Conflicts.{Writes}
@@ -151,6 +152,7 @@ pub record AreProgramsSteps (alone : Bool) (window : Window) (text : List ℕ) (
   pub lines : TellLines text job naming is
   pub writes : TellWrites text job naming is
   pub ended : RunAnswer
+  pub answers : IsAnswer job ended
   pub back : List ℕ
   pub prints : bytes ≡ rows_text (Some naming.numbers) job window.from window.to
       (last_step job ended) ++ back
@@ -171,10 +173,15 @@ IsReplaysEnding true text job plan answer back = back ≡ []
 IsReplaysEnding false text job plan answer back =
     IsProgramsAnswer text job back ⊎ IsCutOff plan answer
 
--- The bytes are a trace, and then the program's answer, unless the trace stands alone.
+-- The bytes are the trace of a replay of the program's job, and then the program's answer, unless
+-- the trace stands alone.
 pub record IsProgramsReplay (alone : Bool) (text : List ℕ) (job : JobData) (plan : PlanData)
     (bytes : List ℕ) (answer : Option RunAnswer) : Type 0 where
+  pub naming : NamingData
+  pub is : IsProgramsJob text job naming
+  pub ended : RunAnswer
   pub trace : List TraceRow
+  pub replays : IsReplay job plan ended trace
   pub back : List ℕ
   pub prints : bytes ≡ trace_text trace ++ back
   pub ends : IsReplaysEnding alone text job plan answer back
