@@ -87,9 +87,27 @@ impl Teller {
             if self.wiped.load(Ordering::SeqCst) {
                 return;
             }
-            thread::sleep(rt, Duration::from_millis(NAP));
+            nap(rt);
         }
     }
+
+    fn is_done(&self) -> bool {
+        self.done.load(Ordering::SeqCst)
+    }
+
+    // Sleeps until the next look at the board is due, or the work is done.
+    fn rest<R: Clock>(&self, rt: &R) {
+        for _ in 0..NAPS {
+            nap(rt);
+            if self.is_done() {
+                return;
+            }
+        }
+    }
+}
+
+fn nap<R: Clock>(rt: &R) {
+    thread::sleep(rt, Duration::from_millis(NAP));
 }
 
 /// Starts a thread of the scope that tells on standard error how far the board is, until the work
@@ -127,20 +145,34 @@ pub fn tell_steps<R: Clock + Eprint>(rt: &R, board: &Board, mut seat: Seat, tell
     requires steps { teller.now.steps ≡ board.now.task.job.steps }
 {
     let mut told = None;
-    for nap in 0..u64::MAX {
-        if teller.done.load(Ordering::SeqCst) {
-            wipe(rt, teller);
-            return;
+    for _ in 0..u64::MAX {
+        if teller.is_done() {
+            break;
         }
-        if nap % NAPS == 0 {
-            let line = progress_line(board, &mut seat, teller.steps);
-            if told != Some(line) {
-                tell_line(rt, teller.telling, line);
-                told = Some(line);
-            }
-        }
-        thread::sleep(rt, Duration::from_millis(NAP));
+        told = Some(tell_news(rt, board, &mut seat, teller, told));
+        teller.rest(rt);
     }
+    wipe(rt, teller);
+}
+
+// Looks at the board, and tells the line unless it was told last.
+fn tell_news<R: Eprint>(
+    rt: &R,
+    board: &Board,
+    seat: &mut Seat,
+    teller: &Teller,
+    told: Option<ProgressLine>,
+) -> ProgressLine
+    requires seat { seat.old.desk ≡ board.now }
+    requires steps { teller.now.steps ≡ board.now.task.job.steps }
+    ensures tells { TellsProgress board.now.task seat.old seat.new result }
+    ensures desk { seat.new.desk ≡ board.now }
+{
+    let line = progress_line(board, seat, teller.steps);
+    if told != Some(line) {
+        tell_line(rt, teller.telling, line);
+    }
+    line
 }
 
 fn tell_line<R: Eprint>(rt: &R, telling: Telling, line: ProgressLine) {

@@ -50,6 +50,18 @@ fn open(alloc: Global, inputs: &Inputs, block: Option<Block>) -> Result<(Board, 
     }
 }
 
+// A board that was opened for a job and its plan, and who tells how far it is.
+#[derive(Drop)]
+struct Site<'a> {
+    alloc: Global,
+    inputs: &'a Inputs,
+    board: &'a Board,
+    teller: &'a Teller,
+    ghost opened: { board.now.task.job ≡ inputs.now.job },
+    ghost workers: { board.now.task.layout.workers ≡ inputs.now.plan.workers },
+    ghost steps: { teller.now.steps ≡ board.now.task.job.steps },
+}
+
 /// Runs the plan's workers, and answers how the job ended. The listener hears it as soon as a
 /// worker knows it.
 pub(crate) fn run_job<R: Threads + Wait + Clock + Eprint + Sync, H, L: Listener<Heard = H>>(
@@ -63,71 +75,74 @@ pub(crate) fn run_job<R: Threads + Wait + Clock + Eprint + Sync, H, L: Listener<
     ensures ended { IfOk result.0 (IsEnd inputs.now.job inputs.now.plan) }
     ensures heard { L.hears listener result.0 result.1 }
 {
-    match manner.pace {
-        None => run_past(
-            rt,
-            alloc,
-            inputs,
-            &Way {
-                manner,
-                gate: &Open,
-            },
-            listener,
-        ),
-        Some(micros) => {
-            let gate = &paced(rt, micros);
-            run_past(rt, alloc, inputs, &Way { manner, gate }, listener)
-        }
-    }
+    let Ok((board, seat)) = open(alloc, inputs, manner.block) else {
+        let heard = listener.hear(&Err(AllocError));
+        return (Err(AllocError), heard);
+    };
+    let teller = Teller::new(manner.progress, inputs.job.steps());
+    let site = Site {
+        alloc,
+        inputs,
+        board: &board,
+        teller: &teller,
+    };
+    run_paced(rt, &site, manner.pace, seat, listener)
 }
 
-// A manner, and the gate that keeps its pace.
-#[derive(Drop)]
-struct Way<'a, G> {
-    manner: Manner,
-    gate: &'a G,
+// The same on a new board, at this pace.
+fn run_paced<R: Threads + Wait + Clock + Eprint + Sync, H, L: Listener<Heard = H>>(
+    rt: &R,
+    site: &Site<'_>,
+    pace: Option<u32>,
+    seat: Seat,
+    listener: L,
+) -> (Result<RunAnswer, AllocError>, H)
+    requires opened { IsNewBoard site.now.inputs.now.job site.now.inputs.now.plan
+        (site.now.board.now, seat) }
+    requires listener { L.can_hear listener }
+    ensures ended { IfOk result.0 (IsEnd site.now.inputs.now.job site.now.inputs.now.plan) }
+    ensures heard { L.hears listener result.0 result.1 }
+{
+    let Some(micros) = pace else {
+        return run_past(rt, site, &Open, seat, listener);
+    };
+    run_past(rt, site, &paced(rt, micros), seat, listener)
 }
 
 // The same past a gate.
 fn run_past<R: Threads + Wait + Clock + Eprint + Sync, G: Gate + Sync, H, L: Listener<Heard = H>>(
     rt: &R,
-    alloc: Global,
-    inputs: &Inputs,
-    way: &Way<'_, G>,
+    site: &Site<'_>,
+    gate: &G,
+    seat: Seat,
     listener: L,
 ) -> (Result<RunAnswer, AllocError>, H)
-    requires { L.can_hear listener }
-    ensures ended { IfOk result.0 (IsEnd inputs.now.job inputs.now.plan) }
+    requires opened { IsNewBoard site.now.inputs.now.job site.now.inputs.now.plan
+        (site.now.board.now, seat) }
+    requires listener { L.can_hear listener }
+    ensures ended { IfOk result.0 (IsEnd site.now.inputs.now.job site.now.inputs.now.plan) }
     ensures heard { L.hears listener result.0 result.1 }
 {
-    let (manner, gate) = (way.manner, way.gate);
-    let Ok((board, seat)) = open(alloc, inputs, manner.block) else {
-        let heard = listener.hear(&Err(AllocError));
-        return (Err(AllocError), heard);
-    };
-    let (job, plan) = (&inputs.job, &inputs.plan);
-    let teller = Teller::new(manner.progress, job.steps());
-    let (board, teller) = (&board, &teller);
     thread::scope(
         thread::scope_env(),
         rt,
         |scope| -> (Result<RunAnswer, AllocError>, H)
-            requires opened { IsNewBoard job.now plan.now (board.now, seat) }
-            requires steps { teller.now.steps ≡ board.now.task.job.steps }
+            requires opened { IsNewBoard site.now.inputs.now.job site.now.inputs.now.plan
+                (site.now.board.now, seat) }
             requires listener { L.can_hear listener }
-            ensures ended { IfOk result.0 (IsEnd job.entry.now plan.entry.now) }
+            ensures ended { IfOk result.0 (IsEnd site.entry.now.inputs.now.job
+                site.entry.now.inputs.now.plan) }
             ensures heard { L.hears listener result.0 result.1 }
         {
-            let assignment = Assignment {
-                job,
-                board,
-                plan,
-                gate,
-            };
             let errand = Errand {
-                alloc,
-                assignment,
-                teller,
+                alloc: site.alloc,
+                assignment: Assignment {
+                    job: &site.inputs.job,
+                    board: site.board,
+                    plan: &site.inputs.plan,
+                    gate,
+                },
+                teller: site.teller,
             };
             run_on(scope, rt, &errand, seat, listener)
         },
@@ -221,6 +236,17 @@ impl<R: Clock, L: Reads> Reads for Hushing<'_, R, L> {
     }
 }
 
+// A board, and what a reader beside its workers reads: so many rounds through cells of the job. What
+// was read is printed once so many reads wait.
+#[derive(Drop)]
+struct View<'a> {
+    site: Site<'a>,
+    cells: &'a [u32],
+    rounds: u32,
+    piece: usize,
+    ghost within: { All (λ cell. cell < site.inputs.now.job.cells) cells.now },
+}
+
 /// The same as `run_job`, with a reader beside the workers, which takes a pause before each read
 /// too, and then hears the answer. Where the board or a thread is refused, it hears that alone.
 pub(crate) fn watch_job<R: Threads + Wait + Clock + Eprint + Sync, H, P: Reads<Heard = H>>(
@@ -235,73 +261,91 @@ pub(crate) fn watch_job<R: Threads + Wait + Clock + Eprint + Sync, H, P: Reads<H
     ensures { HasHeardAlone P.hears reader result ⊎ IsWatchedBy (P.reads reader) P.hears
         watched.now.inputs.now watched.now.cells.now watched.now.rounds result }
 {
-    match manner.pace {
-        None => watch_past(
-            rt,
-            alloc,
-            watched,
-            &Way {
-                manner,
-                gate: &Open,
-            },
-            reader,
-        ),
-        Some(micros) => {
-            let gate = &paced(rt, micros);
-            watch_past(rt, alloc, watched, &Way { manner, gate }, reader)
-        }
-    }
+    let inputs = watched.inputs;
+    let Ok((board, seat)) = open(alloc, inputs, manner.block) else {
+        let heard = reader.hear(&Err(AllocError));
+        return (Err(AllocError), heard);
+    };
+    let teller = Teller::new(manner.progress, inputs.job.steps());
+    let site = Site {
+        alloc,
+        inputs,
+        board: &board,
+        teller: &teller,
+    };
+    let view = View {
+        site,
+        cells: watched.cells,
+        rounds: watched.rounds,
+        piece: piece_at(manner.pace),
+    };
+    watch_paced(rt, &view, manner.pace, seat, reader)
+}
+
+// The same on a new board, at this pace.
+fn watch_paced<R: Threads + Wait + Clock + Eprint + Sync, H, P: Reads<Heard = H>>(
+    rt: &R,
+    view: &View<'_>,
+    pace: Option<u32>,
+    seat: Seat,
+    reader: P,
+) -> (Result<RunAnswer, AllocError>, H)
+    requires opened { IsNewBoard view.now.site.inputs.now.job view.now.site.inputs.now.plan
+        (view.now.site.board.now, seat) }
+    requires reader { P.can_read reader }
+    requires listener { P.can_hear reader }
+    ensures { HasHeardAlone P.hears reader result ⊎ IsWatchedBy (P.reads reader) P.hears
+        view.now.site.inputs.now view.now.cells.now view.now.rounds result }
+{
+    let Some(micros) = pace else {
+        return watch_past(rt, view, &Open, seat, reader);
+    };
+    watch_past(rt, view, &paced(rt, micros), seat, reader)
 }
 
 // The same past a gate.
 fn watch_past<R: Threads + Wait + Clock + Eprint + Sync, G: Gate + Sync, H, P: Reads<Heard = H>>(
     rt: &R,
-    alloc: Global,
-    watched: &Watched<'_>,
-    way: &Way<'_, G>,
+    view: &View<'_>,
+    gate: &G,
+    seat: Seat,
     reader: P,
 ) -> (Result<RunAnswer, AllocError>, H)
+    requires opened { IsNewBoard view.now.site.inputs.now.job view.now.site.inputs.now.plan
+        (view.now.site.board.now, seat) }
     requires reader { P.can_read reader }
     requires listener { P.can_hear reader }
     ensures { HasHeardAlone P.hears reader result ⊎ IsWatchedBy (P.reads reader) P.hears
-        watched.now.inputs.now watched.now.cells.now watched.now.rounds result }
+        view.now.site.inputs.now view.now.cells.now view.now.rounds result }
 {
-    let (manner, gate) = (way.manner, way.gate);
-    let (inputs, cells, rounds) = (watched.inputs, watched.cells, watched.rounds);
-    let Ok((board, seat)) = open(alloc, inputs, manner.block) else {
-        let heard = reader.hear(&Err(AllocError));
-        return (Err(AllocError), heard);
-    };
-    let piece = piece_at(manner.pace);
-    let teller = Teller::new(manner.progress, inputs.job.steps());
-    let (board, teller) = (&board, &teller);
     thread::scope(
         thread::scope_env(),
         rt,
         |scope| -> (Result<RunAnswer, AllocError>, H)
-            requires opened { IsNewBoard inputs.now.job inputs.now.plan (board.now, seat) }
-            requires within { All (λ cell. cell < inputs.now.job.cells) cells.now }
-            requires steps { teller.now.steps ≡ board.now.task.job.steps }
+            requires opened { IsNewBoard view.now.site.inputs.now.job
+                view.now.site.inputs.now.plan (view.now.site.board.now, seat) }
             requires reader { P.can_read reader }
             requires listener { P.can_hear reader }
             ensures { HasHeardAlone P.hears reader result ⊎ IsWatchedBy (P.reads reader) P.hears
-                inputs.entry.now cells.entry.now rounds result }
+                view.entry.now.site.inputs.now view.entry.now.cells.now view.entry.now.rounds
+                result }
         {
+            let site = &view.site;
             let observation = Observation {
                 assignment: Assignment {
-                    job: &inputs.job,
-                    board,
-                    plan: &inputs.plan,
+                    job: &site.inputs.job,
+                    board: site.board,
+                    plan: &site.inputs.plan,
                     gate,
                 },
-                cells,
-                rounds,
-                piece,
+                cells: view.cells,
+                rounds: view.rounds,
+                piece: view.piece,
             };
             let outing = Outing {
-                alloc,
+                alloc: site.alloc,
                 observation,
-                teller,
+                teller: site.teller,
             };
             watch_on(scope, rt, &outing, seat, reader)
         },

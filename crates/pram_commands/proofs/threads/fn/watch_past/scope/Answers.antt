@@ -5,7 +5,7 @@ pub returns : goal.returns
 returns g c = elim c.watch_on.ensures [
   | inl alone ↦ inl alone
   | inr on ↦ inr (record {
-    made = (c.captures.board.now, c.captures.seat);
+    made = (c.captures.view.now.site.board.now, c.captures.seat);
     opened = c.requires.opened;
     on = on;
   })
