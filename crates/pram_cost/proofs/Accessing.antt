@@ -1,10 +1,10 @@
 -- What processors read and write, and that one that has stopped does neither.
-use Rattle.std.proofs.Common.{◌≡◌, ℕ, ◌+◌, ◌<◌, ◌≤◌, true, false, List, length, get_or}
-use Rattle.std.proofs.Common.{Option, Some, None, refl, sym, ap, subst, ◌∙◌, inl, inr, arith}
+use Rattle.std.proofs.Common.{◌≡◌, ℕ, ◌<◌, true, false, List, length, get_or}
+use Rattle.std.proofs.Common.{Option, Some, None, refl, sym, ap, subst, ◌∙◌, arith}
 use Rattle.std.specs.Prelude.{is_some, nat_lt}
 use Rattle.std.specs.List.{range_with_len}
 use Rattle.std.specs.Option.{option_map}
-use Rattle.std.proofs.lemmas.Bool.{cases_Bool, ltb-true, ltb-false, lt-ltb}
+use Rattle.std.proofs.lemmas.Bool.{ltb-true, ltb-false, lt-ltb}
 use Rattle.std.proofs.lemmas.List.Folds.{list_any_at, list_any_none}
 use Rattle.std.proofs.lemmas.List.FromFn.{length-range_with_len, get_or-range_with_len}
 use Rattle.std.proofs.lemmas.Option.{none-some, slice_get_past, cond_some}
@@ -13,7 +13,7 @@ use Rattle.pram_job.specs.Job.{JobData}
 use Rattle.pram_cost.specs.declared.meeting.Sharing.{Sharing}
 use Rattle.pram_cost.specs.declared.meeting.Sharing.TheVariants.{SameRead, SameWrite, OtherValue}
 use Rattle.pram_machine.specs.declared.requests.Request.{Request}
-use Rattle.pram_cost.specs.Accesses.{is_running, running_in, cell_by, put_to_cell, write_by}
+use Rattle.pram_cost.specs.Accesses.{is_running, cell_by, put_to_cell, write_by}
 use Rattle.pram_cost.specs.declared.found.Access.{Access}
 use Rattle.pram_cost.specs.Costs.{has_access}
 use Rattle.pram_cost.specs.Inner.Found.{access_at, AreAccesses}

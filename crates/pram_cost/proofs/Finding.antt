@@ -10,7 +10,7 @@ use Rattle.std.proofs.lemmas.List.Quantifiers.{all_pairs_push}
 use Rattle.std.proofs.lemmas.Option.{none-some}
 use Rattle.pram_job.specs.Job.{JobData}
 use Rattle.pram_machine.specs.Machine.{State, counter, halted, IsStopped}
-use Rattle.pram_cost.specs.declared.access.Visit.TheVariants.{Stopped, Elsewhere, Reads, Writes}
+use Rattle.pram_cost.specs.declared.access.Visit.TheVariants.{Elsewhere, Reads, Writes}
 use Rattle.pram_cost.specs.declared.found.Access.{Access}
 use Rattle.pram_cost.specs.declared.found.Accesses.{Accesses}
 use Rattle.pram_cost.specs.declared.meeting.Sharing.{Sharing}

@@ -1,11 +1,11 @@
 -- Access after access: what a search knows, by the processors whose accesses they are.
-use Rattle.std.proofs.Common.{◌≡◌, ◌≢◌, ℕ, zero, suc, ◌+◌, ◌<◌, ◌≤◌, ◌⊎◌, List, [], ◌∷◌, length, get_or, set}
+use Rattle.std.proofs.Common.{◌≡◌, ◌≢◌, ℕ, zero, suc, ◌+◌, ◌<◌, ◌≤◌, ◌⊎◌, List, length, get_or}
+use Rattle.std.proofs.Common.{set}
 use Rattle.std.proofs.Common.{map, Option, Some, None, MatchOption, refl, sym, ap, subst, ◌∙◌}
 use Rattle.std.proofs.Common.{inl, inr, arith}
-use Rattle.std.specs.Prelude.{IfSome, is_some}
 use Rattle.std.proofs.lemmas.Bool.{cases_eq, cases_lt}
 use Rattle.std.proofs.lemmas.List.{get_or_default, get_or_past, get_or-map, length-map, map-set}
-use Rattle.std.proofs.lemmas.Option.{none-some, some_pair_parts}
+use Rattle.std.proofs.lemmas.Option.{some_pair_parts}
 use Rattle.pram_job.specs.Job.{JobData}
 use Rattle.pram_machine.specs.Machine.{State, counter}
 use Rattle.pram_step.proofs.Passing.{skip_first, skip_next}
@@ -13,7 +13,7 @@ use Rattle.pram_cost.specs.declared.found.Access.{Access}
 use Rattle.pram_cost.specs.declared.meeting.Meeting.{Meeting}
 use Rattle.pram_cost.specs.declared.meeting.Sharing.{Sharing}
 use Rattle.pram_cost.specs.Inner.Found.{access_at, AreAccesses}
-use Rattle.pram_cost.specs.Inner.Seen.{GoesBefore, goer, HasLooked, HasSearched, IsOfStep, MarkLeast}
+use Rattle.pram_cost.specs.Inner.Seen.{GoesBefore, goer, HasLooked, HasSearched, MarkLeast}
 use Rattle.pram_cost.specs.Meetings.{access_by, Differ, IsLeastOrNone}
 use Rattle.pram_cost.proofs.Meets.{least_past, marked_past, least_of_none, marked_of_none}
 use Rattle.pram_cost.proofs.Meets.{least_first_there, marked_first_there, marked_lost}

@@ -1,6 +1,6 @@
 -- What a processor does in a step, by the instruction at which it stands.
-use Rattle.std.proofs.Common.{◌≡◌, ℕ, ◌+◌, ◌<◌, ◌≤◌, Bool, true, cond, length, Option, Some, None}
-use Rattle.std.proofs.Common.{refl, sym, ap, subst, ◌∙◌, arith}
+use Rattle.std.proofs.Common.{◌≡◌, ℕ, ◌<◌, ◌≤◌, Bool, true, cond, length, Option, Some, None}
+use Rattle.std.proofs.Common.{refl, sym, ap, ◌∙◌, arith}
 use Rattle.std.specs.Prelude.{slice_get}
 use Rattle.std.specs.Option.{option_map}
 use Rattle.std.proofs.lemmas.Bool.{lt-ltb, le-ltb}
@@ -13,8 +13,8 @@ use Rattle.pram_job.specs.Job.{JobData}
 use Rattle.pram_machine.specs.declared.requests.Request.{Request}
 use Rattle.pram_machine.specs.declared.turn.Put.{Put}
 use Rattle.pram_machine.specs.declared.turn.Put.TheVariants.{Nothing, Register, Cell}
-use Rattle.pram_machine.specs.Instructions.{cell_of, cell_read, decided, gives, goes_to, within}
-use Rattle.pram_machine.specs.Instructions.{operand_held, request_in}
+use Rattle.pram_machine.specs.Instructions.{cell_of, cell_read, decided, gives, within}
+use Rattle.pram_machine.specs.Instructions.{operand_held}
 use Rattle.pram_machine.specs.Machine.{State, counter, halted, out_of_range, register_place}
 use Rattle.pram_machine.specs.Turns.{put_of, IsSorted}
 use Rattle.pram_machine.proofs.Shapes.{request_by}

@@ -52,5 +52,5 @@ returns-in_default c =
     let instr = c.args.fetched.instr.now in
     let at = subst (λ n. slice_get job.code n ≡ Some instr) (sym c.requires.here)
     c.args.fetched.stands in
-    visit_elsewhere job state c.args.processor instr at (λ r place is. c.in_default.not-Ld r place is)
-    (λ place b is. c.in_default.not-St place b is)
+    visit_elsewhere job state c.args.processor instr at
+    (λ r place is. c.in_default.not-Ld r place is) (λ place b is. c.in_default.not-St place b is)

@@ -1,4 +1,4 @@
-use Rattle.std.proofs.Common.{◌≡◌, ap, ◌∙◌, sym, arith}
+use Rattle.std.proofs.Common.{arith}
 use Rattle.std.proofs.lemmas.Grind.{common_steps}
 use Rattle.pram_cost.proofs.Runners.{range-more}
 use Rattle.pram_cost.proofs.cost.all_processors.Goals as goal

@@ -1,4 +1,4 @@
-use Rattle.std.proofs.Common.{◌≡◌, ◌≢◌, ℕ, ◌+◌, ◌<◌, List, length, set}
+use Rattle.std.proofs.Common.{◌+◌, ◌<◌, List, length, set}
 use Rattle.std.proofs.Common.{Option, Some, MatchOption, sym, subst}
 use Rattle.pram_cost.specs.declared.found.Access.{Access}
 use Rattle.pram_cost.specs.declared.meeting.Meeting.{Meeting}

@@ -1,4 +1,4 @@
-use Rattle.std.proofs.Common.{◌≡◌, ◌<◌, Bool, List, cond, length, sym, ap, ◌∙◌, arith}
+use Rattle.std.proofs.Common.{Bool, List, cond, length, sym, ap, ◌∙◌, arith}
 use Rattle.std.proofs.lemmas.Bool.{eqb-true, eqb-false}
 use Rattle.pram_cost.specs.declared.found.Access.{Access}
 use Rattle.pram_cost.specs.Inner.Found.{of_kind}

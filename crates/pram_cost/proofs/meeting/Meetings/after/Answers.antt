@@ -13,6 +13,7 @@ returns c =
           c.requires.some c.requires.repeats c.next-same_read.ensures;
       same_write = first_repeats job made state SameWrite c.args.times c.next-same_write.result
           c.requires.some c.requires.repeats c.next-same_write.ensures;
-      other_value = first_repeats job made state OtherValue c.args.times c.next_other-other_value.result
+      other_value = first_repeats job made state OtherValue c.args.times
+          c.next_other-other_value.result
           c.requires.some c.requires.repeats c.next_other-other_value.ensures;
     }

@@ -1,4 +1,4 @@
-use Rattle.std.proofs.Common.{◌+◌, ◌*◌, ap, ap₂, ◌∙◌, arith, length, ℕ}
+use Rattle.std.proofs.Common.{◌+◌, ◌*◌, ap, ap₂, ◌∙◌, arith, ℕ}
 use Rattle.std.specs.Prelude.{max}
 use Rattle.pram_cost.specs.declared.meeting.Sharing.TheVariants.{SameRead, SameWrite}
 use Rattle.pram_cost.proofs.LawCosts.{work_fits, count_fits}
