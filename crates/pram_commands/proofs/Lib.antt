@@ -6,3 +6,5 @@ pub mod Told
 pub mod Hearing
 pub mod Outside
 pub mod Watching
+pub mod Digits
+pub mod Rows

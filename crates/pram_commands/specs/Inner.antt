@@ -3,3 +3,4 @@ pub mod Puts
 pub mod Refusals
 pub mod Hearing
 pub mod Watching
+pub mod Places

@@ -9,6 +9,7 @@ mod fault;
 mod files;
 mod inputs;
 mod names;
+mod places;
 mod printing;
 mod progress;
 mod refusal;

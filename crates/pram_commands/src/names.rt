@@ -2,6 +2,7 @@
 ghost use Rattle.std.specs.Prelude.{◌≡◌, ◌<◌, ◌++◌, ℕ, true, false, Some, None, IfOk, IfErr, OnOk};
 ghost use Rattle.std.specs.Option.{option_copied};
 ghost use Rattle.std.specs.Prelude.{MatchOption};
+ghost use Rattle.pardo_text.specs.Lawful.{AreArrays};
 ghost use Rattle.pardo_job.specs.Printed.{cell_text};
 ghost use Rattle.pardo_answers.specs.Language.{is_program};
 ghost use Rattle.pram_fates.specs.Told.{line_in};
@@ -15,9 +16,10 @@ ghost use Rattle.pram_commands.specs.Steps.{lines_of};
 ghost use Rattle.pram_commands.specs.Threads.{cell_words, or_number};
 
 use crate::fault::CommandFault;
-use pardo_answers::{Ended, Names, is_program, plain_end, print_named, push_cell, push_conflict};
+use crate::places::{cell_at, place_text, push_told};
+use pardo_answers::{Ended, Names, is_program, plain_end, print_named, push_conflict};
 use pardo_job::{JobFault, JobKind, Refusal as ProgramRefusal, compile};
-use pardo_text::{PardoFault, PardoKind, Program};
+use pardo_text::{Array, PardoFault, PardoKind, Program};
 use pram_cost::{ByCells, CostNames, Meeting};
 use pram_fates::Origin;
 use pram_job::Job;
@@ -49,6 +51,10 @@ impl Model for Naming {
     ghost coded = { Prim.hlevel (codes, a_program.the_row.coded, an_end.the_row.coded) };
 
     ghost view = { λ n. record { program = n.program; numbers = n.numbers.items; ended = n.ended } };
+
+    ghost use Rattle.pardo_text.specs.Lawful.{AreArrays};
+
+    ghost invariant = { λ n. AreArrays n.program.arrays 0 };
 }
 
 impl Naming {
@@ -63,16 +69,7 @@ impl Naming {
             ((cell : ℕ) → cell < count → ¬ IsPlaceOf (Some self.now) cell place.now)
             (λ cell. (cell < count) × IsPlaceOf (Some self.now) cell place.now)) }
     {
-        if place.is_empty() {
-            return Ok(None);
-        }
-        for cell in 0..count {
-            let told = place_text(alloc, &self.program, cell)?;
-            if told.as_slice() == place {
-                return Ok(Some(cell));
-            }
-        }
-        Ok(None)
+        cell_at(alloc, self.program.arrays(), place, count)
     }
 
     /// The answer of the job, which was found with its lines.
@@ -103,7 +100,7 @@ impl CellNames for Words<'_> {
     fn push_cell(&self, text: &mut Vec<u8>, cell: u32) -> Result<(), AllocError> {
         match self.names {
             None => Numbers.push_cell(text, cell),
-            Some(naming) => push_place(text, &naming.program, cell),
+            Some(naming) => push_place(text, naming.program.arrays(), cell),
         }
     }
 }
@@ -153,7 +150,7 @@ fn push_spot(
         .copied()
         .unwrap_or(0);
     let line = format!(in alloc; " line={number}")?;
-    let place = place_text(alloc, &naming.program, meeting.cell)?;
+    let place = place_text(alloc, naming.program.arrays(), meeting.cell as usize)?;
     text.extend_from_slice(line.as_bytes())?;
     if place.is_empty() {
         return ByCells.push_spot(alloc, text, meeting);
@@ -163,24 +160,17 @@ fn push_spot(
 }
 
 // The place of a cell, or where it has none its number.
-fn push_place(text: &mut Vec<u8>, program: &Program, cell: u32) -> Result<(), AllocError>
+fn push_place(text: &mut Vec<u8>, arrays: &[Array], cell: u32) -> Result<(), AllocError>
+    requires { AreArrays arrays.now 0 }
     ensures { OnOk result (text.new.items ≡ text.old.items
-        ++ or_number (cell_text program.now.arrays cell) cell) }
+        ++ or_number (cell_text arrays.now cell) cell) }
 {
     let before = text.len();
-    push_cell(text, program.arrays(), cell as usize)?;
+    push_told(text, arrays, cell as usize)?;
     if text.len() == before {
         return Numbers.push_cell(text, cell);
     }
     Ok(())
-}
-
-fn place_text(alloc: Global, program: &Program, cell: u32) -> Result<Vec<u8>, AllocError>
-    ensures { IfOk result (λ text. text.items ≡ cell_text program.now.arrays cell) }
-{
-    let mut text = Vec::new(alloc);
-    push_cell(&mut text, program.arrays(), cell as usize)?;
-    Ok(text)
 }
 
 /// The job of a text, and what its answers are told by if it is a program.

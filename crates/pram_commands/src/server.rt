@@ -1,11 +1,12 @@
 //! The work of a line.
-ghost use Rattle.std.specs.Prelude.{◌≡◌, ◌⊎◌, false, IfOk, IfErr};
+ghost use Rattle.std.specs.Prelude.{◌≡◌, ◌≢◌, ◌⊎◌, false, IfOk, IfErr};
 ghost use Rattle.pram_commands.specs.Did.{writing};
 ghost use Rattle.pram_commands.specs.Faults.{fault_status};
 ghost use Rattle.pram_commands.specs.Inner.Refusals.{named_by, named_in, refusal_status};
 ghost use Rattle.pram_commands.specs.Inputs.{AreReady, reading};
 ghost use Rattle.command_data.specs.Line.{StartsNoThread};
 ghost use Rattle.pram_commands.specs.Served.{Served};
+ghost use Rattle.pram_commands.specs.declared.fault.CommandFault.TheVariants.{Memory};
 
 use crate::commands::{do_alone, do_on_threads};
 use crate::explanation::{Explanation, Reasons, explain};
@@ -88,12 +89,23 @@ fn status_after<O: Sink, E: Sink>(
     if takes && console.explains {
         let explanation = Explanation {
             line: *line,
-            fault,
+            fault: told_of(fault, status),
             reasons,
         };
         explain(alloc, &explanation, &mut console.err);
     }
     status
+}
+
+// The fault that was told with this status: where there was no memory to tell another one, that.
+fn told_of(fault: CommandFault, status: u8) -> CommandFault
+    ensures memory { status ≡ MEMORY → result ≡ Memory }
+    ensures told { status ≢ MEMORY → result ≡ fault }
+{
+    if status == MEMORY {
+        return CommandFault::Memory;
+    }
+    fault
 }
 
 // What is told of a fault of a line.

@@ -1,0 +1,19 @@
+-- The places of a program's cells, and how the number in one is read.
+use Rattle.std.specs.Prelude.{◌≡◌, ◌≤◌, ℕ, ◌+◌, ◌*◌, ◌-◌, ◌^◌, ◌==◌, ◌&&◌, List, length, nat_le, nat_lt}
+use Rattle.std.specs.Prelude.{if◌then◌else◌}
+use Rattle.pardo_text.specs.Program.{ArrayData}
+use Rattle.pardo_job.specs.Printed.{cell_text}
+
+-- the text is that of the cell's place
+abbrev pub IsTold : List ArrayData → List ℕ → ℕ → Type 0
+IsTold arrays place cell = (1 ≤ length place) × (cell_text arrays cell ≡ place)
+
+-- a number below 2^32 with one digit more
+abbrev pub with_digit : (number digit : ℕ) → ℕ
+with_digit number digit = if nat_lt number (2 ^ 32) then 10 * number + digit else number
+
+-- the number so far, after one byte more: a bracket begins a number
+abbrev pub read_on : (number byte : ℕ) → ℕ
+read_on number byte =
+    if byte == 91 then 0
+    else (if nat_le 48 byte && nat_le byte 57 then with_digit number (byte - 48) else number)
