@@ -1,5 +1,6 @@
 -- Where a number must be known at once, an expression is a number.
-use Rattle.std.proofs.Common.{◌≡◌, ℕ, true, false, List, IfOk, refl, ap, ◌∙◌, sym, subst, Ok, Some, None}
+use Rattle.std.proofs.Common.{◌≡◌, ℕ, true, false, List, IfOk, refl, ap, ◌∙◌, sym}
+use Rattle.std.proofs.Common.{subst, Ok, Some, None}
 use Rattle.pardo_text.specs.declared.names.Named.{Named}
 use Rattle.pardo_text.specs.declared.names.Named.TheVariants as thing
 use Rattle.pardo_text.specs.declared.names.Scope.TheVariants.{Fixed}

@@ -11,5 +11,6 @@ invariant_of-self-2 c = (
 )
 
 pub returns : goal.returns
-returns c = trees_from_nodes _ _ (leaf_nodes c.args.self.now c.self.inside.nodes.items _ c.args.node c.requires
+returns c = trees_from_nodes _ _
+    (leaf_nodes c.args.self.now c.self.inside.nodes.items _ c.args.node c.requires
     (nodes_of_all _ _ c.self.invariant c.self.view_is) c.in_ok-push.ensures.items)
