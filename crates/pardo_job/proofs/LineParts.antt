@@ -119,14 +119,18 @@ under_long layout at depth body =
 
 -- a body that is too long
 pub masked_too_long : {A : Type 0} (old new : List Instr) (layout : LayoutData) (at depth : ℕ)
-    (body : List Instr) → depth ≢ 0 →
-    is_shallow body ≡ true → MAX_CODE < length body →
+    (body : List Instr) → is_shallow body ≡ true → MAX_CODE < length body →
     PutsLine {A = A} old new (Err TooLong) (masked layout at depth body)
-masked_too_long {A = A} old new layout at depth body some s lt =
+masked_too_long {A = A} old new layout at zero body s lt =
     subst (λ (code : List Instr). PutsLine {A = A} old new (Err TooLong) code)
-    (sym (masked_some layout at depth body some))
-    (line_too_long old new (under layout at depth body) (under_shallow layout at depth body s)
-    (omega (arith, lt, under_long layout at depth body)))
+    (sym (masked_none layout at zero body refl)) (line_too_long old new body s lt)
+masked_too_long {A = A} old new layout at (suc outer) body s lt =
+    let some : suc outer ≢ 0 = omega arith in
+    subst (λ (code : List Instr). PutsLine {A = A} old new (Err TooLong) code)
+    (sym (masked_some layout at (suc outer) body some))
+    (line_too_long old new (under layout at (suc outer) body)
+    (under_shallow layout at (suc outer) body s)
+    (omega (arith, lt, under_long layout at (suc outer) body)))
 
 choice_shallow : (layout : LayoutData) (at depth : ℕ) (body : List Instr) (b : Bool) →
     is_shallow body ≡ true →

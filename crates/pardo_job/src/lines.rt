@@ -149,11 +149,11 @@ impl Site<'_> {
         ensures { PutsLine code.old.items code.new.items result
             (masked self.now.layout.now (length code.old.items) self.now.depth body.now) }
     {
-        if self.depth == 0 {
-            return put_all(code, body);
-        }
         if body.len() > MAX_CODE {
             return Err(JobKind::TooLong);
+        }
+        if self.depth == 0 {
+            return put_all(code, body);
         }
         self.put_under(code, body)
     }

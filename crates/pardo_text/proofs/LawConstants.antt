@@ -1,18 +1,20 @@
 -- Where a number must be known at once, an expression is a number.
-use Rattle.std.proofs.Common.{◌≡◌, ℕ, true, false, IfOk, refl, ap, ◌∙◌}
+use Rattle.std.proofs.Common.{◌≡◌, ℕ, true, false, List, IfOk, refl, ap, ◌∙◌, sym}
+use Rattle.std.proofs.Common.{subst, Ok, Some, None}
 use Rattle.pardo_text.specs.declared.names.Named.{Named}
 use Rattle.pardo_text.specs.declared.names.Named.TheVariants as thing
 use Rattle.pardo_text.specs.declared.names.Scope.TheVariants.{Fixed}
 use Rattle.pardo_text.specs.declared.operation.Op.{Op}
 use Rattle.pardo_text.specs.Expression.{Tree, number}
-use Rattle.pardo_text.specs.Expressions.{applied, joined, constant_of, is_zero}
+use Rattle.pardo_text.specs.Expressions.{Read, applied, joined, constant_of, is_zero, within_at}
 use Rattle.pardo_text.specs.Laws.{ConstantsAreNumbers}
 use Rattle.pardo_text.specs.Names.{Names, admits, tree_from}
 use Rattle.pardo_text.specs.Operations.{is_division, value_of}
+use Rattle.pardo_text.specs.Tokens.{Token}
 use Rattle.pardo_text.proofs.Ifs.{ok_if}
-use Rattle.pardo_text.proofs.LawTrees.{Keeps, expression_kept}
+use Rattle.pardo_text.proofs.LawTrees.{Keeps, within_kept, expression_kept}
 
-abbrev IsNumber : Tree → Type 0
+abbrev pub IsNumber : Tree → Type 0
 IsNumber tree = (value : ℕ) × (tree ≡ number value)
 
 applied_number : (op : Op) (first second : Tree) → IsNumber first → IsNumber second →
@@ -47,6 +49,18 @@ keeps_number names = record {
   joins = joined_number;
   pairs = λ op first second e p q. applied_number op first second p q;
 }
+
+pub within_is_number : (names : Names) (left : ℕ) (tokens : List Token) →
+    IfOk (within_at names left Fixed tokens) (λ read. IsNumber read.0)
+within_is_number names left tokens =
+    within_kept names Fixed IsNumber (keeps_number names) left tokens
+
+pub is_no_other : (names : Names) (left : ℕ) (tokens rest : List Token) (tree : Tree) →
+    within_at names left Fixed tokens ≡ Ok (tree, rest) → constant_of tree ≡ None → ⊥
+is_no_other names left tokens rest tree e f =
+    let is : IsNumber tree = subst (λ (read : Read Tree). IfOk read (λ r. IsNumber r.0)) e
+    (within_is_number names left tokens) in
+    let none : Some is.0 ≡ None = sym (ap constant_of is.1) ∙ f in cc
 
 pub constants_are_numbers : ConstantsAreNumbers
 constants_are_numbers names tokens =

@@ -158,6 +158,9 @@ module _ (names : Names) (scope : Scope) (P : Tree → Type 0) (keeps : Keeps na
       leveled (operand_at names (within_at names left)) loosest
       (operand (within_at names left) (within left)) tokens
 
+  pub within_kept : (left : ℕ) → KeptIn (within_at names left scope)
+  within_kept left = within left
+
   pub expression_kept : (tokens : List Token) →
       IfOk (expression_at names scope tokens) (λ read. P read.0)
   unfolding expression_at

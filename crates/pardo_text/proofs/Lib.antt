@@ -5,6 +5,7 @@ pub mod Marks
 pub mod Tokens
 pub mod Left
 pub mod Chains
+pub mod Added
 pub mod Depths
 pub mod Known
 pub mod Finished

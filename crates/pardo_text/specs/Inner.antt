@@ -5,3 +5,5 @@ pub mod Names
 pub mod Nodes
 pub mod Values
 pub mod Drafts
+pub mod Postfixes
+pub mod Exprs

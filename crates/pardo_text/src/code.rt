@@ -1,6 +1,6 @@
 //! Lines of code.
-ghost use Rattle.std.specs.Prelude.{◌≡◌, ◌∷◌, length};
-ghost use Rattle.pardo_text.specs.Code.{whole_at, way_at, target_of, assignment_at};
+ghost use Rattle.std.specs.Prelude.{◌≡◌, ◌∷◌, length, Some};
+ghost use Rattle.pardo_text.specs.Code.{whole_at, way_at, place_of, target_of, assignment_at};
 ghost use Rattle.pardo_text.specs.Inner.Names.{names_in};
 ghost use Rattle.pardo_text.specs.Inner.Tokens.{Gives};
 
@@ -219,13 +219,24 @@ fn target(
         return Err(PardoKind::UnknownName);
     };
     match (thing, indexed(tokens)) {
-        (Named::Array(array), true) => {
-            let index = expression(alloc, names, Scope::Any, tokens)?;
-            expect(Mark::CloseIndex, tokens)?;
-            Ok(Target::Array(array, index))
-        }
+        (Named::Array(array), true) => place(alloc, names, array, tokens),
         (Named::Scalar(array), false) => Ok(Target::Array(array, Expr::number(alloc, 0)?)),
         (Named::Private(x), false) => Ok(Target::Private(x)),
         _ => Err(PardoKind::WrongKind),
     }
+}
+
+// Reads the index of a place of an array, to its `]`.
+fn place(
+    alloc: Global,
+    names: &Names<'_>,
+    array: usize,
+    tokens: &mut Cursor<'_, '_>,
+) -> Result<Target, PardoKind>
+    ensures { Gives (λ place. (place, tokens.new)) result
+        (place_of (names_in names.now) array (Some tokens.old)) }
+{
+    let index = expression(alloc, names, Scope::Any, tokens)?;
+    expect(Mark::CloseIndex, tokens)?;
+    Ok(Target::Array(array, index))
 }

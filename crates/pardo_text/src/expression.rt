@@ -1,8 +1,8 @@
 //! Expressions.
-ghost use Rattle.std.specs.Prelude.{◌≡◌, ◌≢◌, [], ◌∷◌, IfOk, IsTrue, Some, None};
-ghost use Rattle.pardo_text.specs.Expression.{number, place, apply, tree_of};
+ghost use Rattle.std.specs.Prelude.{◌≡◌, ◌≢◌, ◌<◌, [], ◌∷◌, drop, length, IfOk, IsTrue, Some, None};
+ghost use Rattle.pardo_text.specs.Expression.{number, place, apply, first_of, tree_of};
 ghost use Rattle.pardo_text.specs.Expressions.{applied, constant_of};
-ghost use Rattle.pardo_text.specs.Inner.Nodes.{IsLeaf};
+ghost use Rattle.pardo_text.specs.Inner.Nodes.{IsLeaf, IsLastNumber};
 ghost use Rattle.pardo_text.specs.Names.{tree_from};
 ghost use Rattle.pardo_text.specs.Operations.{is_division};
 
@@ -49,43 +49,13 @@ impl Model for Expr {
 impl Expr {
     ghost use Rattle.pardo_text.specs.Expression.{postfix};
 
-    // A node that stands for itself.
-    fn leaf(alloc: Global, node: Node) -> Result<Self, AllocError>
-        requires { IsLeaf node }
-        ensures { IfOk result (λ expr. expr ≡ tree_of (node ∷ [])) }
-    {
-        Ok(Expr {
-            nodes: Vec::from_slice(alloc, &[node])?,
-        })
-    }
-
     /// A number.
     pub(crate) fn number(alloc: Global, value: u32) -> Result<Self, AllocError>
         ensures { IfOk result (λ expr. expr ≡ number value) }
     {
-        Expr::leaf(alloc, Node::Number(value))
-    }
-
-    /// What a name without an index says.
-    pub(crate) fn named(alloc: Global, thing: Named) -> Result<Self, AllocError>
-        ensures { IfOk result (λ expr. expr ≡ tree_from thing) }
-    {
-        match thing {
-            Named::Constant(value) => Expr::leaf(alloc, Node::Number(value)),
-            Named::Own => Expr::leaf(alloc, Node::Own),
-            Named::Private(x) => Expr::leaf(alloc, Node::Private(x)),
-            Named::Loop(nest) => Expr::leaf(alloc, Node::Loop(nest)),
-            Named::Scalar(array) | Named::Array(array) => Expr::number(alloc, 0)?.place_of(array),
-        }
-    }
-
-    /// The place of an array with this index.
-    pub(crate) fn place_of(self, array: usize) -> Result<Self, AllocError>
-        ensures { IfOk result (λ expr. expr ≡ place array self) }
-    {
-        let mut nodes = self.nodes;
-        nodes.push(Node::Place(array))?;
-        Ok(Expr { nodes })
+        Ok(Expr {
+            nodes: Vec::from_slice(alloc, &[Node::Number(value)])?,
+        })
     }
 
     /// The number that it is, if it is one.
@@ -98,35 +68,153 @@ impl Expr {
         }
     }
 
-    /// The operation of two expressions, whose second is not 0 where it is a division. Of two
-    /// numbers it is a number.
-    pub(crate) fn applied(self, alloc: Global, op: Op, second: Expr) -> Result<Self, AllocError>
-        requires { IsTrue (is_division op) → constant_of second ≢ Some 0 }
-        ensures { IfOk result (λ expr. expr ≡ applied op self second) }
-    {
-        let Some(a) = self.constant() else {
-            return self.with(op, second);
-        };
-        let Some(b) = second.constant() else {
-            return self.with(op, second);
-        };
-        Expr::number(alloc, op.value(a, b))
-    }
-
-    // The operation of two expressions that are not both numbers.
-    fn with(self, op: Op, second: Expr) -> Result<Self, AllocError>
-        ensures { IfOk result (λ expr. expr ≡ apply op self second) }
-    {
-        let mut nodes = self.nodes;
-        nodes.extend_from_slice(second.nodes())?;
-        nodes.push(Node::Apply(op))?;
-        Ok(Expr { nodes })
-    }
-
     /// The nodes in postfix order.
     pub fn nodes(&self) -> &[Node]
         ensures { result.now ≡ postfix self.now }
     {
         self.nodes.as_slice()
+    }
+}
+
+/// Expressions that are being read: the nodes of one after those of another, in one list. Contracts
+/// have the last one first.
+#[derive(Drop)]
+pub(crate) struct Exprs {
+    nodes: Vec<Node>,
+}
+
+impl Model for Exprs {
+    ghost use Rattle.std.specs.Prelude.{List, []};
+    ghost use Rattle.pardo_text.specs.Expression.{Tree, trees_of};
+    ghost use Rattle.pardo_text.specs.Inner.Postfixes.{trees_code, ArePostfix};
+
+    ghost Value = { List Tree };
+
+    ghost coded = { trees_code };
+
+    ghost view = { λ e. trees_of [] e.nodes.items };
+
+    ghost invariant = { λ e. ArePostfix e.nodes.items };
+}
+
+impl Exprs {
+    /// No expression.
+    pub(crate) fn new(alloc: Global) -> Self
+        ensures { result ≡ [] }
+    {
+        Exprs {
+            nodes: Vec::new(alloc),
+        }
+    }
+
+    // One more, of one node.
+    fn leaf(&mut self, node: Node) -> Result<(), AllocError>
+        requires { IsLeaf node }
+        ensures { IfOk result (λ _. self.new ≡ tree_of (node ∷ []) ∷ self.old) }
+    {
+        self.nodes.push(node)?;
+        Ok(())
+    }
+
+    /// One more, a number.
+    pub(crate) fn number(&mut self, value: u32) -> Result<(), AllocError>
+        ensures { IfOk result (λ _. self.new ≡ number value ∷ self.old) }
+    {
+        self.leaf(Node::Number(value))
+    }
+
+    /// One more: what a name without an index says.
+    pub(crate) fn named(&mut self, thing: Named) -> Result<(), AllocError>
+        ensures { IfOk result (λ _. self.new ≡ tree_from thing ∷ self.old) }
+    {
+        match thing {
+            Named::Constant(value) => self.number(value),
+            Named::Own => self.leaf(Node::Own),
+            Named::Private(x) => self.leaf(Node::Private(x)),
+            Named::Loop(nest) => self.leaf(Node::Loop(nest)),
+            Named::Scalar(array) | Named::Array(array) => {
+                self.number(0)?;
+                self.place_of(array)
+            }
+        }
+    }
+
+    /// The last one becomes the place of an array whose index it is.
+    pub(crate) fn place_of(&mut self, array: usize) -> Result<(), AllocError>
+        requires { 0 < length self.old }
+        ensures { IfOk result (λ _. self.new
+            ≡ place array (first_of self.old) ∷ drop 1 self.old) }
+    {
+        self.nodes.push(Node::Place(array))?;
+        Ok(())
+    }
+
+    /// The last two become an operation of them, whose second is not 0 where it is a division. Of
+    /// two numbers it is a number.
+    pub(crate) fn apply(&mut self, op: Op) -> Result<(), AllocError>
+        requires two { 1 < length self.old }
+        requires divisor { IsTrue (is_division op) → constant_of (first_of self.old) ≢ Some 0 }
+        ensures { IfOk result (λ _. self.new
+            ≡ applied op (first_of (drop 1 self.old)) (first_of self.old) ∷ drop 2 self.old) }
+    {
+        let Some(b) = self.take_number() else {
+            return self.join(op);
+        };
+        let Some(a) = self.take_number() else {
+            self.number(b)?;
+            return self.join(op);
+        };
+        self.number(op.value(a, b))
+    }
+
+    // The last two, which are not both numbers, become an operation of them.
+    fn join(&mut self, op: Op) -> Result<(), AllocError>
+        requires { 1 < length self.old }
+        ensures { IfOk result (λ _. self.new
+            ≡ apply op (first_of (drop 1 self.old)) (first_of self.old) ∷ drop 2 self.old) }
+    {
+        self.nodes.push(Node::Apply(op))?;
+        Ok(())
+    }
+
+    /// The number that the last one is, if it is one.
+    pub(crate) fn constant(&self) -> Option<u32>
+        ensures { result ≡ constant_of (first_of self.now) }
+    {
+        last_number(self.nodes.as_slice())
+    }
+
+    /// Takes the last one, if it is a number.
+    pub(crate) fn take_number(&mut self) -> Option<u32>
+        ensures { elim result [
+          | None ↦ (self.new ≡ self.old) × (constant_of (first_of self.old) ≡ None)
+          | Some value ↦ self.old ≡ number value ∷ self.new
+        ] }
+    {
+        let Some(value) = last_number(self.nodes.as_slice()) else {
+            return None;
+        };
+        self.nodes.pop();
+        Some(value)
+    }
+
+    /// The only one.
+    pub(crate) fn into_expr(self) -> Expr
+        requires { length self ≡ 1 }
+        ensures { result ≡ first_of self }
+    {
+        let mut nodes = self.nodes;
+        nodes.shrink_to_fit();
+        Expr { nodes }
+    }
+}
+
+// The number that the last node is, if it is one.
+fn last_number(nodes: &[Node]) -> Option<u32>
+    ensures { IsLastNumber nodes.now result }
+{
+    match nodes.split_last() {
+        Some((Node::Number(value), _)) => Some(*value),
+        _ => None,
     }
 }

@@ -1,16 +1,18 @@
 //! Expressions, read from tokens.
-ghost use Rattle.std.specs.Prelude.{◌≡◌, ◌<◌, ◌-◌, List, Some, None};
+ghost use Rattle.std.specs.Prelude.{◌≡◌, ◌<◌, ◌-◌, List, Some, None, drop, length};
+ghost use Rattle.pardo_text.specs.Expression.{first_of};
 ghost use Rattle.pardo_text.specs.Expressions.{literal_at, bracketed_at, pair_at, log_at};
 ghost use Rattle.pardo_text.specs.Expressions.{place_at, used_at, named_at, operand_at, joined};
 ghost use Rattle.pardo_text.specs.Expressions.{operator_at, chained, turns_at, level_at};
 ghost use Rattle.pardo_text.specs.Expressions.{within_at, expression_at, fixed_at, log_of};
 ghost use Rattle.pardo_text.specs.Operations.{level_of};
 ghost use Rattle.pardo_text.specs.Tokens.{Token as Part};
+ghost use Rattle.pardo_text.specs.Inner.Exprs.{Adds, Joins};
 ghost use Rattle.pardo_text.specs.Inner.Tokens.{Gives};
 ghost use Rattle.pardo_text.specs.Inner.Names.{names_in};
 
 use crate::cursor::Cursor;
-use crate::expression::Expr;
+use crate::expression::{Expr, Exprs};
 use crate::fault::PardoKind;
 use crate::limits::MAX_OPEN;
 use crate::names::{Named, Names, Scope};
@@ -23,15 +25,14 @@ use std::alloc::Global;
 /// What stands around an expression.
 #[derive(Clone, Copy)]
 pub(crate) struct Around<'n, 't> {
-    pub(crate) alloc: Global,
     pub(crate) names: &'n Names<'t>,
     pub(crate) scope: Scope,
     /// How many brackets may still be opened.
     pub(crate) brackets: usize,
 }
 
-// An expression that was read, or what is wrong.
-type Parsed = Result<Expr, PardoKind>;
+// Whether an expression was read, which then stands behind the others, or what is wrong.
+type Parsed = Result<(), PardoKind>;
 
 // The level of comparisons, which take two operands alone, and that of whole expressions.
 const COMPARISONS: u8 = 3;
@@ -50,12 +51,13 @@ pub(crate) fn expression(
         (expression_at (names_in names.now) scope tokens.old) }
 {
     let around = Around {
-        alloc,
         names,
         scope,
         brackets: MAX_OPEN + 1,
     };
-    within(around, tokens)
+    let mut exprs = Exprs::new(alloc);
+    within(around, &mut exprs, tokens)?;
+    Ok(exprs.into_expr())
 }
 
 /// Reads a number that is known at once, within limits.
@@ -81,50 +83,60 @@ pub(crate) fn fixed(
 
 // Reads what stands within a bracket.
 #[cycle(operand)]
-fn within(around: Around<'_, '_>, tokens: &mut Cursor<'_, '_>) -> Parsed
-    ensures { Gives (λ expr. (expr, tokens.new)) result (within_at (names_in around.entry.names.now)
-        around.entry.brackets around.entry.scope tokens.old) }
+fn within(around: Around<'_, '_>, exprs: &mut Exprs, tokens: &mut Cursor<'_, '_>) -> Parsed
+    ensures { Adds exprs.old exprs.new tokens.new result (within_at
+        (names_in around.entry.names.now) around.entry.brackets around.entry.scope tokens.old) }
 {
     match around.brackets.checked_sub(1) {
-        Some(brackets) => leveled(Around { brackets, ..around }, LOOSEST, tokens),
+        Some(brackets) => leveled(Around { brackets, ..around }, LOOSEST, exprs, tokens),
         None => Err(PardoKind::TooDeep),
     }
 }
 
 // Reads an expression of this level: a chain of those of the level below, or an operand.
 #[cycle(operand)]
-fn leveled(around: Around<'_, '_>, level: u8, tokens: &mut Cursor<'_, '_>) -> Parsed
-    ensures { Gives (λ expr. (expr, tokens.new)) result
+fn leveled(
+    around: Around<'_, '_>,
+    level: u8,
+    exprs: &mut Exprs,
+    tokens: &mut Cursor<'_, '_>,
+) -> Parsed
+    ensures { Adds exprs.old exprs.new tokens.new result
         (level_at (operand_at (names_in around.entry.names.now)
         (within_at (names_in around.entry.names.now) around.entry.brackets)) level
         around.entry.scope tokens.old) }
 {
     if level == 0 {
-        return operand(around, tokens);
+        return operand(around, exprs, tokens);
     }
-    let first = leveled(around, level - 1, tokens)?;
-    chain(around, level, first, tokens)
+    leveled(around, level - 1, exprs, tokens)?;
+    chain(around, level, exprs, tokens)
 }
 
 // Reads the operations of a level after the first operand.
 #[cycle(operand)]
-fn chain(around: Around<'_, '_>, level: u8, first: Expr, tokens: &mut Cursor<'_, '_>) -> Parsed
-    requires { 0 < level }
-    ensures { Gives (λ expr. (expr, tokens.new)) result
+fn chain(
+    around: Around<'_, '_>,
+    level: u8,
+    exprs: &mut Exprs,
+    tokens: &mut Cursor<'_, '_>,
+) -> Parsed
+    requires level { 0 < level }
+    requires first { 0 < length exprs.old }
+    ensures { Adds (drop 1 exprs.old) exprs.new tokens.new result
         (chained (level_at (operand_at (names_in around.entry.names.now)
         (within_at (names_in around.entry.names.now) around.entry.brackets)) (level - 1)
         around.entry.scope)
-        around.entry.scope level (turns_at level tokens.old) first tokens.old) }
+        around.entry.scope level (turns_at level tokens.old) (first_of exprs.old) tokens.old) }
 {
-    let mut expr = first;
     for _turn in 0..turns(level, tokens) {
         let Some(op) = operator(level, tokens) else {
-            return Ok(expr);
+            return Ok(());
         };
-        let second = leveled(around, level - 1, tokens)?;
-        expr = join(around, op, expr, second)?;
+        leveled(around, level - 1, exprs, tokens)?;
+        join(around.scope, op, exprs)?;
     }
-    Ok(expr)
+    Ok(())
 }
 
 // How many operations of a level may follow.
@@ -155,47 +167,54 @@ fn operator(level: u8, tokens: &mut Cursor<'_, '_>) -> Option<Op>
     }
 }
 
-// The operation of two expressions, if it may stand here.
+// The last two expressions become an operation of them, if it may stand here.
 #[tactic(auto, unfolding(crate::specs::Expressions::joined))]
-fn join(around: Around<'_, '_>, op: Op, first: Expr, second: Expr) -> Parsed
-    ensures { Gives (λ expr. expr) result (joined around.entry.scope op first second) }
+fn join(scope: Scope, op: Op, exprs: &mut Exprs) -> Parsed
+    requires { 1 < length exprs.old }
+    ensures { Joins exprs.old exprs.new result
+        (joined scope op (first_of (drop 1 exprs.old)) (first_of exprs.old)) }
 {
     if op.is_division() {
-        if !around.scope.divides() {
+        if !scope.divides() {
             return Err(PardoKind::NotConstant);
         }
-        if second.constant() == Some(0) {
+        if exprs.constant() == Some(0) {
             return Err(PardoKind::OutOfLimits);
         }
     }
-    Ok(first.applied(around.alloc, op, second)?)
+    exprs.apply(op)?;
+    Ok(())
 }
 
 // Reads an operand.
 #[cycle(operand)]
 #[tactic(auto, unfolding(crate::specs::Expressions::operand_at))]
-fn operand(around: Around<'_, '_>, tokens: &mut Cursor<'_, '_>) -> Parsed
-    ensures { Gives (λ expr. (expr, tokens.new)) result
+#[inline(never)]
+fn operand(around: Around<'_, '_>, exprs: &mut Exprs, tokens: &mut Cursor<'_, '_>) -> Parsed
+    ensures { Adds exprs.old exprs.new tokens.new result
         (operand_at (names_in around.entry.names.now)
         (within_at (names_in around.entry.names.now) around.entry.brackets)
         around.entry.scope tokens.old) }
 {
     match tokens.next() {
-        Some(Token::Number(value)) => literal(around.alloc, value),
-        Some(Token::Name(name)) => named(around, name, tokens),
-        Some(Token::Symbol(Symbol::Open)) => bracketed(around, tokens),
-        Some(Token::Symbol(Symbol::Lg)) => logarithm(around, tokens),
-        Some(Token::Symbol(Symbol::Operator(op))) if op.level() == 0 => pair(around, op, tokens),
+        Some(Token::Number(value)) => literal(value, exprs),
+        Some(Token::Name(name)) => named(around, name, exprs, tokens),
+        Some(Token::Symbol(Symbol::Open)) => bracketed(around, exprs, tokens),
+        Some(Token::Symbol(Symbol::Lg)) => logarithm(around, exprs, tokens),
+        Some(Token::Symbol(Symbol::Operator(op))) if op.level() == 0 => {
+            pair(around, op, exprs, tokens)
+        }
         _ => Err(PardoKind::BadLine),
     }
 }
 
 // A number.
-fn literal(alloc: Global, value: u64) -> Parsed
-    ensures { (rest : List Part) → Gives (λ expr. (expr, rest)) result (literal_at value rest) }
+fn literal(value: u64, exprs: &mut Exprs) -> Parsed
+    ensures { (rest : List Part) → Adds exprs.old exprs.new rest result (literal_at value rest) }
 {
     if value <= u64::from(u32::MAX) {
-        Ok(Expr::number(alloc, value as u32)?)
+        exprs.number(value as u32)?;
+        Ok(())
     } else {
         Err(PardoKind::OutOfLimits)
     }
@@ -203,36 +222,37 @@ fn literal(alloc: Global, value: u64) -> Parsed
 
 // Reads what stands between `(` and `)`, after the `(`.
 #[cycle(operand)]
-fn bracketed(around: Around<'_, '_>, tokens: &mut Cursor<'_, '_>) -> Parsed
-    ensures { Gives (λ expr. (expr, tokens.new)) result
+fn bracketed(around: Around<'_, '_>, exprs: &mut Exprs, tokens: &mut Cursor<'_, '_>) -> Parsed
+    ensures { Adds exprs.old exprs.new tokens.new result
         (bracketed_at (within_at (names_in around.entry.names.now) around.entry.brackets)
         around.entry.scope tokens.old) }
 {
-    let expr = within(around, tokens)?;
+    within(around, exprs, tokens)?;
     expect(Mark::Close, tokens)?;
-    Ok(expr)
+    Ok(())
 }
 
 // Reads what stands after `min` or `max`.
 #[cycle(operand)]
-fn pair(around: Around<'_, '_>, op: Op, tokens: &mut Cursor<'_, '_>) -> Parsed
+fn pair(around: Around<'_, '_>, op: Op, exprs: &mut Exprs, tokens: &mut Cursor<'_, '_>) -> Parsed
     requires { level_of op ≡ 0 }
-    ensures { Gives (λ expr. (expr, tokens.new)) result
+    ensures { Adds exprs.old exprs.new tokens.new result
         (pair_at (within_at (names_in around.entry.names.now) around.entry.brackets)
         around.entry.scope op tokens.old) }
 {
     expect(Mark::Open, tokens)?;
-    let first = within(around, tokens)?;
+    within(around, exprs, tokens)?;
     expect(Mark::Comma, tokens)?;
-    let second = within(around, tokens)?;
+    within(around, exprs, tokens)?;
     expect(Mark::Close, tokens)?;
-    Ok(first.applied(around.alloc, op, second)?)
+    exprs.apply(op)?;
+    Ok(())
 }
 
 // Reads what stands after `lg`.
 #[cycle(operand)]
-fn logarithm(around: Around<'_, '_>, tokens: &mut Cursor<'_, '_>) -> Parsed
-    ensures { Gives (λ expr. (expr, tokens.new)) result
+fn logarithm(around: Around<'_, '_>, exprs: &mut Exprs, tokens: &mut Cursor<'_, '_>) -> Parsed
+    ensures { Adds exprs.old exprs.new tokens.new result
         (log_at (within_at (names_in around.entry.names.now) around.entry.brackets) tokens.old) }
 {
     let fixed = Around {
@@ -240,10 +260,13 @@ fn logarithm(around: Around<'_, '_>, tokens: &mut Cursor<'_, '_>) -> Parsed
         ..around
     };
     expect(Mark::Open, tokens)?;
-    let expr = within(fixed, tokens)?;
+    within(fixed, exprs, tokens)?;
     expect(Mark::Close, tokens)?;
-    let value = log_of(expr.constant().unwrap_or(0));
-    Ok(Expr::number(around.alloc, value)?)
+    let Some(value) = exprs.take_number() else {
+        unreachable!()
+    };
+    exprs.number(log_of(value))?;
+    Ok(())
 }
 
 // How many bits the number before has, which is the least k with 2^k at least the number.
@@ -256,13 +279,18 @@ fn log_of(value: u32) -> u32
 
 // Reads what follows a name, if it may stand here.
 #[cycle(operand)]
-fn named(around: Around<'_, '_>, name: &[u8], tokens: &mut Cursor<'_, '_>) -> Parsed
-    ensures { Gives (λ expr. (expr, tokens.new)) result
+fn named(
+    around: Around<'_, '_>,
+    name: &[u8],
+    exprs: &mut Exprs,
+    tokens: &mut Cursor<'_, '_>,
+) -> Parsed
+    ensures { Adds exprs.old exprs.new tokens.new result
         (named_at (within_at (names_in around.entry.names.now) around.entry.brackets)
         around.entry.scope (names_in around.entry.names.now name.now) tokens.old) }
 {
     match around.names.get(name) {
-        Some(thing) if around.scope.admits(*thing) => used(around, *thing, tokens),
+        Some(thing) if around.scope.admits(*thing) => used(around, *thing, exprs, tokens),
         Some(_) => Err(PardoKind::WrongKind),
         None => Err(PardoKind::UnknownName),
     }
@@ -270,18 +298,27 @@ fn named(around: Around<'_, '_>, name: &[u8], tokens: &mut Cursor<'_, '_>) -> Pa
 
 // What a name says, with the index after it if it is an array.
 #[cycle(operand)]
-fn used(around: Around<'_, '_>, thing: Named, tokens: &mut Cursor<'_, '_>) -> Parsed
-    ensures { Gives (λ expr. (expr, tokens.new)) result
+fn used(
+    around: Around<'_, '_>,
+    thing: Named,
+    exprs: &mut Exprs,
+    tokens: &mut Cursor<'_, '_>,
+) -> Parsed
+    ensures { Adds exprs.old exprs.new tokens.new result
         (used_at (within_at (names_in around.entry.names.now) around.entry.brackets)
         around.entry.scope thing tokens.old) }
 {
     match (thing, indexed(tokens)) {
         (Named::Array(array), true) => {
-            let index = within(around, tokens)?;
+            within(around, exprs, tokens)?;
             expect(Mark::CloseIndex, tokens)?;
-            Ok(index.place_of(array)?)
+            exprs.place_of(array)?;
+            Ok(())
         }
         (Named::Array(_), false) | (_, true) => Err(PardoKind::WrongKind),
-        (_, false) => Ok(Expr::named(around.alloc, thing)?),
+        (_, false) => {
+            exprs.named(thing)?;
+            Ok(())
+        }
     }
 }

@@ -1,4 +1,5 @@
-use Rattle.std.proofs.Common.{◌+◌, ◌*◌, ◌-◌, ◌≡◌}
+use Rattle.std.proofs.Common.{◌+◌, ◌*◌, ◌-◌, ◌≡◌, ◌∷◌, drop}
+use Rattle.pardo_text.specs.Expression.{first_of}
 use Rattle.pardo_text.specs.Expressions.{chained, turns_at, level_at, operand_at, within_at}
 use Rattle.pardo_text.specs.Inner.Names.{names_in}
 use Rattle.pardo_text.proofs.parse.+operand.Given as goal
@@ -35,6 +36,7 @@ abbrev pub invariant-chain-loop-turn : goal.invariant-chain-loop-turn
 invariant-chain-loop-turn l =
     let operand = level_at (operand_at (names_in l.around.names.now)
     (within_at (names_in l.around.names.now) l.around.brackets)) (l.level - 1) l.around.scope in
-    chained operand l.around.scope l.level (turns_at l.level l.initial.tokens) l.initial.expr
-    l.initial.tokens
-    ≡ chained operand l.around.scope l.level (l._turn-end - l._turn) l.expr l.tokens
+    (l.exprs ≡ first_of l.exprs ∷ drop 1 l.initial.exprs)
+    × (chained operand l.around.scope l.level (turns_at l.level l.initial.tokens)
+    (first_of l.initial.exprs) l.initial.tokens
+    ≡ chained operand l.around.scope l.level (l._turn-end - l._turn) (first_of l.exprs) l.tokens)

@@ -16,7 +16,7 @@ pub returns-then-body-gt-MAX_CODE : goal.returns-then-body-gt-MAX_CODE
 returns-then-body-gt-MAX_CODE c =
     masked_too_long _ _ c.args.self.now.layout.now (length c.args.code.now.items) c.args.self.now.depth
     c.args.body.now
-    c.if-self-eq0.false c.requires.shallow c.if-body-gt-MAX_CODE.true
+    c.requires.shallow c.if-body-gt-MAX_CODE.true
 
 pub returns : goal.returns
 returns c =
