@@ -2,6 +2,7 @@
 use Rattle.std.specs.Prelude.{◌≡◌, ◌⊎◌, ℕ, List, Option}
 use Rattle.clap.specs.Words.{IsAmong, Text, fault_of, subcommand_of}
 use Rattle.clap.specs.declared.error.kind.ErrorKind.TheVariants.{DisplayHelp, DisplayVersion}
+use Rattle.command_data.specs.Line.{StartsNoThread}
 use Rattle.command_data.specs.declared.line.Line.{Line}
 use Rattle.pram_commands.specs.Did.{Writing}
 use Rattle.pram_commands.specs.Files.{ServesFiles}
@@ -27,3 +28,9 @@ EndsByWords words status =
     MeanNoLine words → (status ≡ MEMORY) ⊎ ((status ≡ FAILED)
     ⊎ ((status ≡ DONE) × (IsAmong DisplayHelp (fault_of pramx words)
     ⊎ IsAmong DisplayVersion (fault_of pramx words))))
+
+-- The words mean this line, which starts threads.
+pub record AskForThreads (words : List Text) (line : Line) : Type 0 where
+  pub met : IsMet (subcommand_of pramx words) line
+  pub taken : ¬ MeanNoLine words
+  pub threads : ¬ StartsNoThread line
