@@ -2,6 +2,8 @@
 use Rattle.std.specs.Prelude.{◌≡◌, ◌⊎◌, ℕ, Bool, List, Option}
 use Rattle.clap.specs.Words.{IsAmong, Text, fault_of, subcommand_of}
 use Rattle.clap.specs.declared.error.kind.ErrorKind.TheVariants.{DisplayHelp, DisplayVersion}
+use Rattle.command_data.specs.Line.{StartsNoThread}
+use Rattle.command_data.specs.declared.line.Line.{Line}
 use Rattle.pram_commands.specs.Did.{Writing}
 use Rattle.pram_commands.specs.Files.{ServesFiles}
 use Rattle.pram_commands.specs.declared.refusal.TheConstants.{DONE, FAILED, MEMORY}
@@ -36,3 +38,11 @@ EndsByWords words status =
 -- Where they mean no line, and do not ask for that, nothing is written on the output.
 abbrev pub RefusesQuietly : List Text → Writing → Type 0
 RefusesQuietly words writes = MeanNoLine words → AskForHelp words ⊎ writes.Unwritten
+
+-- The words mean this line, on such a device, and it starts threads.
+pub record AskForThreads (words : List Text) (on_terminal : Bool) (line : Line) : Type 0 where
+  pub asked : Asked
+  pub met : IsAsked on_terminal (subcommand_of pramx words) asked
+  pub is : line ≡ asked.line
+  pub taken : ¬ MeanNoLine words
+  pub threads : ¬ StartsNoThread line

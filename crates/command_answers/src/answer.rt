@@ -1,13 +1,19 @@
 //! What the program answers to words: a line is served, and all else is told.
 ghost use Rattle.std.specs.Prelude.{◌≡◌, ◌≢◌, ◌⊎◌, ◌≤◌, false, map};
+ghost use Rattle.std.specs.Prelude.{IfErr, IfOk, OnErr};
 ghost use Rattle.clap.specs.Words.{kind_of};
+ghost use Rattle.command_data.specs.Line.{StartsNoThread};
 ghost use Rattle.pram_commands.specs.Did.{writing};
-ghost use Rattle.command_answers.specs.Answering.{AnswersWords, EndsByWords, RefusesQuietly};
+ghost use Rattle.pram_commands.specs.Files.{ServesFiles};
+ghost use Rattle.command_answers.specs.Answering.{AnswersWords, AskForThreads, EndsByWords};
+ghost use Rattle.command_answers.specs.Answering.{RefusesQuietly};
 
 use clap::error::ErrorKind;
 use command_line::read_line;
-use pram_commands::{Console, DONE, FAILED, Folder, MEMORY, Refusal, serve_files, tell};
-use pram_streams::{Sink, put};
+use pram_commands::{
+    Console, DONE, FAILED, Folder, Line, MEMORY, Refusal, Sources, serve_alone, serve_files, tell,
+};
+use pram_streams::{Empty, Sink, put};
 use std::alloc::Global;
 use std::rt::Clock;
 use std::sync::Wait;
@@ -31,12 +37,65 @@ pub fn answer_words<'a, R: Eprint + Threads + Wait + Clock + Sync, F: Folder, O:
     ensures answers { AnswersWords (F.holds folder.now) (map (λ word. word.now) words.entry.now)
         console.old.is_terminal (writing O.Sink console.old.out console.new.out) result }
 {
-    match read_line(alloc, words, console.is_terminal) {
-        Ok(asked) => {
-            console.explains |= asked.explain;
-            serve_files(rt, alloc, folder, &asked.line, console)
+    match answer_alone(alloc, folder, words, console) {
+        Ok(status) => status,
+        Err(line) => serve_files(rt, alloc, folder, &line, console),
+    }
+}
+
+/// Does what `answer_words` does where the words mean no line that starts threads, and always
+/// returns; else it gives that line, for which nothing was done.
+pub fn answer_alone<'a, F: Folder, O: Sink, E: Sink>(
+    alloc: Global,
+    folder: &F,
+    words: &'a [&'a str],
+    console: &mut Console<O, E>,
+) -> Result<u8, Line<'a>>
+    requires out { O.has_failed console.old.out ≡ false }
+    requires err { E.has_failed console.old.err ≡ false }
+    ensures status { IfOk result (λ status. status ≤ MEMORY) }
+    ensures words { IfOk result (EndsByWords (map (λ word. word.now) words.entry.now)) }
+    ensures quiet { RefusesQuietly (map (λ word. word.now) words.entry.now)
+        (writing O.Sink console.old.out console.new.out) }
+    ensures answers { IfOk result (AnswersWords (F.holds folder.now)
+        (map (λ word. word.now) words.entry.now) console.old.is_terminal
+        (writing O.Sink console.old.out console.new.out)) }
+    ensures line { IfErr result (AskForThreads (map (λ word. word.now) words.entry.now)
+        console.old.is_terminal) }
+    ensures still { OnErr result ((console.new.out ≡ console.old.out)
+        × (console.new.err ≡ console.old.err)) }
+{
+    let asked = match read_line(alloc, words, console.is_terminal) {
+        Ok(asked) => asked,
+        Err(error) => return Ok(refusal_status(alloc, &error, console)),
+    };
+    console.explains |= asked.explain;
+    if !asked.line.starts_no_thread() {
+        return Err(asked.line);
+    }
+    Ok(serve_files_alone(alloc, folder, &asked.line, console))
+}
+
+/// Does what `serve_files` does for a line that starts no thread, and always returns.
+fn serve_files_alone<F: Folder, O: Sink, E: Sink>(
+    alloc: Global,
+    folder: &F,
+    line: &Line<'_>,
+    console: &mut Console<O, E>,
+) -> u8
+    requires alone { StartsNoThread line.now }
+    requires out { O.has_failed console.old.out ≡ false }
+    requires err { E.has_failed console.old.err ≡ false }
+    ensures { ServesFiles (F.holds folder.now) line.now
+        (writing O.Sink console.old.out console.new.out) result }
+{
+    let job = folder.open(line.file());
+    match line.plan() {
+        Some(name) => {
+            let plan = folder.open(name);
+            serve_alone(alloc, line, &mut Sources { job, plan }, console)
         }
-        Err(error) => refusal_status(alloc, &error, console),
+        None => serve_alone(alloc, line, &mut Sources { job, plan: Empty }, console),
     }
 }
 

@@ -6,5 +6,5 @@
 mod answer;
 mod input;
 
-pub use answer::answer_words;
+pub use answer::{answer_alone, answer_words};
 pub use input::{Input, RealFiles};

@@ -3,19 +3,17 @@
 //! `pramx watch FILE --workers W --cells C,C,.. --rounds R`.
 #![tactic(auto)]
 
-ghost use Rattle.std.specs.Prelude.{◌≡◌, ◌≤◌, false};
+ghost use Rattle.std.specs.Prelude.{◌≡◌, ◌≤◌, false, IfOk, OnErr};
 
-use command_answers::{RealFiles, answer_words};
-use pram_commands::{Console, Folder, MEMORY, Refusal, tell};
+use command_answers::{RealFiles, answer_alone};
+use pram_commands::{Console, Folder, Line, MEMORY, Refusal, serve_files, tell};
 use pram_streams::{IntoWrite, Sink};
 use std::alloc::{AllocError, Global};
 use std::env::{self, Env};
 use std::io::{self, IsTerminal};
 use std::process::ExitCode;
-use std::rt::Clock;
-use std::sync::Wait;
-use std::thread::Threads;
 
+// Of all that it calls only `serve_files` may wait, which is for a line that starts threads.
 fn main(rt: HostRuntime) -> ExitCode {
     let is_terminal = rt.stderr().is_terminal();
     let mut console = Console {
@@ -24,31 +22,33 @@ fn main(rt: HostRuntime) -> ExitCode {
         is_terminal,
         explains: is_terminal,
     };
-    ExitCode::from(status(&rt, &RealFiles::new(&rt, rt.stdin()), &mut console))
+    let folder = RealFiles::new(&rt, rt.stdin());
+    let words = words_of(&rt);
+    let texts = texts_of(rt.alloc(), &words);
+    let status = match status(rt.alloc(), &folder, &texts, &mut console) {
+        Ok(status) => status,
+        Err(line) => serve_files(&rt, rt.alloc(), &folder, &line, &mut console),
+    };
+    ExitCode::from(status)
 }
 
-/// Does what the program's words ask, and answers the exit status.
-fn status<
-    R: AllocGlobal + Env + Eprint + Threads + Wait + Clock + Sync,
-    F: Folder,
-    O: Sink,
-    E: Sink,
->(rt: &R, folder: &F, console: &mut Console<O, E>) -> u8
+/// Does what the program's words ask, and answers the exit status, or the line that they mean if it
+/// starts threads. It always returns.
+fn status<'a, 'w: 'a, F: Folder, O: Sink, E: Sink>(
+    alloc: Global,
+    folder: &F,
+    texts: &'a Result<Vec<&'w str>, Refusal<'static>>,
+    console: &mut Console<O, E>,
+) -> Result<u8, Line<'a>>
     requires out { O.has_failed console.old.out ≡ false }
     requires err { E.has_failed console.old.err ≡ false }
-    ensures { result ≤ MEMORY }
+    ensures status { IfOk result (λ status. status ≤ MEMORY) }
+    ensures still { OnErr result ((console.new.out ≡ console.old.out)
+        × (console.new.err ≡ console.old.err)) }
 {
-    let alloc = rt.alloc();
-    let words = match words_of(rt) {
-        Ok(words) => words,
-        Err(error) if error.kind() == io::ErrorKind::OutOfMemory => {
-            return tell(alloc, Refusal::Memory, &mut console.err);
-        }
-        Err(_) => return tell(alloc, Refusal::Word, &mut console.err),
-    };
-    match texts_of(alloc, words.as_slice()) {
-        Ok(texts) => answer_words(rt, alloc, folder, texts.as_slice(), console),
-        Err(AllocError) => tell(alloc, Refusal::Memory, &mut console.err),
+    match texts {
+        Ok(texts) => answer_alone(alloc, folder, texts.as_slice(), console),
+        Err(refusal) => Ok(tell(alloc, *refusal, &mut console.err)),
     }
 }
 
@@ -56,6 +56,18 @@ fn words_of<R: AllocGlobal + Env>(rt: &R) -> io::Result<Vec<String>> {
     Ok(env::args(rt)?.collect(rt.alloc())?)
 }
 
-fn texts_of<'a>(alloc: Global, words: &'a [String]) -> Result<Vec<&'a str>, AllocError> {
-    words.iter().map(|word| word.as_str()).collect(alloc)
+// The words as texts, or what is told in place of a line.
+fn texts_of<'a>(
+    alloc: Global,
+    words: &'a io::Result<Vec<String>>,
+) -> Result<Vec<&'a str>, Refusal<'static>> {
+    let words = match words {
+        Ok(words) => words,
+        Err(error) if error.kind() == io::ErrorKind::OutOfMemory => return Err(Refusal::Memory),
+        Err(_) => return Err(Refusal::Word),
+    };
+    match words.iter().map(|word| word.as_str()).collect(alloc) {
+        Ok(texts) => Ok(texts),
+        Err(AllocError) => Err(Refusal::Memory),
+    }
 }
