@@ -3,7 +3,7 @@ use Rattle.std.proofs.lemmas.Result.{err_from_is_err_and}
 use Rattle.pardo_text.specs.Expression.{first_of}
 use Rattle.pardo_text.proofs.Added.{adds_below, below_is, joined_under, kept_below}
 use Rattle.pardo_text.proofs.Chains.{within_at_none, within_at_more, level_at_zero, level_at_more}
-use Rattle.pardo_text.proofs.Chains.{chained_none, chained_operand, chained_join, chained_more}
+use Rattle.pardo_text.proofs.Chains.{chained_ends, chained_operand, chained_join, chained_more}
 use Rattle.pardo_text.proofs.Chains.{chained_begins, chained_over, before_is_no_division}
 use Rattle.pardo_text.proofs.LawConstants.{is_no_other}
 use Rattle.pardo_text.proofs.Postfix.{top_is}
@@ -44,8 +44,7 @@ pub chain-returns-in_default : goal.chain-returns-in_default
 chain-returns-in_default t c =
     let none = c.in_default.ensures in (
       c.loop-turn.invariant.0,
-      c.loop-turn.invariant.1 ∙ chained_none _ _ _ _ _ _ none.0
-          ∙ ap (λ rest. Ok (first_of c.loop-turn.exprs, rest)) (sym none.1),
+      c.loop-turn.invariant.1 ∙ chained_ends _ _ _ _ _ _ _ none.0 none.1,
     )
 
 pub chain-returns-in_err-leveled : goal.chain-returns-in_err-leveled
