@@ -1,6 +1,5 @@
-use Rattle.std.proofs.Common.{◌∙◌, sym, ap, arith, refl, Ok}
+use Rattle.std.proofs.Common.{◌∙◌, arith, refl}
 use Rattle.std.proofs.lemmas.Result.{err_from_is_err_and}
-use Rattle.pardo_text.specs.Expression.{first_of}
 use Rattle.pardo_text.proofs.Added.{adds_below, below_is, joined_under, kept_below}
 use Rattle.pardo_text.proofs.Chains.{within_at_none, within_at_more, level_at_zero, level_at_more}
 use Rattle.pardo_text.proofs.Chains.{chained_ends, chained_operand, chained_join, chained_more}
@@ -12,7 +11,7 @@ use Rattle.pardo_text.proofs.parse.+operand.Goals as goal
 pub within-returns-in-Some : goal.within-returns-in-Some
 within-returns-in-Some t c =
     let some = c.in-Some.ensures in
-    rw (within_at_more _ c.args.around.brackets c.in-Some.brackets _ _ (omega (arith, some)))
+    rw (within_at_more _ c.args.around.now.brackets c.in-Some.brackets _ _ (omega (arith, some)))
     c.leveled.ensures
 
 pub within-returns-in-None : goal.within-returns-in-None
