@@ -1,6 +1,6 @@
 -- Levels of expressions, and chains of operations.
 use Rattle.std.proofs.Common.{◌≡◌, ℕ, zero, suc, ◌+◌, ◌-◌, ◌<◌, ◌≤◌, List, Some, None}
-use Rattle.std.proofs.Common.{Ok, Err, refl, arith}
+use Rattle.std.proofs.Common.{Ok, Err, refl, sym, ap, ◌∙◌, arith}
 use Rattle.pardo_text.specs.declared.fault.PardoKind.{PardoKind}
 use Rattle.pardo_text.specs.declared.fault.PardoKind.TheVariants.{TooDeep}
 use Rattle.pardo_text.specs.declared.names.Scope.{Scope}
@@ -49,11 +49,19 @@ level_at_more operand (suc level) scope tokens lt =
 
 -- ---- chains
 
-pub chained_none : (operand : List Token → Read Tree) (scope : Scope) (level turns : ℕ)
+chained_none : (operand : List Token → Read Tree) (scope : Scope) (level turns : ℕ)
     (first : Tree) (tokens : List Token) → operator_at level tokens ≡ None →
     chained operand scope level turns first tokens ≡ Ok (first, tokens)
 chained_none operand scope level zero first tokens e = refl
 chained_none operand scope level (suc turns) first tokens e = rw (e, chained) refl
+
+-- where no operation of the level comes next, with the tokens that are left
+pub chained_ends : (operand : List Token → Read Tree) (scope : Scope) (level turns : ℕ)
+    (first : Tree) (tokens rest : List Token) → operator_at level tokens ≡ None → rest ≡ tokens →
+    chained operand scope level turns first tokens ≡ Ok (first, rest)
+chained_ends operand scope level turns first tokens rest e f =
+    chained_none operand scope level turns first tokens e
+    ∙ ap (λ left. Ok (first, left)) (sym f)
 
 pub chained_operand : (operand : List Token → Read Tree) (scope : Scope) (level n i : ℕ)
     (first : Tree) (tokens rest : List Token) (op : Op) (kind : PardoKind) → i < n →

@@ -10,9 +10,8 @@ use Rattle.pardo_text.specs.declared.operation.Op.{Op}
 use Rattle.pardo_text.specs.Expression.{Tree, number, own, loop, private, place, apply, postfix}
 use Rattle.pardo_text.specs.Expression.{tree_of, tree_of-postfix, IsPostfix, first_of, trees_of}
 use Rattle.pardo_text.specs.Inner.Postfixes.{postfixes, trees_of-postfixes, ArePostfix}
-use Rattle.pardo_text.specs.Expressions.{constant_of, applied}
+use Rattle.pardo_text.specs.Expressions.{constant_of}
 use Rattle.pardo_text.specs.Inner.Nodes.{IsLeaf, IsLastNumber}
-use Rattle.pardo_text.specs.Operations.{value_of}
 
 -- the nodes of an expression are those of its tree
 pub nodes_of : (nodes : List Node) (tree : Tree) → IsPostfix nodes → tree_of nodes ≡ tree →
@@ -30,29 +29,6 @@ constant_of-long nodes (loop nest) e long = refl
 constant_of-long nodes (private x) e long = refl
 constant_of-long nodes (place array index) e long = refl
 constant_of-long nodes (apply op first second) e long = refl
-
-pub applied-first : (op : Op) (first second : Tree) → constant_of first ≡ None →
-    applied op first second ≡ apply op first second
-applied-first op (number value) second e = absurd (let none : Some value ≡ None = e in cc)
-applied-first op own second e = refl
-applied-first op (loop nest) second e = refl
-applied-first op (private x) second e = refl
-applied-first op (place array index) second e = refl
-applied-first op (apply other left right) second e = refl
-
-pub applied-second : (op : Op) (first second : Tree) → constant_of second ≡ None →
-    applied op first second ≡ apply op first second
-applied-second op first (number value) e = absurd (let none : Some value ≡ None = e in cc)
-applied-second op (number value) own e = refl
-applied-second op (number value) (loop nest) e = refl
-applied-second op (number value) (private x) e = refl
-applied-second op (number value) (place array index) e = refl
-applied-second op (number value) (apply other left right) e = refl
-applied-second op own second e = refl
-applied-second op (loop nest) second e = refl
-applied-second op (private x) second e = refl
-applied-second op (place array index) second e = refl
-applied-second op (apply other left right) second e = refl
 
 -- ---- expressions one after another
 
@@ -176,32 +152,3 @@ left_below trees nodes left value (Some node) e is f some =
     let same : left ≡ is.0 =
     (same_from_push left is.0 node (Number value) (sym f ∙ is.1)).0 in
     (top.0, top.1, same ∙ top.2)
-
--- ---- an operation of the last two
-
-pub joined_second : (op : Op) (trees new : List Tree) → constant_of (first_of trees) ≡ None →
-    new ≡ apply op (first_of (drop 1 trees)) (first_of trees) ∷ drop 2 trees →
-    new ≡ applied op (first_of (drop 1 trees)) (first_of trees) ∷ drop 2 trees
-joined_second op trees new e f =
-    f ∙ ap (λ tree. tree ∷ drop 2 trees)
-    (sym (applied-second op (first_of (drop 1 trees)) (first_of trees) e))
-
-pub joined_first : (op : Op) (b : ℕ) (trees rest same two new : List Tree) →
-    trees ≡ number b ∷ rest → constant_of (first_of rest) ≡ None → same ≡ rest →
-    two ≡ number b ∷ same →
-    new ≡ apply op (first_of (drop 1 two)) (first_of two) ∷ drop 2 two →
-    new ≡ applied op (first_of (drop 1 trees)) (first_of trees) ∷ drop 2 trees
-joined_first op b trees rest same two new e f g h k =
-    k ∙ ap (λ all. apply op (first_of (drop 1 all)) (first_of all) ∷ drop 2 all)
-    (h ∙ ap (λ all. number b ∷ all) g)
-    ∙ ap (λ tree. tree ∷ drop 1 rest) (sym (applied-first op (first_of rest) (number b) f))
-    ∙ ap (λ all. applied op (first_of (drop 1 all)) (first_of all) ∷ drop 2 all) (sym e)
-
-pub joined_numbers : (op : Op) (a b value : ℕ) (trees rest left new : List Tree) →
-    trees ≡ number b ∷ rest → rest ≡ number a ∷ left → value ≡ value_of op a b →
-    new ≡ number value ∷ left →
-    new ≡ applied op (first_of (drop 1 trees)) (first_of trees) ∷ drop 2 trees
-joined_numbers op a b value trees rest left new e f g h =
-    h ∙ ap (λ v. number v ∷ left) g
-    ∙ ap (λ all. applied op (first_of (drop 1 all)) (first_of all) ∷ drop 2 all)
-    (sym (e ∙ ap (λ all. number b ∷ all) f))

@@ -56,7 +56,7 @@ pub(crate) fn expression(
         brackets: MAX_OPEN + 1,
     };
     let mut exprs = Exprs::new(alloc);
-    within(around, &mut exprs, tokens)?;
+    within(&around, &mut exprs, tokens)?;
     Ok(exprs.into_expr())
 }
 
@@ -83,12 +83,20 @@ pub(crate) fn fixed(
 
 // Reads what stands within a bracket.
 #[cycle(operand)]
-fn within(around: Around<'_, '_>, exprs: &mut Exprs, tokens: &mut Cursor<'_, '_>) -> Parsed
+fn within(around: &Around<'_, '_>, exprs: &mut Exprs, tokens: &mut Cursor<'_, '_>) -> Parsed
     ensures { Adds exprs.old exprs.new tokens.new result (within_at
-        (names_in around.entry.names.now) around.entry.brackets around.entry.scope tokens.old) }
+        (names_in around.now.names.now) around.now.brackets around.now.scope tokens.old) }
 {
     match around.brackets.checked_sub(1) {
-        Some(brackets) => leveled(Around { brackets, ..around }, LOOSEST, exprs, tokens),
+        Some(brackets) => leveled(
+            &Around {
+                brackets,
+                ..*around
+            },
+            LOOSEST,
+            exprs,
+            tokens,
+        ),
         None => Err(PardoKind::TooDeep),
     }
 }
@@ -96,15 +104,15 @@ fn within(around: Around<'_, '_>, exprs: &mut Exprs, tokens: &mut Cursor<'_, '_>
 // Reads an expression of this level: a chain of those of the level below, or an operand.
 #[cycle(operand)]
 fn leveled(
-    around: Around<'_, '_>,
+    around: &Around<'_, '_>,
     level: u8,
     exprs: &mut Exprs,
     tokens: &mut Cursor<'_, '_>,
 ) -> Parsed
     ensures { Adds exprs.old exprs.new tokens.new result
-        (level_at (operand_at (names_in around.entry.names.now)
-        (within_at (names_in around.entry.names.now) around.entry.brackets)) level
-        around.entry.scope tokens.old) }
+        (level_at (operand_at (names_in around.now.names.now)
+        (within_at (names_in around.now.names.now) around.now.brackets)) level
+        around.now.scope tokens.old) }
 {
     if level == 0 {
         return operand(around, exprs, tokens);
@@ -116,7 +124,7 @@ fn leveled(
 // Reads the operations of a level after the first operand.
 #[cycle(operand)]
 fn chain(
-    around: Around<'_, '_>,
+    around: &Around<'_, '_>,
     level: u8,
     exprs: &mut Exprs,
     tokens: &mut Cursor<'_, '_>,
@@ -124,10 +132,10 @@ fn chain(
     requires level { 0 < level }
     requires first { 0 < length exprs.old }
     ensures { Adds (drop 1 exprs.old) exprs.new tokens.new result
-        (chained (level_at (operand_at (names_in around.entry.names.now)
-        (within_at (names_in around.entry.names.now) around.entry.brackets)) (level - 1)
-        around.entry.scope)
-        around.entry.scope level (turns_at level tokens.old) (first_of exprs.old) tokens.old) }
+        (chained (level_at (operand_at (names_in around.now.names.now)
+        (within_at (names_in around.now.names.now) around.now.brackets)) (level - 1)
+        around.now.scope)
+        around.now.scope level (turns_at level tokens.old) (first_of exprs.old) tokens.old) }
 {
     for _turn in 0..turns(level, tokens) {
         let Some(op) = operator(level, tokens) else {
@@ -190,11 +198,11 @@ fn join(scope: Scope, op: Op, exprs: &mut Exprs) -> Parsed
 #[cycle(operand)]
 #[tactic(auto, unfolding(crate::specs::Expressions::operand_at))]
 #[inline(never)]
-fn operand(around: Around<'_, '_>, exprs: &mut Exprs, tokens: &mut Cursor<'_, '_>) -> Parsed
+fn operand(around: &Around<'_, '_>, exprs: &mut Exprs, tokens: &mut Cursor<'_, '_>) -> Parsed
     ensures { Adds exprs.old exprs.new tokens.new result
-        (operand_at (names_in around.entry.names.now)
-        (within_at (names_in around.entry.names.now) around.entry.brackets)
-        around.entry.scope tokens.old) }
+        (operand_at (names_in around.now.names.now)
+        (within_at (names_in around.now.names.now) around.now.brackets)
+        around.now.scope tokens.old) }
 {
     match tokens.next() {
         Some(Token::Number(value)) => literal(value, exprs),
@@ -222,10 +230,10 @@ fn literal(value: u64, exprs: &mut Exprs) -> Parsed
 
 // Reads what stands between `(` and `)`, after the `(`.
 #[cycle(operand)]
-fn bracketed(around: Around<'_, '_>, exprs: &mut Exprs, tokens: &mut Cursor<'_, '_>) -> Parsed
+fn bracketed(around: &Around<'_, '_>, exprs: &mut Exprs, tokens: &mut Cursor<'_, '_>) -> Parsed
     ensures { Adds exprs.old exprs.new tokens.new result
-        (bracketed_at (within_at (names_in around.entry.names.now) around.entry.brackets)
-        around.entry.scope tokens.old) }
+        (bracketed_at (within_at (names_in around.now.names.now) around.now.brackets)
+        around.now.scope tokens.old) }
 {
     within(around, exprs, tokens)?;
     expect(Mark::Close, tokens)?;
@@ -234,11 +242,11 @@ fn bracketed(around: Around<'_, '_>, exprs: &mut Exprs, tokens: &mut Cursor<'_, 
 
 // Reads what stands after `min` or `max`.
 #[cycle(operand)]
-fn pair(around: Around<'_, '_>, op: Op, exprs: &mut Exprs, tokens: &mut Cursor<'_, '_>) -> Parsed
+fn pair(around: &Around<'_, '_>, op: Op, exprs: &mut Exprs, tokens: &mut Cursor<'_, '_>) -> Parsed
     requires { level_of op ≡ 0 }
     ensures { Adds exprs.old exprs.new tokens.new result
-        (pair_at (within_at (names_in around.entry.names.now) around.entry.brackets)
-        around.entry.scope op tokens.old) }
+        (pair_at (within_at (names_in around.now.names.now) around.now.brackets)
+        around.now.scope op tokens.old) }
 {
     expect(Mark::Open, tokens)?;
     within(around, exprs, tokens)?;
@@ -251,16 +259,16 @@ fn pair(around: Around<'_, '_>, op: Op, exprs: &mut Exprs, tokens: &mut Cursor<'
 
 // Reads what stands after `lg`.
 #[cycle(operand)]
-fn logarithm(around: Around<'_, '_>, exprs: &mut Exprs, tokens: &mut Cursor<'_, '_>) -> Parsed
+fn logarithm(around: &Around<'_, '_>, exprs: &mut Exprs, tokens: &mut Cursor<'_, '_>) -> Parsed
     ensures { Adds exprs.old exprs.new tokens.new result
-        (log_at (within_at (names_in around.entry.names.now) around.entry.brackets) tokens.old) }
+        (log_at (within_at (names_in around.now.names.now) around.now.brackets) tokens.old) }
 {
     let fixed = Around {
         scope: Scope::Fixed,
-        ..around
+        ..*around
     };
     expect(Mark::Open, tokens)?;
-    within(fixed, exprs, tokens)?;
+    within(&fixed, exprs, tokens)?;
     expect(Mark::Close, tokens)?;
     let Some(value) = exprs.take_number() else {
         unreachable!()
@@ -280,14 +288,14 @@ fn log_of(value: u32) -> u32
 // Reads what follows a name, if it may stand here.
 #[cycle(operand)]
 fn named(
-    around: Around<'_, '_>,
+    around: &Around<'_, '_>,
     name: &[u8],
     exprs: &mut Exprs,
     tokens: &mut Cursor<'_, '_>,
 ) -> Parsed
     ensures { Adds exprs.old exprs.new tokens.new result
-        (named_at (within_at (names_in around.entry.names.now) around.entry.brackets)
-        around.entry.scope (names_in around.entry.names.now name.now) tokens.old) }
+        (named_at (within_at (names_in around.now.names.now) around.now.brackets)
+        around.now.scope (names_in around.now.names.now name.now) tokens.old) }
 {
     match around.names.get(name) {
         Some(thing) if around.scope.admits(*thing) => used(around, *thing, exprs, tokens),
@@ -299,14 +307,14 @@ fn named(
 // What a name says, with the index after it if it is an array.
 #[cycle(operand)]
 fn used(
-    around: Around<'_, '_>,
+    around: &Around<'_, '_>,
     thing: Named,
     exprs: &mut Exprs,
     tokens: &mut Cursor<'_, '_>,
 ) -> Parsed
     ensures { Adds exprs.old exprs.new tokens.new result
-        (used_at (within_at (names_in around.entry.names.now) around.entry.brackets)
-        around.entry.scope thing tokens.old) }
+        (used_at (within_at (names_in around.now.names.now) around.now.brackets)
+        around.now.scope thing tokens.old) }
 {
     match (thing, indexed(tokens)) {
         (Named::Array(array), true) => {

@@ -1,9 +1,8 @@
-use Rattle.std.proofs.Common.{◌∙◌, sym, ap, arith, refl, Ok}
+use Rattle.std.proofs.Common.{◌∙◌, arith, refl}
 use Rattle.std.proofs.lemmas.Result.{err_from_is_err_and}
-use Rattle.pardo_text.specs.Expression.{first_of}
 use Rattle.pardo_text.proofs.Added.{adds_below, below_is, joined_under, kept_below}
 use Rattle.pardo_text.proofs.Chains.{within_at_none, within_at_more, level_at_zero, level_at_more}
-use Rattle.pardo_text.proofs.Chains.{chained_none, chained_operand, chained_join, chained_more}
+use Rattle.pardo_text.proofs.Chains.{chained_ends, chained_operand, chained_join, chained_more}
 use Rattle.pardo_text.proofs.Chains.{chained_begins, chained_over, before_is_no_division}
 use Rattle.pardo_text.proofs.LawConstants.{is_no_other}
 use Rattle.pardo_text.proofs.Postfix.{top_is}
@@ -12,7 +11,7 @@ use Rattle.pardo_text.proofs.parse.+operand.Goals as goal
 pub within-returns-in-Some : goal.within-returns-in-Some
 within-returns-in-Some t c =
     let some = c.in-Some.ensures in
-    rw (within_at_more _ c.args.around.brackets c.in-Some.brackets _ _ (omega (arith, some)))
+    rw (within_at_more _ c.args.around.now.brackets c.in-Some.brackets _ _ (omega (arith, some)))
     c.leveled.ensures
 
 pub within-returns-in-None : goal.within-returns-in-None
@@ -44,8 +43,7 @@ pub chain-returns-in_default : goal.chain-returns-in_default
 chain-returns-in_default t c =
     let none = c.in_default.ensures in (
       c.loop-turn.invariant.0,
-      c.loop-turn.invariant.1 ∙ chained_none _ _ _ _ _ _ none.0
-          ∙ ap (λ rest. Ok (first_of c.loop-turn.exprs, rest)) (sym none.1),
+      c.loop-turn.invariant.1 ∙ chained_ends _ _ _ _ _ _ _ none.0 none.1,
     )
 
 pub chain-returns-in_err-leveled : goal.chain-returns-in_err-leveled

@@ -6,31 +6,31 @@ use Rattle.pardo_text.proofs.parse.+operand.Given as goal
 
 -- Each bracket that may still be opened counts more than all that happens within one.
 abbrev pub decreases-within : goal.decreases-within
-decreases-within l = 20 * l.around.brackets
+decreases-within l = 20 * l.around.now.brackets
 
 abbrev pub decreases-bracketed : goal.decreases-bracketed
-decreases-bracketed l = 20 * l.around.brackets + 1
+decreases-bracketed l = 20 * l.around.now.brackets + 1
 
 abbrev pub decreases-pair : goal.decreases-pair
-decreases-pair l = 20 * l.around.brackets + 1
+decreases-pair l = 20 * l.around.now.brackets + 1
 
 abbrev pub decreases-logarithm : goal.decreases-logarithm
-decreases-logarithm l = 20 * l.around.brackets + 1
+decreases-logarithm l = 20 * l.around.now.brackets + 1
 
 abbrev pub decreases-used : goal.decreases-used
-decreases-used l = 20 * l.around.brackets + 1
+decreases-used l = 20 * l.around.now.brackets + 1
 
 abbrev pub decreases-named : goal.decreases-named
-decreases-named l = 20 * l.around.brackets + 2
+decreases-named l = 20 * l.around.now.brackets + 2
 
 abbrev pub decreases-operand : goal.decreases-operand
-decreases-operand l = 20 * l.around.brackets + 3
+decreases-operand l = 20 * l.around.now.brackets + 3
 
 abbrev pub decreases-leveled : goal.decreases-leveled
-decreases-leveled l = 20 * l.around.brackets + 4 + 2 * l.level
+decreases-leveled l = 20 * l.around.now.brackets + 4 + 2 * l.level
 
 abbrev pub decreases-chain : goal.decreases-chain
-decreases-chain l = 20 * l.around.brackets + 3 + 2 * l.level
+decreases-chain l = 20 * l.around.now.brackets + 3 + 2 * l.level
 
 abbrev pub invariant-chain-loop-turn : goal.invariant-chain-loop-turn
 invariant-chain-loop-turn l =
