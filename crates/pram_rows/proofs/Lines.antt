@@ -1,7 +1,7 @@
 -- The rows of processors and of steps, one after the other, and what a sink took of them.
 use Rattle.std.proofs.Common.{◌≡◌, ◌∙◌, ◌++◌, ◌+◌, ◌-◌, ◌≤◌, ◌∷◌, [], ℕ, zero, suc, List, Option}
-use Rattle.std.proofs.Common.{refl, sym, ap, subst, append_assoc, append-nil, arith, min}
-use Rattle.std.proofs.KnownBytes.{Appends-trans}
+use Rattle.std.proofs.Common.{refl, sym, ap, subst, append_assoc, append-nil, arith}
+use Rattle.std.proofs.KnownBytes.{Appends-nil, Appends-trans}
 use Rattle.std.proofs.Math.Seq.{take-length}
 use Rattle.std.proofs.lemmas.Grind.{flat_map-append}
 use Rattle.std.specs.Io.KnownBytes.{Appends}
@@ -10,7 +10,7 @@ use Rattle.pram_job.specs.Job.{JobData}
 use Rattle.pram_streams.specs.Transfer.{AppendsBeginning}
 use Rattle.pram_streams.proofs.Beginnings.{beginning-after, beginning-longer}
 use Rattle.pram_rows.specs.Inner.Printing.{TakesBut}
-use Rattle.pram_rows.specs.Rows.{header, lines_after, rows_text, step_lines}
+use Rattle.pram_rows.specs.Rows.{lines_after, step_lines}
 
 -- so many numbers, and then more
 range_more : (t m n k u : ℕ) → k ≡ m + n → u ≡ t + m →
@@ -37,37 +37,12 @@ pieces-more text f t m k u count place =
     ∙ ap (λ l. text ++ l) (sym (flat_map-range f t m 1 k u count place
     ∙ ap (λ l. flat_map f (range_with_len t m) ++ l) (append-nil (f u))))
 
-module _ (lines : Option (List ℕ)) (job : JobData) where
-  -- the rows of more steps begin with those of fewer
-  lines-longer : (t m n : ℕ) → m ≤ n → lines_after lines job t n
-      ≡ lines_after lines job t m ++ lines_after lines job (t + m) (n - m)
-  lines-longer t m n few =
-      flat_map-range (step_lines lines job) t m (n - m) n (t + m) (omega arith) refl
-
-  -- the header and the rows of some steps are a beginning of the rows of a window
-  pub rows-begin : (a b : Option (List ℕ)) (from to last first m : ℕ) →
-      first ≡ from - 1 → m ≤ min to last - first →
-      AppendsBeginning a b (header lines ++ lines_after lines job first m) →
-      AppendsBeginning a b (rows_text lines job from to last)
-  rows-begin a b from to last first m is few begins =
-      let n = min to last - first in
-      let rows = lines_after lines job first m in
-      let others = lines_after lines job (first + m) (n - m) in
-      let longer = beginning-longer a b (header lines ++ rows) others begins in
-      let whole = append_assoc (header lines) rows others
-      ∙ ap (λ l. header lines ++ l) (sym (lines-longer first m n few)) in
-      subst (λ f.
-      AppendsBeginning a b (header lines ++ lines_after lines job f (min to last - f))) is
-      (subst (λ l. AppendsBeginning a b l) whole longer)
-
-  -- and those of all its steps are its rows
-  pub rows-all : (a b : Option (List ℕ)) (from to last first m : ℕ) →
-      first ≡ from - 1 → m ≡ min to last - first →
-      Appends a b (header lines ++ lines_after lines job first m) →
-      Appends a b (rows_text lines job from to last)
-  rows-all a b from to last first m is all put =
-      subst (λ f. Appends a b (header lines ++ lines_after lines job f (min to last - f))) is
-      (subst (λ n. Appends a b (header lines ++ lines_after lines job first n)) all put)
+-- the rows of more steps begin with those of fewer
+pub lines-longer : (lines : Option (List ℕ)) (job : JobData) (t m n : ℕ) → m ≤ n →
+    lines_after lines job t n
+    ≡ lines_after lines job t m ++ lines_after lines job (t + m) (n - m)
+lines-longer lines job t m n few =
+    flat_map-range (step_lines lines job) t m (n - m) n (t + m) (omega arith) refl
 
 -- what was taken whole was begun
 pub whole-begins : (a b : Option (List ℕ)) (text : List ℕ) →
@@ -105,28 +80,28 @@ module _ (a b : Option (List ℕ)) (rest text : List ℕ) (takes : TakesBut a b 
   }
 
 -- before the first row
-pub no-rows : (lines : Option (List ℕ)) (job : JobData) (a b : Option (List ℕ)) (t : ℕ)
-    (rest : List ℕ) → rest ≡ [] → Appends a b (header lines) →
-    TakesBut a b rest (header lines ++ lines_after lines job t 0)
-no-rows lines job a b t rest none put =
-    record { front = header lines; put = put; text_is = ap (λ l. header lines ++ l) none }
+pub no-rows : (lines : Option (List ℕ)) (job : JobData) (a : Option (List ℕ)) (t m : ℕ)
+    (rest : List ℕ) → rest ≡ [] → m ≡ 0 → TakesBut a a rest (lines_after lines job t m)
+no-rows lines job a t m rest none zero_rows = record {
+  front = [];
+  put = Appends-nil a;
+  text_is = none ∙ sym (ap (λ n. lines_after lines job t n) zero_rows);
+}
 
 module _ (lines : Option (List ℕ)) (job : JobData) (a b : Option (List ℕ)) (t m k u : ℕ)
-    (rest : List ℕ) (takes : TakesBut a b rest (header lines ++ lines_after lines job t m))
+    (rest : List ℕ) (takes : TakesBut a b rest (lines_after lines job t m))
     (count : k ≡ m + 1) (place : u ≡ t + m) where
   pub row-begins : (c : Option (List ℕ)) → AppendsBeginning b c (rest ++ step_lines lines job u) →
-      AppendsBeginning a c (header lines ++ lines_after lines job t k)
+      AppendsBeginning a c (lines_after lines job t k)
   row-begins c begins =
       subst (λ l. AppendsBeginning a c l)
-      (pieces-more (header lines) (step_lines lines job) t m k u count place)
-      (more-begins a b rest (header lines ++ lines_after lines job t m) takes c
-      (step_lines lines job u) begins)
+      (pieces-more [] (step_lines lines job) t m k u count place)
+      (more-begins a b rest (lines_after lines job t m) takes c (step_lines lines job u) begins)
 
   pub row-taken : (c : Option (List ℕ)) (left : List ℕ) →
       TakesBut b c left (rest ++ step_lines lines job u) →
-      TakesBut a c left (header lines ++ lines_after lines job t k)
+      TakesBut a c left (lines_after lines job t k)
   row-taken c left taken =
       subst (λ l. TakesBut a c left l)
-      (pieces-more (header lines) (step_lines lines job) t m k u count place)
-      (more-taken a b rest (header lines ++ lines_after lines job t m) takes c left
-      (step_lines lines job u) taken)
+      (pieces-more [] (step_lines lines job) t m k u count place)
+      (more-taken a b rest (lines_after lines job t m) takes c left (step_lines lines job u) taken)

@@ -1,46 +1,57 @@
--- The steps of a job up to the last one that is told, and the rows of the states between.
-use Rattle.std.proofs.Common.{◌≡◌, ◌+◌, ◌-◌, ◌≤◌, ℕ, ◌⊎◌, List, Option, inl, inr, arith, ap}
+-- The last step of a job that is told, and the rows of the states before it.
+use Rattle.std.proofs.Common.{◌≡◌, ◌+◌, ◌<◌, ◌≤◌, ℕ, List, Option, Some, inl, inr, arith, ap, sym}
+use Rattle.std.proofs.Common.{subst}
+use Rattle.std.proofs.lemmas.Bool.{cases_lt}
 use Rattle.pram_job.specs.Job.{JobData}
 use Rattle.pram_machine.specs.Machine.{State}
-use Rattle.pram_step.specs.Arrivals.{IsArrival}
+use Rattle.pram_step.proofs.LawAnswer.{conflict_ends, one_answer}
+use Rattle.pram_step.specs.Arrivals.{IsStepMade}
 use Rattle.pram_step.specs.Runs.{IsAnswer, IsFirstConflict, IsReached, IsStateAfter}
 use Rattle.pram_step.specs.declared.answer.Fault.{Fault}
-use Rattle.pram_step.specs.declared.arrival.Arrival.{Arrival}
-use Rattle.pram_step.specs.declared.arrival.Arrival.TheVariants.{Reached, Disputed, TooFar}
 use Rattle.pram_step.specs.declared.answer.RunAnswer.{RunAnswer}
 use Rattle.pram_step.specs.declared.answer.RunAnswer.TheVariants.{Final, Conflict, Unfinished}
 use Rattle.pram_rows.specs.Rows.{rows_in, step_lines}
 use Rattle.pram_rows.specs.Shown.{last_step}
 
--- fewer steps are reached too
-pub reached-fewer : (job : JobData) (m n : ℕ) → m ≤ n → IsReached job n → IsReached job m
-reached-fewer job m n few reached s below = reached s (omega (arith, few, below))
+-- steps that agree come before the last one, if the job has more
+pub last-beyond : (job : JobData) (t : ℕ) (answer : RunAnswer) → IsReached job t → t < job.steps →
+    IsAnswer job answer → t < last_step job answer
+last-beyond job t (Final cells) reached more is = more
+last-beyond job t (Conflict fault) reached more is = elim (cases_lt t fault.step) [
+  | inl later ↦ later
+  | inr within ↦ absurd (conflict_ends job fault t is.first within reached)
+]
+last-beyond job t (Unfinished step) reached more never = absurd never
 
--- and have no conflict
-pub no-conflict : (job : JobData) (t : ℕ) (fault : Fault) → IsReached job t →
-    IsFirstConflict job fault → fault.step ≤ t → ⊥
-no-conflict job t fault reached first within =
-    let step = first.step in
-    reached first.before (omega (arith, step, within)) _ _ _ first.dispute.clash
+-- or are some of those up to it
+pub last-reached : (job : JobData) (t : ℕ) (answer : RunAnswer) → IsReached job t → t ≤ job.steps →
+    IsAnswer job answer → t ≤ last_step job answer
+last-reached job t (Final cells) reached some is = some
+last-reached job t (Conflict fault) reached some is = elim (cases_lt t fault.step) [
+  | inl later ↦ omega (arith, later)
+  | inr within ↦ absurd (conflict_ends job fault t is.first within reached)
+]
+last-reached job t (Unfinished step) reached some never = absurd never
 
--- so that going to a step comes to its state
-pub arrival-reached : (job : JobData) (t : ℕ) (a : Arrival) → IsReached job t → IsArrival job t t a
-    → ((fault : Fault) × (a ≡ Disputed fault)) ⊎ (a ≡ TooFar) → ⊥
-arrival-reached job t (Reached s) reached is (inl other) = absurd (cc)
-arrival-reached job t (Reached s) reached is (inr other) = absurd (cc)
-arrival-reached job t (Disputed fault) reached is other =
-    no-conflict job t fault reached is.0 is.1
-arrival-reached job t TooFar reached is other = absurd (omega (arith, is.0))
+pub last-within : (job : JobData) (answer : RunAnswer) → IsAnswer job answer →
+    last_step job answer ≤ job.steps
+last-within job (Final cells) is = omega arith
+last-within job (Conflict fault) is = is.within
+last-within job (Unfinished step) never = absurd never
 
--- all steps before the last one agree
-pub last-reached : (job : JobData) (answer : RunAnswer) → IsAnswer job answer →
-    IsReached job (last_step job answer - 1)
-last-reached job (Final cells) (state, after, same) =
-    reached-fewer job (job.steps - 1) job.steps (omega arith) after.reached
-last-reached job (Conflict fault) is =
-    let step = is.first.step in
-    reached-fewer job (fault.step - 1) is.first.before (omega (arith, step)) is.first.reached
-last-reached job (Unfinished step) never = absurd never
+-- the step of a conflict is the last one
+pub last-disputed : (job : JobData) (fault : Fault) (answer : RunAnswer) →
+    IsFirstConflict job fault → fault.step ≤ job.steps → IsAnswer job answer →
+    last_step job answer ≡ fault.step
+last-disputed job fault answer first within is = ap (last_step job)
+    (one_answer job answer (Conflict fault) is (record { first = first; within = within }))
+
+-- a step that was not made is that of the first conflict
+pub disputed : (job : JobData) (t : ℕ) (s : State) (made : Option Fault) (fault : Fault) →
+    made ≡ Some fault → IsStepMade job t s made →
+    IsFirstConflict job fault × (fault.step ≡ t + 1)
+disputed job t s made fault is = subst (λ (o : Option Fault). IsStepMade job t s o →
+    IsFirstConflict job fault × (fault.step ≡ t + 1)) (sym is) (λ step. step)
 
 -- the rows of a step, by its state
 pub rows-of : (lines : Option (List ℕ)) (job : JobData) (t : ℕ) (s : State) →

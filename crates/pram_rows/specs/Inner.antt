@@ -1,2 +1,3 @@
 -- For private contracts alone.
 pub mod Printing
+pub mod Spans

@@ -1,18 +1,20 @@
 //! The steps of a job, printed.
-ghost use Rattle.std.specs.Prelude.{◌≡◌, ◌+◌, ◌-◌, ◌<◌, ◌^◌, ◌⊎◌, ◌++◌, ◌↔◌, false};
+ghost use Rattle.std.specs.Prelude.{◌≡◌, ◌++◌, ◌↔◌, false};
 ghost use Rattle.std.specs.Prelude.{IfOk, OnErr, OnOk, IsErrOf, IsTrue};
 ghost use Rattle.std.specs.Io.KnownBytes.{Appends};
 ghost use Rattle.std.specs.Option.{option_copied};
-ghost use Rattle.pram_step.specs.Runs.{IsReached, IsStateAfter};
+ghost use Rattle.pram_step.specs.Arrivals.{IsArrival};
+ghost use Rattle.pram_step.specs.Runs.{IsAnswer, IsStateAfter};
 ghost use Rattle.pram_streams.specs.Transfer.{AppendsBeginning};
 ghost use Rattle.pram_rows.specs.Inner.Printing.{TakesBut};
+ghost use Rattle.pram_rows.specs.Inner.Spans.{OfAnswers};
 ghost use Rattle.pram_rows.specs.Rows.{header, step_lines};
-ghost use Rattle.pram_rows.specs.Shown.{BeginsSteps, TakesSteps, last_step, shown_text};
+ghost use Rattle.pram_rows.specs.Shown.{BeginsSteps, TakesSteps};
 
 use crate::row::push_rows;
-use crate::window::Shown;
+use crate::window::{Shown, Span};
 use pram_job::Job;
-use pram_step::{Arrival, Moment, RunAnswer, State, go_to, make_step, plain_answer};
+use pram_step::{Arrival, Moment, RunAnswer, State, go_to, laws, make_step, plain_answer};
 use pram_streams::{PrintFault, Sink, put};
 use std::alloc::{AllocError, Global};
 
@@ -27,12 +29,12 @@ const PIECE: usize = 32_768;
 
 /// Prints what each processor asks for in each step of the window, in order, with the line of its
 /// instruction if lines are told, and gives the job's answer. The step of a conflict is the last
-/// one that is printed. Where memory runs out, a beginning of it may stand printed, as where the
-/// sink fails.
+/// one that is printed. Rows go out while steps are made, so where memory runs out, a beginning of
+/// them stands printed, as where the sink fails.
 ///
-/// It takes memory for two states and for the rows of one step and `PIECE` bytes more, wherever the
-/// window is. The steps up to the window's end are made twice: once for the answer, as
-/// `plain_answer` makes them, and once for the rows.
+/// It takes memory for one state and for the rows of one step and `PIECE` bytes more, wherever the
+/// window is. Where the job has steps after the window, the answer is found once its rows are
+/// printed, as `plain_answer` finds it: so the steps up to the window's end are made twice.
 pub fn print_steps<W: Sink>(
     alloc: Global,
     sink: &mut W,
@@ -41,27 +43,23 @@ pub fn print_steps<W: Sink>(
 ) -> Result<RunAnswer, PrintFault>
     requires { W.has_failed sink.old ≡ false }
     ensures ok { IfOk result (TakesSteps job.now shown.now (W.taken sink.old) (W.taken sink.new)) }
-    ensures device { IsErrOf result PrintFault.Device
-        → BeginsSteps job.now shown.now (W.taken sink.old) (W.taken sink.new) }
-    ensures memory { OnErr result ((sink.new ≡ sink.old)
-        ⊎ BeginsSteps job.now shown.now (W.taken sink.old) (W.taken sink.new)) }
+    ensures beginning { OnErr result
+        (BeginsSteps job.now shown.now (W.taken sink.old) (W.taken sink.new)) }
     ensures failed { IsTrue (W.has_failed sink.new) ↔ IsErrOf result PrintFault.Device }
 {
-    let answer = plain_answer(alloc, job)?;
-    let last = last_of(job, &answer);
-    print_rows(alloc, sink, job, shown, last)?;
+    laws::has_answer();
+    let end = shown.window.to.min(job.steps());
+    let first = shown.window.from.saturating_sub(1).min(end);
+    let span = Span {
+        job,
+        lines: shown.lines,
+        first,
+        end,
+    };
+    put(sink, header(shown.lines).as_bytes())?;
+    let arrival = print_span(alloc, sink, &span)?;
+    let answer = answer_after(alloc, &span, arrival)?;
     Ok(answer)
-}
-
-// The last step of a job with this answer.
-fn last_of(job: &Job, answer: &RunAnswer) -> u32
-    ensures { result ≡ last_step job.now answer.now }
-{
-    match answer {
-        RunAnswer::Final(_) => job.steps(),
-        RunAnswer::Conflict(fault) => fault.step,
-        RunAnswer::Unfinished { step } => *step,
-    }
 }
 
 // What stands before the rows.
@@ -74,46 +72,73 @@ fn header(lines: Option<&[u64]>) -> &'static str
     }
 }
 
-// Prints the header, and the rows of the window up to the last step.
-fn print_rows<W: Sink>(
-    alloc: Global,
-    sink: &mut W,
-    job: &Job,
-    shown: &Shown<'_>,
-    last: u32,
-) -> Result<(), PrintFault>
-    requires sink { W.has_failed sink.old ≡ false }
-    requires reached { IsReached job.now (last - 1) }
-    ensures ok { OnOk result (Appends (W.taken sink.old) (W.taken sink.new)
-        (shown_text job.now shown.now last)) }
-    ensures beginning { AppendsBeginning (W.taken sink.old) (W.taken sink.new)
-        (shown_text job.now shown.now last) }
+// Prints the rows of the span, up to the step of a conflict, and says what is there after it.
+fn print_span<W: Sink>(alloc: Global, sink: &mut W, span: &Span<'_>) -> Result<Arrival, PrintFault>
+    requires { W.has_failed sink.old ≡ false }
+    ensures arrival { IfOk result (IsArrival span.now.job.now span.now.end span.now.end) }
+    ensures rows { OnOk result
+        (OfAnswers span.now (Appends (W.taken sink.old) (W.taken sink.new))) }
+    ensures beginning { OnErr result
+        (OfAnswers span.now (AppendsBeginning (W.taken sink.old) (W.taken sink.new))) }
     ensures failed { IsTrue (W.has_failed sink.new) ↔ IsErrOf result PrintFault.Device }
 {
-    let first = shown.window.from.saturating_sub(1);
-    let end = shown.window.to.min(last);
-    put(sink, header(shown.lines).as_bytes())?;
-    if first >= end {
-        return Ok(());
+    match go_to(alloc, span.job, span.first, span.first)? {
+        Arrival::Reached(state) => print_from(alloc, sink, span, state),
+        Arrival::Disputed(fault) => Ok(Arrival::Disputed(fault)),
+        Arrival::TooFar => unreachable!(),
     }
-    let mut state = state_after(alloc, job, first)?;
-    let moment = Moment {
-        job,
-        state: &state,
-        made: first,
-    };
-    let mut rows = show_step(alloc, sink, &moment, shown.lines, Vec::new(alloc))?;
-    for made in first..end - 1 {
-        agreed_step(alloc, job, &mut state, made)?;
-        let moment = Moment {
-            job,
-            state: &state,
-            made: made + 1,
-        };
-        rows = show_step(alloc, sink, &moment, shown.lines, rows)?;
-    }
+}
+
+// The same from the state before the span.
+fn print_from<W: Sink>(
+    alloc: Global,
+    sink: &mut W,
+    span: &Span<'_>,
+    state: State,
+) -> Result<Arrival, PrintFault>
+    requires sink { W.has_failed sink.old ≡ false }
+    requires after { IsStateAfter span.now.job.now span.now.first state }
+    ensures arrival { IfOk result (IsArrival span.now.job.now span.now.end span.now.end) }
+    ensures rows { OnOk result
+        (OfAnswers span.now (Appends (W.taken sink.old) (W.taken sink.new))) }
+    ensures beginning { OnErr result
+        (OfAnswers span.now (AppendsBeginning (W.taken sink.old) (W.taken sink.new))) }
+    ensures failed { IsTrue (W.has_failed sink.new) ↔ IsErrOf result PrintFault.Device }
+{
+    let (arrival, rows) = show_span(alloc, sink, span, state)?;
     put(sink, rows.as_slice())?;
-    Ok(())
+    Ok(arrival)
+}
+
+// The same. What is not put into the sink is given back.
+fn show_span<W: Sink>(
+    alloc: Global,
+    sink: &mut W,
+    span: &Span<'_>,
+    mut state: State,
+) -> Result<(Arrival, Vec<u8>), PrintFault>
+    requires sink { W.has_failed sink.old ≡ false }
+    requires after { IsStateAfter span.now.job.now span.now.first state }
+    ensures arrival { IfOk result (λ r. IsArrival span.now.job.now span.now.end span.now.end r.0) }
+    ensures rows { IfOk result
+        (λ r. OfAnswers span.now (TakesBut (W.taken sink.old) (W.taken sink.new) r.1.items)) }
+    ensures beginning { OnErr result
+        (OfAnswers span.now (AppendsBeginning (W.taken sink.old) (W.taken sink.new))) }
+    ensures failed { IsTrue (W.has_failed sink.new) ↔ IsErrOf result PrintFault.Device }
+{
+    let mut rows = Vec::new(alloc);
+    for made in span.first..span.end {
+        let moment = Moment {
+            job: span.job,
+            state: &state,
+            made,
+        };
+        rows = show_step(alloc, sink, &moment, span.lines, rows)?;
+        if let Some(fault) = make_step(alloc, span.job, &mut state, made)? {
+            return Ok((Arrival::Disputed(fault), rows));
+        }
+    }
+    Ok((Arrival::Reached(state), rows))
 }
 
 // The rows of the step that comes next go after these. What is not put into the sink is given
@@ -151,26 +176,26 @@ fn pass_on<W: Sink>(sink: &mut W, mut rows: Vec<u8>) -> Result<Vec<u8>, PrintFau
     Ok(rows)
 }
 
-// The state after so many steps, none of which is against the rule.
-fn state_after(alloc: Global, job: &Job, steps: u32) -> Result<State, AllocError>
-    requires { IsReached job.now steps }
-    ensures { IfOk result (IsStateAfter job.now steps) }
+// The answer of the job, by what is there after the span.
+fn answer_after(alloc: Global, span: &Span<'_>, arrival: Arrival) -> Result<RunAnswer, AllocError>
+    requires { IsArrival span.now.job.now span.now.end span.now.end arrival }
+    ensures { IfOk result (IsAnswer span.now.job.now) }
 {
-    match go_to(alloc, job, steps, steps)? {
-        Arrival::Reached(state) => Ok(state),
-        Arrival::Disputed(_) | Arrival::TooFar => unreachable!(),
+    match arrival {
+        Arrival::Reached(state) => answer_from(alloc, span.job, state, span.end),
+        Arrival::Disputed(fault) => Ok(RunAnswer::Conflict(fault)),
+        Arrival::TooFar => unreachable!(),
     }
 }
 
-// Makes a step that agrees.
-fn agreed_step(alloc: Global, job: &Job, state: &mut State, made: u32) -> Result<(), AllocError>
-    requires reached { IsReached job.now (made + 1) }
-    requires after { IsStateAfter job.now made state.old }
-    requires fits { made + 1 < 2 ^ 32 }
-    ensures { OnOk result (IsStateAfter job.now (made + 1) state.new) }
+// The same by the state after so many steps. Where there are more, the job is run from its start.
+fn answer_from(alloc: Global, job: &Job, state: State, made: u32) -> Result<RunAnswer, AllocError>
+    requires { IsStateAfter job.now made state }
+    ensures { IfOk result (IsAnswer job.now) }
 {
-    match make_step(alloc, job, state, made)? {
-        None => Ok(()),
-        Some(_) => unreachable!(),
+    if made == job.steps() {
+        return Ok(RunAnswer::Final(state.into_cells(job)));
     }
+    drop(state);
+    plain_answer(alloc, job)
 }

@@ -1,4 +1,7 @@
 //! The steps that are shown.
+ghost use Rattle.std.specs.Prelude.{◌≤◌};
+
+use pram_job::Job;
 
 /// The steps from one to another, counted from 1, as far as the job has them.
 #[derive(Clone, Copy, Debug, PartialEq, Eq)]
@@ -22,4 +25,15 @@ impl Window {
 pub struct Shown<'a> {
     pub window: Window,
     pub lines: Option<&'a [u64]>,
+}
+
+/// The steps of a job that are shown: those after so many, up to this one.
+#[derive(Drop)]
+pub(crate) struct Span<'a> {
+    pub job: &'a Job,
+    pub lines: Option<&'a [u64]>,
+    pub first: u32,
+    pub end: u32,
+    pub ghost ordered: { first ≤ end },
+    pub ghost within: { end ≤ job.now.steps },
 }
