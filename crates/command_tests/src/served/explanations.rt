@@ -67,13 +67,22 @@ fn each_fault_has_a_sentence(rt: HostRuntime) -> Result<(), Fail> {
     Ok(())
 }
 
+const LINE: &str = "text line=1 kind=BadHeader\n";
+
+const EXPLAINED: &str = "\
+text line=1 kind=BadHeader
+job.txt, line 1: a line of the header is wrong, missing or repeated
+";
+
+const MEMORY: &str = "\
+memory
+out of memory, or the system refused a thread
+";
+
 #[test]
 fn a_sentence_follows_the_line_where_it_is_asked_for(rt: HostRuntime) {
     let alloc = rt.alloc();
-    let line = "text line=1 kind=BadHeader\n";
-    let both = "text line=1 kind=BadHeader\n\
-                job.txt, line 1: a line of the header is wrong, missing or repeated\n";
-    for (explains, told) in [(false, line), (true, both)] {
+    for (explains, told) in [(false, LINE), (true, EXPLAINED)] {
         let mut console = Console {
             out: IntoWrite::new(Vec::new(alloc)),
             err: IntoWrite::new(Vec::new(alloc)),
@@ -86,4 +95,29 @@ fn a_sentence_follows_the_line_where_it_is_asked_for(rt: HostRuntime) {
         assert!(rt; out.into_inner().is_empty());
         assert!(rt; err.into_inner().as_slice() == told.as_bytes());
     }
+}
+
+// Where no growth is refused this says little: `tools/growths` refuses each in turn.
+#[test]
+fn refused_growths_are_explained_as_they_are_told(rt: HostRuntime) -> Result<(), Fail> {
+    let mut room = [0u8; 256];
+    let mut console = Console {
+        out: IntoWrite::new(Vec::new(rt.alloc())),
+        err: IntoWrite::new(&mut room[..]),
+        is_terminal: false,
+        explains: true,
+    };
+    let status = serve(&rt, rt.alloc(), &CHECK, &mut of_text(b"no job\n"), &mut console);
+    let Console { out, err, .. } = console;
+    assert!(rt; out.into_inner().is_empty());
+    let left = err.into_inner().len();
+    let told = &room[..room.len().saturating_sub(left)];
+    let is_promised = match status {
+        2 => told == EXPLAINED.as_bytes() || told == LINE.as_bytes(),
+        _ => status == 5 && told == MEMORY.as_bytes(),
+    };
+    assert!(rt; is_promised, "status {status}");
+    let refused = u8::from(told != EXPLAINED.as_bytes());
+    println!(rt; "refused={refused}")?;
+    Ok(())
 }

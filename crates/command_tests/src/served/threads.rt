@@ -200,6 +200,10 @@ A : pardo 1/rule crew/procs i < 2/shared A[2]/shared s/code/A[i] := i + 7/ \
     under 0,stop,0/1,stop,0/ | 2 watch place=A/
 0,s : pram 1/cells 1/procs 1/steps 1/code/set r0 7/ \
     under 0,stop,0/1,stop,0/ | 2 watch place=s/
+A[11],A1,B[1],A[1],13,A1,A[0] : pardo 1/rule crew/procs i < 2/shared A[12]/shared A1/shared B[2]/\
+    code/A[i] := i + 7/ under 0,stop,0/1,stop,0/ \
+    | 3 step,place,value/0,A[11],0/0,A1,0/0,B[1],0/0,A[1],0/0,B[0],0/0,A1,0/0,A[0],0/\
+    unfinished step=0/
 ";
 
 // Places are told as they are named, and a cell by its number as its place. The first that the
@@ -214,6 +218,37 @@ fn places_of_a_program_are_watched(rt: HostRuntime) -> Result<(), Fail> {
             &watch_line(TWO, cells_named(&rt, cells), 1),
             row,
         )?;
+    }
+    Ok(())
+}
+
+const ALIKE: &str = "pardo 1/rule crew/procs i < 2/shared A[12]/shared A1/code/A[i] := i + 7/";
+
+// Words that begin as places of that program do, or end so.
+const NO_PLACES: [&str; 12] = [
+    "A",
+    "A[",
+    "A[]",
+    "A[1",
+    "A[01]",
+    "A[12]",
+    "A[1]]",
+    "A[0][1]",
+    "A1[0]",
+    "A12",
+    "a[1]",
+    "A[4294967297]",
+];
+
+#[test]
+fn words_that_are_nearly_places(rt: HostRuntime) -> Result<(), Fail> {
+    for word in NO_PLACES {
+        let line = watch_line(TWO, cells_named(&rt, word), 1);
+        let served = serve_rows(&rt, rt.alloc(), &line, ALIKE, "0,stop,0/1,stop,0/")?;
+        assert!(rt;
+            served.status == 2 && served.err.as_slice().starts_with(b"watch place="),
+            "{word}"
+        );
     }
     Ok(())
 }
