@@ -107,7 +107,13 @@ fn refused_growths_are_explained_as_they_are_told(rt: HostRuntime) -> Result<(),
         is_terminal: false,
         explains: true,
     };
-    let status = serve(&rt, rt.alloc(), &CHECK, &mut of_text(b"no job\n"), &mut console);
+    let status = serve(
+        &rt,
+        rt.alloc(),
+        &CHECK,
+        &mut of_text(b"no job\n"),
+        &mut console,
+    );
     let Console { out, err, .. } = console;
     assert!(rt; out.into_inner().is_empty());
     let left = err.into_inner().len();
