@@ -293,7 +293,6 @@ fn looks_before_and_after_the_work(rt: HostRuntime) -> Result<(), Fail> {
     };
     let seen = (board.progress(&mut seat), board.read(&mut seat, 0));
     assert!(rt; seen == (fresh, Reading::At { step: 0, value: 0 }));
-    assert!(rt; !board.is_over(&mut seat));
     let (mut seat, mut other) = board.split(seat);
     let stay = board.work(&mut seat, &mut Worker::start(0), &Open, None);
     assert!(rt; stay == Stay::Ended(Ended::Done));
@@ -302,7 +301,6 @@ fn looks_before_and_after_the_work(rt: HostRuntime) -> Result<(), Fail> {
         value: 4294967295,
     };
     // The other seat hears it from the words.
-    assert!(rt; board.is_over(&mut other));
     let seen = (board.read(&mut seat, 0), board.progress(&mut other).step);
     let mut joined = board.join(other, seat);
     assert!(rt; (seen, board.read(&mut joined, 0)) == ((last, 3), last));
@@ -399,7 +397,6 @@ fn look_after_conflict(
     assert!(rt; seen == (progress, held));
     let seen = (board.progress(&mut other), board.read(&mut other, 4));
     assert!(rt; seen == (progress, held));
-    assert!(rt; board.is_over(&mut other));
     Ok(())
 }
 

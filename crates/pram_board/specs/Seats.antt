@@ -1,6 +1,5 @@
 -- What contracts see of a board and of a seat, and what a look at the board tells.
-use Rattle.std.specs.Prelude.{◌≡◌, ◌≢◌, ◌≤◌, ℕ, Bool, ◌||◌, ◌==◌, nat_le, if◌then◌else◌, List, length}
-use Rattle.std.specs.Prelude.{Some, None, is_some, refl}
+use Rattle.std.specs.Prelude.{◌≡◌, ◌≢◌, ◌≤◌, ℕ, ◌==◌, if◌then◌else◌, List, length, Some, None, refl}
 use Rattle.std.specs.Coded.{Coded, code_by, coded×}
 use Rattle.std.specs.List.{AllByRecursion}
 use Rattle.atomic_table.specs.Seated.{TableId, table_id_coded}
@@ -112,16 +111,6 @@ pub record Progressed (task : Task) (before later : SeatData) (progress : Progre
   pub step : progress.step ≡ step_seen root named
   pub conflict : progress.conflict ≡ (if named == 0 then None else Some named)
   pub well : ProgressWell task.job task.layout before.record_of later.record_of progress.step named
-
--- whether it shows the end of the job: the last step, or a conflict
-abbrev pub is_end : Task → Progress → Bool
-is_end task progress = is_some progress.conflict || nat_le task.job.steps progress.step
-
--- the same loads, and whether they show the end of the job
-pub record SeesWhetherOver (task : Task) (before later : SeatData) (over : Bool) : Type 0 where
-  pub progress : Progress
-  pub made : Progressed task before later progress
-  pub is : over ≡ is_end task progress
 
 -- ---- reads
 

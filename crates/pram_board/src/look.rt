@@ -16,8 +16,7 @@ pub struct Progress {
 
 impl Board {
     ghost use Rattle.std.specs.Prelude.{◌≡◌, ◌<◌, IfSome};
-    ghost use Rattle.pram_board.specs.Seats.{HasSeen, IsLater, KnowsConflict, Progressed};
-    ghost use Rattle.pram_board.specs.Seats.{SeesWhetherOver, WasRead};
+    ghost use Rattle.pram_board.specs.Seats.{HasSeen, IsLater, KnowsConflict, Progressed, WasRead};
 
     /// The finished step, by one load of the root and then one of word 0. It is no step below those
     /// that the seat has seen.
@@ -36,17 +35,6 @@ impl Board {
             step: seen_step(root, named),
             conflict: named_step(named),
         }
-    }
-
-    /// Whether the job is over, by the loads of `progress`: its last step is finished, or a step was
-    /// found to be against the rule.
-    pub fn is_over(&self, seat: &mut Seat) -> bool
-        requires { seat.old.desk ≡ self.now }
-        ensures over { SeesWhetherOver self.now.task seat.old seat.new result }
-        ensures later { IsLater self.now seat.old seat.new }
-    {
-        let progress = self.progress(seat);
-        progress.conflict.is_some() || self.task.job.steps() <= progress.step
     }
 
     /// What a cell held after a step, which is no step below those that the seat has seen. It takes

@@ -1,10 +1,10 @@
 -- Seats that go on, and what they show of the end of a job.
-use Rattle.std.proofs.Common.{◌≡◌, ◌≢◌, ◌⊎◌, ℕ, ◌+◌, ◌*◌, ◌<◌, ◌==◌, ◌||◌, if◌then◌else◌, Option}
-use Rattle.std.proofs.Common.{◌≤◌, Bool, List, [], ◌∷◌, ◌++◌, length, take, Some, None, true}
-use Rattle.std.proofs.Common.{false, refl, sym, ap, subst, ◌∙◌, inl, inr, arith, length-append}
-use Rattle.std.proofs.lemmas.Bool.{cases_Bool, eqb-true, eqb-false, leb-true, leb-false, or_cases}
+use Rattle.std.proofs.Common.{◌≡◌, ◌≢◌, ◌⊎◌, ℕ, ◌<◌, ◌==◌, if◌then◌else◌, Option}
+use Rattle.std.proofs.Common.{◌≤◌, List, [], ◌∷◌, ◌++◌, length, take, Some, None, true}
+use Rattle.std.proofs.Common.{false, refl, sym, ap, subst, ◌∙◌, inl, inr, arith}
+use Rattle.std.proofs.lemmas.Bool.{cases_Bool, eqb-true, eqb-false}
 use Rattle.std.specs.List.{AllByRecursion}
-use Rattle.std.specs.Prelude.{Result, Ok, Err, IfOk, is_some, nat_le}
+use Rattle.std.specs.Prelude.{Result, Ok, Err, IfOk, is_some}
 use Rattle.pram_job.specs.Job.{JobData}
 use Rattle.pram_step.specs.declared.answer.Fault.{Fault}
 use Rattle.pram_step.specs.declared.answer.RunAnswer.{RunAnswer}
@@ -28,14 +28,14 @@ use Rattle.stop_plan.specs.declared.plan.Act.{Act}
 use Rattle.stop_plan.specs.declared.plan.Act.TheVariants as act
 use Rattle.stop_plan.specs.declared.plan.Row.{Row}
 use Rattle.stop_plan.specs.Plan.{PlanData}
-use Rattle.pram_run.specs.Obeyed.{Acts, HasLooked, HasRun, HasSlept, IsAnswered, LooksFor}
+use Rattle.pram_run.specs.Obeyed.{Acts, HasLooked, HasRun, IsAnswered, LooksFor}
 use Rattle.pram_run.specs.Running.{ShowsEnd, Tells, IsUnfinished}
 use Rattle.pram_board.specs.declared.look.Progress.{Progress}
 use Rattle.pram_board.specs.declared.task.Task.{Task}
 use Rattle.pram_board.specs.declared.work.Stay.{Stay}
 use Rattle.pram_board.specs.declared.work.Stay.TheVariants as stay
-use Rattle.pram_board.specs.Seats.{Desk, SeatData, Progressed, HasLoaded, IsLater}
-use Rattle.pram_board.specs.Seats.{IsLoad, KnowsConflict, SeesWhetherOver, hears_all, unites}
+use Rattle.pram_board.specs.Seats.{Desk, SeatData, Progressed, HasLoaded}
+use Rattle.pram_board.specs.Seats.{IsLoad, KnowsConflict, hears_all, unites}
 use Rattle.pram_board.specs.Worked.{EndShows, Worked, end_in}
 use Rattle.pram_run.specs.Inner.Hearing.{HasTold}
 use Rattle.pram_run.specs.Inner.Obeying.{AllEndOrStop, AllWorked, EndsOrStops, GoesOn}
@@ -351,97 +351,14 @@ pub ok_tells : {E : Type 0} (t : Task) (p later : SeatData) (r : Result RunAnswe
 ok_tells t p later (Ok a) h = h.tells
 ok_tells t p later (Err e) h = h
 
--- ---- a look at whether the job is over
-
-pub sees_loads : (t : Task) (p q : SeatData) (over : Bool) → SeesWhetherOver t p q over →
-    HasLoaded 2 p q
-unfolding progress_looks
-sees_loads t p q over h = (progress_looks t p q h.progress h.made).1
-
-neither_end : (some late : Bool) → (some || late) ≡ false → (some ≡ false) × (late ≡ false)
-neither_end true late is = absurd (cc)
-neither_end false late is = (refl, is)
-
-pub sees_end : (t : Task) (p q : SeatData) (over : Bool) → SeesWhetherOver t p q over →
-    over ≡ true → ShowsEnd t q.record_of
-sees_end t p q over h is =
-    elim (or_cases (is_some h.progress.conflict) (nat_le t.job.steps h.progress.step)
-    (sym h.is ∙ is)) [
-      | inl some ↦ (let c = progress_heard t p q h.progress h.made some in
-          inr (c.step, c.some, c.heard))
-      | inr late ↦ inl (last_shown t p q h.progress h.made
-          (leb-true t.job.steps h.progress.step late))
-    ]
-
-pub sees_none : (t : Task) (p q : SeatData) (over : Bool) → SeesWhetherOver t p q over →
-    Sound t.job t.layout q.record_of → over ≡ false → ShowsEnd t q.record_of → ⊥
-sees_none t p q over h sound is =
-    let none = neither_end (is_some h.progress.conflict) (nat_le t.job.steps h.progress.step)
-    (sym h.is ∙ is) in
-    unended t p q h.progress h.made sound none.0
-    (leb-false t.job.steps h.progress.step none.1)
-
--- ---- a sleep
-
-pub loaded_none : (p : SeatData) → HasLoaded 0 p p
-loaded_none p = record { steps = []; is = refl; loads = tt; count = refl }
-
-pub loaded_more : (n m k : ℕ) (p q r : SeatData) → n + m ≡ k → HasLoaded n p q → HasLoaded m q r →
-    HasLoaded k p r
-unfolding looked_more
-loaded_more n m k p q r sum h next =
-    let more = (looked_more p q r (n, h) (m, next)).1 in record {
-      steps = next.steps ++ h.steps;
-      is = more.is;
-      loads = more.loads;
-      count = omega (arith, length-append next.steps h.steps, next.count, h.count);
-    }
-
-pub later_self : (board : Desk) (p : SeatData) → p.desk ≡ board →
-    Sound board.task.job board.task.layout p.record_of → IsLater board p p
-later_self board p desk sound = record {
-  desk = desk;
-  keeps = λ steps h. h;
-  knows = λ walking h. h;
-  sound = sound;
-}
-
-pub later_next : (board : Desk) (p q r : SeatData) → IsLater board p q → IsLater board q r →
-    IsLater board p r
-later_next board p q r h next = record {
-  desk = next.desk;
-  keeps = λ steps has. next.keeps steps (h.keeps steps has);
-  knows = λ walking known. next.knows walking (h.knows walking known);
-  sound = next.sound;
-}
-
--- one that passes an open gate at once
-pub slept_none : (t : Task) (ticks : ℕ) (p : SeatData) → HasSlept t ticks p p true
-slept_none t ticks p = record {
-  looks = 0;
-  few = omega arith;
-  loads = loaded_none p;
-  over = λ is. absurd (cc);
-  unended = λ is some. absurd (omega arith);
-}
-
 -- ---- an act of a row
 
 pub acts_goes : (a : Act) (t : Task) (number ticks : ℕ) (p : SeatData) (w : Walking) (q : SeatData)
-    (now : Walking) (on : Bool) → Acts a t number ticks p w q now on → GoesOn p q
-acts_goes act.Go t number ticks p w q now on h = worked_goes t p w (Some ticks) q now h.1 h.2
-acts_goes act.Sleep t number ticks p w q now on h = loads_go (2 * h.0.looks) p q h.0.loads
-acts_goes act.Back t number ticks p w q now on h = same_goes p q h.1
-acts_goes act.Stop t number ticks p w q now on h = same_goes p q h.1
-
--- the last act of a worker before it works without a limit
-pub last_act : (a : Act) (t : Task) (number ticks : ℕ) (p : SeatData) (w : Walking) (q : SeatData)
-    (now : Walking) → Acts a t number ticks p w q now false →
-    (a ≡ act.Stop) ⊎ ShowsEnd t q.record_of
-last_act act.Go t number ticks p w q now h = absurd (let e = h.0 in cc)
-last_act act.Sleep t number ticks p w q now h = inr (h.0.over refl)
-last_act act.Back t number ticks p w q now h = absurd (let e = h.0 in cc)
-last_act act.Stop t number ticks p w q now h = inl refl
+    (now : Walking) → Acts a t number ticks p w q now → GoesOn p q
+acts_goes act.Go t number ticks p w q now h = worked_goes t p w (Some ticks) q now h.0 h.1
+acts_goes act.Sleep t number ticks p w q now h = same_goes p q h.0
+acts_goes act.Back t number ticks p w q now h = same_goes p q h.0
+acts_goes act.Stop t number ticks p w q now h = same_goes p q h.0
 
 -- ---- the answer of a run
 

@@ -1,6 +1,5 @@
 -- What the threads of a run make of the seat that they are given.
-use Rattle.std.specs.Prelude.{◌≡◌, ◌≢◌, ◌≤◌, ◌<◌, ◌*◌, ◌⊎◌, ℕ, zero, suc, Bool, true, false}
-use Rattle.std.specs.Prelude.{List, [], ◌∷◌, Some, None}
+use Rattle.std.specs.Prelude.{◌≡◌, ◌≢◌, ◌⊎◌, ℕ, zero, suc, List, [], ◌∷◌, Some, None}
 use Rattle.pram_step.specs.declared.answer.RunAnswer.{RunAnswer}
 use Rattle.pram_step.specs.declared.answer.RunAnswer.TheVariants.{Final, Conflict, Unfinished}
 use Rattle.walkx.specs.Walk.{Walking, started, come_back}
@@ -13,46 +12,32 @@ use Rattle.pram_board.specs.declared.task.Task.{Task}
 use Rattle.pram_board.specs.declared.work.Stay.{Stay}
 use Rattle.pram_board.specs.Seats.{SeatData, HasLoaded, Progressed, unites}
 use Rattle.pram_board.specs.Worked.{Worked}
-use Rattle.pram_run.specs.Running.{IsRun, ShowsEnd}
+use Rattle.pram_run.specs.Running.{IsRun}
 
--- A sleep of so many ticks, and whether the worker goes on after it: some looks at the board, by two
--- loads each, at most one a tick. It goes on unless a look showed the end of the job.
-pub record HasSlept (task : Task) (ticks : ℕ) (before later : SeatData) (on : Bool) : Type 0 where
-  pub looks : ℕ
-  pub few : looks ≤ ticks
-  pub loads : HasLoaded (2 * looks) before later
-  pub over : on ≡ false → ShowsEnd task later.record_of
-  pub unended : on ≡ true → 0 < looks → ShowsEnd task later.record_of → ⊥
-
--- What an act makes of a worker at a seat, and whether the worker goes on to its next row: it works
--- up to so many ticks; it sleeps, and goes on unless it then sees that the job is over; it comes
--- back, knowing its number alone; or it is lost, and does nothing.
-abbrev pub Acts : Act → Task → ℕ → ℕ → SeatData → Walking → SeatData → Walking → Bool → Type 0
-Acts Go task number ticks before walking later now on =
-    (on ≡ true) × (stay : Stay) × Worked task before walking (Some ticks) later now stay
-Acts Sleep task number ticks before walking later now on =
-    HasSlept task ticks before later on × (now ≡ walking)
-Acts Back task number ticks before walking later now on =
-    (on ≡ true) × (later ≡ before) × (now ≡ come_back number)
-Acts Stop task number ticks before walking later now on =
-    (on ≡ false) × (later ≡ before) × (now ≡ walking)
+-- What an act makes of a worker at a seat: it works up to so many ticks; it does nothing; it
+-- comes back, knowing its number alone; or it is lost, and does nothing.
+abbrev pub Acts : Act → Task → ℕ → ℕ → SeatData → Walking → SeatData → Walking → Type 0
+Acts Go task number ticks before walking later now =
+    (stay : Stay) × Worked task before walking (Some ticks) later now stay
+Acts Sleep task number ticks before walking later now = (later ≡ before) × (now ≡ walking)
+Acts Back task number ticks before walking later now = (later ≡ before) × (now ≡ come_back number)
+Acts Stop task number ticks before walking later now = (later ≡ before) × (now ≡ walking)
 
 -- one row of the worker
-abbrev pub DoesRow : Task → Row → SeatData → Walking → SeatData → Walking → Bool → Type 0
-DoesRow task row before walking later now on =
-    Acts row.act task row.worker row.ticks before walking later now on
+abbrev pub DoesRow : Task → Row → SeatData → Walking → SeatData → Walking → Type 0
+DoesRow task row before walking later now =
+    Acts row.act task row.worker row.ticks before walking later now
 
 -- From a seat, the worker does the rows of its number in order, and then works without a limit;
--- a row after which it does not go on is its last. So the later seat comes about.
+-- a row that stops it is its last. So the later seat comes about.
 abbrev pub Obeys : Task → ℕ → List Row → SeatData → Walking → SeatData → Type 0
 Obeys task number [] before walking later =
     (now : Walking) × (stay : Stay) × Worked task before walking None later now stay
 Obeys task number (row ∷ rows) before walking later =
     ((row.worker ≢ number) × Obeys task number rows before walking later)
-    ⊎ (((row.worker ≡ number) × (now : Walking)
-    × DoesRow task row before walking later now false)
-    ⊎ ((row.worker ≡ number) × (next : SeatData) × (now : Walking)
-    × DoesRow task row before walking next now true × Obeys task number rows next now later))
+    ⊎ (((row.worker ≡ number) × (row.act ≡ Stop) × (later ≡ before))
+    ⊎ ((row.worker ≡ number) × (row.act ≢ Stop) × (next : SeatData) × (now : Walking)
+    × DoesRow task row before walking next now × Obeys task number rows next now later))
 
 -- The first so many workers each obeyed the rows from the given seat, and their seats were joined
 -- to it, one after the other: the later seat.

@@ -1,13 +1,12 @@
 //! A plan obeyed on threads, one for each worker, over a board.
-ghost use Rattle.std.specs.Prelude.{◌≡◌, ℕ, ◌<◌, ◌≤◌, true, IfOk, OnOk, vec_len};
+ghost use Rattle.std.specs.Prelude.{◌≡◌, ℕ, ◌<◌, ◌≤◌, IfOk, OnOk, vec_len};
 ghost use Rattle.std.specs.Prelude.{vec_capacity, slice_index_or};
-ghost use Rattle.pram_board.specs.Seats.{IsLater};
 ghost use Rattle.pram_board.specs.Worked.{Works};
 ghost use Rattle.walkx.specs.Walk.{started};
 ghost use Rattle.lawful_walk.specs.Seen.{BeginsWith};
 ghost use Rattle.pram_run.specs.Inner.Obeying.{AllWorked, EndsOrStops, GoesOn, HasObeyed};
 ghost use Rattle.pram_run.specs.Inner.Obeying.{IsToObey};
-ghost use Rattle.pram_run.specs.Obeyed.{AllObeyed, DoesRow, HasRun, HasSlept, Obeys};
+ghost use Rattle.pram_run.specs.Obeyed.{AllObeyed, DoesRow, HasRun, Obeys};
 ghost use Rattle.pram_run.specs.Running.{IsBoardFor};
 
 use crate::bell::Bell;
@@ -176,53 +175,38 @@ fn obey_rows<G: Gate>(board: &Board, mut seat: Seat, number: u32, rows: &[Row], 
 {
     let mut worker = Worker::start(number);
     for row in rows {
-        if row.worker == number && !obey_row(board, &mut seat, &mut worker, row, gate) {
-            return seat;
+        if row.worker == number {
+            if row.act == Act::Stop {
+                return seat;
+            }
+            obey_row(board, &mut seat, &mut worker, row, gate);
         }
     }
     board.work(&mut seat, &mut worker, gate, None);
     seat
 }
 
-// Obeys a row of the worker, and says whether the worker goes on to its next one.
-fn obey_row<G: Gate>(
-    board: &Board,
-    seat: &mut Seat,
-    worker: &mut Worker,
-    row: &Row,
-    gate: &G,
-) -> bool
+// Obeys a row of the worker. What stops it, its caller looks after.
+fn obey_row<G: Gate>(board: &Board, seat: &mut Seat, worker: &mut Worker, row: &Row, gate: &G)
     requires worker { row.now.worker < board.now.task.layout.workers }
     requires works { Works board.now seat.old worker.old }
     ensures does { DoesRow board.now.task row.now seat.old worker.old.walking seat.new
-        worker.new.walking result }
+        worker.new.walking }
     ensures works { Works board.now seat.new worker.new }
 {
     match row.act {
         Act::Go => {
             board.work(seat, worker, gate, Some(u64::from(row.ticks)));
         }
-        Act::Sleep => return gate.is_open() || sleep(board, seat, row, gate),
+        Act::Sleep => sleep(gate, row.worker, row.ticks),
         Act::Back => *worker = Worker::back(row.worker),
-        Act::Stop => return false,
+        Act::Stop => {}
     }
-    true
 }
 
-// Passes the gate so many times, with a look at the board before each, until the job is over. Says
-// whether the worker goes on.
-fn sleep<G: Gate>(board: &Board, seat: &mut Seat, row: &Row, gate: &G) -> bool
-    requires { seat.old.desk ≡ board.now }
-    ensures slept { (slept : HasSlept board.now.task row.now.ticks seat.old seat.new result)
-        × (result ≡ true → slept.looks ≡ row.now.ticks) }
-    ensures later { IsLater board.now seat.old seat.new }
-{
-    seat.facts();
-    for tick in 0..row.ticks {
-        if board.is_over(seat) {
-            return false;
-        }
-        gate.pass(row.worker, u64::from(tick));
+// Passes the gate so many times, without an atomic step.
+fn sleep<G: Gate>(gate: &G, worker: u32, ticks: u32) {
+    for tick in 0..ticks {
+        gate.pass(worker, u64::from(tick));
     }
-    true
 }

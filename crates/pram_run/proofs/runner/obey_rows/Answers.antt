@@ -4,10 +4,9 @@ use Rattle.pram_board.specs.declared.task.Task.{Task}
 use Rattle.pram_board.specs.Seats.{Desk}
 use Rattle.pram_run.specs.Obeyed.{Obeys}
 use Rattle.pram_run.proofs.Endings.{goes_self, goes_trans, worked_goes, acts_goes}
-use Rattle.pram_run.proofs.Obeying.{other_row, own_row, last_row, last_row_ends, no_row}
+use Rattle.pram_run.proofs.Obeying.{other_row, own_row, no_row}
 use Rattle.pram_run.proofs.runner.obey_rows.Goals as goal
-use Rattle.pram_run.proofs.runner.obey_rows.Goals.{else-row-number-via-then-row-number+else-not-obey_row}
-use Rattle.pram_run.proofs.runner.obey_rows.Goals.{else-row-number-via-else-row-number}
+use Rattle.pram_run.proofs.runner.obey_rows.Goals.{then-row-number+else-eq, else-row-number}
 
 pub loop-row-init : goal.loop-row-init
 loop-row-init g c = record {
@@ -23,42 +22,23 @@ loop-row-init g c = record {
 }
 
 pub loop-row-preserved : goal.loop-row-preserved
-loop-row-preserved g c = elim c.else-row-number.branch [
-  | else-row-number-via-then-row-number+else-not-obey_row w ↦ record {
+loop-row-preserved g c = elim c.if-row-number.branch [
+  | then-row-number+else-eq w ↦ record {
     goes_on = rw w.seat-is
         (goes_trans c.args.seat c.loop-row.seat w.obey_row.new.seat c.loop-row.invariant.goes_on
-        (acts_goes _ _ _ _ _ _ _ _ _ w.obey_row.ensures.does));
+        (acts_goes _ _ _ _ _ _ _ _ w.obey_row.ensures.does));
     works = rw (w.seat-is, w.worker-is) w.obey_row.ensures.works;
     obeys = rw (w.seat-is, w.worker-is) (λ q h. c.loop-row.invariant.obeys q
         (own_row _ _ _ _ _ _ _ _ _ q c.loop-row-test.true w.if-row-number.true
-        w.if-not-obey_row.ensures.does h));
+        (λ stops. let same = rw stops at w.eq.ensures in absurd (cc)) w.obey_row.ensures.does h));
   }
-  | else-row-number-via-else-row-number w ↦ record {
+  | else-row-number w ↦ record {
     goes_on = rw w.seat-is c.loop-row.invariant.goes_on;
     works = rw (w.seat-is, w.worker-is) c.loop-row.invariant.works;
     obeys = rw (w.seat-is, w.worker-is) (λ q h. c.loop-row.invariant.obeys q
         (other_row _ _ _ _ _ _ _ q c.loop-row-test.true w.if-row-number.false h));
   }
 ]
-
-pub returns-then-not-obey_row-clause-goes_on : goal.returns-then-not-obey_row-clause-goes_on
-returns-then-not-obey_row-clause-goes_on g c =
-    goes_trans c.args.seat c.loop-row.seat c.obey_row.new.seat c.loop-row.invariant.goes_on
-    (acts_goes _ _ _ _ _ _ _ _ _ c.obey_row.ensures.does)
-
-pub returns-then-not-obey_row-clause-ends : goal.returns-then-not-obey_row-clause-ends
-returns-then-not-obey_row-clause-ends g c = last_row_ends _ _ _ _ _ _ _ _ _
-    (ap (λ (d : Desk). d.task) c.obey_row.ensures.works.desk)
-    c.loop-row-test.true c.if-row-number.true c.if-not-obey_row.ensures.does
-
-pub returns-then-not-obey_row-clause-obeys : goal.returns-then-not-obey_row-clause-obeys
-returns-then-not-obey_row-clause-obeys g c =
-    subst (λ (t : Task). Obeys t c.args.number c.args.rows.now c.args.seat
-    (started c.args.number) c.obey_row.new.seat)
-    (sym (ap (λ (d : Desk). d.task) c.requires.seat))
-    (c.loop-row.invariant.obeys c.obey_row.new.seat
-    (last_row _ _ _ _ _ _ _ _ _ c.loop-row-test.true c.if-row-number.true
-    c.if-not-obey_row.ensures.does))
 
 pub returns-clause-goes_on : goal.returns-clause-goes_on
 returns-clause-goes_on g c = goes_trans c.args.seat c.loop-row.seat c.work.new.seat
