@@ -10,7 +10,7 @@ ghost use Rattle.pram_run.specs.Obeyed.{AllObeyed, DoesRow, HasRun, Obeys};
 ghost use Rattle.pram_run.specs.Running.{IsBoardFor};
 
 use crate::bell::Bell;
-use crate::crew::Crew;
+use crate::crew::{Crew, Pacing};
 use crate::ending::answer;
 use pram_board::{Board, Seat};
 use pram_job::Job;
@@ -132,7 +132,7 @@ pub(crate) fn start_all<'s, E, G: Gate + Sync>(
             ensures obeys { Obeys theirs.desk.task worker rows.entry.now theirs (started worker)
                 result }
         {
-            let seat = obey_rows(board, theirs, worker, rows, gate);
+            let seat = obey_rows(board, theirs, worker, rows, Pacing { gate, bell });
             bell.ring();
             seat
         };
@@ -166,7 +166,13 @@ pub(crate) fn join_all<'s, R: Threads>(
 }
 
 // Obeys the worker's rows, and then goes on without a limit.
-fn obey_rows<G: Gate>(board: &Board, mut seat: Seat, number: u32, rows: &[Row], gate: &G) -> Seat
+fn obey_rows<G: Gate>(
+    board: &Board,
+    mut seat: Seat,
+    number: u32,
+    rows: &[Row],
+    pacing: Pacing<'_, G>,
+) -> Seat
     requires worker { number < board.now.task.layout.workers }
     requires seat { seat.desk ≡ board.now }
     ensures goes_on { GoesOn seat result }
@@ -179,15 +185,22 @@ fn obey_rows<G: Gate>(board: &Board, mut seat: Seat, number: u32, rows: &[Row], 
             if row.act == Act::Stop {
                 return seat;
             }
-            obey_row(board, &mut seat, &mut worker, row, gate);
+            obey_row(board, &mut seat, &mut worker, row, pacing);
         }
     }
-    board.work(&mut seat, &mut worker, gate, None);
+    let stay = board.work(&mut seat, &mut worker, pacing.gate, None);
+    pacing.note(stay);
     seat
 }
 
 // Obeys a row of the worker. What stops it, its caller looks after.
-fn obey_row<G: Gate>(board: &Board, seat: &mut Seat, worker: &mut Worker, row: &Row, gate: &G)
+fn obey_row<G: Gate>(
+    board: &Board,
+    seat: &mut Seat,
+    worker: &mut Worker,
+    row: &Row,
+    pacing: Pacing<'_, G>,
+)
     requires worker { row.now.worker < board.now.task.layout.workers }
     requires works { Works board.now seat.old worker.old }
     ensures does { DoesRow board.now.task row.now seat.old worker.old.walking seat.new
@@ -196,17 +209,11 @@ fn obey_row<G: Gate>(board: &Board, seat: &mut Seat, worker: &mut Worker, row: &
 {
     match row.act {
         Act::Go => {
-            board.work(seat, worker, gate, Some(u64::from(row.ticks)));
+            let stay = board.work(seat, worker, pacing.gate, Some(u64::from(row.ticks)));
+            pacing.note(stay);
         }
-        Act::Sleep => sleep(gate, row.worker, row.ticks),
+        Act::Sleep => pacing.sleep(row.worker, row.ticks),
         Act::Back => *worker = Worker::back(row.worker),
         Act::Stop => {}
-    }
-}
-
-// Passes the gate so many times, without an atomic step.
-fn sleep<G: Gate>(gate: &G, worker: u32, ticks: u32) {
-    for tick in 0..ticks {
-        gate.pass(worker, u64::from(tick));
     }
 }

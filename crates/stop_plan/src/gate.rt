@@ -9,6 +9,11 @@ pub trait Gate {
     /// Returns once the worker may go on. The tick is how many atomic steps it made so far, as the
     /// caller counts them.
     fn pass(&self, worker: u32, tick: u64);
+
+    /// Whether it holds nobody, ever, so that a sleep may leave out its passes.
+    fn is_open(&self) -> bool {
+        false
+    }
 }
 
 /// The gate that holds nobody.
@@ -17,10 +22,15 @@ pub struct Open;
 
 impl Gate for Open {
     fn pass(&self, _worker: u32, _tick: u64) {}
+
+    fn is_open(&self) -> bool {
+        true
+    }
 }
 
 /// The gate that takes a pause for each pass. A worker that passes it makes at most one atomic step
-/// in a pause, and a sleep of so many ticks lasts at least so many pauses.
+/// in a pause, and a sleep of so many ticks lasts at least so many pauses, if the job is not over
+/// before.
 #[derive(Clone, Copy)]
 pub struct Paced<'a, R: Clock> {
     clock: &'a R,

@@ -10,7 +10,7 @@ use std::marker::Model;
 pub enum Act {
     /// Make up to so many atomic steps.
     Go,
-    /// Pass the gate so many times without an atomic step.
+    /// Pass the gate so many times without an atomic step, or until the job is over.
     Sleep,
     /// Lose the private state, and come back from the position word.
     Back,

@@ -138,6 +138,7 @@ fn an_answer_is_heard_while_a_worker_is_held(rt: HostRuntime) -> Result<(), Fail
     let rows = [
         (SWAP, "", Sound::Done),
         (SWAP, "1,go,30\n1,stop,0\n", Sound::Done),
+        (SWAP, "0,sleep,4294967295\n", Sound::Done),
         (TWO_CELLS, "2,stop,0\n", Sound::Conflict(4)),
         (
             SWAP,

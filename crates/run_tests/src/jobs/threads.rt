@@ -1,7 +1,7 @@
 //! Runs on threads: worked rows, and gates that hold workers and readers at chosen ticks.
 ghost use Rattle.std.specs.Prelude.{◌≤◌};
 
-use crate::jobs::{BELOW_ZERO, LATER, SWAP, lines_of, plan_of, row_of, said};
+use crate::jobs::{BELOW_ZERO, LATER, SWAP, TWO_CELLS, lines_of, plan_of, row_of, said};
 use pram_board::Board;
 use pram_run::{Sight, run, watch};
 use pram_step::RunAnswer;
@@ -170,6 +170,39 @@ fn two_at_once(rt: HostRuntime) -> Result<(), Fail> {
     expect_held(&rt, SWAP, &Holds::new(rt.clone()?, first), "[9, 7]")?;
     let late = [holding(0, 17, 1, 22), holding(1, 0, 0, 17)];
     expect_held(&rt, SET, &Holds::new(rt.clone()?, late), "[0]")
+}
+
+// Worker 0 of two sleeps for as many ticks as a plan can name, and worker 1 is held until it has
+// slept a thousand. The sleep ends once the job is over, and with it the plan of worker 0.
+#[test]
+fn a_sleep_ends_with_the_job(rt: HostRuntime) -> Result<(), Fail> {
+    let rows = "0,sleep,4294967295\n0,back,0\n0,sleep,4294967295\n0,stop,0\n";
+    for (text, wanted) in [(SWAP, "[9, 7]"), (TWO_CELLS, "conflict 4 0 0 2")] {
+        let both = [holding(1, 0, 0, 999), holding(1, 0, 0, 999)];
+        let gate = Holds::new(rt.clone()?, both);
+        let answer = ran(&rt, text, 2, rows, &gate)?;
+        assert!(rt; said(rt.alloc(), &answer)?.as_str() == wanted);
+        assert!(rt; gate.were_kept());
+        assert!(rt; !gate.has_passed(0, 4_294_967_294));
+    }
+    Ok(())
+}
+
+// Where the other worker has stopped, a sleep is no end: the sleeper wakes and finishes the job.
+#[test]
+fn a_sleeper_that_is_left_goes_on(rt: HostRuntime) -> Result<(), Fail> {
+    let rows = [
+        ("0,sleep,2000\n1,go,30\n1,stop,0\n", "[9, 7]"),
+        ("0,sleep,2000\n0,stop,0\n1,go,9\n1,stop,0\n", "unfinished 0"),
+    ];
+    for (rows, wanted) in rows {
+        let none = [holding(2, 0, 0, 0), holding(2, 0, 0, 0)];
+        let gate = Holds::new(rt.clone()?, none);
+        let answer = ran(&rt, SWAP, 2, rows, &gate)?;
+        assert!(rt; said(rt.alloc(), &answer)?.as_str() == wanted);
+        assert!(rt; gate.has_passed(0, 1999));
+    }
+    Ok(())
 }
 
 // What a watch of cell 0 lists, beside one worker, at a gate whose holds are kept.
