@@ -10,7 +10,7 @@ use Rattle.pram_step.specs.declared.answer.RunAnswer.{RunAnswer}
 use Rattle.pram_step.specs.declared.answer.RunAnswer.TheVariants as answer
 use Rattle.pram_cost.specs.declared.cost.Cost.{Cost}
 use Rattle.pram_commands.specs.Costs.{conflict_of}
-use Rattle.pram_commands.specs.Did.{Begins, Command, Did, Prints, Wrote}
+use Rattle.pram_commands.specs.Did.{Begins, Command, Did, Explains, Prints, Wrote}
 use Rattle.pram_commands.specs.Did.{Writing, ends_with, tells_status}
 use Rattle.pram_commands.specs.Faults.{fault_status}
 use Rattle.pram_commands.specs.Inputs.{Reading, Taking}
@@ -127,19 +127,21 @@ wrote-none command r w JobTooLarge two wrote = wrote
 wrote-none command r w PlanTooLarge two wrote = wrote
 
 wrote-some : (command : Command) (r : Reading) (w : Writing) (fault : CommandFault) →
-    Wrote command r w fault → w.Unwritten ⊎ Begins command r w
-wrote-some command r w OutDevice wrote = inr wrote
-wrote-some command r w Memory wrote = elim wrote [ inl none ↦ inl none | inr some ↦ inr some.1 ]
-wrote-some command r w (Text number kind) wrote = inl wrote
-wrote-some command r w (Program refusal) wrote = inl wrote
-wrote-some command r w (Plan row kind) wrote = inl wrote
-wrote-some command r w (OutsideCell cell) wrote = inl wrote
-wrote-some command r w (OutsidePlace at) wrote = inl wrote
-wrote-some command r w (OutsideStep step) wrote = inl wrote
-wrote-some command r w JobDevice wrote = inl wrote
-wrote-some command r w PlanDevice wrote = inl wrote
-wrote-some command r w JobTooLarge wrote = inl wrote
-wrote-some command r w PlanTooLarge wrote = inl wrote
+    Explains command r w fault → Wrote command r w fault →
+    w.Unwritten ⊎ ((IsTrue w.failed ⊎ command.InPieces) × Begins command r w)
+wrote-some command r w OutDevice explains wrote = inr (inl explains, wrote)
+wrote-some command r w Memory explains wrote =
+    elim wrote [ inl none ↦ inl none | inr some ↦ inr (inr some.0, some.1) ]
+wrote-some command r w (Text number kind) explains wrote = inl wrote
+wrote-some command r w (Program refusal) explains wrote = inl wrote
+wrote-some command r w (Plan row kind) explains wrote = inl wrote
+wrote-some command r w (OutsideCell cell) explains wrote = inl wrote
+wrote-some command r w (OutsidePlace at) explains wrote = inl wrote
+wrote-some command r w (OutsideStep step) explains wrote = inl wrote
+wrote-some command r w JobDevice explains wrote = inl wrote
+wrote-some command r w PlanDevice explains wrote = inl wrote
+wrote-some command r w JobTooLarge explains wrote = inl wrote
+wrote-some command r w PlanTooLarge explains wrote = inl wrote
 
 module _ (taken : Taking) (w : Writing) where
   -- a line whose command follows no plan ends
@@ -211,7 +213,8 @@ module _ (taken : Taking) (w : Writing) where
               (ap fault_status (err_same fault PlanDevice (did.plan_failed.0 failed)));
           out = λ failed. told-failed fault status is
               (ap fault_status (err_same fault OutDevice (did.out_failed.0 failed)));
-          begins = λ _. wrote-some (command_of line) taken.reads w fault did.wrote;
+          begins = λ _.
+              wrote-some (command_of line) taken.reads w fault did.explains did.wrote;
           job_reads = did.job_reads;
           plan_reads = did.plan_reads;
         }

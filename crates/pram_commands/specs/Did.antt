@@ -40,9 +40,9 @@ writing of_out before after = record {
 }
 
 -- What a command is: the workers of the plan that it follows, if it follows one; the parts of a list
--- of cells that the job has to have; the first step that it shows, which the job has to have, or 1; whether it prints
--- in pieces, so that a beginning may stand printed where memory runs out; and what it comes to: on
--- this text, its job and this plan it prints these bytes, and this is the answer, if
+-- of cells that the job has to have; the first step that it shows, which the job has to have, or 1;
+-- whether it prints in pieces, so that a beginning may stand printed where memory runs out; and what
+-- it comes to: on this text, its job and this plan it prints these bytes, and this is the answer, if
 -- it gives one.
 pub record Command : Type 1 where
   pub workers : Option ℕ
@@ -78,12 +78,14 @@ pub record Given (command : Command) (reads : Reading) (job : JobData) (plan : P
   pub a_job : GivesText reads.job reads.job' job_text job
   pub a_plan : IfSome command.workers (λ workers. GivesPlan reads.plan reads.plan' workers plan)
 
--- On what the sources gave, the command prints this text, and this is its answer.
+-- On what the sources gave, which has the first step that the command shows, the command prints this
+-- text, and this is its answer.
 pub record ComesTo (command : Command) (reads : Reading) (text : List ℕ)
     (answer : Option RunAnswer) : Type 0 where
   pub job : JobData
   pub plan : PlanData
   pub given : Given command reads job plan
+  pub first : missing_step job command.first ≡ None
   pub comes : command.Comes given.job_text job plan text answer
 
 -- The output took all that the command prints, and what is said holds of its answer.

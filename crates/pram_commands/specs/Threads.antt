@@ -1,5 +1,5 @@
 -- What the commands come to that run a job on threads.
-use Rattle.std.specs.Prelude.{◌≡◌, ◌^◌, ℕ, Bool, List, [], ◌∷◌, Option, None, Some, ⊤, map}
+use Rattle.std.specs.Prelude.{◌≡◌, ◌^◌, ◌<◌, ℕ, Bool, List, [], ◌∷◌, Option, None, Some, ⊤, map}
 use Rattle.std.specs.Prelude.{slice_index, All, codes, decimal}
 use Rattle.std.specs.List.{repeat}
 use Rattle.std.specs.List.Sorted.{IsNonDecreasingBy}
@@ -101,13 +101,14 @@ pub record TellsSights (names : Option NamingData) (job : JobData) (plan : PlanD
   pub ends : IsWatchEnd job plan cells rounds sights answer
   pub text : front ≡ sights_text (cell_words names) sights
 
--- The bytes are those of a watch of the cells that these parts name, and of its answer.
+-- The bytes are those of a watch of the job's cells that these parts name, and of its answer.
 pub record TellsWatch (parts : List (List ℕ)) (rounds : ℕ) (job_text : List ℕ) (job : JobData)
     (plan : PlanData) (text : List ℕ) (answer : Option RunAnswer) : Type 0 where
   pub names : Option NamingData
   pub are_names : AreNames job_text job names
   pub cells : List ℕ
   pub are_cells : AreCellsOf names parts cells
+  pub within : All (λ cell. cell < job.cells) cells
   pub shows : Answering (TellsSights names job plan cells rounds) job_text job text answer
 
 -- it prints the sights of a watch of the job under the plan, and then the answer

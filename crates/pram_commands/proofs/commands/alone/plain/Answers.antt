@@ -10,7 +10,7 @@ returns g c =
       job_text = c.as_slice.result.now;
       a_job = rw c.as_slice.ensures.value c.in_ok-spelled.ensures.ok;
       a_plan = tt;
-    }) refl
+    }) refl refl
     (λ f. ok_not_err _ _ (c.in_ok-spelled.ensures.failed.0 f))
     (well _ c.requires.plan) c.in_ok-spelled.ensures.reads (gives_none _)
     _ c.put_plain.ensures _ c.printed.ensures

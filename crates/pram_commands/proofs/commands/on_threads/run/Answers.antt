@@ -1,3 +1,4 @@
+use Rattle.std.proofs.Common.{refl}
 use Rattle.pram_commands.proofs.Doing.{ok_not_err, printed_did}
 use Rattle.pram_commands.proofs.commands.on_threads.run.Goals as goal
 
@@ -9,7 +10,7 @@ returns g c =
       job_text = c.in_ok-inputs.inputs.text.items;
       a_job = took.both.gives_job;
       a_plan = took.both.gives_plan;
-    }) tt
+    }) refl tt
     (λ f. ok_not_err _ _ (took.job_failed.0 f))
     (λ f. ok_not_err _ _ (took.plan_failed.0 f)) took.job_reads took.plan_reads
     _ c.put_run.ensures _ c.printed.ensures

@@ -42,6 +42,8 @@ returns g c =
     (sym c.as_slice.ensures.value)
     (subst (λ (text : List ℕ). AreCellsOf inputs.names (parts_of text) c.in_ok-cells.cells.items)
     c.text.ensures c.in_ok-cells.ensures.cells) in
+    let within = subst (λ (l : List ℕ). All (λ cell. cell < inputs.job.cells) l)
+    (sym c.as_slice.ensures.value) c.in_ok-cells.ensures.within in
     let puts = puts_as
     (Answering (TellsSights inputs.names inputs.job inputs.plan cells rounds) inputs.text.items
     inputs.job)
@@ -51,6 +53,7 @@ returns g c =
       are_names = took.names;
       cells = cells;
       are_cells = are_cells;
+      within = within;
       shows = shows;
     }) c.put_watch.result c.put_watch.ensures in
     printed_did _ _ _ _ inputs.job inputs.plan
@@ -58,7 +61,7 @@ returns g c =
       job_text = inputs.text.items;
       a_job = took.both.gives_job;
       a_plan = took.both.gives_plan;
-    }) tt
+    }) refl tt
     (λ f. ok_not_err _ _ (took.job_failed.0 f))
     (λ f. ok_not_err _ _ (took.plan_failed.0 f)) took.job_reads took.plan_reads
     _ puts _ c.printed.ensures
