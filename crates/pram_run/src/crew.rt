@@ -32,7 +32,7 @@ impl<'a, G> Crew<'a, G> {
 }
 
 /// What a worker passes before its atomic steps, and what wakes it from a sleep.
-#[derive(Clone, Copy)]
+#[derive(Drop)]
 pub(crate) struct Pacing<'a, G> {
     pub gate: &'a G,
     pub bell: &'a Bell,

@@ -132,7 +132,7 @@ pub(crate) fn start_all<'s, E, G: Gate + Sync>(
             ensures obeys { Obeys theirs.desk.task worker rows.entry.now theirs (started worker)
                 result }
         {
-            let seat = obey_rows(board, theirs, worker, rows, Pacing { gate, bell });
+            let seat = obey_rows(board, theirs, worker, rows, &Pacing { gate, bell });
             bell.ring();
             seat
         };
@@ -171,7 +171,7 @@ fn obey_rows<G: Gate>(
     mut seat: Seat,
     number: u32,
     rows: &[Row],
-    pacing: Pacing<'_, G>,
+    pacing: &Pacing<'_, G>,
 ) -> Seat
     requires worker { number < board.now.task.layout.workers }
     requires seat { seat.desk ≡ board.now }
@@ -199,7 +199,7 @@ fn obey_row<G: Gate>(
     seat: &mut Seat,
     worker: &mut Worker,
     row: &Row,
-    pacing: Pacing<'_, G>,
+    pacing: &Pacing<'_, G>,
 )
     requires worker { row.now.worker < board.now.task.layout.workers }
     requires works { Works board.now seat.old worker.old }

@@ -41,12 +41,12 @@ loop-row-preserved g c = elim c.if-row-number.branch [
 ]
 
 pub returns-clause-goes_on : goal.returns-clause-goes_on
-returns-clause-goes_on g c = goes_trans c.args.seat c.loop-row.seat c.work.new.seat
-    c.loop-row.invariant.goes_on (worked_goes _ _ _ _ _ _ _ c.work.ensures.worked)
+returns-clause-goes_on g c = goes_trans c.args.seat c.loop-row.seat c.work-stay.new.seat
+    c.loop-row.invariant.goes_on (worked_goes _ _ _ _ _ _ _ c.work-stay.ensures.worked)
 
 pub returns-clause-obeys : goal.returns-clause-obeys
 returns-clause-obeys g c =
     subst (λ (t : Task). Obeys t c.args.number c.args.rows.now c.args.seat
-    (started c.args.number) c.work.new.seat) (sym (ap (λ (d : Desk). d.task) c.requires.seat))
-    (c.loop-row.invariant.obeys c.work.new.seat
-    (no_row _ _ _ _ _ _ _ _ _ c.loop-row-test.false c.work.ensures.worked))
+    (started c.args.number) c.work-stay.new.seat) (sym (ap (λ (d : Desk). d.task) c.requires.seat))
+    (c.loop-row.invariant.obeys c.work-stay.new.seat
+    (no_row _ _ _ _ _ _ _ _ _ c.loop-row-test.false c.work-stay.ensures.worked))
