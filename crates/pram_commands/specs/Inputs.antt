@@ -18,12 +18,12 @@ use Rattle.pram_streams.specs.declared.transfer.TheConstants.{MOST}
 use Rattle.stop_plan.specs.Plan.{PlanData}
 use Rattle.stop_plan.specs.Records.{FirstFault, SpellsPlan, records_of}
 use Rattle.stop_plan.specs.declared.plan.PlanKind.{PlanKind}
-use Rattle.pram_commands.specs.declared.fault.CommandFault.{CommandFault}
+use Rattle.refusals.specs.declared.fault.CommandFault.{CommandFault}
 use Rattle.pram_commands.specs.Names.{AreNames, Means}
-use Rattle.pram_commands.specs.declared.fault.CommandFault.TheVariants.{Text, Program, Plan}
-use Rattle.pram_commands.specs.declared.fault.CommandFault.TheVariants.{JobDevice}
-use Rattle.pram_commands.specs.declared.fault.CommandFault.TheVariants.{PlanDevice, JobTooLarge}
-use Rattle.pram_commands.specs.declared.fault.CommandFault.TheVariants.{PlanTooLarge, Memory}
+use Rattle.refusals.specs.declared.fault.CommandFault.TheVariants.{Text, Program, Plan}
+use Rattle.refusals.specs.declared.fault.CommandFault.TheVariants.{JobDevice}
+use Rattle.refusals.specs.declared.fault.CommandFault.TheVariants.{PlanDevice, JobTooLarge}
+use Rattle.refusals.specs.declared.fault.CommandFault.TheVariants.{PlanTooLarge, Memory}
 use Rattle.pram_commands.specs.declared.sources.Inputs.{Inputs}
 use Rattle.pram_commands.specs.declared.sources.Sources.{Sources}
 

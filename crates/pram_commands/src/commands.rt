@@ -12,9 +12,7 @@ ghost use Rattle.pram_commands.specs.Line.{command_of};
 mod alone;
 mod on_threads;
 
-use crate::fault::CommandFault;
 use crate::names::{Words, print_told};
-use crate::refusal::{CONFLICT, DONE, UNFINISHED};
 use crate::sources::Sources;
 pub use alone::{check, compile, cost, plain, replay, steps};
 use command_data::Line;
@@ -23,6 +21,7 @@ use pram_cost::Cost;
 use pram_rows::Window;
 use pram_step::RunAnswer;
 use pram_streams::{PrintFault, Sink, Source};
+use refusals::{CONFLICT, CommandFault, DONE, UNFINISHED};
 use std::alloc::Global;
 use std::rt::Clock;
 use std::sync::Wait;

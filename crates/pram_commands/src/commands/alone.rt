@@ -12,7 +12,6 @@ ghost use Rattle.pram_commands.specs.Replayed.{replaying};
 ghost use Rattle.pram_commands.specs.Texts.{compiling};
 
 use crate::commands::{print_ending, printed};
-use crate::fault::CommandFault;
 use crate::inputs::{Spelled, take_inputs, take_job, take_text};
 use crate::names::{Words, lines_of};
 use crate::sources::{Inputs, Sources};
@@ -25,6 +24,7 @@ use pram_rows::{Shown, Window, print_steps};
 use pram_run::replay_to;
 use pram_step::{RunAnswer, plain_answer};
 use pram_streams::{PrintFault, Sink, Source, print_summary};
+use refusals::CommandFault;
 use std::alloc::{AllocError, Global};
 
 /// Reads a job, and prints its summary.

@@ -1,7 +1,7 @@
 //! Why a line was not done, in a sentence.
 ghost use Rattle.std.specs.Prelude.{◌≡◌, codes, false};
 ghost use Rattle.std.specs.Io.KnownBytes.{Appends};
-ghost use Rattle.pram_commands.specs.declared.fault.CommandFault.TheVariants.{Memory};
+ghost use Rattle.refusals.specs.declared.fault.CommandFault.TheVariants.{Memory};
 
 use crate::fault::CommandFault;
 use crate::sentences;
