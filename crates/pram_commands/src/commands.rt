@@ -14,7 +14,7 @@ mod on_threads;
 
 use crate::names::{Words, print_told};
 use crate::sources::Sources;
-pub use alone::{check, compile, cost, plain, replay, steps};
+pub use alone::{check, compile, cost, plain, replay, steps, take_answer};
 use command_data::Line;
 pub use on_threads::{Reads, Wanted, run, watch};
 use pram_cost::Cost;
@@ -28,7 +28,7 @@ use std::sync::Wait;
 use std::thread::Threads;
 
 /// Does what a line that starts no thread asks, and answers the status of its answer.
-pub(crate) fn do_alone<J: Source, P: Source, O: Sink>(
+pub fn do_alone<J: Source, P: Source, O: Sink>(
     alloc: Global,
     line: &Line<'_>,
     sources: &mut Sources<J, P>,

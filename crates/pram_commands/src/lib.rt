@@ -16,7 +16,9 @@ mod threads;
 mod why;
 
 pub use command_data::{Block, CellList, Line, Manner, Telling, Workers};
-pub use commands::{Reads, Wanted, check, compile, cost, plain, replay, run, steps, watch};
+pub use commands::{
+    Reads, Wanted, check, compile, cost, do_alone, plain, replay, run, steps, take_answer, watch,
+};
 pub use files::{Folder, serve_files};
 pub use inputs::{take_inputs, take_job, take_plan};
 pub use names::Naming;

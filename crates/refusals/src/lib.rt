@@ -4,7 +4,7 @@
 mod explanation;
 mod fault;
 mod refusal;
-mod sentences;
+pub mod sentences;
 mod telling;
 
 pub use explanation::{Explanation, Reasons};
