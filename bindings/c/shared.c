@@ -12,6 +12,10 @@
 #include <sys/stat.h>
 #include <unistd.h>
 
+#ifndef MAP_FIXED_NOREPLACE
+#define MAP_FIXED_NOREPLACE 0x100000
+#endif
+
 static const char mark[16] = "kaolinsilk board";
 /* Room for the greatest board, and for what opening it takes. Pages that nobody touches cost
  * none. */

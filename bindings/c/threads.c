@@ -13,6 +13,7 @@
 #define _GNU_SOURCE
 #include <kaolinsilk.h>
 #include <pthread.h>
+#include <sched.h>
 #include <stdatomic.h>
 #include <stdbool.h>
 #include <stdio.h>
@@ -70,22 +71,22 @@ static void begin(struct thread *thread, const ks_board *board, uint32_t number)
   if (pthread_create(&thread->id, NULL, work, thread)) fail("a thread was refused");
 }
 
+static uint64_t nanoseconds(void) {
+  struct timespec now;
+  clock_gettime(CLOCK_MONOTONIC, &now);
+  return (uint64_t)now.tv_sec * 1000000000u + (uint64_t)now.tv_nsec;
+}
+
 /* Looks at the board while the threads work: the last finished step never falls. */
-static void look_for(uint64_t nanoseconds, const ks_board *board, ks_seat *seat,
-                     struct tally *tally) {
-  static struct ks_progress last;
-  struct timespec begun, now;
-  clock_gettime(CLOCK_MONOTONIC, &begun);
-  last.step = 0;
+static void look_until(uint64_t late, const ks_board *board, ks_seat *seat, struct tally *tally) {
+  uint32_t last = 0;
   do {
     struct ks_progress seen;
     ks_progress(board, seat, &seen);
     tally->looks++;
-    tally->fallen += seen.step < last.step;
-    last = seen;
-    clock_gettime(CLOCK_MONOTONIC, &now);
-  } while ((uint64_t)(now.tv_sec - begun.tv_sec) * 1000000000u + (uint64_t)now.tv_nsec <
-           (uint64_t)begun.tv_nsec + nanoseconds);
+    tally->fallen += seen.step < last;
+    last = seen.step;
+  } while (nanoseconds() < late);
 }
 
 static void end(struct thread *thread, struct tally *tally) {
@@ -124,9 +125,9 @@ static void run(struct text text, uint64_t span, FILE *to, struct tally *tally) 
   int stays = rand() % THREADS;
   for (int i = 0; i < THREADS; i++) begin(&threads[i], board, (uint32_t)i);
   for (int i = 0; i < THREADS; i++) {
-    while (!threads[i].is_at_work) {
-    }
-    look_for((uint64_t)rand() % (span / THREADS + 1), board, seat, tally);
+    while (!threads[i].is_at_work) sched_yield();
+    uint64_t wait = (uint64_t)rand() % (span / THREADS + 1);
+    look_until(nanoseconds() + wait, board, seat, tally);
     if (i != stays) pthread_cancel(threads[i].id);
   }
   for (int i = 0; i < THREADS; i++) end(&threads[i], tally);
@@ -137,18 +138,16 @@ static void run(struct text text, uint64_t span, FILE *to, struct tally *tally) 
 
 static uint64_t time_of(struct text text) {
   struct ks_answer answer = {.size = sizeof answer};
-  struct timespec begun, ended;
   ks_board *board;
   ks_worker *worker;
   if (ks_open(text.bytes, text.length, 1, 0, &board, &answer)) fail(answer.sentence);
   if (ks_worker_of(board, 0, &worker)) fail("out of memory");
-  clock_gettime(CLOCK_MONOTONIC, &begun);
+  uint64_t begun = nanoseconds();
   ks_work(board, worker, UINT64_MAX);
-  clock_gettime(CLOCK_MONOTONIC, &ended);
+  uint64_t ended = nanoseconds();
   ks_close_worker(worker);
   ks_close(board);
-  return (uint64_t)(ended.tv_sec - begun.tv_sec) * 1000000000u + (uint64_t)ended.tv_nsec -
-         (uint64_t)begun.tv_nsec;
+  return ended - begun;
 }
 
 /* How often the answer was another one. */
