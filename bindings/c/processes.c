@@ -37,7 +37,7 @@ struct run {
   int file;      /* of the board, or -1 */
   ks_seat *seat; /* this process looks at the board by it */
   struct ks_progress seen;
-  struct ks_row *rows; /* of the plan */
+  struct ks_plan_row *rows; /* of the plan */
   size_t row_count;
   struct child children[MOST_CHILDREN];
   size_t child_count;
@@ -135,7 +135,7 @@ static uint8_t *read_file(const char *name, size_t most, size_t *length) {
 
 static void read_plan(struct run *run) {
   struct ks_answer answer = {.size = sizeof answer};
-  struct ks_row none;
+  struct ks_plan_row none;
   size_t length;
   if (!run->words.plan) return;
   uint8_t *plan = read_file(run->words.plan, SIZE_MAX - 1, &length);
@@ -255,7 +255,7 @@ static void sleep_through(struct me *me, uint32_t passes) {
 /* Obeys the rows of this worker, and goes on without a limit. KS_UNFINISHED: a row stopped it. */
 static uint32_t obey(struct me *me) {
   for (size_t i = 0; i < me->run->row_count; i++) {
-    const struct ks_row *row = &me->run->rows[i];
+    const struct ks_plan_row *row = &me->run->rows[i];
     uint32_t status = KS_UNFINISHED;
     if (row->worker != me->number) continue;
     if (row->act == STOP) return KS_UNFINISHED;

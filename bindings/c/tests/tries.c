@@ -144,8 +144,8 @@ static void cells(const struct text *text, struct told *told) {
 static void plan(const struct text *text, struct told *told) {
   (void)text;
   told->status =
-      ks_plan((const uint8_t *)rows, sizeof rows - 1, 3, (struct ks_row *)(void *)told->out,
-              ROOM / sizeof(struct ks_row), &told->answer);
+      ks_plan((const uint8_t *)rows, sizeof rows - 1, 3, (struct ks_plan_row *)(void *)told->out,
+              ROOM / sizeof(struct ks_plan_row), &told->answer);
 }
 
 /* A board, worked to its end by a worker that comes back. What is seen on the way is compared,
