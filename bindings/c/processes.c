@@ -5,10 +5,10 @@
  *
  * The first process opens the board in shared memory (shared.h says what becomes of that where
  * processes or the machine go down) and forks a process for each worker. It has no threads, since
- * a forked child of a process with threads may not call the library. A worker's process has its
- * own worker and its own seat in memory of its own; nothing but the board is shared. So one that
- * is killed leaves nothing half done: another one of its number makes a worker anew, and comes
- * back from the position that stands on the board. Two of one number may be at work together.
+ * a forked child of a process with threads may not call the library. A process has a worker and a
+ * seat that no other one uses; the words of the board are all that they share. So one that is
+ * killed leaves nothing half done: another one of its number takes another worker, and comes back
+ * from the position that stands on the board. Two of one number may be at work together.
  */
 #define _GNU_SOURCE
 #include "shared.h"
@@ -34,14 +34,14 @@ struct child {
 struct run {
   struct words words;
   struct shared *shared;
-  int file;      /* of the board, or -1 */
-  ks_seat *seat; /* this process looks at the board by it */
+  int file;     /* of the board, or -1 */
+  ks_seat seat; /* this process looks at the board by it */
   struct ks_progress seen;
   struct ks_plan_row *rows; /* of the plan */
   size_t row_count;
   struct child children[MOST_CHILDREN];
   size_t child_count;
-  bool lacks_memory;       /* a worker had none, or its process was refused */
+  bool lacks_memory;       /* a worker's process was refused */
   struct timespec told_at; /* when progress was told, and the step */
   uint32_t told_step;
   char *line; /* where the words stand that ps shows */
@@ -153,6 +153,8 @@ static void read_plan(struct run *run) {
 /* What the first process opens, and others join. */
 
 static void open_board(struct run *run) {
+  struct ks_request request = {.size = sizeof request};
+  ks_board board;
   struct ks_answer answer = {.size = sizeof answer};
   const struct words *words = &run->words;
   size_t length;
@@ -160,23 +162,31 @@ static void open_board(struct run *run) {
   read_plan(run);
   enum shared_fault fault = shared_make(words->board, &run->shared, &run->file);
   if (fault) no_board(run, fault);
-  ks_board **board = &run->shared->board;
-  uint32_t status = ks_open(text, length, words->workers, words->block, board, &answer);
+  uint32_t status = ks_open(text, length, words->workers, words->block, &board);
+  if (!status) status = shared_fill(run->shared, &board, words->workers);
   if (status && words->board) unlink(words->board);
+  if (status == KS_REFUSED) ks_check(text, length, &request, text, 0, &answer);
   if (status) refused(run, status, &answer);
-  run->shared->workers = words->workers;
   fault = shared_is_full(run->shared, run->file);
   if (fault && words->board) unlink(words->board);
   if (fault) no_board(run, fault);
   free(text);
 }
 
+/* The spares are used up where processes were killed that often. */
+static _Noreturn void no_spare(const struct run *run) {
+  const char *name = run->words.board ? run->words.board : run->words.job;
+  fprintf(stderr, "file %s\n", name);
+  fprintf(stderr, "pramx-processes: so many were killed on %s that no spare is left\n", name);
+  exit(KS_FAILED);
+}
+
 static void take_seat(struct run *run) {
-  if (ks_seat_of(run->shared->board, &run->seat)) out_of_memory();
+  if (!shared_take_seat(run->shared, &run->seat)) no_spare(run);
 }
 
 static void look(struct run *run) {
-  ks_progress(run->shared->board, run->seat, &run->seen);
+  ks_progress(&run->seat, &run->seen);
 }
 
 static bool is_known(const struct run *run) {
@@ -186,21 +196,17 @@ static bool is_known(const struct run *run) {
 /* The answer. */
 
 static void tell_memory(struct run *run) {
-  struct ks_answer answer = {.size = sizeof answer};
-  const ks_board *board = run->shared->board;
-  uint32_t none;
-  uint32_t status = ks_memory(board, run->seat, &none, 0, &answer);
-  uint32_t *cells = malloc((size_t)answer.length * sizeof *cells + 1);
-  if (cells && !status) status = ks_memory(board, run->seat, cells, answer.length, &answer);
-  if (!cells || status) out_of_memory();
+  size_t count = run->seen.cells;
+  uint32_t *cells = malloc((count + 1) * sizeof *cells);
+  if (!cells || ks_memory(&run->seat, cells, count)) out_of_memory();
   printf("done steps=%u\n", run->seen.steps);
-  for (size_t i = 0; i < answer.length; i++) printf("%zu: %u\n", i, cells[i]);
+  for (size_t i = 0; i < count; i++) printf("%zu: %u\n", i, cells[i]);
   free(cells);
 }
 
 static void tell_conflict(struct run *run) {
   struct ks_fault fault;
-  if (ks_fault(run->shared->board, run->seat, &fault) != KS_CONFLICT) out_of_memory();
+  if (ks_fault(&run->seat, &fault) != KS_CONFLICT) out_of_memory();
   printf("conflict step=%u cell=%u processors=%u,%u\n", fault.step, fault.cell, fault.first,
          fault.second);
 }
@@ -224,7 +230,7 @@ static int tell_answer(struct run *run) {
 
 struct me {
   struct run *run;
-  ks_worker *worker;
+  ks_worker worker;
   uint32_t number;
 };
 
@@ -236,12 +242,11 @@ static void pause_for(uint32_t microseconds) {
 
 /* At most so many atomic steps, each after its pause. */
 static uint32_t go(struct me *me, uint64_t count) {
-  const ks_board *board = me->run->shared->board;
   uint32_t pace = me->run->words.pace, status = KS_UNFINISHED;
-  if (!pace) return ks_work(board, me->worker, count);
+  if (!pace) return ks_work(&me->worker, count);
   for (; count && status == KS_UNFINISHED; count--) {
     pause_for(pace);
-    status = ks_work(board, me->worker, 1);
+    status = ks_work(&me->worker, 1);
   }
   return status;
 }
@@ -261,7 +266,7 @@ static uint32_t obey(struct me *me) {
     if (row->act == STOP) return KS_UNFINISHED;
     if (row->act == GO) status = go(me, row->ticks);
     if (row->act == SLEEP) sleep_through(me, row->ticks);
-    if (row->act == BACK) ks_back(me->run->shared->board, me->worker);
+    if (row->act == BACK) ks_back(&me->worker);
     if (status != KS_UNFINISHED) return status;
   }
   return go(me, UINT64_MAX);
@@ -278,14 +283,13 @@ static void name_process(struct run *run, uint32_t number) {
 /* Works as this worker. One that comes later than the first ones takes up no plan. */
 static uint32_t work(struct run *run, uint32_t number, bool is_anew) {
   struct me me = {.run = run, .number = number};
-  const ks_board *board = run->shared->board;
   name_process(run, number);
   shared_hold(run->file, number);
-  if (ks_worker_of(board, number, &me.worker)) return KS_MEMORY;
-  if (is_anew) ks_back(board, me.worker);
+  if (!shared_take_worker(run->shared, number, &me.worker)) return KS_FAILED;
+  if (is_anew) ks_back(&me.worker);
   uint32_t status = is_anew ? go(&me, UINT64_MAX) : obey(&me);
   if (status != KS_UNFINISHED) run->shared->is_over = 1;
-  ks_close_worker(me.worker);
+  shared_give_worker(run->shared, number, &me.worker);
   return status;
 }
 
@@ -337,9 +341,7 @@ static void note_change(struct run *run, struct child *child, int status) {
     if (WIFSIGNALED(status)) {
       tell_event(run, child->worker, "is ended by signal %d", WTERMSIG(status));
     } else {
-      int ended = WEXITSTATUS(status);
-      run->lacks_memory = run->lacks_memory || ended == KS_MEMORY;
-      tell_event(run, child->worker, "ends with status %d", ended);
+      tell_event(run, child->worker, "ends with status %d", WEXITSTATUS(status));
     }
   }
 }
@@ -442,10 +444,12 @@ static int join(struct run *run) {
     fprintf(stderr, "error: the board has the workers 0 to %u\n", run->shared->workers - 1);
     return KS_FAILED;
   }
-  if (run->words.joins && work(run, run->words.join, true) == KS_MEMORY) out_of_memory();
+  if (run->words.joins && work(run, run->words.join, true) == KS_FAILED) no_spare(run);
   take_seat(run);
   look(run);
-  return tell_answer(run);
+  int status = tell_answer(run);
+  shared_give_seat(run->shared, &run->seat);
+  return status;
 }
 
 int main(int count, char **line) {

@@ -174,6 +174,21 @@ enum shared_fault shared_make(const char *name, struct shared **made, int *file)
   return SHARED_WELL;
 }
 
+uint32_t shared_fill(struct shared *shared, ks_board *board, uint32_t workers) {
+  uint32_t status = KS_DONE;
+  shared->workers = workers;
+  for (uint32_t i = 0; i < SPARES && !status; i++) {
+    ks_worker worker;
+    ks_seat seat;
+    status = ks_worker_of(board, i % workers, &worker);
+    if (!status) status = ks_seat_of(board, &seat);
+    if (status) break;
+    shared->spares[i].worker = worker.at;
+    shared->spares[i].seat = seat.at;
+  }
+  return status;
+}
+
 enum shared_fault shared_is_full(struct shared *shared, int file) {
   size_t page = (size_t)sysconf(_SC_PAGESIZE), taken = (size_t)(next - front);
   is_filling = 0;
@@ -205,6 +220,40 @@ enum shared_fault shared_join(const char *name, struct shared **found, int *file
   return SHARED_WELL;
 }
 
+/* Spares. */
+
+bool shared_take_worker(struct shared *shared, uint32_t number, ks_worker *worker) {
+  worker->at = NULL;
+  for (uint32_t i = number; i < SPARES && !worker->at; i += shared->workers)
+    worker->at = atomic_exchange(&shared->spares[i].worker, NULL);
+  return worker->at != NULL;
+}
+
+bool shared_take_seat(struct shared *shared, ks_seat *seat) {
+  seat->at = NULL;
+  for (uint32_t i = 0; i < SPARES && !seat->at; i++)
+    seat->at = atomic_exchange(&shared->spares[i].seat, NULL);
+  return seat->at != NULL;
+}
+
+/* Puts what was taken where a spare is missing, if nobody else does at this moment. */
+static bool put(_Atomic(void *) *place, void *at) {
+  void *none = NULL;
+  return atomic_compare_exchange_strong(place, &none, at);
+}
+
+void shared_give_worker(struct shared *shared, uint32_t number, ks_worker *worker) {
+  uint32_t i = number;
+  while (i < SPARES && !put(&shared->spares[i].worker, worker->at)) i += shared->workers;
+  worker->at = NULL;
+}
+
+void shared_give_seat(struct shared *shared, ks_seat *seat) {
+  uint32_t i = 0;
+  while (i < SPARES && !put(&shared->spares[i].seat, seat->at)) i++;
+  seat->at = NULL;
+}
+
 /* The byte of a worker's number is locked while a process is at work as this worker. The system
  * frees it when the process ends. */
 
@@ -213,7 +262,7 @@ void shared_hold(int file, uint32_t worker) {
   if (file >= 0) fcntl(file, F_SETLK, &lock);
 }
 
-int shared_is_held(int file) {
+bool shared_is_held(int file) {
   struct flock lock = {.l_type = F_WRLCK, .l_whence = SEEK_SET, .l_len = 64};
   return file >= 0 && !fcntl(file, F_GETLK, &lock) && lock.l_type != F_UNLCK;
 }

@@ -30,8 +30,7 @@ struct text {
 
 struct thread {
   pthread_t id;
-  const ks_board *board;
-  ks_worker *worker;
+  ks_worker worker;
   _Atomic bool is_at_work;
 };
 
@@ -58,14 +57,13 @@ static void *work(void *given) {
   int before;
   pthread_setcanceltype(PTHREAD_CANCEL_ASYNCHRONOUS, &before);
   thread->is_at_work = true;
-  uint32_t status = ks_work(thread->board, thread->worker, UINT64_MAX);
+  uint32_t status = ks_work(&thread->worker, UINT64_MAX);
   pthread_setcanceltype(before, &before);
   if (status != KS_DONE && status != KS_CONFLICT) fail("a worker came to no end");
   return NULL;
 }
 
-static void begin(struct thread *thread, const ks_board *board, uint32_t number) {
-  thread->board = board;
+static void begin(struct thread *thread, ks_board *board, uint32_t number) {
   thread->is_at_work = false;
   if (ks_worker_of(board, number, &thread->worker)) fail("out of memory");
   if (pthread_create(&thread->id, NULL, work, thread)) fail("a thread was refused");
@@ -78,11 +76,11 @@ static uint64_t nanoseconds(void) {
 }
 
 /* Looks at the board while the threads work: the last finished step never falls. */
-static void look_until(uint64_t late, const ks_board *board, ks_seat *seat, struct tally *tally) {
+static void look_until(uint64_t late, ks_seat *seat, struct tally *tally) {
   uint32_t last = 0;
   do {
     struct ks_progress seen;
-    ks_progress(board, seat, &seen);
+    ks_progress(seat, &seen);
     tally->looks++;
     tally->fallen += seen.step < last;
     last = seen.step;
@@ -94,59 +92,56 @@ static void end(struct thread *thread, struct tally *tally) {
   pthread_join(thread->id, &ended);
   tally->cancelled += ended == PTHREAD_CANCELED;
   tally->ended += ended != PTHREAD_CANCELED;
-  ks_close_worker(thread->worker);
+  ks_close_worker(&thread->worker);
 }
 
 /* Writes the answer as pramx does, by cells. */
-static void tell(FILE *to, const ks_board *board, ks_seat *seat) {
-  struct ks_answer answer = {.size = sizeof answer};
+static void tell(FILE *to, ks_seat *seat) {
   static uint32_t cells[65536];
   struct ks_fault fault;
   struct ks_progress seen;
-  ks_progress(board, seat, &seen);
-  if (ks_fault(board, seat, &fault) == KS_CONFLICT) {
+  ks_progress(seat, &seen);
+  if (ks_fault(seat, &fault) == KS_CONFLICT) {
     fprintf(to, "conflict step=%u cell=%u processors=%u,%u\n", fault.step, fault.cell, fault.first,
             fault.second);
     return;
   }
-  if (ks_memory(board, seat, cells, 65536, &answer)) fail("there is no answer");
+  if (ks_memory(seat, cells, 65536)) fail("there is no answer");
   fprintf(to, "done steps=%u\n", seen.steps);
-  for (size_t i = 0; i < answer.length; i++) fprintf(to, "%zu: %u\n", i, cells[i]);
+  for (size_t i = 0; i < seen.cells; i++) fprintf(to, "%zu: %u\n", i, cells[i]);
 }
 
 /* All threads but one are cancelled, each after a time of its own. */
 static void run(struct text text, uint64_t span, FILE *to, struct tally *tally) {
-  struct ks_answer answer = {.size = sizeof answer};
   struct thread threads[THREADS];
-  ks_board *board;
-  ks_seat *seat;
-  if (ks_open(text.bytes, text.length, THREADS, 0, &board, &answer)) fail(answer.sentence);
-  if (ks_seat_of(board, &seat)) fail("out of memory");
+  ks_board board;
+  ks_seat seat;
+  if (ks_open(text.bytes, text.length, THREADS, 0, &board)) fail("there is no board");
+  if (ks_seat_of(&board, &seat)) fail("out of memory");
   int stays = rand() % THREADS;
-  for (int i = 0; i < THREADS; i++) begin(&threads[i], board, (uint32_t)i);
+  for (int i = 0; i < THREADS; i++) begin(&threads[i], &board, (uint32_t)i);
   for (int i = 0; i < THREADS; i++) {
     while (!threads[i].is_at_work) sched_yield();
     uint64_t wait = (uint64_t)rand() % (span / THREADS + 1);
-    look_until(nanoseconds() + wait, board, seat, tally);
+    look_until(nanoseconds() + wait, &seat, tally);
     if (i != stays) pthread_cancel(threads[i].id);
   }
   for (int i = 0; i < THREADS; i++) end(&threads[i], tally);
-  tell(to, board, seat);
-  ks_close_seat(seat);
-  ks_close(board);
+  tell(to, &seat);
+  ks_close_seat(&seat);
+  ks_close(&board);
 }
 
 static uint64_t time_of(struct text text) {
-  struct ks_answer answer = {.size = sizeof answer};
-  ks_board *board;
-  ks_worker *worker;
-  if (ks_open(text.bytes, text.length, 1, 0, &board, &answer)) fail(answer.sentence);
-  if (ks_worker_of(board, 0, &worker)) fail("out of memory");
+  ks_board board;
+  ks_worker worker;
+  if (ks_open(text.bytes, text.length, 1, 0, &board)) fail("there is no board");
+  if (ks_worker_of(&board, 0, &worker)) fail("out of memory");
   uint64_t begun = nanoseconds();
-  ks_work(board, worker, UINT64_MAX);
+  ks_work(&worker, UINT64_MAX);
   uint64_t ended = nanoseconds();
-  ks_close_worker(worker);
-  ks_close(board);
+  ks_close_worker(&worker);
+  ks_close(&board);
   return ended - begun;
 }
 

@@ -158,35 +158,35 @@ struct seen {
   uint32_t piece, ended;
 };
 
-static uint32_t work(const ks_board *board, ks_worker *worker, ks_seat *seat, struct told *told) {
+static uint32_t work(ks_worker *worker, ks_seat *seat, struct told *told) {
   struct seen seen;
   memset(&seen, 0, sizeof seen);
-  ks_progress(board, seat, &seen.before);
-  seen.piece = ks_work(board, worker, 1000);
-  ks_back(board, worker);
-  seen.ended = ks_work(board, worker, UINT64_MAX);
-  ks_progress(board, seat, &seen.after);
-  ks_read(board, seat, 0, &seen.reading);
-  ks_fault(board, seat, &seen.fault);
+  ks_progress(seat, &seen.before);
+  seen.piece = ks_work(worker, 1000);
+  ks_back(worker);
+  seen.ended = ks_work(worker, UINT64_MAX);
+  ks_progress(seat, &seen.after);
+  ks_read(seat, 0, &seen.reading);
+  uint32_t conflict = ks_fault(seat, &seen.fault);
   uint32_t *held = (uint32_t *)(void *)(told->out + sizeof seen);
-  uint32_t room = (ROOM - sizeof seen) / 4;
-  uint32_t status = ks_memory(board, seat, held, room, &told->answer);
-  if (status != KS_MEMORY) memcpy(told->out, &seen, sizeof seen);
+  uint32_t status = ks_memory(seat, held, (ROOM - sizeof seen) / 4);
+  if (status == KS_MEMORY || conflict == KS_MEMORY) return KS_MEMORY;
+  memcpy(told->out, &seen, sizeof seen);
   return status;
 }
 
 static void board(const struct text *text, struct told *told) {
-  ks_board *board = NULL;
-  ks_seat *seat = NULL;
-  ks_worker *worker = NULL;
-  told->status = ks_open(text->bytes, text->length, 2, 0, &board, &told->answer);
+  ks_board board = {NULL};
+  ks_seat seat = {NULL};
+  ks_worker worker = {NULL};
+  told->status = ks_open(text->bytes, text->length, 2, 0, &board);
   if (told->status) return;
-  told->status = ks_seat_of(board, &seat);
-  if (!told->status) told->status = ks_worker_of(board, 1, &worker);
-  if (!told->status) told->status = work(board, worker, seat, told);
-  if (worker) ks_close_worker(worker);
-  if (seat) ks_close_seat(seat);
-  ks_close(board);
+  told->status = ks_seat_of(&board, &seat);
+  if (!told->status) told->status = ks_worker_of(&board, 1, &worker);
+  if (!told->status) told->status = work(&worker, &seat, told);
+  ks_close(&board);
+  if (worker.at) ks_close_worker(&worker);
+  if (seat.at) ks_close_seat(&seat);
 }
 
 typedef void call(const struct text *, struct told *);
