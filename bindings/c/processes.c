@@ -138,7 +138,7 @@ static void read_plan(struct run *run) {
   struct ks_plan_row none;
   size_t length;
   if (!run->words.plan) return;
-  uint8_t *plan = read_file(run->words.plan, SIZE_MAX - 1, &length);
+  uint8_t *plan = read_file(run->words.plan, MOST_BYTES, &length);
   uint32_t workers = run->words.workers;
   uint32_t status = ks_plan(plan, length, workers, &none, 0, &answer);
   if (status) refused(run, status, &answer);

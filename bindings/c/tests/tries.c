@@ -4,6 +4,7 @@
  *   tries refuse FILE ..          refuses each allocation of each call in turn
  *   tries stack KILOBYTES FILE .. makes each call in a thread with such a stack
  *   tries threads N FILE ..       makes all calls in N threads at once
+ *   tries wrong FILE ..           makes calls whose request or answer is wrong
  *   tries leaks FILE ..           makes all calls once, for valgrind
  *   tries time FILE ..            tells the least time of each call
  *   tries serve                   makes the calls that standard input asks for: see struct asked
@@ -298,6 +299,113 @@ static int try_threads(const struct text *texts, int count, int threads) {
   return bad + (living != 0);
 }
 
+/* Calls that are wrong. */
+
+static int faults, made_wrong;
+
+static void expect(const char *what, int is_well) {
+  made_wrong++, faults += !is_well;
+  if (!is_well) printf("%s is not as it should be\n", what);
+}
+
+/* Status 4, which is told of the request, and nothing is written to the output. */
+static void expect_failed(const char *what, command *call, const struct ks_request *asked,
+                          const struct text *text) {
+  static struct told told;
+  clear(&told);
+  told.status = call(text->bytes, text->length, asked, told.out, ROOM, &told.answer);
+  int is_told = told.status == KS_FAILED && told.answer.subject == KS_REQUEST;
+  told.status = KS_MEMORY;
+  expect(what, is_told && is_refusal(&told));
+}
+
+static uint32_t replay_call(const uint8_t *text, size_t length, const struct ks_request *asked,
+                            uint8_t *out, size_t room, struct ks_answer *answer) {
+  return ks_replay(text, length, text, 0, asked, out, room, answer);
+}
+
+static void try_requests(const struct text *text) {
+  static command *const commands[] = {ks_check, ks_compile, ks_plain,
+                                      ks_cost,  ks_steps,   replay_call};
+  for (size_t i = 0; i < sizeof commands / sizeof *commands; i++) {
+    struct ks_request small = request(0), reserved = request(0);
+    small.size--, reserved.reserved[i] = 1;
+    expect_failed("a request of another size", commands[i], &small, text);
+    expect_failed("a request with a reserved number", commands[i], &reserved, text);
+  }
+  struct ks_request flags = request(2), window = request(0), none = request(0), many = request(0);
+  window.from = 10, none.workers = 0, many.workers = 65;
+  expect_failed("why 2", ks_plain, &flags, text);
+  expect_failed("rows_alone 2 of steps", ks_steps, &flags, text);
+  expect_failed("rows_alone 2 of a replay", replay_call, &flags, text);
+  expect_failed("steps from 10 to 9", ks_steps, &window, text);
+  expect_failed("a replay by no workers", replay_call, &none, text);
+  expect_failed("a replay by 65 workers", replay_call, &many, text);
+}
+
+static void try_answers(const struct text *text) {
+  struct told told, before;
+  struct ks_request asked = request(0);
+  clear(&told);
+  told.answer.size++, told.status = KS_FAILED;
+  before = told;
+  told.status = ks_check(text->bytes, text->length, &asked, told.out, ROOM, &told.answer);
+  expect("an answer of another size", are_same(&told, &before));
+  told.status = ks_cells(text->bytes, text->length, (uint32_t *)(void *)told.out, 1, &told.answer);
+  expect("cells with an answer of another size", are_same(&told, &before));
+}
+
+static void try_sizes(void) {
+  struct text text = {"", calloc(TEXT_ROOM + 1, 1), TEXT_ROOM + 1};
+  static struct told told;
+  if (!text.bytes) exit(5);
+  memset(text.bytes, ';', text.length);
+  clear(&told);
+  plain(&text, &told);
+  expect("a text that is too large", told.status == KS_FAILED && told.answer.subject == KS_SIZE);
+  clear(&told);
+  text.length--;
+  plain(&text, &told);
+  expect("the largest text", told.status == KS_REFUSED && told.answer.subject == KS_TEXT);
+  free(text.bytes);
+}
+
+static void try_boards(const struct text *text) {
+  ks_board board = {NULL};
+  ks_seat seat = {NULL};
+  ks_worker worker = {NULL};
+  static const uint32_t wrong[][2] = {{0, 0}, {65, 0}, {2, 3}, {2, 128}};
+  uint32_t cell = 0;
+  struct ks_progress progress;
+  struct ks_reading reading;
+  struct ks_fault fault;
+  for (int i = 0; i < 4; i++)
+    expect("a board that can't be",
+           ks_open(text->bytes, text->length, wrong[i][0], wrong[i][1], &board) == KS_FAILED);
+  expect("no board", !board.at);
+  if (ks_open(text->bytes, text->length, 2, 0, &board) || ks_seat_of(&board, &seat)) exit(5);
+  expect("a worker that is not there", ks_worker_of(&board, 2, &worker) == KS_FAILED && !worker.at);
+  expect("progress", !ks_progress(&seat, &progress) && progress.step == 0 && !progress.conflict);
+  expect("a cell that is not there", ks_read(&seat, progress.cells, &reading) == KS_FAILED);
+  expect("no memory yet", ks_memory(&seat, &cell, 1) == KS_UNFINISHED);
+  expect("no conflict yet", ks_fault(&seat, &fault) == KS_UNFINISHED);
+  ks_close(&board);
+  ks_close_seat(&seat);
+  expect("closed handles", !board.at && !seat.at);
+}
+
+static int try_wrong(const struct text *texts, int count) {
+  for (int i = 0; i < count; i++) {
+    try_requests(&texts[i]);
+    try_answers(&texts[i]);
+    try_boards(&texts[i]);
+  }
+  try_sizes();
+  printf("%d of %d wrong calls as promised, %ld blocks left\n", made_wrong - faults, made_wrong,
+         living);
+  return faults + (living != 0);
+}
+
 /* How long each call takes: the least of many times, as the machine does other work, too. */
 
 static double microseconds(void) {
@@ -406,6 +514,7 @@ int main(int count, char **words) {
   if (!strcmp(what, "stack")) bad = try_stack(texts, files, (size_t)number * 1024);
   if (!strcmp(what, "threads")) bad = try_threads(texts, files, number);
   if (!strcmp(what, "leaks")) bad = try_stack(texts, files, 0) + (living != 0);
+  if (!strcmp(what, "wrong")) bad = try_wrong(texts, files);
   if (!strcmp(what, "time")) bad = tell_times(texts, files);
   for (int i = 0; i < files; i++) free(texts[i].bytes);
   free(texts);
