@@ -7,9 +7,10 @@
  *   threads FILE ANSWER RUNS SEED    runs it again and again; each answer has to be that of the
  * file ANSWER, as `pramx plain` prints it for a text of the machine
  *
- * ks_work takes no memory and holds no lock, so its thread may be cancelled asynchronously. A worker
- * whose thread was cancelled is only closed. The library has no tables for unwinding: handlers that
- * the thread pushed are called, unless their code was compiled with -fexceptions, as that of C++ is.
+ * ks_work takes no memory and holds no lock, so its thread may be cancelled asynchronously. A
+ * worker whose thread was cancelled is only closed. The library has no tables for unwinding:
+ * handlers that the thread pushed are called, unless their code was compiled with -fexceptions, as
+ * that of C++ is.
  */
 #define _GNU_SOURCE
 #include <kaolinsilk.h>
