@@ -1,12 +1,9 @@
 //! Calls of commands, from bytes to bytes.
 ghost use Rattle.std.specs.Prelude.{◌≡◌, ◌+◌, ◌*◌, []};
-ghost use Rattle.pram_commands.specs.Costs.{costing};
-ghost use Rattle.pram_commands.specs.Plain.{checking, plainly};
-ghost use Rattle.pram_commands.specs.Replayed.{replaying};
-ghost use Rattle.pram_commands.specs.Steps.{stepping};
-ghost use Rattle.pram_commands.specs.Texts.{compiling};
 ghost use Rattle.library_core.specs.Calls.{IsCall};
 ghost use Rattle.library_core.specs.Cells.{AreCells, IsNoJob};
+ghost use Rattle.library_core.specs.Commands.{checking, compiling, costing, plainly, replaying};
+ghost use Rattle.library_core.specs.Commands.{stepping};
 ghost use Rattle.library_core.specs.Plans.{AreRows, IsNoPlan};
 ghost use Rattle.library_core.specs.Requests.{is_set, window_of, wrong_in};
 ghost use Rattle.library_core.specs.Serving.{Serves};

@@ -1,6 +1,7 @@
 pub mod Answers
 pub mod Calls
 pub mod Cells
+pub mod Commands
 pub mod Faults
 pub mod Plans
 pub mod Requests
