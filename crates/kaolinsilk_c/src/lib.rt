@@ -1,0 +1,4 @@
+//! The calls of libkaolinsilk, for C.
+#![tactic(auto)]
+
+mod boards;
