@@ -1,5 +1,5 @@
 -- What calls of another language come to: a member before and after, and what is told.
-use Rattle.std.specs.Prelude.{◌≡◌, ◌≢◌, ℕ, ◌≤◌, ◌++◌, List, length, take, drop, Bool}
+use Rattle.std.specs.Prelude.{◌≡◌, ◌≢◌, ℕ, ◌<◌, ◌≤◌, ◌++◌, List, length, take, drop, Bool}
 use Rattle.std.specs.Prelude.{if◌then◌else◌, Option, Some, None, IsSome, unwrap_or}
 use Rattle.pram_job.specs.Job.{JobData}
 use Rattle.pram_text.specs.declared.fault.TextKind.{TextKind}
@@ -27,7 +27,9 @@ use Rattle.library_boards.specs.declared.told.ReadingTold.{ReadingTold}
 use Rattle.library_boards.specs.declared.told.FaultTold.{FaultTold}
 use Rattle.library_boards.specs.Grains.{IsGrainAsked}
 use Rattle.library_boards.specs.Jobs.{IsNoJob}
-use Rattle.library_boards.specs.Members.{GoesOn, IsBack, IsMember, IsWork, job_at, task_at}
+use Rattle.library_boards.specs.declared.shared.Shared.{Shared}
+use Rattle.library_boards.specs.Members.{GoesOn, IsBack, IsMember, IsOpenedFor, IsWork}
+use Rattle.library_boards.specs.Members.{job_at, shared_at, task_at}
 
 -- ---- handles
 
@@ -43,8 +45,27 @@ pub record Between (old new : Option Member) (Passed : Member → Member → Typ
   pub now : Member
   pub is : new ≡ Some now
   pub passed : Passed before now
+  pub is_member : IsMember now
 
 -- ---- openings
+
+pub record HasOpened (text : List ℕ) (workers grain : ℕ) (handle : Option Member) : Type 0 where
+  pub member : Member
+  pub is : handle ≡ Some member
+  pub opened : IsOpenedFor text workers grain member
+
+-- a handle of a new member at the board of this one
+pub record HasMade (board : Option Member) (IsMade : Shared → Member → Type 0)
+    (handle : Option Member) : Type 0 where
+  pub at : Member
+  pub was : board ≡ Some at
+  pub made : Member
+  pub is : handle ≡ Some made
+  pub is_made : IsMade (shared_at at) made
+
+pub data IsNoWorkerStatus (workers number status : ℕ) : Type 0 where
+  of_number : workers ≤ number → status ≡ FAILED → IsNoWorkerStatus workers number status
+  out_of_memory : status ≡ MEMORY → IsNoWorkerStatus workers number status
 
 abbrev pub status_of_text : TextKind → ℕ
 status_of_text text_kind.Memory = MEMORY
@@ -129,3 +150,27 @@ pub record IsFaultTold (job : JobData) (told : FaultTold) : Type 0 where
     first = told.first;
     second = told.second;
   })
+
+-- ---- what a call with a handle tells
+
+pub record TellsReading (cell : ℕ) (old new : ReadingTold) (status : ℕ) (before later : Member)
+    : Type 0 where
+  pub read : cell < (shared_at before).cells →
+      (status ≡ DONE) × WasReadTold cell new before later
+  pub none : (shared_at before).cells ≤ cell →
+      (status ≡ FAILED) × (new ≡ old) × (later ≡ before)
+
+pub record TellsMemory (old new : List ℕ) (status : ℕ) (before later : Member) : Type 0 where
+  pub put : status ≡ DONE → IsPut (job_at before) old new
+  pub kept : status ≢ DONE → new ≡ old
+  pub goes_on : GoesOn before later
+
+pub record TellsFault (old new : FaultTold) (status : ℕ) (before later : Member) : Type 0 where
+  pub fault : status ≡ CONFLICT → IsFaultTold (job_at before) new
+  pub kept : status ≢ CONFLICT → new ≡ old
+  pub goes_on : GoesOn before later
+
+pub record IsNoWorkerFor (board : Option Member) (number status : ℕ) : Type 0 where
+  pub at : Member
+  pub was : board ≡ Some at
+  pub is : IsNoWorkerStatus (shared_at at).workers number status

@@ -4,8 +4,11 @@ ghost use Rattle.library_boards.specs.Calls.{HasComeBack, HasWorked, IsOpenStatu
 ghost use Rattle.library_boards.specs.Calls.{IsFaultTold, TellsProgress, WasReadTold};
 ghost use Rattle.library_boards.specs.Calls.{front_of, status_of_fault, status_of_stay};
 ghost use Rattle.library_boards.specs.Grains.{IsGrainAsked};
-ghost use Rattle.library_boards.specs.Members.{GoesOn, IsMember, IsOpenedFor, job_at, shared_at};
+ghost use Rattle.library_boards.specs.Calls.{IsNoWorkerStatus};
+ghost use Rattle.library_boards.specs.Members.{GoesOn, IsMember, IsOpenedFor, IsReaderAt};
+ghost use Rattle.library_boards.specs.Members.{IsWorkerAt, job_at, shared_at};
 ghost use Rattle.library_boards.specs.declared.status.TheConstants.{CONFLICT, DONE, FAILED};
+ghost use Rattle.library_boards.specs.declared.status.TheConstants.{MEMORY};
 ghost use Rattle.std.specs.Prelude.{IsTrue};
 
 use crate::job::OpenFault;
@@ -29,15 +32,13 @@ pub fn open(
 ) -> Result<Box<Member, Global>, u32>
     ensures opened { IfOk result (λ boxed. IsOpenedFor text.now workers grain boxed.value) }
     ensures status { IfErr result (IsOpenStatus text.now workers grain) }
+    ensures undone { IfErr result (λ status. status ≢ DONE) }
 {
     if workers < 1 || workers > 64 || !is_grain(grain) {
         return Err(FAILED);
     }
     match Member::open(alloc, text, workers, grain) {
-        Ok(member) => match Box::new(alloc, member) {
-            Ok(boxed) => Ok(boxed),
-            Err(_) => Err(MEMORY),
-        },
+        Ok(member) => put_on_heap(alloc, member),
         Err(fault) => Err(fault_status(fault)),
     }
 }
@@ -57,7 +58,8 @@ fn is_grain(grain: u32) -> bool
 }
 
 fn fault_status(fault: OpenFault) -> u32
-    ensures { result ≡ status_of_fault fault }
+    ensures status { result ≡ status_of_fault fault }
+    ensures undone { result ≢ DONE }
 {
     match fault {
         OpenFault::Text(
@@ -84,6 +86,43 @@ fn fault_status(fault: OpenFault) -> u32
         ) => MEMORY,
         OpenFault::Text(_) | OpenFault::Program(_) => REFUSED,
         OpenFault::Memory => MEMORY,
+    }
+}
+
+/// A reader at the member's board, on the heap, or the status that says why there is none.
+pub fn reader(member: &Member, alloc: Global) -> Result<Box<Member, Global>, u32>
+    ensures made { IfOk result (λ boxed. IsReaderAt (shared_at member.now) boxed.value) }
+    ensures memory { IfErr result (λ status. status ≡ MEMORY) }
+{
+    match member.reader() {
+        Ok(made) => put_on_heap(alloc, made),
+        Err(_) => Err(MEMORY),
+    }
+}
+
+/// A worker of this number at the member's board, on the heap, or the status that says why there is
+/// none.
+pub fn worker(member: &Member, alloc: Global, number: u32) -> Result<Box<Member, Global>, u32>
+    ensures made { IfOk result (λ boxed. IsWorkerAt (shared_at member.now) number boxed.value) }
+    ensures status { IfErr result (IsNoWorkerStatus (shared_at member.now).workers number) }
+    ensures undone { IfErr result (λ status. status ≢ DONE) }
+{
+    if number >= member.shared.workers {
+        return Err(FAILED);
+    }
+    match member.worker(number) {
+        Ok(made) => put_on_heap(alloc, made),
+        Err(_) => Err(MEMORY),
+    }
+}
+
+fn put_on_heap(alloc: Global, member: Member) -> Result<Box<Member, Global>, u32>
+    ensures put { IfOk result (λ boxed. boxed.value ≡ member) }
+    ensures memory { IfErr result (λ status. status ≡ MEMORY) }
+{
+    match Box::new(alloc, member) {
+        Ok(boxed) => Ok(boxed),
+        Err(_) => Err(MEMORY),
     }
 }
 
@@ -135,6 +174,7 @@ pub fn read(member: &mut Member, cell: u32, told: &mut ReadingTold) -> u32
         (result ≡ DONE) × WasReadTold cell told.new member.old member.new }
     ensures none { (shared_at member.old).cells ≤ cell →
         (result ≡ FAILED) × (told.new ≡ told.old) × (member.new ≡ member.old) }
+    ensures member { IsMember member.new }
 {
     if cell >= member.shared.cells {
         return FAILED;
