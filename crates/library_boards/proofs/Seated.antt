@@ -1,6 +1,6 @@
 -- A member's seat sees more, and knows the worker still.
-use Rattle.std.proofs.Common.{◌≡◌, ℕ, List, refl, sym, ap, subst, rules}
-use Rattle.std.specs.Prelude.{Option, Some, None}
+use Rattle.std.proofs.Common.{◌≡◌, ℕ, List, refl, ap, subst, rules}
+use Rattle.std.specs.Prelude.{Some, None}
 use Rattle.std.specs.Arc.{arc_value}
 use Rattle.pram_job.specs.Job.{JobData}
 use Rattle.pram_words.specs.declared.layout.Form.TheVariants.{Wide}
@@ -8,7 +8,6 @@ use Rattle.walkx.specs.Inner.Workers.{WorkerData}
 use Rattle.pram_board.specs.Seats.{Desk, SeatData, IsLater, IsOpened}
 use Rattle.pram_board.specs.Worked.{Works}
 use Rattle.library_boards.specs.declared.member.Member.{Member}
-use Rattle.library_boards.specs.declared.shared.Shared.{Shared}
 use Rattle.library_boards.specs.Grains.{grain_of}
 use Rattle.library_boards.specs.Jobs.{IsJobOf}
 use Rattle.library_boards.specs.Members.{GoesOn, IsMember, IsOpenedFor, board_at}

@@ -74,3 +74,5 @@ impl Handle {
         }
     }
 }
+
+unsafe impl Send for Handle {}

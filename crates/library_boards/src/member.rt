@@ -27,8 +27,8 @@ impl Member {
     ghost use Rattle.library_boards.specs.Members.{task_at};
     ghost use Rattle.library_boards.specs.Grains.{IsGrainAsked};
 
-    /// A reader at a new board for the job of a text, and so many workers. A leaf stands for a block
-    /// of so many processors; at 0 the board chooses.
+    /// A reader at a new board for the job of a text, and so many workers. A leaf stands for so
+    /// many processors; at 0 the board chooses.
     pub fn open(alloc: Global, text: &[u8], workers: u32, grain: u32) -> Result<Member, OpenFault>
         requires some { 1 ≤ workers }
         requires most { workers ≤ 64 }

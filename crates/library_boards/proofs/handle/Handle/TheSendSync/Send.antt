@@ -18,8 +18,11 @@ use Rattle.library_boards.proofs.member.Member.TheSendSync.{the_send as member_s
 
 goes : (alloc : Global) (at : Ptr) (kept : MaybeMember) → Keyless (handle_owns alloc at kept)
 goes alloc at None = tt
-goes alloc at (Some it) =
-    (lies member.the_row member_send at it, heap.frees.frees alloc (raw (lone member.the_row.mir)) at)
+goes alloc at (Some it) = (
+  lies member.the_row member_send at it,
+  heap.frees.frees alloc (raw (lone member.the_row.mir))
+      at,
+)
 
 pub send : IsSend the_row
 send =
