@@ -6,7 +6,7 @@ use Rattle.command_data.specs.Line.{StartsNoThread}
 use Rattle.command_data.specs.declared.line.Line.{Line}
 use Rattle.pram_commands.specs.Did.{Writing}
 use Rattle.pram_commands.specs.Files.{ServesFiles}
-use Rattle.pram_commands.specs.declared.refusal.TheConstants.{DONE, FAILED, MEMORY}
+use Rattle.refusals.specs.declared.refusal.TheConstants.{DONE, FAILED, MEMORY}
 use Rattle.command_line.specs.CommandLine.{IsAsked, MeanNoLine, pramx}
 use Rattle.command_line.specs.declared.line.Asked.{Asked}
 

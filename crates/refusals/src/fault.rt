@@ -1,6 +1,6 @@
 //! Why a command was not done.
 ghost use Rattle.std.specs.Prelude.{◌≡◌};
-ghost use Rattle.pram_commands.specs.declared.fault.CommandFault.TheVariants.{Memory};
+ghost use Rattle.refusals.specs.declared.fault.CommandFault.TheVariants.{Memory};
 
 use pardo_job::Refusal;
 use pram_text::TextKind;
@@ -18,8 +18,8 @@ pub enum CommandFault {
     Plan { row: u64, kind: PlanKind },
     /// The job has no such cell, which is the first of its kind that a watch names.
     OutsideCell { cell: u32 },
-    /// The part of this number of what a watch names, counted from 0, is no place of the program; it
-    /// is the first of its kind.
+    /// The part of this number of what a watch names, counted from 0, is no place of the program;
+    /// it is the first of its kind.
     OutsidePlace { at: usize },
     /// The job has no such step, with which the window of a `steps` begins.
     OutsideStep { step: u32 },

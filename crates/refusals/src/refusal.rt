@@ -1,7 +1,7 @@
 //! The exit statuses, and what standard error tells of a line that was not done.
 ghost use Rattle.std.specs.Prelude.{◌≡◌, ◌≢◌, ◌⊎◌, codes, false, true};
 ghost use Rattle.std.specs.Io.KnownBytes.{Appends};
-ghost use Rattle.pram_commands.specs.Inner.Refusals.{TakesTold, refusal_status, refusal_text};
+ghost use Rattle.refusals.specs.Refusals.{TakesTold, refusal_status, refusal_text};
 
 use pardo_job::{JobFault, Refusal as ProgramRefusal};
 use pardo_text::PardoFault;

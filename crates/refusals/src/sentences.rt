@@ -6,8 +6,11 @@ use pram_streams::Reason;
 use pram_text::TextKind;
 use stop_plan::PlanKind;
 
+/// What is wrong with a text or a plan that is not taken whole.
+pub const TOO_LARGE: &str = "it has more than 16,777,216 bytes";
+
 /// What is wrong with a line of a text.
-pub(crate) fn of_text(kind: TextKind) -> &'static str {
+pub fn of_text(kind: TextKind) -> &'static str {
     match kind {
         TextKind::NotAscii => "a character here is neither printable ASCII nor a tab",
         TextKind::BadHeader => "a line of the header is wrong, missing or repeated",
@@ -25,7 +28,7 @@ pub(crate) fn of_text(kind: TextKind) -> &'static str {
 }
 
 /// The line of a program that is wrong, and what is wrong with it.
-pub(crate) fn of_program(refusal: Refusal) -> (u64, &'static str) {
+pub fn of_program(refusal: Refusal) -> (u64, &'static str) {
     match refusal {
         Refusal::Text(fault) => (fault.line, of_program_text(fault.kind)),
         Refusal::Job(fault) => (fault.line, of_program_job(fault.kind)),
@@ -66,7 +69,7 @@ fn of_program_job(kind: JobKind) -> &'static str {
 }
 
 /// What the row of a plan lacks.
-pub(crate) fn of_plan(row: u64, kind: PlanKind) -> &'static str {
+pub fn of_plan(row: u64, kind: PlanKind) -> &'static str {
     match kind {
         PlanKind::BadRow if row == 1 => "the first row must be worker,act,ticks",
         PlanKind::BadRow => "a row must have three fields: a worker, an act and ticks",
@@ -80,7 +83,7 @@ pub(crate) fn of_plan(row: u64, kind: PlanKind) -> &'static str {
 }
 
 /// Why a file was not read.
-pub(crate) fn of_file(reason: Reason) -> &'static str {
+pub fn of_file(reason: Reason) -> &'static str {
     match reason {
         Reason::Missing => "there is no such file",
         Reason::Folder => "it is a folder",

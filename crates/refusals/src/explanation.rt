@@ -1,7 +1,7 @@
 //! Why a line was not done, in a sentence.
 ghost use Rattle.std.specs.Prelude.{◌≡◌, codes, false};
 ghost use Rattle.std.specs.Io.KnownBytes.{Appends};
-ghost use Rattle.pram_commands.specs.declared.fault.CommandFault.TheVariants.{Memory};
+ghost use Rattle.refusals.specs.declared.fault.CommandFault.TheVariants.{Memory};
 
 use crate::fault::CommandFault;
 use crate::sentences;
@@ -12,9 +12,6 @@ use std::fmt;
 
 /// What explains that memory ran out, and needs none.
 const MEMORY_SENTENCE: &str = "out of memory, or the system refused a thread\n";
-
-/// What is wrong with a file that is not taken whole.
-const TOO_LARGE: &str = "it has more than 16,777,216 bytes";
 
 /// Why the sources of a line failed, where they did.
 #[derive(Clone, Copy, Debug, PartialEq, Eq)]
@@ -62,8 +59,8 @@ impl fmt::Display for Explanation<'_> {
                 on_file(f, self.plan(), sentences::of_file(self.reasons.plan))
             }
             CommandFault::OutDevice => f.write_str("standard output takes no more\n"),
-            CommandFault::JobTooLarge => on_file(f, self.job(), TOO_LARGE),
-            CommandFault::PlanTooLarge => on_file(f, self.plan(), TOO_LARGE),
+            CommandFault::JobTooLarge => on_file(f, self.job(), sentences::TOO_LARGE),
+            CommandFault::PlanTooLarge => on_file(f, self.plan(), sentences::TOO_LARGE),
             CommandFault::Memory => f.write_str(MEMORY_SENTENCE),
         }
     }
