@@ -5,18 +5,19 @@
  *
  *   threads FILE                     prints the answer, by cells
  *   threads FILE ANSWER RUNS SEED    runs it again and again; each answer has to be that of the
- * file ANSWER, as `pramx plain` prints it for a text of the machine
+ *                                    file ANSWER, as `pramx plain` prints it for a text of the
+ *                                    machine
  *
- * ks_work takes no memory and holds no lock, so its thread may be cancelled asynchronously. A
- * worker whose thread was cancelled is only closed. The library has no tables for unwinding:
- * handlers that the thread pushed are called, unless their code was compiled with -fexceptions, as
- * that of C++ is.
+ * A thread works in pieces, and may be cancelled between two: after any atomic step, as a piece has
+ * any number of them. In the runs some are cancelled asynchronously, within a call. ks_work takes
+ * no memory and holds no lock, so it bears that; but the call does not give back its handle, and
+ * what that stood for is closed by a copy. The library has no tables for unwinding: handlers that
+ * such a thread pushed are called, unless their code was compiled with -fexceptions, as that of C++
+ * is.
  */
 #define _GNU_SOURCE
 #include <kaolinsilk.h>
 #include <pthread.h>
-#include <sched.h>
-#include <stdatomic.h>
 #include <stdbool.h>
 #include <stdio.h>
 #include <stdlib.h>
@@ -33,7 +34,8 @@ struct text {
 struct thread {
   pthread_t id;
   ks_worker worker;
-  _Atomic bool is_at_work;
+  uint64_t piece; /* how many atomic steps between two looks for a cancellation; 0: all */
+  pthread_barrier_t *start;
 };
 
 struct tally {
@@ -54,19 +56,34 @@ static struct text read_text(const char *name) {
   return text;
 }
 
-static void *work(void *given) {
-  struct thread *thread = given;
+/* In one call, which may be cancelled in its midst. */
+static uint32_t work_at_once(ks_worker worker) {
   int before;
   pthread_setcanceltype(PTHREAD_CANCEL_ASYNCHRONOUS, &before);
-  thread->is_at_work = true;
-  uint32_t status = ks_work(&thread->worker, UINT64_MAX);
+  uint32_t status = ks_work(&worker, UINT64_MAX);
   pthread_setcanceltype(before, &before);
+  return status;
+}
+
+static uint32_t work_in_pieces(ks_worker worker, uint64_t piece) {
+  uint32_t status;
+  do {
+    status = ks_work(&worker, piece);
+    pthread_testcancel();
+  } while (status == KS_UNFINISHED);
+  return status;
+}
+
+static void *work(void *given) {
+  struct thread *thread = given;
+  pthread_barrier_wait(thread->start);
+  uint32_t status =
+      thread->piece ? work_in_pieces(thread->worker, thread->piece) : work_at_once(thread->worker);
   if (status != KS_DONE && status != KS_CONFLICT) fail("a worker came to no end");
   return NULL;
 }
 
 static void begin(struct thread *thread, ks_board *board, uint32_t number) {
-  thread->is_at_work = false;
   if (ks_worker_of(board, number, &thread->worker)) fail("out of memory");
   if (pthread_create(&thread->id, NULL, work, thread)) fail("a thread was refused");
 }
@@ -114,24 +131,36 @@ static void tell(FILE *to, ks_seat *seat) {
 }
 
 /* All threads but one are cancelled, each after a time of its own. */
-static void run(struct text text, uint64_t span, FILE *to, struct tally *tally) {
+static void lose_some(struct thread *threads, uint64_t span, ks_seat *seat, struct tally *tally) {
+  int stays = rand() % THREADS;
+  for (int i = 0; i < THREADS; i++) {
+    uint64_t wait = (uint64_t)rand() % (span / THREADS + 1);
+    if (i == stays) continue;
+    look_until(nanoseconds() + wait, seat, tally);
+    pthread_cancel(threads[i].id);
+  }
+}
+
+static void run(struct text text, uint64_t span, bool is_storm, FILE *to, struct tally *tally) {
   struct thread threads[THREADS];
+  pthread_barrier_t start;
   ks_board board;
   ks_seat seat;
   if (ks_open(text.bytes, text.length, THREADS, 0, &board)) fail("there is no board");
   if (ks_seat_of(&board, &seat)) fail("out of memory");
-  int stays = rand() % THREADS;
-  for (int i = 0; i < THREADS; i++) begin(&threads[i], &board, (uint32_t)i);
+  pthread_barrier_init(&start, NULL, THREADS + 1);
   for (int i = 0; i < THREADS; i++) {
-    while (!threads[i].is_at_work) sched_yield();
-    uint64_t wait = (uint64_t)rand() % (span / THREADS + 1);
-    look_until(nanoseconds() + wait, &seat, tally);
-    if (i != stays) pthread_cancel(threads[i].id);
+    threads[i].start = &start;
+    threads[i].piece = is_storm && rand() % 2 ? 0 : 1 + (uint64_t)rand() % 200;
+    begin(&threads[i], &board, (uint32_t)i);
   }
+  pthread_barrier_wait(&start);
+  lose_some(threads, span, &seat, tally);
   for (int i = 0; i < THREADS; i++) end(&threads[i], tally);
   tell(to, &seat);
   ks_close_seat(&seat);
   ks_close(&board);
+  pthread_barrier_destroy(&start);
 }
 
 static uint64_t time_of(struct text text) {
@@ -156,7 +185,7 @@ static unsigned long storm(struct text text, struct text wanted, long runs) {
     struct text told;
     FILE *to = open_memstream((char **)&told.bytes, &told.length);
     if (!to) fail("out of memory");
-    run(text, span, to, &tally);
+    run(text, span, true, to, &tally);
     fclose(to);
     others += told.length != wanted.length || memcmp(told.bytes, wanted.bytes, wanted.length);
     free(told.bytes);
@@ -169,13 +198,17 @@ static unsigned long storm(struct text text, struct text wanted, long runs) {
 
 int main(int count, char **words) {
   struct tally tally = {0, 0, 0, 0};
+  unsigned long bad = 0;
   if (count != 2 && count != 5) fail("FILE, or FILE ANSWER RUNS SEED");
-  struct text text = read_text(words[1]);
+  struct text text = read_text(words[1]), wanted = {NULL, 0};
   if (count == 5) {
+    wanted = read_text(words[2]);
     srand((unsigned)atoi(words[4]));
-    return storm(text, read_text(words[2]), atol(words[3])) ? 1 : 0;
+    bad = storm(text, wanted, atol(words[3]));
+  } else {
+    run(text, time_of(text), false, stdout, &tally);
+    fprintf(stderr, "%lu threads were cancelled in their work\n", tally.cancelled);
   }
-  run(text, time_of(text), stdout, &tally);
-  fprintf(stderr, "%lu threads were cancelled in their work\n", tally.cancelled);
-  return 0;
+  free(text.bytes), free(wanted.bytes);
+  return bad ? 1 : 0;
 }
