@@ -17,6 +17,9 @@ fn main() {
         println!("cargo::error=there is no {place}. {ADVICE}");
         return;
     }
+    // A test compares the declarations with it.
+    let header = folder.join("../include/kaolinsilk.h");
+    println!("cargo::rustc-env=KAOLINSILK_HEADER={}", header.display());
     println!("cargo::rustc-link-search=native={}", folder.display());
     println!("cargo::rustc-link-lib=static=kaolinsilk");
 }

@@ -7,9 +7,9 @@
 //!
 //! - Pointers are those of live values, and of buffers with as many elements as the length beside
 //!   them says. None is null, also where its length is 0, and no two overlap.
-//! - A handle is one that the library gave and that was not closed. A seat or a worker goes with the
-//!   board that it is of, is used by one call at a time, and is closed before its board. A board may
-//!   be used by any number of calls at a time, on any threads.
+//! - A handle is one that the library gave and that was not closed. A seat or a worker goes with
+//!   the board that it is of, is used by one call at a time, and is closed before its board. A
+//!   board may be used by any number of calls at a time, on any threads.
 //! - No call is made from a signal handler.
 #![no_std]
 #![allow(non_camel_case_types)]
@@ -51,14 +51,8 @@ pub const KS_REQUEST: u32 = 6;
 /// There was no memory.
 pub const KS_OUT_OF_MEMORY: u32 = 7;
 
-/// Act of a plan's row: make up to so many atomic steps.
-pub const KS_GO: u32 = 0;
-/// Act of a plan's row: pass so many times without an atomic step.
-pub const KS_SLEEP: u32 = 1;
-/// Act of a plan's row: lose the private state, and come back.
-pub const KS_BACK: u32 = 2;
-/// Act of a plan's row: be lost for good.
-pub const KS_STOP: u32 = 3;
+/// How many workers there are at most.
+pub const KS_WORKERS_MOST: u32 = 64;
 
 /// What a call is asked beside its text. What a call does not use is not looked at.
 #[repr(C)]
@@ -149,10 +143,10 @@ impl Default for ks_answer {
 /// A plan's row.
 #[repr(C)]
 #[derive(Clone, Copy, Debug, Default, PartialEq, Eq)]
-pub struct ks_row {
+pub struct ks_plan_row {
     /// The worker's number.
     pub worker: u32,
-    /// What it does: `KS_GO`, `KS_SLEEP`, `KS_BACK` or `KS_STOP`.
+    /// What it does: 0 for `go`, 1 for `sleep`, 2 for `back` and 3 for `stop`.
     pub act: u32,
     /// How many times.
     pub ticks: u32,
@@ -295,7 +289,7 @@ unsafe extern "C" {
         plan: *const u8,
         plan_length: usize,
         workers: u32,
-        rows: *mut ks_row,
+        rows: *mut ks_plan_row,
         room: usize,
         answer: *mut ks_answer,
     ) -> u32;
@@ -352,6 +346,6 @@ unsafe extern "C" {
 const _: () = {
     assert!(size_of::<ks_request>() == 88 && align_of::<ks_request>() == 8);
     assert!(size_of::<ks_answer>() == 224 && align_of::<ks_answer>() == 8);
-    assert!(size_of::<ks_row>() == 12 && size_of::<ks_progress>() == 16);
+    assert!(size_of::<ks_plan_row>() == 12 && size_of::<ks_progress>() == 16);
     assert!(size_of::<ks_reading>() == 8 && size_of::<ks_fault>() == 16);
 };

@@ -148,8 +148,8 @@ impl Board {
     ///
     /// # Errors
     ///
-    /// [`Subject::Request`](crate::Subject::Request) unless the number is below that of the workers;
-    /// [`Subject::Memory`](crate::Subject::Memory).
+    /// [`Subject::Request`](crate::Subject::Request) unless the number is below that of the
+    /// workers; [`Subject::Memory`](crate::Subject::Memory).
     pub fn worker(&self, number: u32) -> Result<Worker> {
         if number >= self.workers() {
             return Err(Error::request("the board has no worker of this number"));
@@ -194,7 +194,7 @@ pub struct Worker {
 #[derive(Debug)]
 struct WorkerHandle(NonNull<sys::ks_worker>);
 
-// SAFETY: a worker belongs to no thread: it is used and closed by one call at a time, on any thread.
+// SAFETY: a worker belongs to no thread: one call at a time uses or closes it, on any thread.
 unsafe impl Send for WorkerHandle {}
 
 // SAFETY: no call is made with a worker that is borrowed and not mutably so.
@@ -265,8 +265,8 @@ pub struct Reading {
     pub value: u32,
 }
 
-/// A reader of a board, beside its workers. What one seat is told of steps never falls. It keeps its
-/// board open.
+/// A reader of a board, beside its workers. What one seat is told of steps never falls. It keeps
+/// its board open.
 #[derive(Debug)]
 pub struct Seat {
     // Dropped first, so that the seat is closed before its board.
@@ -277,7 +277,7 @@ pub struct Seat {
 #[derive(Debug)]
 struct SeatHandle(NonNull<sys::ks_seat>);
 
-// SAFETY: a seat belongs to no thread: it is used and closed by one call at a time, on any thread.
+// SAFETY: a seat belongs to no thread: one call at a time uses or closes it, on any thread.
 unsafe impl Send for SeatHandle {}
 
 // SAFETY: no call is made with a seat that is borrowed and not mutably so.
@@ -339,8 +339,8 @@ impl Seat {
         let (board, seat) = (self.board.handle(), self.handle.0.as_ptr());
         let (status, cells) = filled(self.board.check().cells as usize, |cells, answer| {
             let (cells, room) = (cells.as_mut_ptr(), cells.len());
-            // SAFETY: both are open, the seat is of this board, and it is borrowed mutably. The call
-            // writes within the cells and the answer, which are borrowed for it.
+            // SAFETY: both are open, the seat is of this board, and it is borrowed mutably. The
+            // call writes within the cells and the answer, which are borrowed for it.
             unsafe { sys::ks_memory(board, seat, cells, room, answer) }
         })?;
         Ok((status == Status::Done).then_some(cells))
@@ -374,5 +374,20 @@ impl Seat {
             Some(cells) => Ok(Some(Outcome::Done(cells))),
             None => Ok(self.fault()?.map(Outcome::Conflict)),
         }
+    }
+}
+
+#[cfg(test)]
+mod tests {
+    use super::{Board, Seat, Worker};
+    use crate::{Cost, Error, Job, Outcome, Plan, Replay, Steps};
+
+    fn go_between_threads<T: Send + Sync + 'static>() {}
+
+    #[test]
+    fn all_go_between_threads() {
+        go_between_threads::<(Board, Seat, Worker)>();
+        go_between_threads::<(Job, Plan, Outcome, Error)>();
+        go_between_threads::<(Cost, Steps, Replay)>();
     }
 }

@@ -20,7 +20,8 @@ pub enum Subject {
     Step,
     /// A text or a plan of more than 16,777,216 bytes.
     Size,
-    /// The request itself: a number of workers, a worker's number, a grain or a window that is none.
+    /// The request itself: a number of workers, a worker's number, a grain or a window that is
+    /// none.
     Request,
     /// Memory, or a thread.
     Memory,
@@ -130,8 +131,8 @@ impl Error {
         (self.column > 0).then_some(self.column)
     }
 
-    /// The kind by the word that docs/FORMATS.md, docs/LANGUAGE.md and docs/PARDO.md have for it, as
-    /// `BadLine`; empty where there is none.
+    /// The kind by the word that docs/FORMATS.md, docs/LANGUAGE.md and docs/PARDO.md have for it,
+    /// as `BadLine`; empty where there is none.
     pub fn kind(&self) -> &str {
         &self.kind
     }

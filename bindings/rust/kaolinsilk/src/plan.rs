@@ -27,7 +27,8 @@ pub struct Row {
     pub act: Act,
 }
 
-/// What the workers of a run do before they go on without a limit. Each obeys its own rows in order.
+/// What the workers of a run do before they go on without a limit. Each obeys its own rows, in
+/// order.
 ///
 /// A plan is made of rows, or of a text of comma-separated records. It is judged where it is used:
 /// whether a worker is one of so many, and whether no row follows the one that stops its worker.
@@ -121,7 +122,7 @@ impl Plan {
 }
 
 // The rows of a text for so many workers. It has at most one for each line.
-fn judge(text: &[u8], workers: u32) -> Result<Vec<sys::ks_row>> {
+fn judge(text: &[u8], workers: u32) -> Result<Vec<sys::ks_plan_row>> {
     let lines = text
         .iter()
         .filter(|&&it| it == b'\n' || it == b'\r')
@@ -143,12 +144,12 @@ fn judge(text: &[u8], workers: u32) -> Result<Vec<sys::ks_row>> {
     Ok(rows)
 }
 
-impl From<sys::ks_row> for Row {
-    fn from(row: sys::ks_row) -> Row {
+impl From<sys::ks_plan_row> for Row {
+    fn from(row: sys::ks_plan_row) -> Row {
         let act = match row.act {
-            sys::KS_GO => Act::Go(row.ticks),
-            sys::KS_SLEEP => Act::Sleep(row.ticks),
-            sys::KS_BACK => Act::Back,
+            0 => Act::Go(row.ticks),
+            1 => Act::Sleep(row.ticks),
+            2 => Act::Back,
             _ => Act::Stop,
         };
         Row {

@@ -30,8 +30,8 @@ impl Status {
 /// What a call puts into a buffer that has room for so many elements; where it has more to tell, it
 /// is made once more, with room for all of them. The buffer may be refused.
 ///
-/// All that comes before a handle comes through here, so it is here that the library is seen to have
-/// the interface that is declared.
+/// All that comes before a handle comes through here, so it is here that the library is seen to
+/// have the interface that is declared.
 pub(crate) fn filled<T: Clone + Default>(
     mut room: usize,
     mut call: impl FnMut(&mut [T], &mut sys::ks_answer) -> u32,
