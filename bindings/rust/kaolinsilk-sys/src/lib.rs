@@ -7,15 +7,15 @@
 //!
 //! - Pointers are those of live values, and of buffers with as many elements as the length beside
 //!   them says. None is null, also where its length is 0, and no two overlap.
-//! - A handle is one that the library gave and that was not closed. A seat or a worker goes with
-//!   the board that it is of, is used by one call at a time, and is closed before its board. A
-//!   board may be used by any number of calls at a time, on any threads.
+//! - A handle is one that a call gave and that was not closed, but where a call gives it. It is
+//!   used by one call at a time, from any thread, in an order that the threads agree on. Handles of
+//!   one board are used by calls side by side, and closed in any order, each once.
 //! - No call is made from a signal handler.
 #![no_std]
 #![allow(non_camel_case_types)]
 
-use core::ffi::c_char;
-use core::marker::{PhantomData, PhantomPinned};
+use core::ffi::{c_char, c_void};
+use core::ptr::null_mut;
 
 /// The version of the interface that is declared here; that of the library is
 /// [`ks_abi_version`].
@@ -160,10 +160,10 @@ pub struct ks_progress {
     pub step: u32,
     /// How many steps the job has.
     pub steps: u32,
-    /// Whether a conflict is known.
+    /// The step that is against the rule, or 0 where none is known.
     pub conflict: u32,
-    /// 0.
-    pub reserved: u32,
+    /// How many cells the job has.
+    pub cells: u32,
 }
 
 /// What a cell held after a finished step.
@@ -190,27 +190,35 @@ pub struct ks_fault {
     pub second: u32,
 }
 
-macro_rules! opaque {
+macro_rules! handle {
     ($(#[$told:meta])* $name:ident) => {
         $(#[$told])*
         #[repr(C)]
+        #[derive(Debug)]
         pub struct $name {
-            data: [u8; 0],
-            marker: PhantomData<(*mut u8, PhantomPinned)>,
+            /// What nobody but the library looks behind.
+            pub at: *mut c_void,
+        }
+
+        impl $name {
+            /// The handle of nothing.
+            pub const fn none() -> $name {
+                $name { at: null_mut() }
+            }
         }
     };
 }
 
-opaque! {
-    /// A shared board.
+handle! {
+    /// A member of a board that makes others.
     ks_board
 }
-opaque! {
-    /// A reader's right to one board.
+handle! {
+    /// A reader of a board.
     ks_seat
 }
-opaque! {
-    /// A worker with its number, where it stands, and its seat.
+handle! {
+    /// A worker of a board: its number, and where it stands.
     ks_worker
 }
 
@@ -300,45 +308,29 @@ unsafe extern "C" {
         text_length: usize,
         workers: u32,
         grain: u32,
-        board: *mut *mut ks_board,
-        answer: *mut ks_answer,
+        board: *mut ks_board,
     ) -> u32;
-    /// A seat of a board.
-    pub fn ks_seat_of(board: *const ks_board, seat: *mut *mut ks_seat) -> u32;
-    /// A worker of a board.
-    pub fn ks_worker_of(board: *const ks_board, number: u32, worker: *mut *mut ks_worker) -> u32;
+    /// A new seat of a board.
+    pub fn ks_seat_of(board: *mut ks_board, seat: *mut ks_seat) -> u32;
+    /// A new worker of a board.
+    pub fn ks_worker_of(board: *mut ks_board, number: u32, worker: *mut ks_worker) -> u32;
     /// Makes at most so many atomic steps.
-    pub fn ks_work(board: *const ks_board, worker: *mut ks_worker, limit: u64) -> u32;
+    pub fn ks_work(worker: *mut ks_worker, limit: u64) -> u32;
     /// Has the worker lose all that it knew, and come back from its position word.
-    pub fn ks_back(board: *const ks_board, worker: *mut ks_worker) -> u32;
+    pub fn ks_back(worker: *mut ks_worker) -> u32;
     /// How far the steps are finished.
-    pub fn ks_progress(
-        board: *const ks_board,
-        seat: *mut ks_seat,
-        progress: *mut ks_progress,
-    ) -> u32;
+    pub fn ks_progress(seat: *mut ks_seat, progress: *mut ks_progress) -> u32;
     /// What a cell held after a finished step.
-    pub fn ks_read(
-        board: *const ks_board,
-        seat: *mut ks_seat,
-        cell: u32,
-        reading: *mut ks_reading,
-    ) -> u32;
-    /// The final memory of a board whose last step is known to be finished.
-    pub fn ks_memory(
-        board: *const ks_board,
-        seat: *mut ks_seat,
-        cells: *mut u32,
-        room: usize,
-        answer: *mut ks_answer,
-    ) -> u32;
-    /// The conflict of a board that is known to have one.
-    pub fn ks_fault(board: *const ks_board, seat: *mut ks_seat, fault: *mut ks_fault) -> u32;
-    /// Closes a board; its seats and workers are closed.
+    pub fn ks_read(seat: *mut ks_seat, cell: u32, reading: *mut ks_reading) -> u32;
+    /// The final memory, as much as there is room for.
+    pub fn ks_memory(seat: *mut ks_seat, cells: *mut u32, room: usize) -> u32;
+    /// The first conflict.
+    pub fn ks_fault(seat: *mut ks_seat, fault: *mut ks_fault) -> u32;
+    /// Closes a member; the handle then has none.
     pub fn ks_close(board: *mut ks_board);
-    /// Closes a seat.
+    /// Closes a member; the handle then has none.
     pub fn ks_close_seat(seat: *mut ks_seat);
-    /// Closes a worker.
+    /// Closes a member; the handle then has none.
     pub fn ks_close_worker(worker: *mut ks_worker);
 }
 
@@ -348,4 +340,5 @@ const _: () = {
     assert!(size_of::<ks_answer>() == 224 && align_of::<ks_answer>() == 8);
     assert!(size_of::<ks_plan_row>() == 12 && size_of::<ks_progress>() == 16);
     assert!(size_of::<ks_reading>() == 8 && size_of::<ks_fault>() == 16);
+    assert!(size_of::<ks_board>() == 8 && size_of::<ks_seat>() == 8);
 };

@@ -1,21 +1,20 @@
 //! Boards that threads share, their workers and their readers.
-use std::ptr::{self, NonNull};
-use std::sync::Arc;
+use std::sync::{Mutex, MutexGuard, PoisonError};
 
 use crate::error::{Error, Result};
 use crate::job::{Check, Job};
 use crate::outcome::{Ended, Fault, Outcome};
-use crate::told::{Status, filled};
+use crate::told::{Status, zeros};
 use kaolinsilk_sys as sys;
 
 /// What is promised of calls with handles.
-const KEPT: &str = "a call with handles ends as kaolinsilk.h has it";
+const KEPT: &str = "a call with a handle ends as kaolinsilk.h has it";
 
-/// The words of a job that threads share. Clones are of the same board; it is closed with the last
-/// of them, of its workers and of its seats.
+/// The words of a job that threads share. It gives workers and readers, which go to threads. Each
+/// of them keeps the words alive, so a board may be dropped before them.
 ///
-/// Any number of threads may work and read at a time. No call waits for another thread, and none
-/// takes a lock.
+/// No call of a worker or a reader takes a lock or waits for another thread. Only those who ask a
+/// board for one of them take turns.
 ///
 /// ```
 /// use kaolinsilk::{Board, Ended, Job};
@@ -24,43 +23,35 @@ const KEPT: &str = "a call with handles ends as kaolinsilk.h has it";
 /// let job = Job::parse("pram 3\ncells 4\nprocs 4\nsteps 2\nrule crew\ncode\npid r0\nst r0 r0\n")?;
 /// let board = Board::open(&job, 2)?;
 /// let (mut lost, mut other) = (board.worker(0)?, board.worker(1)?);
-/// let seat = thread::scope(|scope| {
+/// thread::scope(|scope| {
 ///     scope.spawn(move || lost.work(5)); // and is never seen again
 ///     scope.spawn(move || assert_eq!(other.finish(), Ended::Done));
-///     board.seat()
 /// });
-/// assert_eq!(seat?.memory()?, Some(vec![0, 1, 2, 3]));
+/// assert_eq!(board.seat()?.memory()?, Some(vec![0, 1, 2, 3]));
 /// # Ok::<(), kaolinsilk::Error>(())
 /// ```
-#[derive(Clone, Debug)]
-pub struct Board {
-    shared: Arc<Shared>,
-}
-
-// A board of the library, which is closed when it is dropped.
 #[derive(Debug)]
-struct Shared {
-    handle: NonNull<sys::ks_board>,
+pub struct Board {
+    handle: Mutex<BoardHandle>,
     workers: u32,
     check: Check,
 }
 
-// SAFETY: a board belongs to no thread: it may be closed on another than the one that opened it.
-unsafe impl Send for Shared {}
+#[derive(Debug)]
+struct BoardHandle(sys::ks_board);
 
-// SAFETY: a board may be used by any number of calls at a time, on any threads.
-unsafe impl Sync for Shared {}
+// SAFETY: a board belongs to no thread: one call at a time uses or closes it, on any thread.
+unsafe impl Send for BoardHandle {}
 
-impl Drop for Shared {
+impl Drop for BoardHandle {
     fn drop(&mut self) {
-        // SAFETY: the board is open, nobody else has it any more, and its seats and workers are
-        // closed: each keeps a clone of the board, and drops it after its own handle.
-        unsafe { sys::ks_close(self.handle.as_ptr()) };
+        // SAFETY: the board is open, and nobody else has it.
+        unsafe { sys::ks_close(&mut self.0) };
     }
 }
 
 impl Board {
-    /// A board for a job and so many workers, 1 to 64.
+    /// A board for a job and so many workers, 1 to 64. The job's text is read anew.
     ///
     /// # Errors
     ///
@@ -79,53 +70,40 @@ impl Board {
     /// [`Subject::Memory`](crate::Subject::Memory).
     pub fn open_with_blocks(job: &Job, workers: u32, grain: u32) -> Result<Board> {
         if !grain.is_power_of_two() {
-            return Err(Error::request(
-                "a block has a power of two of processors, up to 64",
-            ));
+            return Err(NO_BOARD);
         }
         Board::opened(job, workers, grain)
     }
 
     fn opened(job: &Job, workers: u32, grain: u32) -> Result<Board> {
-        let text = job.text();
-        let mut handle = ptr::null_mut();
-        let mut answer = sys::ks_answer::new();
-        // SAFETY: the text, the place for the handle and the answer are borrowed for the call.
-        let status = unsafe {
-            sys::ks_open(
-                text.as_ptr(),
-                text.len(),
+        let (text, mut handle) = (job.text(), sys::ks_board::none());
+        // SAFETY: the text and the place for the handle are borrowed for the call.
+        let status =
+            unsafe { sys::ks_open(text.as_ptr(), text.len(), workers, grain, &mut handle) };
+        match status {
+            sys::KS_DONE => Ok(Board {
+                handle: Mutex::new(BoardHandle(handle)),
                 workers,
-                grain,
-                &mut handle,
-                &mut answer,
-            )
-        };
-        let (sys::KS_DONE, Some(handle)) = (status, NonNull::new(handle)) else {
-            return Err(Error::told(status, &answer));
-        };
-        let shared = Shared {
-            handle,
-            workers,
-            check: job.check(),
-        };
-        Ok(Board {
-            shared: Arc::new(shared),
-        })
-    }
-
-    fn handle(&self) -> *const sys::ks_board {
-        self.shared.handle.as_ptr()
+                check: job.check(),
+            }),
+            sys::KS_FAILED => Err(NO_BOARD),
+            _ => Err(Error::MEMORY),
+        }
     }
 
     /// How many workers the board is for.
     pub fn workers(&self) -> u32 {
-        self.shared.workers
+        self.workers
     }
 
     /// The numbers of the board's job.
     pub fn check(&self) -> Check {
-        self.shared.check
+        self.check
+    }
+
+    // The handle, for one call. A thread that panicked with it had made its call.
+    fn handle(&self) -> MutexGuard<'_, BoardHandle> {
+        self.handle.lock().unwrap_or_else(PoisonError::into_inner)
     }
 
     /// A reader of the board.
@@ -134,14 +112,16 @@ impl Board {
     ///
     /// [`Subject::Memory`](crate::Subject::Memory).
     pub fn seat(&self) -> Result<Seat> {
-        let mut handle = ptr::null_mut();
-        // SAFETY: the board is open, and the place for the handle is borrowed for the call.
-        let status = unsafe { sys::ks_seat_of(self.handle(), &mut handle) };
-        let handle = given(status, handle)?;
-        Ok(Seat {
-            handle: SeatHandle(handle),
-            board: self.clone(),
-        })
+        let (mut board, mut handle) = (self.handle(), sys::ks_seat::none());
+        // SAFETY: the board is open, and nobody else has it now. It and the place for the handle
+        // are borrowed for the call.
+        match unsafe { sys::ks_seat_of(&mut board.0, &mut handle) } {
+            sys::KS_DONE => Ok(Seat {
+                handle: SeatHandle(handle),
+                check: self.check,
+            }),
+            _ => Err(Error::MEMORY),
+        }
     }
 
     /// The worker of this number, at its start. Two of one number may be at work together.
@@ -151,26 +131,25 @@ impl Board {
     /// [`Subject::Request`](crate::Subject::Request) unless the number is below that of the
     /// workers; [`Subject::Memory`](crate::Subject::Memory).
     pub fn worker(&self, number: u32) -> Result<Worker> {
-        if number >= self.workers() {
-            return Err(Error::request("the board has no worker of this number"));
+        let (mut board, mut handle) = (self.handle(), sys::ks_worker::none());
+        // SAFETY: the board is open, and nobody else has it now. It and the place for the handle
+        // are borrowed for the call.
+        match unsafe { sys::ks_worker_of(&mut board.0, number, &mut handle) } {
+            sys::KS_DONE => Ok(Worker {
+                handle: WorkerHandle(handle),
+                number,
+            }),
+            sys::KS_FAILED => Err(NO_WORKER),
+            _ => Err(Error::MEMORY),
         }
-        let mut handle = ptr::null_mut();
-        // SAFETY: the board is open, and the place for the handle is borrowed for the call.
-        let status = unsafe { sys::ks_worker_of(self.handle(), number, &mut handle) };
-        let handle = given(status, handle)?;
-        Ok(Worker {
-            handle: WorkerHandle(handle),
-            board: self.clone(),
-            number,
-        })
     }
 }
 
-// The handle that a call gave.
-fn given<T>(status: u32, handle: *mut T) -> Result<NonNull<T>> {
-    Status::or_refused(status)?;
-    Ok(NonNull::new(handle).expect(KEPT))
-}
+const NO_BOARD: Error = Error::request(
+    "a board has from 1 to 64 workers, and blocks of a power of two up to 64 of processors",
+);
+
+const NO_WORKER: Error = Error::request("the board has no worker of this number");
 
 /// What work came to.
 #[derive(Clone, Copy, Debug, PartialEq, Eq, Hash)]
@@ -182,17 +161,15 @@ pub enum Stay {
 }
 
 /// A worker of a board, and where it stands. It may be dropped after any atomic step; the others
-/// then do its part. It keeps its board open.
+/// then do its part.
 #[derive(Debug)]
 pub struct Worker {
-    // Dropped first, so that the worker is closed before its board.
     handle: WorkerHandle,
-    board: Board,
     number: u32,
 }
 
 #[derive(Debug)]
-struct WorkerHandle(NonNull<sys::ks_worker>);
+struct WorkerHandle(sys::ks_worker);
 
 // SAFETY: a worker belongs to no thread: one call at a time uses or closes it, on any thread.
 unsafe impl Send for WorkerHandle {}
@@ -202,8 +179,8 @@ unsafe impl Sync for WorkerHandle {}
 
 impl Drop for WorkerHandle {
     fn drop(&mut self) {
-        // SAFETY: the worker is open, and nobody else has it; its board is open still.
-        unsafe { sys::ks_close_worker(self.0.as_ptr()) };
+        // SAFETY: the worker is open, and nobody else has it.
+        unsafe { sys::ks_close_worker(&mut self.0) };
     }
 }
 
@@ -213,15 +190,10 @@ impl Worker {
         self.number
     }
 
-    /// The board that it works on.
-    pub fn board(&self) -> &Board {
-        &self.board
-    }
-
     /// Makes at most so many atomic steps.
     pub fn work(&mut self, limit: u64) -> Stay {
-        // SAFETY: both are open, the worker is of this board, and it is borrowed mutably.
-        let status = unsafe { sys::ks_work(self.board.handle(), self.handle.0.as_ptr(), limit) };
+        // SAFETY: the worker is open, and it is borrowed mutably.
+        let status = unsafe { sys::ks_work(&mut self.handle.0, limit) };
         match Status::of(status).expect(KEPT) {
             Status::Done => Stay::Ended(Ended::Done),
             Status::Conflict => Stay::Ended(Ended::Conflict),
@@ -241,9 +213,9 @@ impl Worker {
 
     /// Has the worker lose all that it knew: it comes back from its position word on the board.
     pub fn back(&mut self) {
-        // SAFETY: both are open, the worker is of this board, and it is borrowed mutably.
-        let status = unsafe { sys::ks_back(self.board.handle(), self.handle.0.as_ptr()) };
-        Status::of(status).expect(KEPT);
+        // SAFETY: the worker is open, and it is borrowed mutably.
+        let status = unsafe { sys::ks_back(&mut self.handle.0) };
+        assert_eq!(status, sys::KS_DONE, "{KEPT}");
     }
 }
 
@@ -252,8 +224,8 @@ impl Worker {
 pub struct Progress {
     /// All steps up to this one are finished.
     pub step: u32,
-    /// Whether it is known that the step after it is against the rule.
-    pub conflict: bool,
+    /// The step that is against the rule, if it was found already.
+    pub conflict: Option<u32>,
 }
 
 /// What a cell held after a finished step.
@@ -265,17 +237,15 @@ pub struct Reading {
     pub value: u32,
 }
 
-/// A reader of a board, beside its workers. What one seat is told of steps never falls. It keeps
-/// its board open.
+/// A reader of a board, beside its workers. What one seat is told of steps never falls.
 #[derive(Debug)]
 pub struct Seat {
-    // Dropped first, so that the seat is closed before its board.
     handle: SeatHandle,
-    board: Board,
+    check: Check,
 }
 
 #[derive(Debug)]
-struct SeatHandle(NonNull<sys::ks_seat>);
+struct SeatHandle(sys::ks_seat);
 
 // SAFETY: a seat belongs to no thread: one call at a time uses or closes it, on any thread.
 unsafe impl Send for SeatHandle {}
@@ -285,43 +255,35 @@ unsafe impl Sync for SeatHandle {}
 
 impl Drop for SeatHandle {
     fn drop(&mut self) {
-        // SAFETY: the seat is open, and nobody else has it; its board is open still.
-        unsafe { sys::ks_close_seat(self.0.as_ptr()) };
+        // SAFETY: the seat is open, and nobody else has it.
+        unsafe { sys::ks_close_seat(&mut self.0) };
     }
 }
 
 impl Seat {
-    /// The board that it reads.
-    pub fn board(&self) -> &Board {
-        &self.board
+    /// The numbers of the board's job.
+    pub fn check(&self) -> Check {
+        self.check
     }
 
-    /// The last finished step, and whether a conflict is known. Two loads.
+    /// The last finished step, and the step of a conflict that is known. Two loads.
     pub fn progress(&mut self) -> Progress {
         let mut told = sys::ks_progress::default();
-        // SAFETY: both are open, the seat is of this board, and it and the place for what is told
-        // are borrowed mutably.
-        let status =
-            unsafe { sys::ks_progress(self.board.handle(), self.handle.0.as_ptr(), &mut told) };
-        Status::of(status).expect(KEPT);
+        // SAFETY: the seat is open, and it and the place for what is told are borrowed mutably.
+        let status = unsafe { sys::ks_progress(&mut self.handle.0, &mut told) };
+        assert_eq!(status, sys::KS_DONE, "{KEPT}");
         Progress {
             step: told.step,
-            conflict: told.conflict != 0,
+            conflict: (told.conflict > 0).then_some(told.conflict),
         }
     }
 
     /// What a cell held after a finished step, if the job has such a cell. At most five loads.
     pub fn read(&mut self, cell: u32) -> Option<Reading> {
-        if cell >= self.board.check().cells {
-            return None;
-        }
         let mut told = sys::ks_reading::default();
-        // SAFETY: both are open, the seat is of this board, and it and the place for what is told
-        // are borrowed mutably.
-        let status =
-            unsafe { sys::ks_read(self.board.handle(), self.handle.0.as_ptr(), cell, &mut told) };
-        Status::of(status).expect(KEPT);
-        Some(Reading {
+        // SAFETY: the seat is open, and it and the place for what is told are borrowed mutably.
+        let status = unsafe { sys::ks_read(&mut self.handle.0, cell, &mut told) };
+        (status == sys::KS_DONE).then_some(Reading {
             step: told.step,
             value: told.value,
         })
@@ -333,17 +295,12 @@ impl Seat {
     ///
     /// [`Subject::Memory`](crate::Subject::Memory).
     pub fn memory(&mut self) -> Result<Option<Vec<u32>>> {
-        if self.progress().step < self.board.check().steps {
-            return Ok(None);
-        }
-        let (board, seat) = (self.board.handle(), self.handle.0.as_ptr());
-        let (status, cells) = filled(self.board.check().cells as usize, |cells, answer| {
-            let (cells, room) = (cells.as_mut_ptr(), cells.len());
-            // SAFETY: both are open, the seat is of this board, and it is borrowed mutably. The
-            // call writes within the cells and the answer, which are borrowed for it.
-            unsafe { sys::ks_memory(board, seat, cells, room, answer) }
-        })?;
-        Ok((status == Status::Done).then_some(cells))
+        let mut cells = zeros(self.check.cells as usize)?;
+        // SAFETY: the seat is open, and it is borrowed mutably. The call writes within the cells,
+        // which are borrowed for it.
+        let status = unsafe { sys::ks_memory(&mut self.handle.0, cells.as_mut_ptr(), cells.len()) };
+        let is_done = Status::or_refused(status)? == Status::Done;
+        Ok(is_done.then_some(cells))
     }
 
     /// The conflict; none where none is known.
@@ -352,16 +309,11 @@ impl Seat {
     ///
     /// [`Subject::Memory`](crate::Subject::Memory).
     pub fn fault(&mut self) -> Result<Option<Fault>> {
-        if !self.progress().conflict {
-            return Ok(None);
-        }
         let mut told = sys::ks_fault::default();
-        // SAFETY: both are open, the seat is of this board, and it and the place for what is told
-        // are borrowed mutably.
-        let status =
-            unsafe { sys::ks_fault(self.board.handle(), self.handle.0.as_ptr(), &mut told) };
-        let status = Status::or_refused(status)?;
-        Ok((status == Status::Conflict).then(|| Fault::from(told)))
+        // SAFETY: the seat is open, and it and the place for what is told are borrowed mutably.
+        let status = unsafe { sys::ks_fault(&mut self.handle.0, &mut told) };
+        let is_known = Status::or_refused(status)? == Status::Conflict;
+        Ok(is_known.then(|| told.into()))
     }
 
     /// How the job ended; none where it is not over.

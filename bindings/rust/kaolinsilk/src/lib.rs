@@ -41,8 +41,8 @@
 //! # Memory, threads and processes
 //!
 //! What the library asks for, and all buffers of this crate, may be refused: that is an [`Error`].
-//! The few words of a [`Board`] that its clones share, rows that are added to a [`Plan`], and what
-//! the standard library needs for threads are asked for as Rust asks for memory everywhere.
+//! Rows that are added to a [`Plan`], and what the standard library needs for the threads of
+//! [`run`], are asked for as Rust asks for memory everywhere.
 //!
 //! No call is to be made from a signal handler, or from the forked child of a process with threads.
 

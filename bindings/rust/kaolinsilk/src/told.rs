@@ -42,9 +42,7 @@ pub(crate) fn filled<T: Clone + Default>(
         "the interface of libkaolinsilk"
     );
     loop {
-        let mut buffer = Vec::new();
-        buffer.try_reserve_exact(room)?;
-        buffer.resize(room, T::default());
+        let mut buffer = zeros(room)?;
         let mut answer = sys::ks_answer::new();
         let status = call(&mut buffer, &mut answer);
         let Some(ended) = Status::of(status) else {
@@ -58,7 +56,15 @@ pub(crate) fn filled<T: Clone + Default>(
     }
 }
 
-/// The same of a call that prints.
+/// A buffer for so many elements, if there is memory for it.
+pub(crate) fn zeros<T: Clone + Default>(room: usize) -> Result<Vec<T>> {
+    let mut buffer = Vec::new();
+    buffer.try_reserve_exact(room)?;
+    buffer.resize(room, T::default());
+    Ok(buffer)
+}
+
+/// As [`filled`], of a call that prints.
 pub(crate) fn printed(
     room: usize,
     call: impl FnMut(&mut [u8], &mut sys::ks_answer) -> u32,

@@ -234,10 +234,8 @@ fn handles_are_closed() {
     let job = Job::parse(example("prefix.pardo")).unwrap();
     let board = Board::open(&job, 3).unwrap();
     let (mut worker, mut seat) = (board.worker(0).unwrap(), board.seat().unwrap());
-    let clone = board.clone();
+    // The worker and the seat keep the words alive.
     drop(board);
-    drop(clone);
-    // The worker and the seat keep the board open.
     worker.work(100);
     thread::spawn(move || worker.finish()).join().unwrap();
     assert_eq!(seat.outcome().unwrap(), Some(job.plain().unwrap()));
