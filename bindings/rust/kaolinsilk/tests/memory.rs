@@ -186,7 +186,7 @@ fn of_a_command() {
         refuse(true, || job.plain_text());
         refuse(true, || job.plain_text_with_why());
         refuse(true, || job.cost());
-        refuse(true, || job.steps(2..));
+        refuse(true, || job.steps(2..=3));
         refuse(true, || job.replay(&plan, 2));
     }
     refuse(true, || Plan::parse(&plan_text, 2));
