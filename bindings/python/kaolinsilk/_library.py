@@ -142,11 +142,11 @@ def refuse(status: int, answer: Answer) -> NoReturn:
     raise BadRequest(sentence or "a number of the request is outside its limits")
 
 
-def number_of(value: int, name: str, most: int = MOST) -> int:
+def number_of(value: int, name: str, most: int = MOST, least: int = 0) -> int:
     """A number that the library takes, or the exception that says which one it is not."""
     number = operator.index(value)
-    if not 0 <= number <= most:
-        raise BadRequest(f"{name} is from 0 to {most:,}, and not {number}")
+    if not least <= number <= most:
+        raise BadRequest(f"{name} is from {least} to {most:,}, and not {number}")
     return number
 
 

@@ -158,7 +158,8 @@ def _values_told(text: bytes, lines: List[str]) -> Dict[str, Value]:
         return {"cells": [int(value) for _, sign, value in pairs if sign]}
     rows = [line.partition(" = ") for line in lines]
     lists = {name: list(map(int, values.split())) for name, sign, values in rows if sign}
-    arrays = texts.arrays_of(text)
+    # A scalar is told as an array of one place is.
+    arrays = texts.arrays_of(text) if any(len(it) == 1 for it in lists.values()) else set(lists)
     return {name: it if name in arrays else it[0] for name, it in lists.items()}
 
 

@@ -95,10 +95,10 @@ def steps(text: Source, first: int = 1, last: Optional[int] = None) -> Rows:
     >>> rows[0]["instruction"], rows[0]["writes"], rows[0]["value"]
     ('set r0 7', 'r0', 7)
     """
-    given = bytes_of(text)
-    asked = {"first": _library.number_of(first, "the first step")}
-    asked["last"] = _library.number_of(_library.MOST if last is None else last, "the last step")
-    return rows_of(given, _library.told("ks_steps", given, **asked))
+    given, most = bytes_of(text), _library.MOST
+    begins = _library.number_of(first, "the first step", least=1)
+    ends = _library.number_of(most if last is None else last, "the last step", least=1)
+    return rows_of(given, _library.told("ks_steps", given, first=begins, last=ends))
 
 
 def replay(text: Source, workers: int = 4, plan: Optional[plans.Plan] = None) -> Rows:

@@ -1,12 +1,38 @@
 """Boards, workers and seats, and runs on threads by plans."""
 import gc
+import signal
+import subprocess
+import sys
 import threading
 import time
 import unittest
+from subprocess import PIPE
 
 import kaolinsilk
 from common import CONFLICT, EXAMPLES, GALLERY, PREFIX, SUMS, TINY
 from kaolinsilk.plans import Row, rows_of
+
+# A job that is never at its end.
+INTERRUPTED = """
+import kaolinsilk
+text = "pram 1\\ncells 1\\nprocs 64\\nsteps 4000000000\\ncode\\na: jmp a\\n"
+print("ready", flush=True)
+"""
+# A call with hardly any memory left, twice, and then with enough.
+REFUSED = """
+import resource, kaolinsilk
+text = "pram 1\\ncells 65536\\nprocs 1024\\nsteps 300\\ncode\\na: add r0 r0 r0\\njmp a\\n"
+pages = int(open("/proc/self/statm").read().split()[0])
+most = pages * resource.getpagesize() + 300_000
+had = resource.getrlimit(resource.RLIMIT_AS)
+for limit in (most, most, had[0]):
+    resource.setrlimit(resource.RLIMIT_AS, (limit, had[1]))
+    try:
+        kaolinsilk.{call}
+        print("allowed")
+    except MemoryError:
+        print("refused")
+"""
 
 
 class Boards(unittest.TestCase):
@@ -83,6 +109,21 @@ class Boards(unittest.TestCase):
         self.assertEqual(worker.work(), "done")
         self.assertEqual(worker.board.seat().answer()["A"], SUMS)
 
+    def test_threads_that_share_a_worker_and_a_seat(self):
+        board = kaolinsilk.Board(PREFIX, workers=1)
+        worker, seat, seen = board.worker(0), board.seat(), []
+
+        def work():
+            while worker.work(limit=50) == "unfinished":
+                seen.append(seat.progress().step)
+
+        threads = [threading.Thread(target=work) for _ in range(4)]
+        for thread in threads:
+            thread.start()
+        for thread in threads:
+            thread.join()
+        self.assertEqual(seat.answer()["A"], SUMS)
+
     def test_a_reader_beside_threads(self):
         text = (EXAMPLES / "bitonic.pardo").read_text()
         board = kaolinsilk.Board(text, workers=2)
@@ -156,6 +197,22 @@ class Runs(unittest.TestCase):
                 kaolinsilk.run(PREFIX, 3, [(1, "stop")])
         finally:
             threading.Thread.start = started
+
+    def test_an_interrupt_ends_a_run(self):
+        for call in ("run(text, 2)", "Board(text, 1).worker(0).work()"):
+            words = [sys.executable, "-c", f"{INTERRUPTED}kaolinsilk.{call}"]
+            with subprocess.Popen(words, stdout=PIPE, stderr=PIPE, text=True) as ran:
+                self.assertEqual(ran.stdout.readline(), "ready\n")
+                time.sleep(0.3)
+                ran.send_signal(signal.SIGINT)
+                _, said = ran.communicate(timeout=30)
+            self.assertIn("KeyboardInterrupt", said)
+
+    def test_memory_that_is_refused(self):
+        for call in ("Board(text, 64)", "plain(text)", "steps(text, 1, 300)"):
+            words = [sys.executable, "-c", REFUSED.format(call=call)]
+            ran = subprocess.run(words, capture_output=True, text=True, timeout=60)
+            self.assertEqual(ran.stdout, "refused\nrefused\nallowed\n", ran.stderr)
 
     def test_rows_of_a_plan(self):
         rows = rows_of([(0, "go", 4_294_967_295), (1, "back"), (0, "sleep", 2), (1, "stop")], 2)

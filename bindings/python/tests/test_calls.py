@@ -94,7 +94,7 @@ class Faults(unittest.TestCase):
             for call in (kaolinsilk.replay, kaolinsilk.run, kaolinsilk.Board):
                 with self.assertRaises(kaolinsilk.BadRequest):
                     call(PREFIX, workers)
-        for first, last in ((-1, None), (5, 4), (1, 2**32)):
+        for first, last in ((-1, None), (0, 4), (1, 0), (5, 4), (1, 2**32)):
             with self.assertRaises(kaolinsilk.BadRequest):
                 kaolinsilk.steps(PREFIX, first, last)
         with self.assertRaises(kaolinsilk.BadRequest):

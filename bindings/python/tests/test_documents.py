@@ -4,7 +4,6 @@ import importlib
 import json
 import os
 import pkgutil
-import re
 import shutil
 import subprocess
 import sys
@@ -70,13 +69,11 @@ class Documents(unittest.TestCase):
 
 
 def told_by(file):
-    """What the cells of a notebook told, in words."""
+    """What the cells of a notebook told, in words. A plot's are those of matplotlib."""
     cells = json.loads(file.read_text())["cells"]
-    found = []
-    for output in (it for cell in cells for it in cell.get("outputs", [])):
-        said = output.get("text") or output.get("data", {}).get("text/plain", "")
-        found.append(re.sub(r" at 0x\w+", "", "".join(said)))
-    return found
+    outputs = [it for cell in cells for it in cell.get("outputs", [])]
+    told = [it.get("data", {"text/plain": it.get("text")}) for it in outputs]
+    return ["".join(it.get("text/plain") or ()) for it in told if "image/png" not in it]
 
 
 if __name__ == "__main__":

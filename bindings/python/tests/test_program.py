@@ -17,7 +17,7 @@ def told(name, *texts, **asked):
     except kaolinsilk.Refused as refused:
         row = "row" if refused.subject == "plan" else "line"
         head = f"{refused.subject} {row}={refused.line} kind={refused.kind}\n"
-        said = f"{head}-, {row} {refused.line}: {refused.sentence}\n"
+        said = f"{head}standard input, {row} {refused.line}: {refused.sentence}\n"
         return _library.REFUSED, b"", said.encode()
 
 
