@@ -29,7 +29,7 @@ use Rattle.library_boards.specs.Grains.{IsGrainAsked}
 use Rattle.library_boards.specs.Jobs.{IsNoJob}
 use Rattle.library_boards.specs.declared.shared.Shared.{Shared}
 use Rattle.library_boards.specs.Members.{GoesOn, IsBack, IsMember, IsOpenedFor, IsWork}
-use Rattle.library_boards.specs.Members.{job_at, shared_at, task_at}
+use Rattle.library_boards.specs.Members.{NoneIsKnown, StepsAreLeft, job_at, shared_at, task_at}
 
 -- ---- handles
 
@@ -162,11 +162,13 @@ pub record TellsReading (cell : ℕ) (old new : ReadingTold) (status : ℕ) (bef
 
 pub record TellsMemory (old new : List ℕ) (status : ℕ) (before later : Member) : Type 0 where
   pub put : status ≡ DONE → IsPut (job_at before) old new
+  pub left : status ≡ UNFINISHED → StepsAreLeft before later
   pub kept : status ≢ DONE → new ≡ old
   pub goes_on : GoesOn before later
 
 pub record TellsFault (old new : FaultTold) (status : ℕ) (before later : Member) : Type 0 where
   pub fault : status ≡ CONFLICT → IsFaultTold (job_at before) new
+  pub none : status ≡ UNFINISHED → NoneIsKnown before later
   pub kept : status ≢ CONFLICT → new ≡ old
   pub goes_on : GoesOn before later
 

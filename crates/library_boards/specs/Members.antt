@@ -1,5 +1,5 @@
 -- What the calls of a member come to.
-use Rattle.std.specs.Prelude.{◌≡◌, ℕ, List, Bool, true, false}
+use Rattle.std.specs.Prelude.{◌≡◌, ◌≢◌, ℕ, List, Bool, true, false}
 use Rattle.std.specs.Prelude.{Option, Some, None}
 use Rattle.std.specs.Arc.{arc_value}
 use Rattle.pram_job.specs.Job.{JobData}
@@ -9,8 +9,9 @@ use Rattle.walkx.specs.Records.{empty}
 use Rattle.walkx.specs.Serving.{IsNew}
 use Rattle.walkx.specs.Walk.{come_back, started}
 use Rattle.pram_board.specs.declared.task.Task.{Task}
+use Rattle.pram_board.specs.declared.look.Progress.{Progress}
 use Rattle.pram_board.specs.declared.work.Stay.{Stay}
-use Rattle.pram_board.specs.Seats.{Desk, HasLoaded, IsLater, IsOpened}
+use Rattle.pram_board.specs.Seats.{Desk, HasLoaded, IsLater, IsOpened, Progressed}
 use Rattle.pram_board.specs.Worked.{Worked, Works}
 use Rattle.library_boards.specs.declared.member.Member.{Member}
 use Rattle.library_boards.specs.declared.shared.Shared.{Shared}
@@ -103,3 +104,15 @@ pub record GoesOn (before later : Member) : Type 0 where
   pub worker : later.worker ≡ before.worker
   pub same : later.shared ≡ before.shared
   pub is_member : IsMember later
+
+-- the last look showed that steps are left
+pub record StepsAreLeft (before later : Member) : Type 0 where
+  pub progress : Progress
+  pub progressed : Progressed (task_at before) before.seat later.seat progress
+  pub left : progress.step ≢ (job_at before).steps
+
+-- the last look showed no step that is against the rule
+pub record NoneIsKnown (before later : Member) : Type 0 where
+  pub progress : Progress
+  pub progressed : Progressed (task_at before) before.seat later.seat progress
+  pub none : progress.conflict ≡ None

@@ -6,9 +6,10 @@ ghost use Rattle.library_boards.specs.Calls.{front_of, status_of_fault, status_o
 ghost use Rattle.library_boards.specs.Grains.{IsGrainAsked};
 ghost use Rattle.library_boards.specs.Calls.{IsNoWorkerStatus};
 ghost use Rattle.library_boards.specs.Members.{GoesOn, IsMember, IsOpenedFor, IsReaderAt};
+ghost use Rattle.library_boards.specs.Members.{NoneIsKnown, StepsAreLeft};
 ghost use Rattle.library_boards.specs.Members.{IsWorkerAt, job_at, shared_at};
 ghost use Rattle.library_boards.specs.declared.status.TheConstants.{CONFLICT, DONE, FAILED};
-ghost use Rattle.library_boards.specs.declared.status.TheConstants.{MEMORY};
+ghost use Rattle.library_boards.specs.declared.status.TheConstants.{MEMORY, UNFINISHED};
 ghost use Rattle.std.specs.Prelude.{IsTrue};
 
 use crate::job::OpenFault;
@@ -188,6 +189,7 @@ pub fn read(member: &mut Member, cell: u32, told: &mut ReadingTold) -> u32
 pub fn memory(member: &mut Member, alloc: Global, cells: &mut [u32]) -> u32
     requires { IsMember member.old }
     ensures put { result ≡ DONE → IsPut (job_at member.old) cells.old cells.new }
+    ensures left { result ≡ UNFINISHED → StepsAreLeft member.old member.new }
     ensures kept { result ≢ DONE → cells.new ≡ cells.old }
     ensures goes_on { GoesOn member.old member.new }
 {
@@ -216,6 +218,7 @@ fn put_front(numbers: &[u32], buffer: &mut [u32])
 pub fn fault(member: &mut Member, alloc: Global, told: &mut FaultTold) -> u32
     requires { IsMember member.old }
     ensures fault { result ≡ CONFLICT → IsFaultTold (job_at member.old) told.new }
+    ensures none { result ≡ UNFINISHED → NoneIsKnown member.old member.new }
     ensures kept { result ≢ CONFLICT → told.new ≡ told.old }
     ensures goes_on { GoesOn member.old member.new }
 {

@@ -17,14 +17,14 @@ pub struct Member {
 }
 
 impl Member {
-    ghost use Rattle.std.specs.Prelude.{◌<◌, ◌≤◌, IfErr, IfOk, IfSome};
+    ghost use Rattle.std.specs.Prelude.{◌<◌, ◌≤◌, IfErr, IfNone, IfOk, IfSome};
     ghost use Rattle.pram_step.specs.Runs.{IsAnswer, IsFault};
     ghost use Rattle.pram_step.specs.declared.answer.RunAnswer.TheVariants.{Final};
     ghost use Rattle.pram_board.specs.Seats.{HasSeen, KnowsConflict, Progressed, WasRead};
     ghost use Rattle.library_boards.specs.Jobs.{IsNoJob};
     ghost use Rattle.library_boards.specs.Members.{IsBack, IsMember, IsOpenedFor, IsReaderAt};
     ghost use Rattle.library_boards.specs.Members.{IsWork, IsWorkerAt, GoesOn, job_at, shared_at};
-    ghost use Rattle.library_boards.specs.Members.{task_at};
+    ghost use Rattle.library_boards.specs.Members.{NoneIsKnown, StepsAreLeft, task_at};
     ghost use Rattle.library_boards.specs.Grains.{IsGrainAsked};
 
     /// A reader at a new board for the job of a text, and so many workers. A leaf stands for so
@@ -136,6 +136,7 @@ impl Member {
         requires { IsMember self.old }
         ensures cells { IfOk result (λ found. IfSome found
             (λ cells. IsAnswer (job_at self.old) (Final cells.items))) }
+        ensures left { IfOk result (λ found. IfNone found (StepsAreLeft self.old self.new)) }
         ensures goes_on { GoesOn self.old self.new }
     {
         if self.progress().step != self.shared.steps {
@@ -148,6 +149,7 @@ impl Member {
     pub fn fault(&mut self, alloc: Global) -> Result<Option<Fault>, AllocError>
         requires { IsMember self.old }
         ensures fault { IfOk result (λ found. IfSome found (IsFault (job_at self.old))) }
+        ensures none { IfOk result (λ found. IfNone found (NoneIsKnown self.old self.new)) }
         ensures goes_on { GoesOn self.old self.new }
     {
         if self.progress().conflict.is_none() {
