@@ -190,36 +190,49 @@ pub struct ks_fault {
     pub second: u32,
 }
 
-macro_rules! handle {
-    ($(#[$told:meta])* $name:ident) => {
-        $(#[$told])*
-        #[repr(C)]
-        #[derive(Debug)]
-        pub struct $name {
-            /// What nobody but the library looks behind.
-            pub at: *mut c_void,
-        }
-
-        impl $name {
-            /// The handle of nothing.
-            pub const fn none() -> $name {
-                $name { at: null_mut() }
-            }
-        }
-    };
+/// A board: a job, and the words that its workers share.
+#[repr(C)]
+#[derive(Debug)]
+pub struct ks_board {
+    /// What nobody but the library looks behind.
+    pub at: *mut c_void,
 }
 
-handle! {
-    /// A member of a board that makes others.
-    ks_board
+impl ks_board {
+    /// The handle of nothing.
+    pub const fn none() -> ks_board {
+        ks_board { at: null_mut() }
+    }
 }
-handle! {
-    /// A reader of a board.
-    ks_seat
+
+/// A reader of a board.
+#[repr(C)]
+#[derive(Debug)]
+pub struct ks_seat {
+    /// What nobody but the library looks behind.
+    pub at: *mut c_void,
 }
-handle! {
-    /// A worker of a board: its number, and where it stands.
-    ks_worker
+
+impl ks_seat {
+    /// The handle of nothing.
+    pub const fn none() -> ks_seat {
+        ks_seat { at: null_mut() }
+    }
+}
+
+/// A worker of a board: its number, and where it stands.
+#[repr(C)]
+#[derive(Debug)]
+pub struct ks_worker {
+    /// What nobody but the library looks behind.
+    pub at: *mut c_void,
+}
+
+impl ks_worker {
+    /// The handle of nothing.
+    pub const fn none() -> ks_worker {
+        ks_worker { at: null_mut() }
+    }
 }
 
 unsafe extern "C" {

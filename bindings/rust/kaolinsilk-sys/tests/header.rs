@@ -98,6 +98,9 @@ fn structs_of_c(text: &str) -> Declared {
 
 fn field_of_c(text: &str) -> String {
     let (kind, name) = text.rsplit_once(' ').unwrap();
+    if let ("void", Some(name)) = (kind, name.strip_prefix('*')) {
+        return format!("{name}: *mut c_void");
+    }
     match name.strip_suffix(']').and_then(|it| it.split_once('[')) {
         None => format!("{name}: {}", base_of_c(kind)),
         Some((name, count)) => format!("{name}: [{}; {count}]", base_of_c(kind)),
@@ -105,11 +108,13 @@ fn field_of_c(text: &str) -> String {
 }
 
 fn numbers_of_c(text: &str) -> Declared {
-    let numbers = text
-        .split(['{', '}', ','])
-        .filter_map(|it| it.trim().split_once(" = "));
-    numbers
-        .map(|(name, number)| (name.to_owned(), number.to_owned()))
+    let parts = text.split(['{', '}', ',']).map(str::trim);
+    let numbers = parts.filter_map(|it| it.split_once(" = "));
+    let defined = text
+        .lines()
+        .filter_map(|it| it.strip_prefix("#define ")?.split_once(' '));
+    let all = numbers.chain(defined);
+    all.map(|(name, number)| (name.to_owned(), number.trim().to_owned()))
         .collect()
 }
 

@@ -35,7 +35,8 @@ impl RunAnswer {
 /// plan, and then goes on without a limit. The answer comes as soon as one worker knows it; the
 /// threads of the others end by themselves, and nobody waits for them.
 ///
-/// A worker whose thread the system refuses takes no part.
+/// A worker whose thread the system refuses takes no part. Nor does one whose thread would come
+/// when the job is over.
 ///
 /// ```
 /// use kaolinsilk::{Job, Outcome, Plan, RunAnswer, run};
@@ -89,10 +90,13 @@ impl Bell {
         }
     }
 
-    // Waits until a worker knows the end, or all of them have left.
+    fn is_over(&self) -> bool {
+        self.is_over.load(Ordering::Acquire)
+    }
+
+    // Waits until a worker knows the end, or so many have left.
     fn hear(&self, workers: u32) {
-        let is_over = || self.is_over.load(Ordering::Acquire);
-        while !is_over() && self.left.load(Ordering::Acquire) < workers {
+        while !self.is_over() && self.left.load(Ordering::Acquire) < workers {
             thread::park();
         }
     }
@@ -108,7 +112,8 @@ impl Drop for Leaving {
     }
 }
 
-// Starts the workers, and waits until one knows the end or all have left. Whether all started.
+// Starts the workers, and waits until one knows the end or all have left. Whether a thread was not
+// refused to any.
 fn start_and_hear(board: &Board, plan: &Plan) -> Result<bool> {
     let bell = Arc::new(Bell::new());
     let mut all_started = true;
@@ -121,6 +126,9 @@ fn start_and_hear(board: &Board, plan: &Plan) -> Result<bool> {
             }
         };
         all_started &= thread::Builder::new().spawn(life).is_ok();
+        if bell.is_over() {
+            break;
+        }
     }
     bell.hear(board.workers());
     Ok(all_started)

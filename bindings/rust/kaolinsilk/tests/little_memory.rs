@@ -7,7 +7,7 @@ use std::env;
 use std::process::Command;
 
 /// The memory of the processes, in KB.
-const LIMITS: [u32; 6] = [40_000, 60_000, 80_000, 120_000, 200_000, 400_000];
+const LIMITS: [u32; 4] = [40_000, 60_000, 120_000, 240_000];
 
 /// A job whose board has more than a megabyte.
 const LARGE: &str = "pram 3\ncells 65536\nprocs 1024\nsteps 1\nrule crew\ncode\npid r0\n";
@@ -55,7 +55,7 @@ fn take_all_memory() {
     };
     assert_eq!(error.subject(), Subject::Memory);
     assert!(boards.len() < 1000);
-    for _ in 0..100 {
+    for _ in 0..20 {
         match small.plain() {
             Ok(outcome) => assert_eq!(outcome, plain),
             Err(error) => assert_eq!(error.subject(), Subject::Memory),

@@ -166,12 +166,7 @@ fn refuse<T: PartialEq + std::fmt::Debug>(with_rust: bool, call: impl Fn() -> Re
     }
 }
 
-const JOBS: [&str; 4] = [
-    "prefix.pardo",
-    "conflict.pardo",
-    "squares.pram",
-    "leader_crew.pram",
-];
+const JOBS: [&str; 3] = ["conflict.pardo", "squares.pram", "leader_crew.pram"];
 
 #[test]
 fn of_a_command() {

@@ -2,7 +2,7 @@
 //! many storms there are.
 mod shared;
 
-use kaolinsilk::{Board, Job, Outcome, Seat, Stay, Worker};
+use kaolinsilk::{Act, Board, Job, Outcome, Plan, Seat, Stay, Worker, run};
 use shared::{Random, example, gallery, random_job};
 use std::env;
 use std::sync::atomic::{AtomicBool, AtomicU64, Ordering};
@@ -125,11 +125,18 @@ fn storm(known: &Known, mut random: Random, reads: &AtomicU64) {
     );
 }
 
+/// How many storms there are, and what chooses them.
+fn wanted() -> (u32, Random) {
+    let number = |name, other| env::var(name).map_or(other, |it| it.parse().unwrap());
+    (
+        number("KAOLINSILK_STORMS", 200) as u32,
+        Random::new(number("KAOLINSILK_SEED", 1)),
+    )
+}
+
 #[test]
 fn all_but_one_are_lost() {
-    let storms = env::var("KAOLINSILK_STORMS").map_or(200, |it| it.parse().unwrap());
-    let seed = env::var("KAOLINSILK_SEED").map_or(1, |it| it.parse().unwrap());
-    let mut random = Random::new(seed);
+    let (storms, mut random) = wanted();
     let of_gallery = gallery().into_iter().map(|name| {
         let text = example(&name);
         Known::new(name, &text)
@@ -146,4 +153,58 @@ fn all_but_one_are_lost() {
         }
     }
     println!("{storms} storms, {} reads", reads.into_inner());
+}
+
+/// A plan for so many workers. All of them may stop.
+fn random_plan(random: &mut Random, workers: u32) -> Plan {
+    let mut going: Vec<u32> = (0..workers).collect();
+    let mut plan = Plan::new();
+    for _ in 0..random.below(12) {
+        let Some(at) = going
+            .len()
+            .checked_sub(1)
+            .map(|it| random.below(it as u32 + 1))
+        else {
+            break;
+        };
+        let worker = going[at as usize];
+        let most = *random.of(&[3, 60, 400]);
+        plan = match random.below(5) {
+            0 => plan.back(worker),
+            1 => plan.sleep(worker, random.below(9)),
+            2 => {
+                going.swap_remove(at as usize);
+                plan.stop(worker)
+            }
+            _ => plan.go(worker, random.below(most)),
+        };
+    }
+    plan
+}
+
+#[test]
+fn runs_and_replays_obey_plans() {
+    let (storms, mut random) = wanted();
+    for _ in 0..storms {
+        let text = random_job(&mut random);
+        let (job, workers) = (Job::parse(&text).unwrap(), 1 + random.below(5));
+        let plan = random_plan(&mut random, workers);
+        let stopped = plan
+            .rows()
+            .iter()
+            .filter(|row| row.act == Act::Stop)
+            .count();
+        let all_stop = stopped == workers as usize;
+        let answer = run(&job, workers, &plan).unwrap();
+        match answer.outcome() {
+            Some(outcome) => assert_eq!(*outcome, job.plain().unwrap(), "{text}{plan}"),
+            None => assert!(all_stop, "{text}{plan}"),
+        }
+        let replay = job.replay(&plan, workers).unwrap();
+        match replay.ended() {
+            Some(_) => assert_eq!(replay.answer(), job.plain_text().unwrap(), "{text}{plan}"),
+            None => assert!(all_stop && replay.unfinished().is_some(), "{text}{plan}"),
+        }
+        assert_eq!(Plan::parse(plan.to_string(), workers).unwrap(), plan);
+    }
 }
