@@ -59,7 +59,14 @@ class Cost(Dict[str, Any]):
     status: str = "done"
 
     def _repr_html_(self) -> str:
-        return table(("", "of this input"), self.items())
+        shown = ((name.replace("_", " "), _shown(it)) for name, it in self.items())
+        return table(("", "of this input"), shown)
+
+
+def _shown(value: Any) -> str:
+    if isinstance(value, dict):
+        return ", ".join(f"{name} {it}" for name, it in value.items())
+    return "none" if value is None else str(value)
 
 
 def _field(name: str, said: str) -> Any:

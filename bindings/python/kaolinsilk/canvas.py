@@ -2,6 +2,7 @@
 from __future__ import annotations
 
 import os
+from base64 import b64encode
 from html import escape
 from pathlib import Path
 from typing import Any, Iterable, List, Tuple, Union
@@ -86,3 +87,8 @@ class Picture:
 
     def _repr_svg_(self) -> str:
         return self.svg
+
+    def _repr_html_(self) -> str:
+        # Some notebooks, when they are exported, leave nothing of a picture that stands in the page.
+        data = b64encode(self.svg.encode()).decode("ascii")
+        return f'<img alt="{escape(self.label)}" src="data:image/svg+xml;base64,{data}">'

@@ -1,4 +1,5 @@
 """Pictures, moments of replays, and sweeps."""
+import base64
 import tempfile
 import unittest
 from pathlib import Path
@@ -79,6 +80,9 @@ class Pictures(unittest.TestCase):
     def test_notebooks(self):
         picture, answer = kaolinsilk.draw_memory(PREFIX), kaolinsilk.plain(PREFIX)
         self.assertEqual(picture._repr_svg_(), picture.svg)
+        [image] = ElementTree.fromstring(f"<p>{picture._repr_html_()[:-1]}/></p>")
+        data = image.get("src").partition("base64,")[2]
+        self.assertEqual(base64.b64decode(data).decode(), picture.svg)
         self.assertIn("<td>A</td><td>3 4 8 9 14 23 25 31</td>", answer._repr_html_())
         self.assertIn("against the rule", kaolinsilk.plain(CONFLICT)._repr_html_())
         self.assertIn("more rows", kaolinsilk.steps(PREFIX)._repr_html_())
