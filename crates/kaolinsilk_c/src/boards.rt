@@ -81,7 +81,8 @@ pub extern "C" fn ks_worker_of(
     }
 }
 
-/// Makes at most so many atomic steps of a worker.
+/// Makes at most so many atomic steps of a worker. With the greatest number as limit, UINT64_MAX,
+/// it makes all that are left, in a tenth of the time.
 #[unsafe(no_mangle)]
 pub extern "C" fn ks_work(alloc: Global, worker: &mut Handle, limit: u64) -> u32
     requires { IsHeld worker.old.member }

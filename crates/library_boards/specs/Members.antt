@@ -1,6 +1,6 @@
 -- What the calls of a member come to.
-use Rattle.std.specs.Prelude.{◌≡◌, ◌≢◌, ℕ, List, Bool, true, false}
-use Rattle.std.specs.Prelude.{Option, Some, None}
+use Rattle.std.specs.Prelude.{◌≡◌, ◌≢◌, ◌==◌, ℕ, List, Bool, true, false}
+use Rattle.std.specs.Prelude.{Option, Some, None, if◌then◌else◌}
 use Rattle.std.specs.Arc.{arc_value}
 use Rattle.pram_job.specs.Job.{JobData}
 use Rattle.pram_words.specs.declared.layout.Form.TheVariants.{Wide}
@@ -65,13 +65,17 @@ pub record IsWorkerAt (shared : Shared) (number : ℕ) (member : Member) : Type 
 
 -- ---- work
 
+-- the greatest number stands for no limit
+abbrev pub limit_of : ℕ → Option ℕ
+limit_of limit = if limit == 18446744073709551615 then None else Some limit
+
 -- the worker's ticks, all in the record of its seat
 pub record WorkedOn (before : Member) (limit : ℕ) (later : Member) (stay : Stay) : Type 0 where
   pub worker : WorkerData
   pub was : before.worker ≡ Some worker
   pub now : WorkerData
   pub is : later.worker ≡ Some now
-  pub worked : Worked (task_at before) before.seat worker.walking (Some limit) later.seat
+  pub worked : Worked (task_at before) before.seat worker.walking (limit_of limit) later.seat
       now.walking stay
   pub goes : IsLater (board_at before) before.seat later.seat
   pub same : later.shared ≡ before.shared
