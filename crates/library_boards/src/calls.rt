@@ -1,16 +1,15 @@
 //! What calls of another language do with a member.
-ghost use Rattle.std.specs.Prelude.{◌≡◌, ◌≢◌, ◌<◌, ◌≤◌, IfErr, IfOk};
-ghost use Rattle.library_boards.specs.Calls.{HasComeBack, HasWorked, IsOpenStatus, IsPut};
-ghost use Rattle.library_boards.specs.Calls.{IsFaultTold, TellsProgress, WasReadTold};
-ghost use Rattle.library_boards.specs.Calls.{front_of, status_of_fault, status_of_stay};
+ghost use Rattle.std.specs.Prelude.{◌≡◌, ◌≢◌, ◌<◌, ◌≤◌, IfErr, IfOk, IsTrue};
+ghost use Rattle.library_boards.specs.Calls.{HasComeBack, HasWorked, IsFaultTold};
+ghost use Rattle.library_boards.specs.Calls.{IsNoWorkerStatus, IsOpenStatus, IsPut, TellsProgress};
+ghost use Rattle.library_boards.specs.Calls.{WasReadTold, front_of, status_of_fault};
+ghost use Rattle.library_boards.specs.Calls.{status_of_stay};
 ghost use Rattle.library_boards.specs.Grains.{IsGrainAsked};
-ghost use Rattle.library_boards.specs.Calls.{IsNoWorkerStatus};
 ghost use Rattle.library_boards.specs.Members.{GoesOn, IsMember, IsOpenedFor, IsReaderAt};
-ghost use Rattle.library_boards.specs.Members.{NoneIsKnown, StepsAreLeft};
-ghost use Rattle.library_boards.specs.Members.{IsWorkerAt, job_at, shared_at};
+ghost use Rattle.library_boards.specs.Members.{IsWorkerAt, NoneIsKnown, StepsAreLeft, job_at};
+ghost use Rattle.library_boards.specs.Members.{shared_at};
 ghost use Rattle.library_boards.specs.declared.status.TheConstants.{CONFLICT, DONE, FAILED};
 ghost use Rattle.library_boards.specs.declared.status.TheConstants.{MEMORY, UNFINISHED};
-ghost use Rattle.std.specs.Prelude.{IsTrue};
 
 use crate::job::OpenFault;
 use crate::member::Member;

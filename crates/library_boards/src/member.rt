@@ -24,11 +24,11 @@ impl Member {
     ghost use Rattle.pram_step.specs.Runs.{IsAnswer, IsFault};
     ghost use Rattle.pram_step.specs.declared.answer.RunAnswer.TheVariants.{Final};
     ghost use Rattle.pram_board.specs.Seats.{HasSeen, KnowsConflict, Progressed, WasRead};
-    ghost use Rattle.library_boards.specs.Jobs.{IsNoJob};
-    ghost use Rattle.library_boards.specs.Members.{IsBack, IsMember, IsOpenedFor, IsReaderAt};
-    ghost use Rattle.library_boards.specs.Members.{IsWork, IsWorkerAt, GoesOn, job_at, shared_at};
-    ghost use Rattle.library_boards.specs.Members.{NoneIsKnown, StepsAreLeft, task_at};
     ghost use Rattle.library_boards.specs.Grains.{IsGrainAsked};
+    ghost use Rattle.library_boards.specs.Jobs.{IsNoJob};
+    ghost use Rattle.library_boards.specs.Members.{GoesOn, IsBack, IsMember, IsOpenedFor};
+    ghost use Rattle.library_boards.specs.Members.{IsReaderAt, IsWork, IsWorkerAt, NoneIsKnown};
+    ghost use Rattle.library_boards.specs.Members.{StepsAreLeft, job_at, shared_at, task_at};
 
     /// A reader at a new board for the job of a text, and so many workers. A leaf stands for so
     /// many processors; at 0 the board chooses.
