@@ -10,7 +10,7 @@ mod inputs;
 mod named;
 mod programs;
 mod progress;
-mod refusals;
+mod refused;
 mod replays;
 mod threads;
 
