@@ -182,7 +182,8 @@ fn cells_error(alloc: Global, text: &str) -> Result<Error, AllocError>
     ensures { IfOk result (λ error. kind_of error ≡ ErrorKind.ValueValidation) }
 {
     let message = format!(in alloc;
-        "invalid value '{text}' for '--cells <C,C,..>': cells are numbers or places, with commas between"
+        "invalid value '{text}' for '--cells <C,C,..>': cells are numbers or places, \
+         with commas between"
     )?;
     let command = watch_command(alloc)?.bin_name("pramx watch")?;
     refused(command, message.as_str())
