@@ -1,5 +1,5 @@
 -- What the commands come to that run a job on threads.
-use Rattle.std.specs.Prelude.{◌≡◌, ◌^◌, ◌<◌, ℕ, Bool, List, [], ◌∷◌, Option, None, Some, ⊤, map}
+use Rattle.std.specs.Prelude.{◌≡◌, ◌<◌, ℕ, Bool, List, [], ◌∷◌, Option, None, Some, ⊤, map}
 use Rattle.std.specs.Prelude.{slice_index, All, codes, decimal}
 use Rattle.std.specs.List.{repeat}
 use Rattle.std.specs.List.Sorted.{IsNonDecreasingBy}
