@@ -21,6 +21,8 @@ import time
 TOP = Path(__file__).resolve().parent.parent
 PROGRAM = TOP / "out/pramx"
 RECORD = TOP / "out/pramx.sums"
+# Where rt lib leaves the library for C.
+LIBRARY = "crates/kaolinsilk_c/out/libkaolinsilk_c.a"
 # Who speaks: tools/build does so for ./pramx.
 NAME = Path(sys.argv[0]).name.replace("build", "pramx")
 # What a proof from nothing may need on the disk, in GB.
@@ -123,9 +125,9 @@ class Progress:
 # The proof.
 
 
-def make_copy(to):
-    """Makes a repository of the crates that the program needs, and returns their lines."""
-    lines = sources("--lines").splitlines()
+def make_copy(to, *words):
+    """Makes a repository of the crates that are needed, and returns their lines."""
+    lines = sources("--lines", *words).splitlines()
     (to / ".git").mkdir(parents=True)
     (to / "crates.txt").write_text("".join(f"{line}\n" for line in lines))
     shutil.copy(TOP / "HANDLES", to)
@@ -199,16 +201,32 @@ def run(words, folder, program, room, look=lambda said: None):
 
 
 @contextlib.contextmanager
-def built(*words):
-    """The program, proved and built by rt ci, and the sum of its sources, while the block lasts."""
+def proved(needed, *words):
+    """A copy whose crates rt ci proved, with its program, and a room, while the block lasts."""
     with scratch() as room:
         free = shutil.disk_usage(room).free / 1e9
         if free < ROOM:
             say(f"{room.parent} has {free:.1f} GB left, and a proof may need {ROOM} there")
         copy = room / "copy"
-        lines, program = make_copy(copy), copy / "crates/pramx/out/pramx"
+        lines, program = make_copy(copy, *needed), copy / "crates/pramx/out/pramx"
         run(["ci", *words], copy, program, room, Progress(lines).look)
+        yield copy, program, room
+
+
+@contextlib.contextmanager
+def built(*words):
+    """The program, proved and built by rt ci, and the sum of its sources, while the block lasts."""
+    with proved([], *words) as (copy, program, _):
         yield program, sources(copy)
+
+
+@contextlib.contextmanager
+def both_built(*words):
+    """The program and the library for C, proved and built, and the copy that they were built in."""
+    with proved(["--both"], *words) as (copy, program, room):
+        library = copy / LIBRARY
+        run(["lib"], library.parents[1], library, room)
+        yield program, library, copy
 
 
 @contextlib.contextmanager

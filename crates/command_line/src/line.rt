@@ -182,7 +182,8 @@ fn cells_error(alloc: Global, text: &str) -> Result<Error, AllocError>
     ensures { IfOk result (λ error. kind_of error ≡ ErrorKind.ValueValidation) }
 {
     let message = format!(in alloc;
-        "invalid value '{text}' for '--cells <C,C,..>': cells are numbers or places, with commas between"
+        "invalid value '{text}' for '--cells <C,C,..>': cells are numbers or places, \
+         with commas between"
     )?;
     let command = watch_command(alloc)?.bin_name("pramx watch")?;
     refused(command, message.as_str())
@@ -246,7 +247,7 @@ fn bare_command<'a>(alloc: Global) -> Command<'a>
     ensures { app_of result ≡ bare }
 {
     Command::new(alloc, "pramx")
-        .version("0.2.0")
+        .version("0.3.0")
         .about("Runs programs of a synchronous parallel machine with shared memory.")
         .after_help(EXAMPLES)
         .subcommand_required(true)

@@ -273,7 +273,7 @@ fn texts_of_errors_and_requests(rt: HostRuntime) -> Result<(), Fail> {
     let help = text_of(alloc, "pramx --help")?;
     assert!(rt; help.is_some_and(|text| text.as_str().starts_with(HELP_TEXT)));
     for (row, wanted) in [
-        ("pramx --version", "pramx 0.2.0\n"),
+        ("pramx --version", "pramx 0.3.0\n"),
         (
             "pramx watch f --workers 1 --rounds 1 --cells 1,3x",
             BAD_CELLS_TEXT,

@@ -53,7 +53,8 @@ count_written (Conflict fault count) = count
 count_written _ = 0
 
 abbrev pub told_written : Told → ℕ
-told_written told = if told.status.code == DONE || told.status.code == CONFLICT then told.count else 0
+told_written told =
+    if told.status.code == DONE || told.status.code == CONFLICT then told.count else 0
 
 -- what lies after the first so many elements is as it was
 abbrev pub IsKeptBehind : {X : Type 0} → ℕ → List X → List X → Type 0

@@ -289,7 +289,8 @@ HaveNoRoom world words bodies =
 abbrev pub IsBoardTold : WorldData → ℕ → List WordRow → List BodyRow → Scene → Type 0
 IsBoardTold world shown words bodies told =
     (AreWords world words × AreBodies world bodies × (told ≡ glance_of world shown))
-    ⊎ (HaveNoRoom world words bodies × (told ≡ record (glance_of world shown) { status = coded NO_ROOM }))
+    ⊎ (HaveNoRoom world words bodies
+    × (told ≡ record (glance_of world shown) { status = coded NO_ROOM }))
 
 -- what is told of the board of a text after events, and of what they did; or why there is none
 abbrev pub IsScene

@@ -468,12 +468,14 @@ from_at program (first ∷ lines) last (suc j) k line e lt =
     (sum_by (length_of program) (take j lines) + k) 0
     ∙ from_at program lines first.number j k line e lt
 
-pub numbers_are : (program : ProgramData) (numbers : List ℕ) → numbers ≡ line_numbers program →
-    AreNumbers program (slice_index numbers)
+-- the number of each instruction of a line is the line's
+pub number_in : (program : ProgramData) (line_of : ℕ → ℕ) → AreNumbers program line_of →
+    (j k : ℕ) (line : Line) → slice_get program.lines j ≡ Some line →
+    k < length_of program line → line_of (place_of program j + k) ≡ line.number
 unfolding line_numbers place_of
-numbers_are program numbers f j k line e lt =
+number_in program line_of numbers j k line e lt =
     let at : 1 + sum_by (length_of program) (take j program.lines) + k ≡
     suc (sum_by (length_of program) (take j program.lines) + k) = omega arith in
-    ap (λ (l : List ℕ). slice_index l (1 + sum_by (length_of program) (take j program.lines) + k)) f
+    numbers (1 + sum_by (length_of program) (take j program.lines) + k)
     ∙ ap (λ (i : ℕ). get_or (0 ∷ numbers_from program 0 program.lines) i 0) at
     ∙ from_at program program.lines 0 j k line e lt

@@ -20,7 +20,7 @@ use Rattle.pardo_job.specs.Layouts.{cell_count, layout_of, start_values}
 use Rattle.pardo_job.specs.Lines.{code_of, job_of, machine_rule}
 use Rattle.pardo_job.specs.Refusals.{IsFault, IsFirstRunning, line_numbers}
 use Rattle.pardo_job.proofs.JobFits.{job_is, start_length}
-use Rattle.pardo_job.proofs.Placed.{level_all, numbers_are}
+use Rattle.pardo_job.proofs.Placed.{level_all}
 
 -- ---- the job
 
@@ -64,7 +64,7 @@ compiled_is program places numbers job compiled are e f is_job done = record {
   made = done.job_is ∙ ap (λ (j : JobData). record j { steps = compiled.job.steps }) e ∙
       with_more program compiled.job.steps;
   level = level_all program places are;
-  numbers = numbers_are program compiled.numbers (done.numbers_are ∙ f);
+  numbers = λ index. ap (λ (l : List ℕ). slice_index l index) (done.numbers_are ∙ f);
   whole = done.whole;
 }
 

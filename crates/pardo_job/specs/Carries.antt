@@ -21,7 +21,8 @@ ShowsAfter program job at_line t = IsReached job t × Shows program job at_line 
 abbrev pub ComesFrom : JobData → (ℕ → ℕ) → ℕ → ℕ → ℕ → Type 0
 ComesFrom job line_of before i number = line_of (counter job (state_after job before) i) ≡ number
 
--- The end of the job is that of the program; who is gone has left in the line that the program says.
+-- The end of the job is that of the program; who is gone has left in the line that the program
+-- says.
 pub record EndsAs (program : ProgramData) (job : JobData) (line_of : ℕ → ℕ) (end : Source) :
     Type 0 where
   pub reached : IsReached job job.steps

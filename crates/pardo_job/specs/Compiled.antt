@@ -1,13 +1,13 @@
 -- What the compiler makes of a program: the job of the definitions, with the steps of its run.
-use Rattle.std.specs.Prelude.{◌≡◌, ℕ, ◌+◌, ◌<◌, ◌⊎◌, true, List, slice_get, Some}
+use Rattle.std.specs.Prelude.{◌≡◌, ℕ, ◌<◌, ◌⊎◌, true, List, slice_get, slice_index, Some}
 use Rattle.pram_job.specs.Job.{JobData, IsJob}
 use Rattle.pram_step.specs.declared.answer.Fault.{Fault}
 use Rattle.pram_machine.specs.Machine.{AllStopped}
 use Rattle.pram_step.specs.Runs.{state_after, IsReached, IsFirstConflict}
 use Rattle.pardo_text.specs.declared.statement.Line.{Line}
 use Rattle.pardo_text.specs.Program.{ProgramData}
-use Rattle.pardo_job.specs.Lines.{job_of, place_of, length_of}
-use Rattle.pardo_job.specs.Refusals.{is_level}
+use Rattle.pardo_job.specs.Lines.{job_of}
+use Rattle.pardo_job.specs.Refusals.{is_level, line_numbers}
 
 -- a job, and for each of its instructions the line of the text that it came from
 pub record CompiledData : Type 0 where
@@ -24,10 +24,10 @@ pub record Stops (job : JobData) : Type 0 where
 abbrev pub IsWhole : JobData → Type 0
 IsWhole job = Stops job ⊎ ((fault : Fault) × IsFirstConflict job fault × (fault.step ≡ job.steps))
 
--- each instruction of a line has the line's number in the text
+-- each instruction is told by the number of the text's line that it came from, also the first one
+-- and the last
 abbrev pub AreNumbers : ProgramData → (ℕ → ℕ) → Type 0
-AreNumbers program line_of = (j k : ℕ) (line : Line) → slice_get program.lines j ≡ Some line →
-    k < length_of program line → line_of (place_of program j + k) ≡ line.number
+AreNumbers program line_of = (index : ℕ) → line_of index ≡ slice_index (line_numbers program) index
 
 -- three registers are enough for each line
 abbrev pub AreLevel : ProgramData → Type 0

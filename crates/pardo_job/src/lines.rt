@@ -248,7 +248,8 @@ fn put_loop(
     requires test { is_shallow test.now ≡ true }
     requires start { is_shallow start.now ≡ true }
     ensures { PutsLine code.old.items code.new.items result
-        (test.now ++ JzTo 0 (length code.old.items + length test.now + 2) ∷ JmpTo after ∷ start.now) }
+        (test.now ++ JzTo 0 (length code.old.items + length test.now + 2)
+        ∷ JmpTo after ∷ start.now) }
 {
     if test.len() > MAX_CODE {
         return Err(JobKind::TooLong);

@@ -27,6 +27,7 @@ use Rattle.pardo_job.specs.Operations.{is_shallow}
 use Rattle.pardo_job.specs.Runs.{line_number}
 use Rattle.pardo_job.proofs.Assigning.{both_code}
 use Rattle.pardo_job.proofs.Meanings.{asked_at}
+use Rattle.pardo_job.proofs.Placed.{number_in}
 use Rattle.pardo_law.specs.Locals.{Local, IsLocal, IsNamedAt, Standing, store_of, StandsAt}
 use Rattle.pardo_law.specs.Locals.{next_local}
 use Rattle.pardo_law.proofs.Advancing.{Carried, asked_shared, cost, place_low}
@@ -53,7 +54,8 @@ number_at program line_of numbers j p line is inside =
     let hi : p < place_of program (j + 1) = bounds.1 in
     let e = place_next program j line is in
     let same : place_of program j + (p - place_of program j) ≡ p = omega arith in
-    ap line_of (sym same) ∙ numbers j (p - place_of program j) line is (omega arith)
+    ap line_of (sym same)
+    ∙ number_in program line_of numbers j (p - place_of program j) line is (omega arith)
 
 pub line_number_is : (program : ProgramData) (source : Source) (line : Line) →
     slice_get program.lines source.at ≡ Some line →

@@ -5,25 +5,26 @@ use Rattle.std.proofs.lemmas.List.{set-get_or}
 use mathlib.Core.Option.{none, some, some-ne-none, some-injective}
 use lib.ListN.{get_elem?}
 use prog.Atomic.{either}
-use Rattle.atomic_table.specs.Table.{State, Me, keeps, step, opening, Allows, Splits, Joins}
+use Rattle.atomic_table.specs.Table.{State, Me, keeps, step, opening}
+use Rattle.atomic_table.specs.Table.{Allows, Enters, Splits, Joins}
 use Rattle.atomic_table.proofs.Lists.{at_set, at_snoc}
 use Rattle.walkx.specs.declared.operation.Op.{Op}
 use Rattle.walkx.specs.declared.operation.Op.TheVariants.{Load, Store, Max, Swap}
 use Rattle.walkx.specs.Operations.{words_after, answer}
-use Rattle.walkx.specs.Records.{Record, after, both}
+use Rattle.walkx.specs.Records.{Record, empty, after, both}
 use Rattle.lawful_walk.specs.Board.{Stands, Grows}
 use Rattle.lawful_walk.specs.Moments.{Backed, Sound, Keeps}
 use Rattle.lawful_walk.proofs.Moments.{same, backed_later, backs}
 use Rattle.lawful_walk.proofs.Sounding.{sound_of}
 use Rattle.pram_board.specs.declared.task.Task.{Task}
 use Rattle.pram_board.specs.declared.task.View.{View}
-use Rattle.pram_board.specs.Rules.{idle, opened, united, Bears, Holds, Heard}
+use Rattle.pram_board.specs.Rules.{idle, opened, united, viewing, Bears, Holds, Heard}
 use Rattle.pram_board.specs.Rules.{Loaded, Stored, Raised, Swapped, May}
 
 abbrev S : Type 0
 S = State (Unit {0}) View
 
-abbrev M : Type 0
+abbrev pub M : Type 0
 M = Me (Unit {0}) View
 
 -- ---- the views of all seats
@@ -142,6 +143,24 @@ pub may_as : (key t : Task) (r q : Record) (op o : Op) → key ≡ t → r ≡ q
     op ≡ o → May t q op → May key r o
 may_as key t r q op o k e is may =
     subst (λ (x : Task × Record × Op). May x.0 x.1 x.2) (λ i. (sym k i, sym e i, is i)) may
+
+-- ---- a seat without another one
+-- its record is a load, which the words bear out
+pub entering : (t : Task) (slots word : ℕ) → May t empty (Load word) →
+    Enters (Holds t) slots word
+    (λ found view. Loaded (step slots word 0 0 none) (opened t, []) found (view, []))
+entering t slots word may s holds homes range =
+    let known : Record = after empty (Load word) (slice_index s.words word) in
+    let backed : Backed t.job t.layout known s.words =
+    backs t.job t.layout empty (Load word) s.words holds.stands tt
+    (may.1 s.words holds.stands tt) in (
+      viewing t known,
+      record {
+        stands = holds.stands;
+        seats = more_seats t s.words s.views (viewing t known) holds.seats (λ _. (refl, backed));
+      },
+      (refl, sound_of t.job t.layout known s.words holds.stands backed),
+    )
 
 -- ---- seats that are split and joined
 pub splitting : (t : Task) (id : ℕ) (v : View) → Splits (Holds t) id v v v

@@ -43,7 +43,8 @@ impl Board {
     ghost use Rattle.walkx.specs.Walk.{IsBoard, IsLayoutOf};
     ghost use Rattle.lawful_walk.specs.Moments.{Sound};
     ghost use Rattle.pram_board.specs.Rules.{May};
-    ghost use Rattle.pram_board.specs.Seats.{IsOpened, Remembers, hears, unites};
+    ghost use Rattle.pram_board.specs.Seats.{HasLoaded, IsOpened, Remembers, hears, unites};
+    ghost use Rattle.walkx.specs.Records.{empty};
 
     /// A new board for a job and so many workers, and a seat that has seen nothing. The board lies
     /// in the compact form and keeps its own copy of the job.
@@ -93,6 +94,16 @@ impl Board {
         let task = Task { job, layout };
         let (table, seat) = Table::of_words(alloc, words.as_slice(), &task)?;
         Ok((Board { task, table }, Seat { seat }))
+    }
+
+    /// A seat of this board without another one, as for a thread that has none to split. It has
+    /// seen one load of word 0, which is in its record, and nothing else. It takes no memory.
+    pub fn new_seat(&self) -> Seat
+        ensures desk { result.desk ≡ self.now }
+        ensures seen { HasLoaded 1 (record { desk = self.now; record_of = empty }) result }
+    {
+        let (_, seat) = self.table.shared.load_new_seat::<Loads>(0);
+        Seat { seat }
     }
 
     /// Two seats that have seen what one had seen. It takes no memory and one load, which is in no

@@ -7,8 +7,8 @@ use Rattle.command_data.specs.CellLists.{SpellsCell, cell_of, part_at}
 use Rattle.pram_job.specs.Job.{JobData}
 use Rattle.pram_commands.specs.CellLists.{AreCellsOf, HasCell, IsCellOf, IsFirstOutside, IsOutside}
 use Rattle.pram_commands.specs.Names.{NamingData}
-use Rattle.pram_commands.specs.declared.fault.CommandFault.{CommandFault}
-use Rattle.pram_commands.specs.declared.fault.CommandFault.TheVariants.{OutsideCell, OutsidePlace}
+use Rattle.refusals.specs.declared.fault.CommandFault.{CommandFault}
+use Rattle.refusals.specs.declared.fault.CommandFault.TheVariants.{OutsideCell, OutsidePlace}
 
 -- the part of this turn
 turn_at : (parts : List (List ℕ)) (n : ℕ) (part : List ℕ) →

@@ -17,9 +17,9 @@ use Rattle.pram_commands.specs.Did.{ending, ends_with, tells, tells_status}
 use Rattle.pram_commands.specs.Inner.Puts.{PutBeginning, Puts, printed_as, status_result}
 use Rattle.pram_commands.specs.Inputs.{Taking, missing_step}
 use Rattle.pram_commands.specs.Names.{AreNames, NamingData}
-use Rattle.pram_commands.specs.declared.fault.CommandFault.{CommandFault}
-use Rattle.pram_commands.specs.declared.fault.CommandFault.TheVariants.{JobDevice, PlanDevice}
-use Rattle.pram_commands.specs.declared.fault.CommandFault.TheVariants.{OutDevice, Memory}
+use Rattle.refusals.specs.declared.fault.CommandFault.{CommandFault}
+use Rattle.refusals.specs.declared.fault.CommandFault.TheVariants.{JobDevice, PlanDevice}
+use Rattle.refusals.specs.declared.fault.CommandFault.TheVariants.{OutDevice, Memory}
 
 pub ok_not_err : {T E : Type 0} (value : T) (e : E) → IsErrOf (Ok value) e → ⊥
 ok_not_err value e is = cc is

@@ -14,8 +14,8 @@ use Rattle.pram_commands.specs.Did.{Command, Did, Explains, Given, Writing, Wrot
 use Rattle.pram_commands.specs.Inner.Puts.{PutBeginning, Puts}
 use Rattle.pram_commands.specs.Inputs.{IsOfJob, Taking}
 use Rattle.pram_commands.specs.Names.{AreNames, NamingData}
-use Rattle.pram_commands.specs.declared.fault.CommandFault.{CommandFault}
-use Rattle.pram_commands.specs.declared.fault.CommandFault.TheVariants as fault
+use Rattle.refusals.specs.declared.fault.CommandFault.{CommandFault}
+use Rattle.refusals.specs.declared.fault.CommandFault.TheVariants as fault
 use Rattle.pram_commands.proofs.Doing.{err_same}
 
 -- it is no device's

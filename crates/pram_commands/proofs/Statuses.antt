@@ -12,17 +12,17 @@ use Rattle.pram_cost.specs.declared.cost.Cost.{Cost}
 use Rattle.pram_commands.specs.Costs.{conflict_of}
 use Rattle.pram_commands.specs.Did.{Begins, Command, Did, Explains, Prints, Wrote}
 use Rattle.pram_commands.specs.Did.{Writing, ends_with, tells_status}
-use Rattle.pram_commands.specs.Faults.{fault_status}
+use Rattle.refusals.specs.Faults.{fault_status}
 use Rattle.pram_commands.specs.Inputs.{Reading, Taking}
 use Rattle.pram_commands.specs.Line.{command_of}
 use Rattle.pram_commands.specs.Served.{Served}
-use Rattle.pram_commands.specs.declared.fault.CommandFault.{CommandFault}
-use Rattle.pram_commands.specs.declared.fault.CommandFault.TheVariants.{Text, Program, Plan, OutsideCell}
-use Rattle.pram_commands.specs.declared.fault.CommandFault.TheVariants.{OutsidePlace}
-use Rattle.pram_commands.specs.declared.fault.CommandFault.TheVariants.{OutsideStep}
-use Rattle.pram_commands.specs.declared.fault.CommandFault.TheVariants.{JobDevice, PlanDevice}
-use Rattle.pram_commands.specs.declared.fault.CommandFault.TheVariants.{OutDevice, JobTooLarge}
-use Rattle.pram_commands.specs.declared.fault.CommandFault.TheVariants.{PlanTooLarge, Memory}
+use Rattle.refusals.specs.declared.fault.CommandFault.{CommandFault}
+use Rattle.refusals.specs.declared.fault.CommandFault.TheVariants.{Text, Program, Plan, OutsideCell}
+use Rattle.refusals.specs.declared.fault.CommandFault.TheVariants.{OutsidePlace}
+use Rattle.refusals.specs.declared.fault.CommandFault.TheVariants.{OutsideStep}
+use Rattle.refusals.specs.declared.fault.CommandFault.TheVariants.{JobDevice, PlanDevice}
+use Rattle.refusals.specs.declared.fault.CommandFault.TheVariants.{OutDevice, JobTooLarge}
+use Rattle.refusals.specs.declared.fault.CommandFault.TheVariants.{PlanTooLarge, Memory}
 use Rattle.command_data.specs.declared.line.Line.{Line}
 use Rattle.command_data.specs.declared.line.Line.TheVariants as line
 use Rattle.pram_commands.proofs.Doing.{err_same, ok_not_err}

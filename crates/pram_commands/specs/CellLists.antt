@@ -5,9 +5,9 @@ use Rattle.command_data.specs.CellLists.{SpellsCell, cell_of, part_at}
 use Rattle.pram_job.specs.Job.{JobData}
 use Rattle.pardo_job.specs.Printed.{cell_text}
 use Rattle.pram_commands.specs.Names.{NamingData}
-use Rattle.pram_commands.specs.declared.fault.CommandFault.{CommandFault}
-use Rattle.pram_commands.specs.declared.fault.CommandFault.TheVariants.{OutsideCell, OutsidePlace}
-use Rattle.pram_commands.specs.declared.fault.CommandFault.TheVariants.{Memory}
+use Rattle.refusals.specs.declared.fault.CommandFault.{CommandFault}
+use Rattle.refusals.specs.declared.fault.CommandFault.TheVariants.{OutsideCell, OutsidePlace}
+use Rattle.refusals.specs.declared.fault.CommandFault.TheVariants.{Memory}
 
 -- the program's answers tell the cell so: `A[3]`, or a scalar by its name
 abbrev pub IsPlaceOf : Option NamingData → ℕ → List ℕ → Type 0

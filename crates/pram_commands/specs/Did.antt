@@ -15,14 +15,14 @@ use Rattle.pram_commands.specs.CellLists.{IsOutside}
 use Rattle.pram_commands.specs.Inputs.{GivesSomeJob, IsOfJob, Reading, Taking}
 use Rattle.pram_commands.specs.Inputs.{missing_step}
 use Rattle.pram_commands.specs.Names.{AreNames, NamingData, told}
-use Rattle.pram_commands.specs.declared.fault.CommandFault.{CommandFault}
-use Rattle.pram_commands.specs.declared.fault.CommandFault.TheVariants.{Text, Program, Plan}
-use Rattle.pram_commands.specs.declared.fault.CommandFault.TheVariants.{OutsideCell, JobDevice}
-use Rattle.pram_commands.specs.declared.fault.CommandFault.TheVariants.{OutsidePlace, OutsideStep}
-use Rattle.pram_commands.specs.declared.fault.CommandFault.TheVariants.{PlanDevice, OutDevice}
-use Rattle.pram_commands.specs.declared.fault.CommandFault.TheVariants.{JobTooLarge, PlanTooLarge}
-use Rattle.pram_commands.specs.declared.fault.CommandFault.TheVariants.{Memory}
-use Rattle.pram_commands.specs.declared.refusal.TheConstants.{DONE, CONFLICT, UNFINISHED}
+use Rattle.refusals.specs.declared.fault.CommandFault.{CommandFault}
+use Rattle.refusals.specs.declared.fault.CommandFault.TheVariants.{Text, Program, Plan}
+use Rattle.refusals.specs.declared.fault.CommandFault.TheVariants.{OutsideCell, JobDevice}
+use Rattle.refusals.specs.declared.fault.CommandFault.TheVariants.{OutsidePlace, OutsideStep}
+use Rattle.refusals.specs.declared.fault.CommandFault.TheVariants.{PlanDevice, OutDevice}
+use Rattle.refusals.specs.declared.fault.CommandFault.TheVariants.{JobTooLarge, PlanTooLarge}
+use Rattle.refusals.specs.declared.fault.CommandFault.TheVariants.{Memory}
+use Rattle.refusals.specs.declared.refusal.TheConstants.{DONE, CONFLICT, UNFINISHED}
 
 -- What a call did with its output, and that nothing was written.
 pub record Writing : Type 1 where
@@ -39,11 +39,11 @@ writing of_out before after = record {
   Unwritten = after ≡ before;
 }
 
--- What a command is: the workers of the plan that it follows, if it follows one; the parts of a list
--- of cells that the job has to have; the first step that it shows, which the job has to have, or 1;
--- whether it prints in pieces, so that a beginning may stand printed where memory runs out; and what
--- it comes to: on this text, its job and this plan it prints these bytes, and this is the answer, if
--- it gives one.
+-- What a command is: the workers of the plan that it follows, if it follows one; the parts of a
+-- list of cells that the job has to have; the first step that it shows, which the job has to have,
+-- or 1; whether it prints in pieces, so that a beginning may stand printed where memory runs out;
+-- and what it comes to: on this text, its job and this plan it prints these bytes, and this is the
+-- answer, if it gives one.
 pub record Command : Type 1 where
   pub workers : Option ℕ
   pub cells : List (List ℕ)
@@ -78,8 +78,8 @@ pub record Given (command : Command) (reads : Reading) (job : JobData) (plan : P
   pub a_job : GivesText reads.job reads.job' job_text job
   pub a_plan : IfSome command.workers (λ workers. GivesPlan reads.plan reads.plan' workers plan)
 
--- On what the sources gave, which has the first step that the command shows, the command prints this
--- text, and this is its answer.
+-- On what the sources gave, which has the first step that the command shows, the command prints
+-- this text, and this is its answer.
 pub record ComesTo (command : Command) (reads : Reading) (text : List ℕ)
     (answer : Option RunAnswer) : Type 0 where
   pub job : JobData
@@ -128,7 +128,8 @@ abbrev pub AfterJob : Option ℕ → Reading → (ℕ → Type 0) → Type 0
 AfterJob None reads Holds = ⊥
 AfterJob (Some workers) reads Holds = GivesSomeJob reads.job reads.job' × Holds workers
 
--- The sources gave a job, and this fault says the first of the command's cells that it does not have.
+-- The sources gave a job, and this fault says the first of the command's cells that it does not
+-- have.
 pub record GivesOutside (command : Command) (reads : Reading) (fault : CommandFault) : Type 0 where
   pub job : JobData
   pub plan : PlanData

@@ -11,6 +11,8 @@ use Rattle.pardo_job.specs.declared.fault.JobKind.TheVariants as job_kind
 use Rattle.pardo_job.specs.declared.fault.Refusal.{Refusal}
 use Rattle.pardo_job.specs.declared.fault.Refusal.TheVariants as program
 use Rattle.pardo_answers.specs.Language.{is_program}
+use Rattle.pram_step.specs.Runs.{IsAnswer}
+use Rattle.pram_step.specs.declared.answer.RunAnswer.{RunAnswer}
 use Rattle.pram_streams.specs.Transfer.{Gives, GivesMoreThan, GivesSome}
 use Rattle.pram_streams.specs.declared.device.Sink as a_sink
 use Rattle.pram_streams.specs.declared.device.Source as a_source
@@ -18,12 +20,12 @@ use Rattle.pram_streams.specs.declared.transfer.TheConstants.{MOST}
 use Rattle.stop_plan.specs.Plan.{PlanData}
 use Rattle.stop_plan.specs.Records.{FirstFault, SpellsPlan, records_of}
 use Rattle.stop_plan.specs.declared.plan.PlanKind.{PlanKind}
-use Rattle.pram_commands.specs.declared.fault.CommandFault.{CommandFault}
+use Rattle.refusals.specs.declared.fault.CommandFault.{CommandFault}
 use Rattle.pram_commands.specs.Names.{AreNames, Means}
-use Rattle.pram_commands.specs.declared.fault.CommandFault.TheVariants.{Text, Program, Plan}
-use Rattle.pram_commands.specs.declared.fault.CommandFault.TheVariants.{JobDevice}
-use Rattle.pram_commands.specs.declared.fault.CommandFault.TheVariants.{PlanDevice, JobTooLarge}
-use Rattle.pram_commands.specs.declared.fault.CommandFault.TheVariants.{PlanTooLarge, Memory}
+use Rattle.refusals.specs.declared.fault.CommandFault.TheVariants.{Text, Program, Plan}
+use Rattle.refusals.specs.declared.fault.CommandFault.TheVariants.{JobDevice}
+use Rattle.refusals.specs.declared.fault.CommandFault.TheVariants.{PlanDevice, JobTooLarge}
+use Rattle.refusals.specs.declared.fault.CommandFault.TheVariants.{PlanTooLarge, Memory}
 use Rattle.pram_commands.specs.declared.sources.Inputs.{Inputs}
 use Rattle.pram_commands.specs.declared.sources.Sources.{Sources}
 
@@ -99,6 +101,12 @@ pub record GivesFault (source source' : Option (List ℕ)) (fault : CommandFault
 -- The source gave a text of a job.
 abbrev pub GivesSomeJob : Option (List ℕ) → Option (List ℕ) → Type 0
 GivesSomeJob source source' = (job : JobData) × GivesJob source source' job
+
+-- The source gave a text, and this is the answer of its job.
+pub record GivesAnswer (source source' : Option (List ℕ)) (answer : RunAnswer) : Type 0 where
+  pub job : JobData
+  pub gives : GivesJob source source' job
+  pub answers : IsAnswer job answer
 
 -- The source gave a text whose records spell the plan.
 pub record GivesPlan (source source' : Option (List ℕ)) (workers : ℕ) (plan : PlanData)

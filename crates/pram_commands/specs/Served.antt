@@ -2,12 +2,12 @@
 use Rattle.std.specs.Prelude.{◌≡◌, ◌⊎◌, ◌≤◌, ◌<◌, ℕ, IsTrue, is_some}
 use Rattle.pram_streams.specs.Transfer.{GivesSome}
 use Rattle.pram_commands.specs.Did.{Begins, Command, Explains, Prints, Writing, tells_status}
-use Rattle.pram_commands.specs.Faults.{fault_status}
+use Rattle.refusals.specs.Faults.{fault_status}
 use Rattle.pram_commands.specs.Inputs.{Reading}
 use Rattle.pram_commands.specs.Line.{command_of}
-use Rattle.pram_commands.specs.declared.fault.CommandFault.{CommandFault}
+use Rattle.refusals.specs.declared.fault.CommandFault.{CommandFault}
 use Rattle.command_data.specs.declared.line.Line.{Line}
-use Rattle.pram_commands.specs.declared.refusal.TheConstants.{REFUSED, UNFINISHED, FAILED, MEMORY}
+use Rattle.refusals.specs.declared.refusal.TheConstants.{REFUSED, UNFINISHED, FAILED, MEMORY}
 
 -- There is a fault with this status, of which all is true that a fault says.
 abbrev pub HasFault : Command → Reading → Writing → ℕ → Type 0
@@ -16,9 +16,9 @@ HasFault command reads writes status =
 
 -- What the status of a line says. Below 2, or 3: it was done. 2: a text bears a fault, or the job
 -- lacks a cell that is to be watched, and nothing was written. 4: a device failed or a source is
--- too large; 4 or more wherever one failed. With 4 or more nothing was written; or, where the output
--- failed or the command prints in pieces, a beginning of what the line prints. The sources stand
--- after the bytes read so far.
+-- too large; 4 or more wherever one failed. With 4 or more nothing was written; or, where the
+-- output failed or the command prints in pieces, a beginning of what the line prints. The sources
+-- stand after the bytes read so far.
 pub record Served (line : Line) (reads : Reading) (writes : Writing) (status : ℕ) : Type 0 where
   pub done : (status < REFUSED) ⊎ (status ≡ UNFINISHED)
       → Prints (command_of line) reads writes (tells_status status)

@@ -1,5 +1,5 @@
 -- What the commands come to that run a job on threads.
-use Rattle.std.specs.Prelude.{◌≡◌, ◌^◌, ◌<◌, ℕ, Bool, List, [], ◌∷◌, Option, None, Some, ⊤, map}
+use Rattle.std.specs.Prelude.{◌≡◌, ◌<◌, ℕ, Bool, List, [], ◌∷◌, Option, None, Some, ⊤, map}
 use Rattle.std.specs.Prelude.{slice_index, All, codes, decimal}
 use Rattle.std.specs.List.{repeat}
 use Rattle.std.specs.List.Sorted.{IsNonDecreasingBy}
@@ -93,7 +93,8 @@ cell_words (Some naming) = record {
   word = λ cell. or_number (cell_text naming.program.arrays cell) cell;
 }
 
--- A watch came to this answer, and these bytes tell what its reader saw, the cells by a text's names.
+-- A watch came to this answer, and these bytes tell what its reader saw, the cells by a text's
+-- names.
 pub record TellsSights (names : Option NamingData) (job : JobData) (plan : PlanData)
     (cells : List ℕ) (rounds : ℕ) (answer : RunAnswer) (front : List ℕ) : Type 0 where
   pub sights : List Sight

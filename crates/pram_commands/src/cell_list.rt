@@ -2,11 +2,12 @@
 ghost use Rattle.std.specs.Prelude.{◌≡◌, ◌<◌, ◌≤◌, ◌⊎◌, ℕ, All, IfOk, IfErr};
 ghost use Rattle.std.specs.Prelude.{◌++◌, ◌∷◌, [], MatchOption, OnOk};
 ghost use Rattle.command_data.specs.CellLists.{SpellsCell, cell_of, parts_of};
-ghost use Rattle.pram_commands.specs.CellLists.{AreCellsOf, HasCell, IsCellOf, IsOutside, IsPlaceOf};
+ghost use Rattle.pram_commands.specs.CellLists.{AreCellsOf, HasCell, IsCellOf, IsOutside};
+ghost use Rattle.pram_commands.specs.CellLists.{IsPlaceOf};
 
-use crate::fault::CommandFault;
 use crate::sources::Inputs;
 use command_data::cell_of;
+use refusals::CommandFault;
 use std::alloc::{AllocError, Global};
 
 /// The cells that the parts of a list's text name in a job, in order.

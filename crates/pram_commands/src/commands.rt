@@ -12,24 +12,23 @@ ghost use Rattle.pram_commands.specs.Line.{command_of};
 mod alone;
 mod on_threads;
 
-use crate::fault::CommandFault;
 use crate::names::{Words, print_told};
-use crate::refusal::{CONFLICT, DONE, UNFINISHED};
 use crate::sources::Sources;
-pub use alone::{check, compile, cost, plain, replay, steps};
+pub use alone::{check, compile, cost, plain, replay, steps, take_answer};
 use command_data::Line;
 pub use on_threads::{Reads, Wanted, run, watch};
 use pram_cost::Cost;
 use pram_rows::Window;
 use pram_step::RunAnswer;
 use pram_streams::{PrintFault, Sink, Source};
+use refusals::{CONFLICT, CommandFault, DONE, UNFINISHED};
 use std::alloc::Global;
 use std::rt::Clock;
 use std::sync::Wait;
 use std::thread::Threads;
 
 /// Does what a line that starts no thread asks, and answers the status of its answer.
-pub(crate) fn do_alone<J: Source, P: Source, O: Sink>(
+pub fn do_alone<J: Source, P: Source, O: Sink>(
     alloc: Global,
     line: &Line<'_>,
     sources: &mut Sources<J, P>,

@@ -5,14 +5,14 @@ ghost use Rattle.pram_commands.specs.Faults.{fault_of_job_source, fault_of_plan_
 ghost use Rattle.pram_commands.specs.Inputs.{ExplainsJob, ExplainsPlan, GivesJob, GivesPlan};
 ghost use Rattle.pram_commands.specs.Inputs.{GivesText, Took, taking};
 ghost use Rattle.pram_commands.specs.Names.{AreNames};
-ghost use Rattle.pram_commands.specs.declared.fault.CommandFault.TheVariants.{JobDevice};
+ghost use Rattle.refusals.specs.declared.fault.CommandFault.TheVariants.{JobDevice};
 
-use crate::fault::CommandFault;
 use crate::names::{Naming, read_text};
 use crate::sources::{Inputs, Sources};
 use command_data::Workers;
 use pram_job::Job;
 use pram_streams::{Source, TakeFault, take};
+use refusals::CommandFault;
 use std::alloc::Global;
 use stop_plan::{Plan, PlanFault, PlanKind, read_plan};
 

@@ -2,31 +2,32 @@
 //! status.
 #![tactic(auto)]
 
+mod bytes;
 mod cell_list;
 mod commands;
-mod explanation;
-mod fault;
 mod files;
 mod inputs;
 mod names;
 mod places;
 mod printing;
 mod progress;
-mod refusal;
-mod sentences;
 mod server;
 mod sources;
 mod threads;
 mod why;
 
+pub use bytes::Bytes;
 pub use command_data::{Block, CellList, Line, Manner, Telling, Workers};
-pub use commands::{Reads, Wanted, check, compile, cost, plain, replay, run, steps, watch};
-pub use explanation::{Explanation, Reasons};
-pub use fault::CommandFault;
-pub use files::{Folder, serve_files};
+pub use commands::{
+    Reads, Wanted, check, compile, cost, do_alone, plain, replay, run, steps, take_answer, watch,
+};
+pub use files::{Folder, serve_files, serve_files_alone};
 pub use inputs::{take_inputs, take_job, take_plan};
 pub use names::Naming;
 pub use progress::{Teller, tell_steps};
-pub use refusal::{CONFLICT, DONE, FAILED, MEMORY, REFUSED, Refusal, UNFINISHED, tell};
+pub use refusals::{
+    CONFLICT, CommandFault, DONE, Explanation, FAILED, MEMORY, REFUSED, Reasons, Refusal,
+    UNFINISHED, tell,
+};
 pub use server::{serve, serve_alone};
 pub use sources::{Console, Inputs, Sources};

@@ -15,7 +15,6 @@ ghost use Rattle.pram_commands.specs.Names.{AreNames, IsMachines, line_at, told}
 ghost use Rattle.pram_commands.specs.Steps.{lines_of};
 ghost use Rattle.pram_commands.specs.Threads.{cell_words, or_number};
 
-use crate::fault::CommandFault;
 use crate::places::{cell_at, place_text, push_told};
 use pardo_answers::{Ended, Names, is_program, plain_end, print_named, push_conflict};
 use pardo_job::{JobFault, JobKind, Refusal as ProgramRefusal, compile};
@@ -27,6 +26,7 @@ use pram_run::{CellNames, Numbers};
 use pram_step::{Cells, Fault, RunAnswer};
 use pram_streams::{PrintFault, Sink, print_answer};
 use pram_text::{TextFault, TextKind, read_job};
+use refusals::CommandFault;
 use std::alloc::{AllocError, Global};
 use std::marker::Model;
 
@@ -50,7 +50,8 @@ impl Model for Naming {
 
     ghost coded = { Prim.hlevel (codes, a_program.the_row.coded, an_end.the_row.coded) };
 
-    ghost view = { λ n. record { program = n.program; numbers = n.numbers.items; ended = n.ended } };
+    ghost view = { λ n.
+        record { program = n.program; numbers = n.numbers.items; ended = n.ended } };
 
     ghost use Rattle.pardo_text.specs.Lawful.{AreArrays};
 

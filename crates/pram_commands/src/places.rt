@@ -12,7 +12,8 @@ use std::alloc::{AllocError, Global};
 // A number in brackets is read on as long as it is below.
 const MOST: usize = 1 << 32;
 
-// Those of the arrays that may have the cell: one at most. They are halved as long as they are more.
+// Those of the arrays that may have the cell: one at most. They are halved as long as they are
+// more.
 fn arrays_at(arrays: &[Array], cell: usize) -> &[Array]
     requires { AreArrays arrays.now 0 }
     ensures { cell_text result.now cell ≡ cell_text arrays.now cell }

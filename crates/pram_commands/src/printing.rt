@@ -89,8 +89,9 @@ impl<O: Sink> Reads for PrintingReads<'_, O> {
 
     ghost reads = { λ p task cells rounds given later after.
         (after.out.ghost_name ≡ p.out.ghost_name) × (after.words ≡ p.words)
-        × PutWatch (cell_words p.words.names.now) task cells rounds given later (O.taken p.out.now) (O.taken after.out.now)
-        after.printed × (IsTrue (O.has_failed after.out.now) ↔ IsErrOf after.printed Device) };
+        × PutWatch (cell_words p.words.names.now) task cells rounds given later
+        (O.taken p.out.now) (O.taken after.out.now) after.printed
+        × (IsTrue (O.has_failed after.out.now) ↔ IsErrOf after.printed Device) };
 
     fn read<G: Gate>(
         self,

@@ -1,30 +1,26 @@
 //! The work of a line.
-ghost use Rattle.std.specs.Prelude.{◌≡◌, ◌≢◌, ◌⊎◌, false, IfOk, IfErr};
+ghost use Rattle.std.specs.Prelude.{◌≡◌, ◌⊎◌, false, IfOk, IfErr};
 ghost use Rattle.pram_commands.specs.Did.{writing};
-ghost use Rattle.pram_commands.specs.Faults.{fault_status};
-ghost use Rattle.pram_commands.specs.Inner.Refusals.{named_by, named_in, refusal_status};
+ghost use Rattle.refusals.specs.Faults.{fault_status};
 ghost use Rattle.pram_commands.specs.Inputs.{AreReady, reading};
 ghost use Rattle.command_data.specs.Line.{StartsNoThread};
 ghost use Rattle.pram_commands.specs.Served.{Served};
-ghost use Rattle.pram_commands.specs.declared.fault.CommandFault.TheVariants.{Memory};
 
 use crate::commands::{do_alone, do_on_threads};
-use crate::explanation::{Explanation, Reasons, explain};
-use crate::fault::CommandFault;
-use crate::refusal::{MEMORY, Refusal, tell_first};
 use crate::sources::{Console, Sources};
 use command_data::Line;
 use pram_streams::{Sink, Source};
+use refusals::{CommandFault, Explanation, MEMORY, Reasons, tell_fault};
 use std::alloc::Global;
 use std::rt::Clock;
 use std::sync::Wait;
 use std::thread::Threads;
 
 /// Does what the line asks, and answers the exit status. The job and the plan come from the sources
-/// in place of the line's files; where the line names no plan, that source is `Empty`. Refusals are
-/// told on the console's `err`, and how far a run is on the runtime's standard error; where either
-/// fails, the status stays. It waits for threads at `run` and `watch` alone: `serve_alone` does the
-/// others.
+/// in place of the line's files; where the line names no plan, that source has no bytes. Refusals
+/// are told on the console's `err`, and how far a run is on the runtime's standard error; where
+/// either fails, the status stays. It waits for threads at `run` and `watch` alone: `serve_alone`
+/// does the others.
 pub fn serve<R: Threads + Wait + Clock + Eprint + Sync, J: Source, P: Source, O: Sink, E: Sink>(
     rt: &R,
     alloc: Global,
@@ -85,46 +81,10 @@ fn status_after<O: Sink, E: Sink>(
         Ok(status) => return status,
         Err(fault) => fault,
     };
-    let (status, takes) = tell_first(alloc, refusal_of(line, fault), &mut console.err);
-    if takes && console.explains {
-        let explanation = Explanation {
-            line: *line,
-            fault: told_of(fault, status),
-            reasons,
-        };
-        explain(alloc, &explanation, &mut console.err);
-    }
-    status
-}
-
-// The fault that was told with this status: where there was no memory to tell another one, that.
-fn told_of(fault: CommandFault, status: u8) -> CommandFault
-    ensures memory { status ≡ MEMORY → result ≡ Memory }
-    ensures told { status ≢ MEMORY → result ≡ fault }
-{
-    if status == MEMORY {
-        return CommandFault::Memory;
-    }
-    fault
-}
-
-// What is told of a fault of a line.
-fn refusal_of<'a>(line: &Line<'a>, fault: CommandFault) -> Refusal<'a>
-    ensures status { refusal_status result ≡ fault_status fault }
-    ensures names { named_in result ≡ named_by line.now fault }
-{
-    match fault {
-        CommandFault::Text { line, kind } => Refusal::Text { line, kind },
-        CommandFault::Program(refusal) => Refusal::Program(refusal),
-        CommandFault::Plan { row, kind } => Refusal::Plan { row, kind },
-        CommandFault::OutsideCell { cell } => Refusal::Cell(cell),
-        CommandFault::OutsidePlace { at } => Refusal::Place(line.place(at)),
-        CommandFault::OutsideStep { step } => Refusal::Step(step),
-        CommandFault::JobDevice => Refusal::File(line.file()),
-        CommandFault::PlanDevice => Refusal::File(line.plan().unwrap_or("")),
-        CommandFault::OutDevice => Refusal::Output,
-        CommandFault::JobTooLarge => Refusal::Size(line.file()),
-        CommandFault::PlanTooLarge => Refusal::Size(line.plan().unwrap_or("")),
-        CommandFault::Memory => Refusal::Memory,
-    }
+    let explanation = Explanation {
+        line: *line,
+        fault,
+        reasons,
+    };
+    tell_fault(alloc, &explanation, console.explains, &mut console.err)
 }

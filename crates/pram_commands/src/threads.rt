@@ -236,8 +236,8 @@ impl<R: Clock, L: Reads> Reads for Hushing<'_, R, L> {
     }
 }
 
-// A board, and what a reader beside its workers reads: so many rounds through cells of the job. What
-// was read is printed once so many reads wait.
+// A board, and what a reader beside its workers reads: so many rounds through cells of the job.
+// What was read is printed once so many reads wait.
 #[derive(Drop)]
 struct View<'a> {
     site: Site<'a>,

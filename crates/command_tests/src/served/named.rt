@@ -138,7 +138,8 @@ while x~end~ -> 8 WrongKind a name here stands for something that has no place h
 x := x / 2~ -> 8 NotConstant what a division divides by must be known before the program runs
 x := 4294967296~ -> 8 OutOfLimits a number is outside its limits, or something is divided by 0
 end~ -> 8 BadBlock this else or end belongs to nothing
-x := A[x] + A[x] * (A[x] + A[x] * A[x])~ -> 8 TooDeep three registers are too few for an expression: use a private variable
+x := A[x] + A[x] * (A[x] + A[x] * A[x])~ -> 8 TooDeep three registers are too few for an \
+expression: use a private variable
 if i~x := 1~ -> 10 OpenBlock the text ends here, and a block is not closed
  -> 8 NoCode no line of code follows the line code
 ";
@@ -146,9 +147,12 @@ if i~x := 1~ -> 10 OpenBlock the text ends here, and a block is not closed
 /// The same of whole texts.
 const REFUSED_TEXTS: &str = "\
 pardo 2~ -> 1 BadHeader a line of the header is wrong, missing or repeated
-pardo 1~rule crew~shared A[1] = 1, 2~ -> 3 WrongLength the array gets too many values, or too few without ...
-pardo 1~rule crew~procs i < 1~code~while 1~end~ -> 5 Endless the program is still here after 1,048,576 steps
-pardo 1~rule crew~shared A[65000]~shared B[600]~ -> 4 TooManyCells a program has at most 65,536 cells
+pardo 1~rule crew~shared A[1] = 1, 2~ -> 3 WrongLength the array gets too many values, \
+or too few without ...
+pardo 1~rule crew~procs i < 1~code~while 1~end~ -> 5 Endless the program is still here \
+after 1,048,576 steps
+pardo 1~rule crew~shared A[65000]~shared B[600]~ -> 4 TooManyCells a program has at most \
+65,536 cells
 ";
 
 // A text in which `~` stands for a line feed, below a head.

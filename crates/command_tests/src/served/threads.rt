@@ -142,6 +142,22 @@ fn blocks_of_each_size(rt: HostRuntime) -> Result<(), Fail> {
     Ok(())
 }
 
+const BLOCKS_OF_ONE: &str = "pram 1/cells 1/procs 8/steps 3/code/set r1 1/set r2 2/set r3 3/ \
+    under 0,go,200/0,stop,0/ | 3 unfinished step=0/";
+
+const ONE_BLOCK: &str = "pram 1/cells 1/procs 8/steps 3/code/set r1 1/set r2 2/set r3 3/ \
+    under 0,go,200/0,stop,0/ | 3 unfinished step=1/";
+
+// So many ticks finish a step where all processors stand at one leaf, and else they do not.
+#[test]
+fn the_block_of_a_line_is_the_boards(rt: HostRuntime) -> Result<(), Fail> {
+    for (size, row) in [(1, BLOCKS_OF_ONE), (8, ONE_BLOCK)] {
+        let block = Block::of(size);
+        expect(&rt, rt.alloc(), &run_line(Manner { block, ..ONE }), row)?;
+    }
+    Ok(())
+}
+
 // How long a row takes, which is answered as it says.
 fn time_of<R: Abort + Threads + Wait + Clock + Eprint + Sync>(
     rt: &R,

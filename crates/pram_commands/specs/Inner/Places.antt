@@ -1,5 +1,6 @@
 -- The places of a program's cells, and how the number in one is read.
-use Rattle.std.specs.Prelude.{◌≡◌, ◌≤◌, ℕ, ◌+◌, ◌*◌, ◌-◌, ◌^◌, ◌==◌, ◌&&◌, List, length, nat_le, nat_lt}
+use Rattle.std.specs.Prelude.{◌≡◌, ◌≤◌, ℕ, ◌+◌, ◌*◌, ◌-◌, ◌^◌, ◌==◌, ◌&&◌}
+use Rattle.std.specs.Prelude.{List, length, nat_le, nat_lt}
 use Rattle.std.specs.Prelude.{if◌then◌else◌}
 use Rattle.pardo_text.specs.Program.{ArrayData}
 use Rattle.pardo_job.specs.Printed.{cell_text}

@@ -11,7 +11,7 @@ use Rattle.pram_run.specs.Heard.{Ended}
 use Rattle.pram_commands.specs.Did.{Writing, status_of, tells}
 use Rattle.pram_commands.specs.Faults.{fault_of_print}
 use Rattle.pram_commands.specs.Why.{Explaining}
-use Rattle.pram_commands.specs.declared.fault.CommandFault.{CommandFault}
+use Rattle.refusals.specs.declared.fault.CommandFault.{CommandFault}
 
 -- The output took all that the relation tells, or a beginning of it.
 pub record PutAll (Comes : List ℕ → Option RunAnswer → Type 0) (writes : Writing)

@@ -1,8 +1,10 @@
 //! The commands that start no thread: `check`, `compile`, `plain`, `cost`, `steps` and `replay`.
-ghost use Rattle.std.specs.Prelude.{◌≡◌, [], false, IfOk};
+ghost use Rattle.std.specs.Prelude.{◌≡◌, ◌↔◌, [], false, IfErr, IfOk, IsErrOf, IsTrue};
+ghost use Rattle.pram_streams.specs.Transfer.{GivesSome};
 ghost use Rattle.pram_commands.specs.Did.{Did, tells_none, writing, tells};
 ghost use Rattle.pram_commands.specs.Inner.Puts.{Puts};
-ghost use Rattle.pram_commands.specs.Inputs.{AreReady, taking, missing_step};
+ghost use Rattle.pram_commands.specs.Inputs.{AreReady, ExplainsJob, GivesAnswer, missing_step};
+ghost use Rattle.pram_commands.specs.Inputs.{taking};
 ghost use Rattle.pram_commands.specs.Plain.{checking, no_plan, plainly};
 ghost use Rattle.pram_step.specs.Runs.{IsAnswer};
 ghost use Rattle.pram_commands.specs.Names.{AreNames};
@@ -10,9 +12,9 @@ ghost use Rattle.pram_commands.specs.Costs.{costing, tells_conflict};
 ghost use Rattle.pram_commands.specs.Steps.{stepping};
 ghost use Rattle.pram_commands.specs.Replayed.{replaying};
 ghost use Rattle.pram_commands.specs.Texts.{compiling};
+ghost use Rattle.refusals.specs.declared.fault.CommandFault.TheVariants.{JobDevice};
 
 use crate::commands::{print_ending, printed};
-use crate::fault::CommandFault;
 use crate::inputs::{Spelled, take_inputs, take_job, take_text};
 use crate::names::{Words, lines_of};
 use crate::sources::{Inputs, Sources};
@@ -25,6 +27,7 @@ use pram_rows::{Shown, Window, print_steps};
 use pram_run::replay_to;
 use pram_step::{RunAnswer, plain_answer};
 use pram_streams::{PrintFault, Sink, Source, print_summary};
+use refusals::CommandFault;
 use std::alloc::{AllocError, Global};
 
 /// Reads a job, and prints its summary.
@@ -109,6 +112,25 @@ fn put_plain<O: Sink>(
     let answer = answer_of(alloc, question)?;
     put_told(alloc, out, question, &answer)?;
     Ok(answer)
+}
+
+/// Reads a job, and gives its answer. The time is that of reading the text and running the job.
+pub fn take_answer<J: Source>(alloc: Global, source: &mut J) -> Result<RunAnswer, CommandFault>
+    requires { J.has_failed source.old ≡ false }
+    ensures ok { IfOk result (GivesAnswer (J.remaining source.old) (J.remaining source.new)) }
+    ensures explains { IfErr result (ExplainsJob (J.remaining source.old)
+        (J.remaining source.new)) }
+    ensures failed { IsTrue (J.has_failed source.new) ↔ IsErrOf result JobDevice }
+    ensures reads { GivesSome (J.remaining source.old) (J.remaining source.new) }
+{
+    let spelled = take_text(alloc, source)?;
+    let question = Question {
+        why: false,
+        text: spelled.text.as_slice(),
+        job: &spelled.job,
+        names: &spelled.names,
+    };
+    Ok(answer_of(alloc, &question)?)
 }
 
 // The answer of the job. That of a program's is known already.

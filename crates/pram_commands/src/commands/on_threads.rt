@@ -9,7 +9,6 @@ ghost use Rattle.command_data.specs.CellLists.{parts_of};
 
 use crate::cell_list::cells_in;
 use crate::commands::printed;
-use crate::fault::CommandFault;
 use crate::inputs::take_inputs;
 use crate::names::Words;
 use crate::printing::{Printing, PrintingReads, outcome, take_back};
@@ -19,6 +18,7 @@ use crate::why::Question;
 use command_data::{CellList, Manner};
 use pram_step::RunAnswer;
 use pram_streams::{PrintFault, Sink, Source};
+use refusals::CommandFault;
 use std::alloc::Global;
 use std::rt::Clock;
 use std::sync::Wait;

@@ -8,7 +8,7 @@ use Rattle.std.proofs.lemmas.List.Elements.{All-push}
 use Rattle.std.specs.Borrow.{Bor}
 use Rattle.command_data.specs.CellLists.{SpellsCell, cell_of, parts_of}
 use Rattle.pram_commands.specs.CellLists.{AreCellsOf}
-use Rattle.pram_commands.specs.declared.fault.CommandFault.TheVariants.{OutsideCell, OutsidePlace}
+use Rattle.refusals.specs.declared.fault.CommandFault.TheVariants.{OutsideCell, OutsidePlace}
 use Rattle.pram_commands.proofs.Cells.{as_many, cells_more, first_without, found_none, found_some}
 use Rattle.pram_commands.proofs.Cells.{said_outside}
 use Rattle.pram_commands.proofs.cell_list.cells_in.Goals as goal

@@ -2,8 +2,8 @@ use Rattle.std.proofs.Common.{ℕ, Err, refl, sym}
 use Rattle.std.specs.Prelude.{IsErrOf}
 use Rattle.pram_commands.proofs.Doing.{gives_none, ok_not_err, printed_did, well}
 use Rattle.pram_commands.specs.Plain.{no_plan}
-use Rattle.pram_commands.specs.declared.fault.CommandFault.TheVariants.{JobDevice, OutDevice}
-use Rattle.pram_commands.specs.declared.fault.CommandFault.TheVariants.{OutsideStep, PlanDevice}
+use Rattle.refusals.specs.declared.fault.CommandFault.TheVariants.{JobDevice, OutDevice}
+use Rattle.refusals.specs.declared.fault.CommandFault.TheVariants.{OutsideStep, PlanDevice}
 use Rattle.pram_commands.proofs.commands.alone.steps.Goals as goal
 
 no_job : {T : Type 0} (step : ℕ) → IsErrOf {T = T} (Err (OutsideStep step)) JobDevice → ⊥

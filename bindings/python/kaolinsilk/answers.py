@@ -1,0 +1,177 @@
+"""Answers of runs: the values by their names, or why there are none."""
+from __future__ import annotations
+
+import re
+from html import escape
+from typing import Any, Callable, Dict, List, NamedTuple, Optional, Union
+
+from . import _library, texts
+from .errors import Conflict, KaolinsilkError, Unfinished
+from .tables import table
+
+Value = Union[int, List[int]]
+
+
+class Gone(NamedTuple):
+    """A processor that left in a line of the program, by an index that its array does not have."""
+
+    processor: int
+    line: int
+
+
+class Answer:
+    """How a run ended.
+
+    `status` is "done", "conflict" or "unfinished"; `step` the last step of the job, that of the
+    conflict where it is known, or the last finished one. Where it is done, `answer["A"]` is the
+    list of an array's values and `answer["total"]` a scalar's value; of a text of the machine
+    `answer[3]` is cell 3. Where it is not, these raise the `Conflict` or the `Unfinished` of
+    `answer.failure`.
+
+    >>> import kaolinsilk
+    >>> answer = kaolinsilk.plain("pram 1\\ncells 2\\nprocs 1\\nsteps 1\\ncode\\nset r0 7\\n")
+    >>> answer.status, answer.step, answer[1], answer.values
+    ('done', 1, 0, {'cells': [0, 0]})
+    """
+
+    def __init__(
+        self,
+        status: str,
+        step: Optional[int],
+        values: Optional[Dict[str, Value]] = None,
+        failure: Optional[KaolinsilkError] = None,
+        later: Callable[[], bytes] = bytes,
+    ) -> None:
+        self.status, self.step, self.failure = status, step, failure
+        self._values, self._later = values or {}, later
+        self._told: Optional[str] = None
+
+    @property
+    def values(self) -> Dict[str, Value]:
+        """The values by their names."""
+        if self.failure:
+            raise self.failure
+        return self._values
+
+    @property
+    def conflict(self) -> Optional[Conflict]:
+        """The conflict, if the run ended in one."""
+        return self.failure if isinstance(self.failure, Conflict) else None
+
+    @property
+    def text(self) -> str:
+        """The answer as the program pramx prints it. Of a run, the plain machine is asked."""
+        if self._told is None:
+            self._told = self._later().decode("ascii")
+        return self._told
+
+    @property
+    def gone(self) -> List[Gone]:
+        """The processors that left, in order."""
+        found = re.findall(r"(?m)^gone processor=(\d+) line=(\d+)$", self.text)
+        return [Gone(int(processor), int(line)) for processor, line in found]
+
+    @property
+    def why(self) -> List[str]:
+        """The lines that say what became of the processors, where they were asked for."""
+        return re.findall(r"(?m)^(?:running|stopped|lost) .*$", self.text)
+
+    def __getitem__(self, name: Union[str, int]) -> Value:
+        if isinstance(name, int):
+            cells = self.values["cells"]
+            assert isinstance(cells, list)
+            return cells[name]
+        return self.values[name]
+
+    def array(self, name: str = "cells") -> Any:
+        """The values of an array as a `numpy.ndarray` of 32 bits without a sign."""
+        import numpy
+
+        return numpy.array(self.values[name], dtype=numpy.uint32)
+
+    def _facts(self) -> Any:
+        at = self.conflict
+        facts = (at.processors, at.place or at.cell) if at else self.step
+        return self.status, facts, self._values
+
+    def __eq__(self, other: object) -> bool:
+        if not isinstance(other, Answer):
+            return NotImplemented
+        return bool(self._facts() == other._facts())
+
+    __hash__ = None  # type: ignore[assignment]
+
+    def __repr__(self) -> str:
+        return f"<{self.status} step={self.step}>" if not self.failure else f"<{self.failure}>"
+
+    def __str__(self) -> str:
+        return self.text
+
+    def _repr_html_(self) -> str:
+        if self.failure:
+            return f"<p><b>{self.status}</b>: {escape(str(self.failure))}</p>"
+        shown = table(("", "value"), ((name, _short(it)) for name, it in self._values.items()))
+        return f"<p><b>done</b> after {self.step:,} steps</p>{shown}"
+
+
+def _short(value: Value) -> str:
+    shown = value[:64] if isinstance(value, list) else [value]
+    more = " …" if isinstance(value, list) and len(value) > 64 else ""
+    return " ".join(map(str, shown)) + more
+
+
+def meeting_of(said: str) -> Optional[Dict[str, Any]]:
+    """Where two processors meet: the step, line, cell or place, and who; None where none do.
+
+    >>> meeting_of("step=2 line=12 place=sum processors=0,1")
+    {'step': 2, 'line': 12, 'place': 'sum', 'processors': (0, 1)}
+    """
+    if said == "none":
+        return None
+    facts: Dict[str, Any] = dict(word.partition("=")[::2] for word in said.split())
+    first, second = map(int, facts.pop("processors").split(","))
+    found = {name: it if name == "place" else int(it) for name, it in facts.items()}
+    return {**found, "processors": (first, second)}
+
+
+def _conflict_of(line: str) -> Conflict:
+    """The conflict of the line that tells it."""
+    facts = meeting_of(line.partition(" ")[2])
+    assert facts
+    return Conflict(**facts)
+
+
+def values_of(text: bytes, cells: List[int]) -> Dict[str, Value]:
+    """The cells of the job of a text by its names."""
+    if not texts.is_program(text):
+        return {"cells": cells}
+    return {
+        it.name: cells[it.first : it.first + it.length] if it.is_array else cells[it.first]
+        for it in texts.shared_of(text)
+    }
+
+
+def _values_told(text: bytes, lines: List[str]) -> Dict[str, Value]:
+    """The values of the lines that tell them."""
+    if not texts.is_program(text):
+        pairs = (line.partition(": ") for line in lines)
+        return {"cells": [int(value) for _, sign, value in pairs if sign]}
+    rows = [line.partition(" = ") for line in lines]
+    lists = {name: list(map(int, values.split())) for name, sign, values in rows if sign}
+    # A scalar is told as an array of one place is.
+    arrays = texts.arrays_of(text) if any(len(it) == 1 for it in lists.values()) else set(lists)
+    return {name: it if name in arrays else it[0] for name, it in lists.items()}
+
+
+def answer_of(text: bytes, told: _library.Told) -> Answer:
+    """The answer that a call told of a text."""
+    said: bytes = told.output
+    head, *lines = said.decode("ascii").splitlines()
+    status = _library.WORDS[told.status]
+    if told.status == _library.CONFLICT:
+        conflict = _conflict_of(head)
+        return Answer(status, conflict.step, failure=conflict, later=lambda: said)
+    step = int(head.partition("=")[2])
+    if told.status == _library.UNFINISHED:
+        return Answer(status, step, failure=Unfinished(step), later=lambda: said)
+    return Answer(status, step, _values_told(text, lines), later=lambda: said)

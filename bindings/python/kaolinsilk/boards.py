@@ -1,0 +1,195 @@
+"""Shared boards: the words that the workers of a job share, which any threads may be.
+
+    board = kaolinsilk.Board(text, workers=2)
+    worker = board.worker(0)          # one for each thread
+    while worker.work(limit=100_000) == "unfinished":
+        ...                           # whatever the thread has to do meanwhile
+    board.seat().answer()
+
+A worker may be given up after any call, and the others finish the job. A board, its seats and its
+workers are freed once none of them is used any more.
+"""
+from __future__ import annotations
+
+import threading
+from ctypes import c_uint32
+from typing import Any, List, NamedTuple, Optional, Union
+
+from . import _library, calls, texts
+from ._library import library
+from .answers import Answer, values_of
+from .errors import Conflict, Unfinished
+from .texts import Source, bytes_of
+
+# How many atomic steps are made in one call of the library, so that a thread can be stopped soon.
+STRIDE = 200_000
+# The greatest limit.
+MOST_STEPS = 2**64 - 1
+
+
+class Progress(NamedTuple):
+    """The last finished step of so many, and the step that is against the rule, or 0."""
+
+    step: int
+    steps: int
+    conflict: int
+
+
+class Reading(NamedTuple):
+    """What a cell held after a finished step."""
+
+    step: int
+    value: int
+
+
+class _Member:
+    """A board, a seat or a worker of the library. One thread at a time uses it; others wait."""
+
+    def __init__(self, close: Any) -> None:
+        self.handle, self._close, self._lock = _library.Handle(), close, threading.Lock()
+
+    def ask(self, call: Any, *words: Any) -> int:
+        """The status of a call, or the exception of one that was not done."""
+        with self._lock:
+            status = int(call(self.handle, *words))
+        if status not in (_library.DONE, _library.CONFLICT, _library.UNFINISHED):
+            _library.refuse(status, _library.Answer())
+        return status
+
+    def __del__(self) -> None:
+        if self.handle.at:
+            self._close(self.handle)
+
+
+class Board:
+    """The board of a job for 1 to 64 workers, at the start of the job.
+
+    `grain` says how many processors a leaf of the tree has, a power of two up to 64; with 0 the
+    library chooses. `board.cells`, `board.procs` and `board.steps` are those of the job.
+
+    >>> board = Board("pram 1\\ncells 1\\nprocs 1\\nsteps 1\\ncode\\nst r0 r0\\n", workers=1)
+    >>> board.worker(0).work(limit=5)
+    'unfinished'
+    >>> board.seat().progress()
+    Progress(step=0, steps=1, conflict=0)
+    """
+
+    def __init__(self, text: Source, workers: int = 4, grain: int = 0) -> None:
+        self.text = bytes_of(text)
+        facts = calls.check(self.text)
+        self.cells, self.procs, self.steps = facts["cells"], facts["procs"], facts["steps"]
+        self.workers = _library.number_of(workers, "workers")
+        self._shared: Optional[List[texts.Shared]] = None
+        self._member = _Member(library.ks_close)
+        asked = self.workers, _library.number_of(grain, "grain")
+        text, handle = self.text, self._member.handle
+        status = library.ks_open(text, len(text), *asked, handle)
+        if status != _library.DONE:
+            said = b"there are from 1 to 64 workers, and a grain is a power of two up to 64"
+            _library.refuse(status, _library.Answer(sentence=said))
+
+    def cell(self, place: str) -> int:
+        """The cell of a place of the program, as "A[3]" or "sum"."""
+        if self._shared is None:
+            is_program = texts.is_program(self.text)
+            self._shared = texts.shared_of(self.text) if is_program else []
+        return texts.cell_of(self._shared, place)
+
+    def worker(self, number: int) -> "Worker":
+        """The worker of a number, below the number of workers, at its start.
+
+        Two of one number do no harm.
+        """
+        return Worker(self, number)
+
+    def seat(self) -> "Seat":
+        """A reader of the board."""
+        return Seat(self)
+
+
+class Worker:
+    """One of a board's workers, and where it stands. One thread at a time uses it; others wait."""
+
+    def __init__(self, board: Board, number: int) -> None:
+        self.board, self.number = board, number
+        self._member = _Member(library.ks_close_worker)
+        asked = _library.number_of(number, "the worker's number", board.workers - 1)
+        board._member.ask(library.ks_worker_of, asked, self._member.handle)
+
+    def work(self, limit: Optional[int] = None) -> str:
+        """Makes atomic steps until the job is over, or so many: "done", "conflict", "unfinished".
+
+        Without a limit it ends within 300 L T + 8 atomic steps, where T is the number of steps of
+        the job and L the least power of two that is at least that of its processors.
+        """
+        left = MOST_STEPS if limit is None else _library.number_of(limit, "the limit", MOST_STEPS)
+        status = _library.UNFINISHED
+        while status == _library.UNFINISHED and left:
+            most = min(left, STRIDE)
+            status = self._member.ask(library.ks_work, most)
+            left -= most
+        return _library.WORDS[status]
+
+    def back(self) -> None:
+        """The worker loses all that it knew, and comes back from its word on the board."""
+        self._member.ask(library.ks_back)
+
+
+class Seat:
+    """A reader of a board. What it tells never falls. One thread at a time uses it; others wait."""
+
+    def __init__(self, board: Board) -> None:
+        self.board, self._member = board, _Member(library.ks_close_seat)
+        board._member.ask(library.ks_seat_of, self._member.handle)
+
+    def progress(self) -> Progress:
+        """How far the job is."""
+        found = _library.Progress()
+        self._member.ask(library.ks_progress, found)
+        return Progress(found.step, found.steps, found.conflict)
+
+    def read(self, cell: Union[int, str]) -> Reading:
+        """What a cell of the job held after a finished step, while workers may be at work. Of a
+        program it may be named as answers do, as "A[3]"."""
+        found = _library.Reading()
+        number = self.board.cell(cell) if isinstance(cell, str) else cell
+        asked = _library.number_of(number, "the cell", self.board.cells - 1)
+        self._member.ask(library.ks_read, asked, found)
+        return Reading(found.step, found.value)
+
+    def memory(self) -> List[int]:
+        """The final cells; `Unfinished` or `Conflict` where there are none."""
+        cells = (c_uint32 * self.board.cells)()
+        if self._member.ask(library.ks_memory, cells, len(cells)) != _library.DONE:
+            raise self.fault() or Unfinished(self.progress().step)
+        return list(cells)
+
+    def fault(self) -> Optional[Conflict]:
+        """The conflict, if one is known."""
+        found = _library.Fault()
+        if self._member.ask(library.ks_fault, found) != _library.CONFLICT:
+            return None
+        return Conflict((found.first, found.second), found.step, found.cell)
+
+    def answer(self) -> Answer:
+        """The answer by the names of the text. Of a program, the line of a conflict is found on the
+        plain machine, as `pramx run` does."""
+        step, steps, conflict = self.progress()
+        later = self._told_later
+        if conflict:
+            return Answer("conflict", conflict, failure=self._named_fault(), later=later)
+        if step < steps:
+            said = f"unfinished step={step}\n".encode()
+            return Answer("unfinished", step, failure=Unfinished(step), later=lambda: said)
+        return Answer("done", step, values_of(self.board.text, self.memory()), later=later)
+
+    def _told_later(self) -> bytes:
+        return bytes(_library.told("ks_plain", self.board.text).output)
+
+    def _named_fault(self) -> Conflict:
+        text, fault = self.board.text, self.fault()
+        assert fault
+        told = calls.plain(text).conflict if texts.is_program(text) else None
+        if told:
+            return Conflict(fault.processors, fault.step, fault.cell, told.line, told.place)
+        return fault

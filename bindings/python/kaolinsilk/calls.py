@@ -1,0 +1,120 @@
+"""The commands of the program pramx, as calls."""
+from __future__ import annotations
+
+import ctypes
+from typing import Any, Dict, List, Optional
+
+from . import _library, plans
+from .answers import Answer, answer_of, meeting_of
+from .rows import Rows, rows_of
+from .tables import table
+from .texts import Source, bytes_of
+
+
+def check(text: Source) -> Dict[str, Any]:
+    """Judges a text, and says how large its job is.
+
+    >>> check("pram 1\\ncells 2\\nprocs 1\\nsteps 1\\ncode\\nset r0 7\\n")
+    {'cells': 2, 'procs': 1, 'steps': 1, 'code': 1, 'rule': 'common'}
+    """
+    said = _library.told("ks_check", bytes_of(text)).output.decode("ascii")
+    facts = dict(word.partition("=")[::2] for word in said.split()[1:])
+    rule = facts.pop("rule", "common")
+    return {**{name: int(number) for name, number in facts.items()}, "rule": rule}
+
+
+def compile(text: Source) -> str:
+    """The job of a program, as a text of the machine."""
+    return str(_library.told("ks_compile", bytes_of(text)).output, "ascii")
+
+
+def plain(text: Source, why: bool = False) -> Answer:
+    """Runs a text on the plain machine, step by step. `answer.why` then says what became of the
+    processors.
+
+    >>> plain("pardo 1\\nrule crew\\nprocs i < 4\\nshared A[4]\\ncode\\nA[i] := i * i\\n")["A"]
+    [0, 1, 4, 9]
+    """
+    given = bytes_of(text)
+    return answer_of(given, _library.told("ks_plain", given, why=why))
+
+
+def cells(text: Source) -> List[int]:
+    """The cells of the job of a text after its last step, those of private variables among them."""
+    given = bytes_of(text)
+    words = (_library.library.ks_cells, given, len(given))
+    told = _library.told_records(ctypes.c_uint32, 1024, *words)
+    if told.status == _library.CONFLICT:
+        plain(given).values
+    return list(told.output)
+
+
+class Cost(Dict[str, Any]):
+    """What a run costs: the lines of docs/FORMATS.md by their names, with `_` for a blank.
+
+    `same_read`, `same_write` and `other_value` are None or a dictionary that says where two
+    processors first meet. `cost.status` is "done" or "conflict".
+    """
+
+    status: str = "done"
+
+    def _repr_html_(self) -> str:
+        shown = ((name.replace("_", " "), _shown(it)) for name, it in self.items())
+        return table(("", "of this input"), shown)
+
+
+def _shown(value: Any) -> str:
+    if isinstance(value, dict):
+        return ", ".join(f"{name} {it}" for name, it in value.items())
+    return "none" if value is None else str(value)
+
+
+def _field(name: str, said: str) -> Any:
+    if name in ("same_read", "same_write", "other_value"):
+        return meeting_of(said)
+    return int(said) if said.isdigit() else said
+
+
+def cost(text: Source) -> Cost:
+    """What the run of a text costs, and the weakest PRAM that it needs.
+
+    >>> cost("pardo 1\\nrule crew\\nprocs i < 4\\nshared A[4]\\ncode\\nA[i] := i\\n")["needs"]
+    'EREW'
+    """
+    given = bytes_of(text)
+    told = _library.told("ks_cost", given)
+    lines = told.output.decode("ascii").splitlines()
+    names = ("same read", "same write", "other value")
+    found = Cost()
+    found.status = _library.WORDS[told.status]
+    for line in lines[1:-1]:
+        name = next((it for it in names if line.startswith(it)), line.partition(" ")[0])
+        key = name.replace(" ", "_")
+        found[key] = _field(key, line[len(name) + 1 :])
+    return found
+
+
+def steps(text: Source, first: int = 1, last: Optional[int] = None) -> Rows:
+    """What each processor asks for in each step, from the first to the last; `rows.answer` is the
+    answer.
+
+    >>> rows = steps("pram 1\\ncells 1\\nprocs 1\\nsteps 1\\ncode\\nset r0 7\\n")
+    >>> rows[0]["instruction"], rows[0]["writes"], rows[0]["value"]
+    ('set r0 7', 'r0', 7)
+    """
+    given, most = bytes_of(text), _library.MOST
+    begins = _library.number_of(first, "the first step", least=1)
+    ends = _library.number_of(most if last is None else last, "the last step", least=1)
+    return rows_of(given, _library.told("ks_steps", given, first=begins, last=ends))
+
+
+def replay(text: Source, workers: int = 4, plan: Optional[plans.Plan] = None) -> Rows:
+    """Runs a text by workers, one atomic step at a time in the order of a plan; a row for each.
+
+    >>> rows = replay("pram 1\\ncells 1\\nprocs 1\\nsteps 1\\ncode\\nset r0 7\\n", workers=1)
+    >>> len(rows), rows.answer.status
+    (33, 'done')
+    """
+    given, asked = bytes_of(text), _library.number_of(workers, "workers")
+    told = _library.told("ks_replay", given, plans.bytes_of(plan), workers=asked)
+    return rows_of(given, told)

@@ -1,0 +1,89 @@
+"""What may go wrong, as exceptions.
+
+All are a `KaolinsilkError`. The text of one is a sentence; its fields say the same to a program.
+"""
+from __future__ import annotations
+
+from typing import Optional, Tuple
+
+
+class KaolinsilkError(Exception):
+    """What each exception of this package is."""
+
+
+class Refused(KaolinsilkError, ValueError):
+    """A text, a plan or a step is refused.
+
+    `subject` is "text", "plan", "step" or "size"; `line` the line of the text, or the row of the
+    plan, from 1, or None; `column` likewise; `kind` the kind of docs/FORMATS.md, as "BadLine";
+    `sentence` what is wrong.
+
+    >>> import kaolinsilk
+    >>> try:
+    ...     kaolinsilk.check("pram 1\\ncells 0\\n")
+    ... except kaolinsilk.Refused as refused:
+    ...     refused.line, refused.kind
+    (2, 'OutOfLimits')
+    """
+
+    def __init__(
+        self,
+        subject: str,
+        kind: str,
+        sentence: str,
+        line: Optional[int] = None,
+        column: Optional[int] = None,
+    ) -> None:
+        self.subject, self.kind, self.sentence = subject, kind, sentence
+        self.line, self.column = line, column
+        super().__init__(self._told())
+
+    def _told(self) -> str:
+        place = "row" if self.subject == "plan" else "line"
+        where = f"{self.subject}, {place} {self.line}" if self.line else self.subject
+        if self.column:
+            where += f", column {self.column}"
+        kind = f" ({self.kind})" if self.kind else ""
+        return f"{where}: {self.sentence}{kind}"
+
+
+class BadRequest(KaolinsilkError, ValueError):
+    """A number that was asked for is outside its limits, as that of the workers."""
+
+
+class OutOfMemory(KaolinsilkError, MemoryError):
+    """There is no memory for the call, or for its answer."""
+
+
+class Conflict(KaolinsilkError):
+    """A step of the job is against its rule of writing.
+
+    `step` counts from 1, where it is known; `cell` is the cell of the job, `line` the line of the
+    program and `place` what it writes there, as "A[3]"; `processors` are the two that disagree.
+    """
+
+    def __init__(
+        self,
+        processors: Tuple[int, int],
+        step: Optional[int] = None,
+        cell: Optional[int] = None,
+        line: Optional[int] = None,
+        place: Optional[str] = None,
+    ) -> None:
+        self.processors, self.step, self.cell = processors, step, cell
+        self.line, self.place = line, place
+        super().__init__(self._told())
+
+    def _told(self) -> str:
+        what = self.place or f"cell {self.cell}"
+        where = f"line {self.line}" if self.line else f"step {self.step}"
+        first, second = self.processors
+        return f"processors {first} and {second} write {what} in {where}, against the rule"
+
+
+class Unfinished(KaolinsilkError):
+    """All workers were stopped before the end; `step` is the last finished step."""
+
+    def __init__(self, step: int) -> None:
+        self.step = step
+        super().__init__(f"all workers were stopped, and step {step} is the last finished one")

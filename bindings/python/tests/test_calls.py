@@ -1,0 +1,156 @@
+"""The calls, each once, and what they say where something is wrong."""
+import unittest
+from pathlib import Path
+
+import kaolinsilk
+from common import CONFLICT, EXAMPLES, GALLERY, MISTAKEN, PREFIX, SUMS, TINY, answer_beside
+
+
+class Calls(unittest.TestCase):
+    def test_answers_stand_beside_the_examples(self):
+        for file in GALLERY:
+            with self.subTest(file=file.name):
+                self.assertEqual(kaolinsilk.plain(file).text, answer_beside(file))
+
+    def test_values_by_names(self):
+        answer = kaolinsilk.plain(PREFIX)
+        self.assertEqual((answer.status, answer.step, answer.values), ("done", 72, {"A": SUMS}))
+        self.assertEqual(kaolinsilk.plain(EXAMPLES / "maximum.pardo")["greatest"], 47)
+        self.assertEqual(kaolinsilk.plain(EXAMPLES / "sum.pram")[0], 31)
+
+    def test_a_scalar_is_a_number_and_an_array_of_one_place_is_a_list(self):
+        header = "pardo 1\nrule crew\nprocs i < 1\nshared A[1] = 7\nshared sum ; A[\ncode\n"
+        self.assertEqual(kaolinsilk.plain(header + "sum := A[0]\n").values, {"A": [7], "sum": 7})
+
+    def test_bytes_and_paths_are_texts(self):
+        file = EXAMPLES / "prefix.pardo"
+        for text in (PREFIX, PREFIX.encode(), bytearray(PREFIX.encode()), file, Path(str(file))):
+            self.assertEqual(kaolinsilk.plain(text)["A"], SUMS)
+
+    def test_check(self):
+        facts = {"cells": 8, "procs": 4, "steps": 40, "code": 15, "rule": "common"}
+        self.assertEqual(kaolinsilk.check(EXAMPLES / "sum.pram"), facts)
+        self.assertEqual(kaolinsilk.check(EXAMPLES / "sum.pardo")["rule"], "crew")
+
+    def test_a_compiled_text_is_its_own(self):
+        text = kaolinsilk.compile(PREFIX)
+        self.assertEqual(kaolinsilk.compile(text), text)
+        self.assertEqual(kaolinsilk.cells(text), kaolinsilk.cells(PREFIX))
+        self.assertEqual(kaolinsilk.cells(PREFIX)[:8], SUMS)
+
+    def test_why(self):
+        self.assertEqual(kaolinsilk.plain(PREFIX, why=True).why, ["stopped step=72"])
+        self.assertEqual(kaolinsilk.plain(PREFIX).why, [])
+
+    def test_gone(self):
+        text = "pardo 1\nrule crew\nprocs i < 3\nshared A[2]\ncode\nA[i] := 1\n"
+        self.assertEqual(kaolinsilk.plain(text).gone, [kaolinsilk.Gone(2, 6)])
+
+    def test_cost(self):
+        cost = kaolinsilk.cost(EXAMPLES / "maximum.pram")
+        self.assertEqual([cost[it] for it in ("steps", "work", "needs")], [20, 312, "CRCW common"])
+        self.assertEqual(cost["same_read"], {"step": 4, "cell": 0, "processors": (0, 1)})
+        self.assertIsNone(cost["other_value"])
+
+    def test_steps(self):
+        rows = kaolinsilk.steps(PREFIX, 3, 5)
+        self.assertEqual((len(rows), rows[0]["line"], rows.answer["A"]), (24, 10, SUMS))
+        self.assertEqual(set(rows["step"]), {3, 4, 5})
+        self.assertEqual(len(kaolinsilk.steps(TINY)), 1)
+
+    def test_replay(self):
+        rows = kaolinsilk.replay(PREFIX, 3, [(0, "stop"), (1, "go", 40), (1, "stop")])
+        self.assertEqual(rows["tick"], list(range(1, len(rows) + 1)))
+        self.assertEqual(rows["worker"][:41], [1] * 40 + [2])
+        self.assertEqual(rows.answer["A"], SUMS)
+
+
+class Faults(unittest.TestCase):
+    def test_a_refused_text(self):
+        with self.assertRaises(kaolinsilk.Refused) as caught:
+            kaolinsilk.plain(MISTAKEN)
+        refused = caught.exception
+        self.assertEqual((refused.subject, refused.line, refused.kind), ("text", 12, "BadLine"))
+        self.assertIn("line 12", str(refused))
+        self.assertIn(refused.sentence, str(refused))
+        self.assertIsInstance(refused, ValueError)
+
+    def test_a_refused_plan(self):
+        for rows, line, kind in (([(9, "go", 1)], 2, "BadWorker"), ("worker\n", 1, "BadRow")):
+            for call in (kaolinsilk.replay, kaolinsilk.run):
+                with self.assertRaises(kaolinsilk.Refused) as caught:
+                    call(PREFIX, 2, rows)
+                refused = caught.exception
+                told = (refused.subject, refused.line, refused.kind)
+                self.assertEqual(told, ("plan", line, kind))
+
+    def test_a_step_that_there_is_not(self):
+        with self.assertRaises(kaolinsilk.Refused) as caught:
+            kaolinsilk.steps(PREFIX, 400)
+        self.assertEqual(caught.exception.subject, "step")
+
+    def test_numbers_outside_their_limits(self):
+        for workers in (0, 65, -1, 2**32 + 1):
+            for call in (kaolinsilk.replay, kaolinsilk.run, kaolinsilk.Board):
+                with self.assertRaises(kaolinsilk.BadRequest):
+                    call(PREFIX, workers)
+        for first, last in ((-1, None), (0, 4), (1, 0), (5, 4), (1, 2**32)):
+            with self.assertRaises(kaolinsilk.BadRequest):
+                kaolinsilk.steps(PREFIX, first, last)
+        with self.assertRaises(kaolinsilk.BadRequest):
+            kaolinsilk.Board(PREFIX, grain=3)
+
+    def test_a_text_that_is_too_long(self):
+        with self.assertRaises(kaolinsilk.Refused) as caught:
+            kaolinsilk.check(b" " * 16_777_217)
+        self.assertEqual(caught.exception.subject, "size")
+
+    def test_a_conflict(self):
+        answer = kaolinsilk.plain(CONFLICT)
+        self.assertEqual((answer.status, answer.conflict.processors), ("conflict", (0, 1)))
+        self.assertEqual((answer.conflict.line, answer.conflict.place), (12, "sum"))
+        with self.assertRaises(kaolinsilk.Conflict):
+            answer["sum"]
+        with self.assertRaises(kaolinsilk.Conflict):
+            kaolinsilk.cells(CONFLICT)
+        told = kaolinsilk.plain(EXAMPLES / "conflict.pram").conflict
+        self.assertEqual((told.step, told.cell, told.line), (4, 0, None))
+
+    def test_texts_without_a_letter(self):
+        for text in ("", "\n", ";", "\0", "pardo", "é", b"\xff"):
+            with self.assertRaises(kaolinsilk.Refused):
+                kaolinsilk.check(text)
+
+
+class Rows(unittest.TestCase):
+    def test_slices_and_columns(self):
+        rows = kaolinsilk.steps(PREFIX)
+        self.assertEqual(rows[:3][2], rows[2])
+        self.assertEqual(list(rows)[-1], rows[-1])
+        self.assertEqual(rows["step"][5], rows[5]["step"])
+        with self.assertRaises(KeyError):
+            rows["nothing"]
+
+    def test_pandas(self):
+        try:
+            import pandas
+        except ImportError:
+            self.skipTest("pandas is not there")
+        rows = kaolinsilk.steps(PREFIX)
+        frame = rows.frame()
+        self.assertTrue(frame.equals(pandas.DataFrame(rows)))
+        self.assertEqual(list(frame.columns), list(rows.names))
+        self.assertEqual(frame[frame.writes.astype(str).str.startswith("cell")].step.min(), 5)
+
+    def test_numpy(self):
+        try:
+            import numpy
+        except ImportError:
+            self.skipTest("numpy is not there")
+        array = kaolinsilk.plain(PREFIX).array("A")
+        self.assertEqual((array.dtype, array.sum()), (numpy.uint32, sum(SUMS)))
+        self.assertEqual(kaolinsilk.plain(TINY).array().tolist(), [0])
+
+
+if __name__ == "__main__":
+    unittest.main()

@@ -1,0 +1,189 @@
+//! Calls of boards. A handle is used by one call at a time.
+ghost use Rattle.std.specs.Prelude.{◌≡◌, ◌≢◌, ◌<◌, ◌≤◌, None};
+ghost use Rattle.library_boards.specs.Calls.{Between, HasComeBack, HasMade, HasOpened, HasWorked};
+ghost use Rattle.library_boards.specs.Calls.{IsHeld, IsNoWorkerFor, IsOpenStatus};
+ghost use Rattle.library_boards.specs.Calls.{TellsFault, TellsMemory, TellsProgress, TellsReading};
+ghost use Rattle.library_boards.specs.Members.{IsReaderAt, IsWorkerAt};
+ghost use Rattle.library_boards.specs.declared.status.TheConstants.{DONE, MEMORY};
+
+use library_boards::status::DONE;
+use library_boards::{FaultTold, Handle, ProgressTold, ReadingTold, calls};
+use std::alloc::Global;
+
+/// Opens a board for the job of a text, and gives the handle of it.
+#[unsafe(no_mangle)]
+#[tactic(auto, using(crate::proofs::Passing::opened))]
+pub extern "C" fn ks_open(
+    alloc: Global,
+    text: &[u8],
+    workers: u32,
+    grain: u32,
+    board: &mut Handle,
+) -> u32
+    ensures opened { result ≡ DONE → HasOpened text.now workers grain board.new.member }
+    ensures undone { result ≢ DONE → IsOpenStatus text.now workers grain result }
+    ensures kept { result ≢ DONE → board.new ≡ board.old }
+{
+    match calls::open(alloc, text, workers, grain) {
+        Ok(member) => {
+            *board = Handle::of(member);
+            DONE
+        }
+        Err(status) => status,
+    }
+}
+
+/// Gives the handle of a new reader at a board.
+#[unsafe(no_mangle)]
+pub extern "C" fn ks_seat_of(alloc: Global, board: &mut Handle, seat: &mut Handle) -> u32
+    requires { IsHeld board.old.member }
+    ensures board { board.new.member ≡ board.old.member }
+    ensures made { result ≡ DONE → HasMade board.old.member IsReaderAt seat.new.member }
+    ensures undone { result ≢ DONE → (result ≡ MEMORY) }
+    ensures kept { result ≢ DONE → seat.new ≡ seat.old }
+{
+    let member = board.take(alloc);
+    let made = calls::reader(&member, alloc);
+    *board = Handle::of(member);
+    match made {
+        Ok(reader) => {
+            *seat = Handle::of(reader);
+            DONE
+        }
+        Err(status) => status,
+    }
+}
+
+/// Gives the handle of a new worker at a board.
+#[unsafe(no_mangle)]
+pub extern "C" fn ks_worker_of(
+    alloc: Global,
+    board: &mut Handle,
+    number: u32,
+    worker: &mut Handle,
+) -> u32
+    requires { IsHeld board.old.member }
+    ensures board { board.new.member ≡ board.old.member }
+    ensures made { result ≡ DONE → HasMade board.old.member
+        (λ shared. IsWorkerAt shared number) worker.new.member }
+    ensures undone { result ≢ DONE → IsNoWorkerFor board.old.member number result }
+    ensures kept { result ≢ DONE → worker.new ≡ worker.old }
+{
+    let member = board.take(alloc);
+    let made = calls::worker(&member, alloc, number);
+    *board = Handle::of(member);
+    match made {
+        Ok(made) => {
+            *worker = Handle::of(made);
+            DONE
+        }
+        Err(status) => status,
+    }
+}
+
+/// Makes at most so many atomic steps of a worker. With the greatest number as limit, UINT64_MAX,
+/// it makes all that are left, in a tenth of the time.
+#[unsafe(no_mangle)]
+pub extern "C" fn ks_work(alloc: Global, worker: &mut Handle, limit: u64) -> u32
+    requires { IsHeld worker.old.member }
+    ensures { Between worker.old.member worker.new.member (HasWorked limit result) }
+{
+    let mut member = worker.take(alloc);
+    let status = calls::work(&mut member, limit);
+    *worker = Handle::of(member);
+    status
+}
+
+/// A worker loses all that it knew, and comes back.
+#[unsafe(no_mangle)]
+pub extern "C" fn ks_back(alloc: Global, worker: &mut Handle) -> u32
+    requires { IsHeld worker.old.member }
+    ensures { Between worker.old.member worker.new.member (HasComeBack result) }
+{
+    let mut member = worker.take(alloc);
+    let status = calls::back(&mut member);
+    *worker = Handle::of(member);
+    status
+}
+
+/// Tells how far the steps are finished.
+#[unsafe(no_mangle)]
+pub extern "C" fn ks_progress(alloc: Global, seat: &mut Handle, progress: &mut ProgressTold) -> u32
+    requires { IsHeld seat.old.member }
+    ensures told { Between seat.old.member seat.new.member (TellsProgress progress.new) }
+    ensures done { result ≡ DONE }
+{
+    let mut member = seat.take(alloc);
+    *progress = calls::progress(&mut member);
+    *seat = Handle::of(member);
+    DONE
+}
+
+/// Tells what a cell held after a finished step.
+#[unsafe(no_mangle)]
+pub extern "C" fn ks_read(
+    alloc: Global,
+    seat: &mut Handle,
+    cell: u32,
+    reading: &mut ReadingTold,
+) -> u32
+    requires { IsHeld seat.old.member }
+    ensures { Between seat.old.member seat.new.member
+        (TellsReading cell reading.old reading.new result) }
+{
+    let mut member = seat.take(alloc);
+    let status = calls::read(&mut member, cell, reading);
+    *seat = Handle::of(member);
+    status
+}
+
+/// Puts the final memory to the front of the cells, as much as there is room for.
+#[unsafe(no_mangle)]
+pub extern "C" fn ks_memory(alloc: Global, seat: &mut Handle, cells: &mut [u32]) -> u32
+    requires { IsHeld seat.old.member }
+    ensures { Between seat.old.member seat.new.member (TellsMemory cells.old cells.new result) }
+{
+    let mut member = seat.take(alloc);
+    let status = calls::memory(&mut member, alloc, cells);
+    *seat = Handle::of(member);
+    status
+}
+
+/// Tells the first step that is against the rule, and who disputes what in it.
+#[unsafe(no_mangle)]
+pub extern "C" fn ks_fault(alloc: Global, seat: &mut Handle, fault: &mut FaultTold) -> u32
+    requires { IsHeld seat.old.member }
+    ensures { Between seat.old.member seat.new.member (TellsFault fault.old fault.new result) }
+{
+    let mut member = seat.take(alloc);
+    let status = calls::fault(&mut member, alloc, fault);
+    *seat = Handle::of(member);
+    status
+}
+
+/// Closes a board: frees what is its handle's alone.
+#[unsafe(no_mangle)]
+pub extern "C" fn ks_close(alloc: Global, board: &mut Handle)
+    requires { IsHeld board.old.member }
+    ensures { board.new.member ≡ None }
+{
+    drop(board.take(alloc));
+}
+
+/// Closes a seat.
+#[unsafe(no_mangle)]
+pub extern "C" fn ks_close_seat(alloc: Global, seat: &mut Handle)
+    requires { IsHeld seat.old.member }
+    ensures { seat.new.member ≡ None }
+{
+    drop(seat.take(alloc));
+}
+
+/// Closes a worker.
+#[unsafe(no_mangle)]
+pub extern "C" fn ks_close_worker(alloc: Global, worker: &mut Handle)
+    requires { IsHeld worker.old.member }
+    ensures { worker.new.member ≡ None }
+{
+    drop(worker.take(alloc));
+}

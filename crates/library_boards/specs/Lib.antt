@@ -1,0 +1,5 @@
+pub mod Calls
+pub mod Grains
+pub mod Handles
+pub mod Jobs
+pub mod Members

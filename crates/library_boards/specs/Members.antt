@@ -1,0 +1,122 @@
+-- What the calls of a member come to.
+use Rattle.std.specs.Prelude.{◌≡◌, ◌≢◌, ◌==◌, ℕ, List, Bool, true, false}
+use Rattle.std.specs.Prelude.{Option, Some, None, if◌then◌else◌}
+use Rattle.std.specs.Arc.{arc_value}
+use Rattle.pram_job.specs.Job.{JobData}
+use Rattle.pram_words.specs.declared.layout.Form.TheVariants.{Wide}
+use Rattle.walkx.specs.Inner.Workers.{WorkerData}
+use Rattle.walkx.specs.Records.{empty}
+use Rattle.walkx.specs.Serving.{IsNew}
+use Rattle.walkx.specs.Walk.{come_back, started}
+use Rattle.pram_board.specs.declared.task.Task.{Task}
+use Rattle.pram_board.specs.declared.look.Progress.{Progress}
+use Rattle.pram_board.specs.declared.work.Stay.{Stay}
+use Rattle.pram_board.specs.Seats.{Desk, HasLoaded, IsLater, IsOpened, Progressed}
+use Rattle.pram_board.specs.Worked.{Worked, Works}
+use Rattle.library_boards.specs.declared.member.Member.{Member}
+use Rattle.library_boards.specs.declared.shared.Shared.{Shared}
+use Rattle.library_boards.specs.Grains.{grain_of}
+use Rattle.library_boards.specs.Jobs.{IsJobOf}
+
+abbrev pub shared_at : Member → Shared
+shared_at member = arc_value member.shared
+
+abbrev pub board_at : Member → Desk
+board_at member = (arc_value member.shared).board
+
+abbrev pub task_at : Member → Task
+task_at member = (arc_value member.shared).board.task
+
+abbrev pub job_at : Member → JobData
+job_at member = (arc_value member.shared).board.task.job
+
+-- the seat is one of the board, and knows the worker, if there is one
+pub record IsMember (member : Member) : Type 0 where
+  pub desk : member.seat.desk ≡ board_at member
+  pub works : (worker : WorkerData) → member.worker ≡ Some worker →
+      Works (board_at member) member.seat worker
+
+-- ---- openings
+
+-- a reader at a new board for the job of the text
+pub record IsOpenedFor (text : List ℕ) (workers grain : ℕ) (member : Member) : Type 0 where
+  pub job : JobData
+  pub job_is : IsJobOf text job
+  pub opened : IsOpened job (Wide (grain_of grain job.procs)) workers
+      (board_at member, member.seat)
+  pub reader : member.worker ≡ None
+  pub is_member : IsMember member
+
+-- a member of this board, whose seat has seen one load
+pub record IsNewAt (shared : Shared) (member : Member) : Type 0 where
+  pub same : arc_value member.shared ≡ shared
+  pub seen : HasLoaded 1 (record { desk = shared.board; record_of = empty }) member.seat
+  pub is_member : IsMember member
+
+pub record IsReaderAt (shared : Shared) (member : Member) : Type 0 where
+  pub new : IsNewAt shared member
+  pub reader : member.worker ≡ None
+
+pub record IsWorkerAt (shared : Shared) (number : ℕ) (member : Member) : Type 0 where
+  pub new : IsNewAt shared member
+  pub worker : WorkerData
+  pub is : member.worker ≡ Some worker
+  pub starts : IsNew number (started number) worker
+
+-- ---- work
+
+-- the greatest number stands for no limit
+abbrev pub limit_of : ℕ → Option ℕ
+limit_of limit = if limit == 18446744073709551615 then None else Some limit
+
+-- the worker's ticks, all in the record of its seat
+pub record WorkedOn (before : Member) (limit : ℕ) (later : Member) (stay : Stay) : Type 0 where
+  pub worker : WorkerData
+  pub was : before.worker ≡ Some worker
+  pub now : WorkerData
+  pub is : later.worker ≡ Some now
+  pub worked : Worked (task_at before) before.seat worker.walking (limit_of limit) later.seat
+      now.walking stay
+  pub goes : IsLater (board_at before) before.seat later.seat
+  pub same : later.shared ≡ before.shared
+  pub is_member : IsMember later
+
+abbrev pub IsWork : Member → ℕ → Member → Option Stay → Type 0
+IsWork before limit later None = (before.worker ≡ None) × (later ≡ before)
+IsWork before limit later (Some stay) = WorkedOn before limit later stay
+
+-- the worker comes back with its number, by the same seat
+pub record CameBack (before later : Member) : Type 0 where
+  pub worker : WorkerData
+  pub was : before.worker ≡ Some worker
+  pub now : WorkerData
+  pub is : later.worker ≡ Some now
+  pub back : IsNew worker.walking.number (come_back worker.walking.number) now
+  pub seat : later.seat ≡ before.seat
+  pub same : later.shared ≡ before.shared
+  pub is_member : IsMember later
+
+abbrev pub IsBack : Member → Member → Bool → Type 0
+IsBack before later false = (before.worker ≡ None) × (later ≡ before)
+IsBack before later true = CameBack before later
+
+-- ---- looks
+
+-- the same board and worker; the seat later
+pub record GoesOn (before later : Member) : Type 0 where
+  pub goes : IsLater (board_at before) before.seat later.seat
+  pub worker : later.worker ≡ before.worker
+  pub same : later.shared ≡ before.shared
+  pub is_member : IsMember later
+
+-- the last look showed that steps are left
+pub record StepsAreLeft (before later : Member) : Type 0 where
+  pub progress : Progress
+  pub progressed : Progressed (task_at before) before.seat later.seat progress
+  pub left : progress.step ≢ (job_at before).steps
+
+-- the last look showed no step that is against the rule
+pub record NoneIsKnown (before later : Member) : Type 0 where
+  pub progress : Progress
+  pub progressed : Progressed (task_at before) before.seat later.seat progress
+  pub none : progress.conflict ≡ None

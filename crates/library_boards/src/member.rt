@@ -1,0 +1,173 @@
+//! Whoever takes part in the work on a board.
+ghost use Rattle.std.specs.Prelude.{◌≡◌};
+ghost use Rattle.library_boards.specs.Members.{limit_of};
+
+use crate::job::{OpenFault, job_of};
+use crate::shared::{Shared, new_board};
+use pram_board::{Progress, Seat, Stay};
+use pram_step::Fault;
+use std::alloc::{AllocError, Global};
+use std::sync::Arc;
+use stop_plan::Open;
+use walkx::{Reading, Worker};
+
+/// A reader or a worker at a board, with a seat of its own. All members of a board keep it alive.
+#[derive(Drop)]
+pub struct Member {
+    pub shared: Arc<Shared, Global>,
+    pub seat: Seat,
+    pub worker: Option<Worker>,
+}
+
+impl Member {
+    ghost use Rattle.std.specs.Prelude.{◌<◌, ◌≤◌, IfErr, IfNone, IfOk, IfSome};
+    ghost use Rattle.pram_step.specs.Runs.{IsAnswer, IsFault};
+    ghost use Rattle.pram_step.specs.declared.answer.RunAnswer.TheVariants.{Final};
+    ghost use Rattle.pram_board.specs.Seats.{HasSeen, KnowsConflict, Progressed, WasRead};
+    ghost use Rattle.library_boards.specs.Grains.{IsGrainAsked};
+    ghost use Rattle.library_boards.specs.Jobs.{IsNoJob};
+    ghost use Rattle.library_boards.specs.Members.{GoesOn, IsBack, IsMember, IsOpenedFor};
+    ghost use Rattle.library_boards.specs.Members.{IsReaderAt, IsWork, IsWorkerAt, NoneIsKnown};
+    ghost use Rattle.library_boards.specs.Members.{StepsAreLeft, job_at, shared_at, task_at};
+
+    /// A reader at a new board for the job of a text, and so many workers. A leaf stands for so
+    /// many processors; at 0 the board chooses.
+    pub fn open(alloc: Global, text: &[u8], workers: u32, grain: u32) -> Result<Member, OpenFault>
+        requires some { 1 ≤ workers }
+        requires most { workers ≤ 64 }
+        requires grain { IsGrainAsked grain }
+        ensures opened { IfOk result (IsOpenedFor text.now workers grain) }
+        ensures none { IfErr result (IsNoJob text.now) }
+    {
+        let job = job_of(alloc, text)?;
+        let (board, seat) = new_board(alloc, &job, workers, grain)?;
+        let shared = Shared {
+            board,
+            workers,
+            cells: job.cells(),
+            steps: job.steps(),
+        };
+        match Arc::new(alloc, shared) {
+            Ok(shared) => Ok(Member {
+                shared,
+                seat,
+                worker: None,
+            }),
+            Err(_) => Err(OpenFault::Memory),
+        }
+    }
+
+    /// A reader at the same board. It fails where there are too many members.
+    pub fn reader(&self) -> Result<Member, AllocError>
+        ensures { IfOk result (IsReaderAt (shared_at self.now)) }
+    {
+        let seat = self.shared.board.new_seat();
+        Ok(Member {
+            shared: Arc::try_clone(&self.shared)?,
+            seat,
+            worker: None,
+        })
+    }
+
+    /// A worker at the same board, at its first leaf. It fails where there are too many members.
+    pub fn worker(&self, number: u32) -> Result<Member, AllocError>
+        requires { number < (shared_at self.now).workers }
+        ensures { IfOk result (IsWorkerAt (shared_at self.now) number) }
+    {
+        let seat = self.shared.board.new_seat();
+        Ok(Member {
+            shared: Arc::try_clone(&self.shared)?,
+            seat,
+            worker: Some(Worker::start(number)),
+        })
+    }
+
+    /// Makes at most so many atomic steps of the worker, or all that are left if the limit is the
+    /// greatest number, and says how that ended; nothing where there is no worker.
+    pub fn work(&mut self, limit: u64) -> Option<Stay>
+        requires { IsMember self.old }
+        ensures { IsWork self.old limit self.new result }
+    {
+        match &mut self.worker {
+            None => None,
+            Some(worker) => {
+                let board = &self.shared.board;
+                Some(board.work(&mut self.seat, worker, &Open, limit_of(limit)))
+            }
+        }
+    }
+
+    /// The worker, if there is one, loses all that it knew, and comes back: it will stand where its
+    /// position word says. Says whether there is one.
+    pub fn back(&mut self) -> bool
+        requires { IsMember self.old }
+        ensures { IsBack self.old self.new result }
+    {
+        match &self.worker {
+            None => false,
+            Some(worker) => {
+                self.worker = Some(Worker::back(worker.number()));
+                true
+            }
+        }
+    }
+
+    /// How far the steps are finished. It is no step below those that the member has seen.
+    pub fn progress(&mut self) -> Progress
+        requires { IsMember self.old }
+        ensures progressed { Progressed (task_at self.old) self.old.seat self.new.seat result }
+        ensures knows { HasSeen (task_at self.old).layout self.new.seat.record_of result.step }
+        ensures conflict { IfSome result.conflict (λ step. KnowsConflict (task_at self.old).layout
+            self.new.seat.record_of) }
+        ensures goes_on { GoesOn self.old self.new }
+    {
+        self.shared.board.progress(&mut self.seat)
+    }
+
+    /// What a cell held after a step, which is no step below those that the member has seen.
+    pub fn read(&mut self, cell: u32) -> Reading
+        requires member { IsMember self.old }
+        requires cell { cell < (shared_at self.old).cells }
+        ensures read { WasRead (task_at self.old) self.old.seat self.new.seat cell result }
+        ensures goes_on { GoesOn self.old self.new }
+    {
+        self.shared.board.read(&mut self.seat, cell)
+    }
+
+    /// What each cell holds after the last step, if it is known to be finished.
+    pub fn memory(&mut self, alloc: Global) -> Result<Option<Vec<u32>>, AllocError>
+        requires { IsMember self.old }
+        ensures cells { IfOk result (λ found. IfSome found
+            (λ cells. IsAnswer (job_at self.old) (Final cells.items))) }
+        ensures left { IfOk result (λ found. IfNone found (StepsAreLeft self.old self.new)) }
+        ensures goes_on { GoesOn self.old self.new }
+    {
+        if self.progress().step != self.shared.steps {
+            return Ok(None);
+        }
+        Ok(Some(self.shared.board.memory(alloc, &mut self.seat)?))
+    }
+
+    /// The first step that is against the rule, and who disputes what in it, if one is known.
+    pub fn fault(&mut self, alloc: Global) -> Result<Option<Fault>, AllocError>
+        requires { IsMember self.old }
+        ensures fault { IfOk result (λ found. IfSome found (IsFault (job_at self.old))) }
+        ensures none { IfOk result (λ found. IfNone found (NoneIsKnown self.old self.new)) }
+        ensures goes_on { GoesOn self.old self.new }
+    {
+        if self.progress().conflict.is_none() {
+            return Ok(None);
+        }
+        Ok(Some(self.shared.board.fault(alloc, &mut self.seat)?))
+    }
+}
+
+// A worker without a limit plays whole turns as straight code, in about a tenth of the time.
+fn limit_of(limit: u64) -> Option<u64>
+    ensures { result ≡ limit_of limit }
+{
+    if limit == u64::MAX {
+        return None;
+    }
+    Some(limit)
+}

@@ -1,0 +1,35 @@
+-- The final memory of a text's job.
+use Rattle.std.specs.Prelude.{◌≡◌, ℕ, List, []}
+use Rattle.pram_job.specs.Job.{JobData}
+use Rattle.pram_step.specs.Runs.{IsAnswer}
+use Rattle.pram_step.specs.declared.answer.RunAnswer.{RunAnswer}
+use Rattle.pram_step.specs.declared.answer.RunAnswer.TheVariants.{Final}
+use Rattle.pram_commands.specs.Did.{status_of}
+use Rattle.pram_commands.specs.Names.{Means}
+use Rattle.pram_commands.specs.Plain.{checking}
+use Rattle.library_core.specs.Serving.{IsUndone}
+use Rattle.library_core.specs.declared.fault.CallFault.{CallFault}
+use Rattle.library_core.specs.declared.fault.CallFault.TheVariants as call
+
+-- the cells of an answer, which a conflict has not
+abbrev pub cells_of : RunAnswer → List ℕ
+cells_of (Final cells) = cells
+cells_of _ = []
+
+-- The text means a job, and this is its answer.
+pub record IsAnswerOf (text : List ℕ) (answer : RunAnswer) : Type 0 where
+  pub job : JobData
+  pub means : Means text job
+  pub answers : IsAnswer job answer
+
+-- These are the cells of the answer of a text, and its status.
+pub record AreCells (text cells : List ℕ) (status : ℕ) : Type 0 where
+  pub answer : RunAnswer
+  pub answers : IsAnswerOf text answer
+  pub are : cells ≡ cells_of answer
+  pub is : status ≡ status_of answer
+
+-- the text means no job, or is too long, or memory ran out
+abbrev pub IsNoJob : (text : List ℕ) → CallFault → Type 0
+IsNoJob text (call.Request fault) = ⊥
+IsNoJob text (call.Command fault) = IsUndone checking text [] fault

@@ -1,0 +1,6 @@
+-- The commands, for the clauses of calls.
+pub use Rattle.pram_commands.specs.Costs.{costing}
+pub use Rattle.pram_commands.specs.Plain.{checking, plainly}
+pub use Rattle.pram_commands.specs.Replayed.{replaying}
+pub use Rattle.pram_commands.specs.Steps.{stepping}
+pub use Rattle.pram_commands.specs.Texts.{compiling}

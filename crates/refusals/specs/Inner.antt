@@ -1,0 +1,2 @@
+-- For private contracts alone.
+pub mod Named

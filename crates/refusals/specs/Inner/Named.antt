@@ -1,0 +1,48 @@
+-- The lines, files, cells and places that refusals name.
+use Rattle.std.specs.Prelude.{ℕ, List, [], unwrap_or}
+use Rattle.pram_text.specs.declared.fault.TextKind.{TextKind}
+use Rattle.stop_plan.specs.declared.plan.PlanKind.{PlanKind}
+use Rattle.pardo_job.specs.declared.fault.Refusal.{Refusal as ProgramRefusal}
+use Rattle.command_data.specs.Line.{file_of, place_of, plan_of}
+use Rattle.command_data.specs.declared.line.Line.{Line}
+use Rattle.refusals.specs.declared.fault.CommandFault.{CommandFault}
+use Rattle.refusals.specs.declared.fault.CommandFault.TheVariants as fault
+use Rattle.refusals.specs.declared.refusal.Refusal.{Refusal}
+use Rattle.refusals.specs.declared.refusal.Refusal.TheVariants as refusal
+
+-- What a refusal names: a line of the text or a row of the plan, and what is wrong with it; what is
+-- wrong with a program; a file; a cell; a place; a step; or nothing.
+pub data Named : Type 0 where
+  a_line : ℕ → TextKind → Named
+  a_program : ProgramRefusal → Named
+  a_row : ℕ → PlanKind → Named
+  a_file : List ℕ → Named
+  a_cell : ℕ → Named
+  a_place : List ℕ → Named
+  a_step : ℕ → Named
+  nothing : Named
+
+abbrev pub named_in : Refusal → Named
+named_in (refusal.Text line kind) = a_line line kind
+named_in (refusal.Program found) = a_program found
+named_in (refusal.Plan row kind) = a_row row kind
+named_in (refusal.File name) = a_file name.now
+named_in (refusal.Size name) = a_file name.now
+named_in (refusal.Cell cell) = a_cell cell
+named_in (refusal.Place place) = a_place place.now
+named_in (refusal.Step step) = a_step step
+named_in _ = nothing
+
+-- what a fault of a line is about
+abbrev pub named_by : Line → CommandFault → Named
+named_by line (fault.Text number kind) = a_line number kind
+named_by line (fault.Program found) = a_program found
+named_by line (fault.Plan row kind) = a_row row kind
+named_by line fault.JobDevice = a_file (file_of line)
+named_by line fault.JobTooLarge = a_file (file_of line)
+named_by line fault.PlanDevice = a_file (unwrap_or (plan_of line) [])
+named_by line fault.PlanTooLarge = a_file (unwrap_or (plan_of line) [])
+named_by line (fault.OutsideCell cell) = a_cell cell
+named_by line (fault.OutsidePlace at) = a_place (place_of line at)
+named_by line (fault.OutsideStep step) = a_step step
+named_by line _ = nothing

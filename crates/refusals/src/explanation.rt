@@ -1,0 +1,133 @@
+//! Why a line was not done, in a sentence.
+ghost use Rattle.std.specs.Prelude.{◌≡◌, codes, false};
+ghost use Rattle.std.specs.Io.KnownBytes.{Appends};
+ghost use Rattle.refusals.specs.declared.fault.CommandFault.TheVariants.{Memory};
+
+use crate::fault::CommandFault;
+use crate::sentences;
+use command_data::Line;
+use pram_streams::{Reason, Sink, put};
+use std::alloc::Global;
+use std::fmt;
+
+/// What explains that memory ran out, and needs none.
+const MEMORY_SENTENCE: &str = "out of memory, or the system refused a thread\n";
+
+/// Why the sources of a line failed, where they did.
+#[derive(Clone, Copy, Debug, PartialEq, Eq)]
+pub struct Reasons {
+    pub job: Reason,
+    pub plan: Reason,
+}
+
+/// Why a line was not done, for people.
+#[derive(Clone, Copy, Debug, PartialEq, Eq)]
+pub struct Explanation<'a> {
+    pub line: Line<'a>,
+    pub fault: CommandFault,
+    pub reasons: Reasons,
+}
+
+impl<'a> Explanation<'a> {
+    fn job(&self) -> &'a str {
+        shown(self.line.file())
+    }
+
+    fn plan(&self) -> &'a str {
+        shown(self.line.plan().unwrap_or(""))
+    }
+}
+
+impl fmt::Display for Explanation<'_> {
+    fn fmt<W: fmt::Write>(&self, f: &mut fmt::Formatter<W>) -> fmt::Result {
+        match self.fault {
+            CommandFault::Text { line, kind } => {
+                on_line(f, self.job(), line, sentences::of_text(kind))
+            }
+            CommandFault::Program(refusal) => {
+                let (line, sentence) = sentences::of_program(refusal);
+                on_line(f, self.job(), line, sentence)
+            }
+            CommandFault::Plan { row, kind } => {
+                on_row(f, self.plan(), row, sentences::of_plan(row, kind))
+            }
+            CommandFault::OutsideCell { cell } => without(f, self.job(), "cell", cell),
+            CommandFault::OutsidePlace { at } => without_place(f, self.job(), self.line.place(at)),
+            CommandFault::OutsideStep { step } => without(f, self.job(), "step", step),
+            CommandFault::JobDevice => on_file(f, self.job(), sentences::of_file(self.reasons.job)),
+            CommandFault::PlanDevice => {
+                on_file(f, self.plan(), sentences::of_file(self.reasons.plan))
+            }
+            CommandFault::OutDevice => f.write_str("standard output takes no more\n"),
+            CommandFault::JobTooLarge => on_file(f, self.job(), sentences::TOO_LARGE),
+            CommandFault::PlanTooLarge => on_file(f, self.plan(), sentences::TOO_LARGE),
+            CommandFault::Memory => f.write_str(MEMORY_SENTENCE),
+        }
+    }
+}
+
+fn on_file<W: fmt::Write>(f: &mut fmt::Formatter<W>, file: &str, sentence: &str) -> fmt::Result {
+    writeln!(f, "{file}: {sentence}")
+}
+
+fn on_line<W: fmt::Write>(
+    f: &mut fmt::Formatter<W>,
+    file: &str,
+    line: u64,
+    sentence: &str,
+) -> fmt::Result {
+    writeln!(f, "{file}, line {line}: {sentence}")
+}
+
+fn on_row<W: fmt::Write>(
+    f: &mut fmt::Formatter<W>,
+    file: &str,
+    row: u64,
+    sentence: &str,
+) -> fmt::Result {
+    writeln!(f, "{file}, row {row}: {sentence}")
+}
+
+// The job of the file has no such cell or step.
+fn without<W: fmt::Write>(
+    f: &mut fmt::Formatter<W>,
+    file: &str,
+    what: &str,
+    number: u32,
+) -> fmt::Result {
+    writeln!(f, "{file}: the job has no {what} {number}")
+}
+
+fn without_place<W: fmt::Write>(f: &mut fmt::Formatter<W>, file: &str, place: &str) -> fmt::Result {
+    writeln!(f, "{file}: it has no place {place}")
+}
+
+// The name of a file, as people are told it.
+fn shown(name: &str) -> &str {
+    if name == "-" { "standard input" } else { name }
+}
+
+/// Tells the sentence. Where there is no memory for it, or the sink fails, that is all; that memory
+/// ran out is told without any.
+pub(crate) fn explain<E: Sink>(alloc: Global, explanation: &Explanation<'_>, err: &mut E)
+    requires { E.has_failed err.old ≡ false }
+    ensures memory { explanation.now.fault ≡ Memory → E.has_failed err.new ≡ false
+        → Appends (E.taken err.old) (E.taken err.new)
+        (codes "out of memory, or the system refused a thread\n") }
+{
+    match explanation.fault {
+        CommandFault::Memory => {
+            let _ = put(err, MEMORY_SENTENCE.as_bytes());
+        }
+        _ => tell_sentence(alloc, explanation, err),
+    }
+}
+
+// Tells the sentence, if there is memory for it.
+fn tell_sentence<E: Sink>(alloc: Global, explanation: &Explanation<'_>, err: &mut E)
+    requires { E.has_failed err.old ≡ false }
+{
+    if let Ok(text) = format!(in alloc; "{explanation}") {
+        let _ = put(err, text.as_bytes());
+    }
+}

@@ -1,0 +1,13 @@
+//! Why a line was not done: the fault, its status, and what standard error tells of it.
+#![tactic(auto)]
+
+mod explanation;
+mod fault;
+mod refusal;
+pub mod sentences;
+mod telling;
+
+pub use explanation::{Explanation, Reasons};
+pub use fault::CommandFault;
+pub use refusal::{CONFLICT, DONE, FAILED, MEMORY, REFUSED, Refusal, UNFINISHED, tell};
+pub use telling::tell_fault;
