@@ -123,7 +123,8 @@ fn command_sentence(fault: CommandFault) -> &'static str {
         CommandFault::Text { kind, .. } => sentences::of_text(kind),
         CommandFault::Program(refusal) => sentences::of_program(refusal).1,
         CommandFault::Plan { row, kind } => sentences::of_plan(row, kind),
-        CommandFault::OutsideStep { .. } => "the job has no step with the number of the first one",
+        CommandFault::OutsideStep { .. } =>
+            "the job does not have the first step that is to be shown",
         CommandFault::JobTooLarge | CommandFault::PlanTooLarge => sentences::TOO_LARGE,
         _ => "out of memory",
     }
