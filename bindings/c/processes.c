@@ -458,5 +458,6 @@ int main(int count, char **line) {
   run.line_length = (size_t)(line[count - 1] + strlen(line[count - 1]) - line[0]);
   read_words(count, line, &run.words);
   signal(SIGPIPE, SIG_IGN);
+  signal(SIGXFSZ, SIG_IGN);
   return run.words.job ? lead(&run) : join(&run);
 }

@@ -140,11 +140,18 @@ static struct shared *map_somewhere(int file) {
 /* A disk that is full shows as this signal while the mapping is being filled. */
 static const char *filling;
 
+static void say(const char *text) {
+  ssize_t written = write(2, text, strlen(text));
+  (void)written;
+}
+
 static void on_full_disk(int number) {
-  static const char said[] = "pramx-processes: the disk has no room for the board\n";
   (void)number;
   unlink(filling);
-  _exit(write(2, said, sizeof said - 1) < 0 ? 4 : 4);
+  say("file ");
+  say(filling);
+  say("\npramx-processes: the disk has no room for the board\n");
+  _exit(KS_FAILED);
 }
 
 static enum shared_fault make_file(const char *name, int *file) {
