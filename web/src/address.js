@@ -13,18 +13,36 @@ async function unpackText(packed) {
   return new TextDecoder('utf-8', { fatal: true }).decode(await unpack(packed, MOST_TEXT));
 }
 
-// The part after `#`, or nothing where it would be too long for a link.
-export async function writeAddress(shown, examples) {
-  const example = examples.find((candidate) => candidate.text === shown.text);
-  if (!example && shown.text.length > 20 * MOST_ADDRESS) return undefined;
-  const text = example ? `example=${example.name}` : `text=${await packText(shown.text)}`;
-  const { workers, acts, at } = shown.schedule;
-  const parts = [text, `view=${shown.view}`, `step=${shown.step}`, `workers=${workers}`];
-  const written = writeActs(acts, MOST_ADDRESS);
+const exampleOf = ({ text }, examples) => examples.find((candidate) => candidate.text === text);
+
+// What an address says besides the text, or nothing where the acts would be too long.
+function writeMoment({ view, step, schedule }, most) {
+  const { workers, acts, at } = schedule;
+  const parts = [`view=${view}`, `step=${step}`, `workers=${workers}`];
+  const written = writeActs(acts, most);
   if (written === undefined) return undefined;
   if (acts.length > 0) parts.push(`acts=${written}`, `at=${at}`);
-  const address = parts.join('&');
+  return parts.join('&');
+}
+
+// The part after `#`, or nothing where it would be too long for a link.
+export async function writeAddress(shown, examples) {
+  const example = exampleOf(shown, examples);
+  if (!example && shown.text.length > 20 * MOST_ADDRESS) return undefined;
+  const moment = writeMoment(shown, MOST_ADDRESS);
+  if (moment === undefined) return undefined;
+  const text = example ? `example=${example.name}` : `text=${await packText(shown.text)}`;
+  const address = `${text}&${moment}`;
   return address.length > MOST_ADDRESS ? undefined : address;
+}
+
+// What is shown, at once and of any length, for the page itself: the text stands beside the rest,
+// and of an example its name.
+export function writeShown(shown, examples) {
+  const example = exampleOf(shown, examples);
+  const moment = writeMoment(shown);
+  return example ? { address: `example=${example.name}&${moment}` }
+    : { address: moment, text: shown.text };
 }
 
 function readNumber(fields, name, least, most, otherwise) {
@@ -59,4 +77,12 @@ export async function readAddress(address, examples) {
     step: readNumber(fields, 'step', 0, 4294967295, 0),
     schedule: workers === undefined ? undefined : new Schedule(workers, acts, at),
   };
+}
+
+// What writeShown wrote. Throws at anything else.
+export async function readShown({ address, text }, examples) {
+  const shown = await readAddress(address, examples);
+  const found = shown.text ?? text;
+  if (typeof found !== 'string') throw new TypeError('there is no text');
+  return { ...shown, text: found };
 }

@@ -25,17 +25,18 @@ function fittingOf(list) {
   });
 }
 
-// Keeps these, and of those that stand there all others. Tells which of these are kept: without
-// room, or where the browser keeps nothing, they last as long as the page.
+// Keeps these, and of those that stand there all others, as far as there is room. Tells which are
+// kept, and whether all are: the others of these last as long as the page.
 function write(list, there) {
   const others = there.filter(({ number }) => !list.some((draft) => draft.number === number));
-  const kept = fittingOf([...list, ...others]);
+  const all = [...list, ...others];
+  const kept = fittingOf(all);
   try {
     localStorage.setItem(KEY, JSON.stringify(kept));
   } catch {
-    return [];
+    return { kept: [], areAll: false };
   }
-  return list.filter((draft) => kept.includes(draft));
+  return { kept, areAll: kept.length === all.length };
 }
 
 const byNumber = (list) => new Map(list.map(({ number, text }) => [number, text]));
@@ -74,9 +75,11 @@ export class Drafts {
     return this.list.find((draft) => draft.number === standing);
   }
 
-  // The draft of a text that is opened; `known` is the one that was shown there before.
+  // The draft that has a text that is opened: the one that is known, or another one.
   numberOf(text, known) {
-    return (this.find(known) ?? this.list.find((draft) => draft.text === text))?.number;
+    const hasIt = (draft) => draft?.text === text;
+    const draft = this.find(known);
+    return (hasIt(draft) ? draft : this.list.find(hasIt))?.number;
   }
 
   get freshNumber() {
@@ -87,7 +90,7 @@ export class Drafts {
   keep(text, given = this.freshNumber) {
     const number = this.standing(given);
     const others = this.list.filter((draft) => draft.number !== number);
-    this.list = [{ number, text }, ...others].slice(0, MOST);
+    this.list = [{ number, text }, ...others];
     this.isWritten = false;
     clearTimeout(this.timer);
     this.timer = setTimeout(() => this.write(), QUIET);
@@ -95,10 +98,11 @@ export class Drafts {
   }
 
   // Keeps what a text became: as the same draft, or as another one, so that nothing is overwritten
-  // by what is no version of it. Nothing is kept of an empty text.
+  // by what is no version of it, or one of an older version. Nothing is kept of an empty text.
   follow({ text: before, draft }, text) {
     if (text === '') return undefined;
-    return this.keep(text, isAnother(before, text) ? undefined : draft);
+    const goesOn = this.find(draft)?.text === before && !isAnother(before, text);
+    return this.keep(text, goesOn ? draft : undefined);
   }
 
   // Keeps what is shown again after an undo: the draft is what one sees.
@@ -119,9 +123,9 @@ export class Drafts {
     this.list = this.list.map((draft) => (
       isTheirs(draft) && draft.text !== this.known.get(draft.number) ? this.move(draft) : draft));
     const own = this.list.filter((draft) => !isTheirs(draft));
-    const kept = write(own, there);
-    for (const { number, text } of kept) this.known.set(number, text);
-    this.onKept(kept.length === own.length);
+    const { kept, areAll } = write(own, there);
+    for (const draft of own) if (kept.includes(draft)) this.known.set(draft.number, draft.text);
+    this.onKept(areAll);
   }
 
   move({ number, text }) {

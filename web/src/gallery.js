@@ -56,7 +56,7 @@ export function openGallery(examples, drafts, choose) {
   function valueNow({ text, draft }) {
     const example = examples.find((candidate) => candidate.text === text);
     const own = drafts.find(draft);
-    if (own) return valueOf(own);
+    if (own?.text === text) return valueOf(own);
     return example?.name ?? (text === SAMPLE ? NEW : LINKED);
   }
 

@@ -137,7 +137,9 @@ class Lessons {
 
   async visit(address) {
     const { app, lesson } = this;
-    app.showAddress(await readAddress(address, app.examples), { lesson });
+    const shown = await readAddress(address, app.examples);
+    app.leave();
+    app.showAddress(shown, { lesson });
     app.link.push();
   }
 

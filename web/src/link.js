@@ -2,6 +2,7 @@
 // for others.
 import { readAddress, writeAddress } from './address.js';
 import { byId, onClick, setText } from './dom.js';
+import { keepShown, shownAgain } from './leaving.js';
 
 const QUIET = 400;
 const LOCAL = /^(localhost|127\.|\[::1\]|192\.168\.|10\.)/;
@@ -34,35 +35,13 @@ function showWhole(address = '') {
   byId('whole').firstElementChild.href = whole.href;
 }
 
-const KEY = 'kaolinsilk shown';
+const MOST_ADDRESSES = 8;
 
-const MOST_KEPT = 8;
-
-// Which draft was shown at which of the last addresses, for the page when it is loaded anew: a
-// browser may load the one before the last.
-function shownBefore() {
-  try {
-    const found = JSON.parse(sessionStorage.getItem(KEY) ?? '[]');
-    return Array.isArray(found) ? found : [];
-  } catch {
-    return [];
-  }
-}
-
-function keepShown(shown) {
-  const others = shownBefore().filter((one) => one?.hash !== shown.hash);
-  try {
-    sessionStorage.setItem(KEY, JSON.stringify([shown, ...others].slice(0, MOST_KEPT)));
-  } catch {
-    // A browser that keeps nothing shows the text of the address.
-  }
-}
-
-const draftShownAt = (hash) => shownBefore().find((one) => one?.hash === hash)?.draft;
+const isFrame = window !== window.top;
 
 export class Link {
   constructor(app, examples, onAddress) {
-    Object.assign(this, { app, examples, onAddress, written: '', isOpen: false });
+    Object.assign(this, { app, examples, onAddress, isOpen: false, addresses: [] });
     this.life = Date.now();
     onClick('copy-link', () => this.copy());
     window.addEventListener('popstate', (event) => this.goBack(event.state));
@@ -80,10 +59,25 @@ export class Link {
 
   // Puts the address, and which work it shows, into the browser's history.
   enter(hash) {
-    this.written = hash;
     history.replaceState(this.state, '', hash || location.href);
-    const { drafts, work } = this.app;
-    keepShown({ hash: location.hash, draft: drafts.standing(work.draft) });
+    this.written = location.hash;
+    this.note();
+  }
+
+  // Notes the address as the last one.
+  note() {
+    const { hash } = location;
+    const others = this.addresses.filter((address) => address !== hash);
+    this.addresses = [hash, ...others].slice(0, MOST_ADDRESSES);
+  }
+
+  // Keeps what is shown for the page when it is loaded anew. Frames of one tab would keep it for
+  // each other.
+  keep() {
+    if (!this.isOpen || isFrame) return;
+    this.note();
+    const { app, examples, addresses } = this;
+    keepShown(app, examples, { draft: app.drafts.standing(app.work.draft), addresses });
   }
 
   // The address follows what is shown, a moment after the last change.
@@ -103,16 +97,31 @@ export class Link {
     this.timer = setTimeout(() => this.write(), QUIET);
   }
 
+  // Has the browser's history go back to the work that is shown now, also where the address has not
+  // followed it yet.
+  mark() {
+    clearTimeout(this.timer);
+    history.replaceState(this.state, '', location.href);
+  }
+
   // A chosen program is a page of its own in the browser's history.
   push() {
-    clearTimeout(this.timer);
     history.pushState(this.state, '', location.href);
+    return this.write();
+  }
+
+  // Opens the page: with what was shown when it went, where it is loaded anew, and then the address
+  // follows; else with what the address says.
+  async open() {
+    const again = isFrame ? undefined : await shownAgain(location.hash, this.examples);
+    if (!again) return this.read();
+    this.show(again.shown, again.draft);
     return this.write();
   }
 
   // Shows what the address says. One that can't be read changes nothing that is shown.
   async read() {
-    if (location.hash === this.written && this.written !== '') return;
+    if (location.hash === this.written) return;
     let shown;
     try {
       shown = await readAddress(location.hash.slice(1), this.examples);
@@ -120,16 +129,22 @@ export class Link {
       setText(byId('link-said'), `The address can't be read: ${why.message}.`);
       if (this.isOpen) return;
     }
-    this.isOpen = true;
-    this.onAddress(shown, { draft: draftShownAt(location.hash) });
-    this.enter(location.hash);
+    this.show(shown);
     showWhole(await this.address());
+  }
+
+  show(shown, draft) {
+    this.isOpen = true;
+    this.onAddress(shown, { draft });
+    this.enter(location.hash);
   }
 
   // Back to a program that was shown before, with its schedule. One of an earlier opening of the
   // page is read from its address.
   goBack(state) {
-    if (state?.life === this.life && this.app.showWork(state.work)) this.written = location.hash;
+    if (state?.life !== this.life || !this.app.showWork(state.work)) return;
+    this.written = location.hash;
+    this.later();
   }
 
   async copy() {

@@ -32,7 +32,7 @@ const MOST_CORE = 16777216;
 // and the view. The views read it, and change the schedule and the step.
 class Playground {
   constructor(core, far, examples) {
-    Object.assign(this, { core, far, examples, view: 'lockstep', written: 0 });
+    Object.assign(this, { core, far, examples, view: 'lockstep', written: -Infinity });
     this.firstShown = new Promise((done) => { this.onShown = done; });
     this.works = new Works(makeWork('', new Schedule(WORKERS)));
     this.drafts = new Drafts((areKept) => setHidden(byId('unkept'), areKept));
@@ -97,10 +97,23 @@ class Playground {
     this.link.later();
   }
 
-  // Keeps what was written just now: the page may go.
+  // Keeps what was written just now, and what is shown: the page may go.
   keep() {
     this.editor.look();
     this.drafts.write();
+    this.link.keep();
+  }
+
+  // Takes what was written: what is written from now on is a change of its own.
+  settle() {
+    this.editor.look();
+    this.written = -Infinity;
+  }
+
+  // The same, before something is chosen: the browser's history goes back to what is shown now.
+  leave() {
+    this.settle();
+    this.link.mark();
   }
 
   pause() {
@@ -195,8 +208,8 @@ class Playground {
   }
 
   undoText(count) {
-    this.editor.look();
-    this.written = 0;
+    this.settle();
+    if (!(count < 0 ? this.works.canUndo : this.works.canRedo)) return;
     this.works.moveBy(count);
     this.drafts.goBackTo(this.work);
     this.editor.set(this.text, true);
@@ -207,8 +220,7 @@ class Playground {
   // A chosen program, with a name where it is neither one's own nor of the gallery, and the lesson
   // that it belongs to; the one before it stays, to be undone or gone back to.
   choose(text, more) {
-    this.editor.look();
-    this.written = 0;
+    this.leave();
     this.works.add(makeWork(text, new Schedule(this.schedule.workers), more));
     this.editor.set(text);
     this.link.push();
@@ -217,7 +229,7 @@ class Playground {
 
   // Shows a work of this number again, if it is still there.
   showWork(number) {
-    this.editor.look();
+    this.settle();
     if (!this.works.show(number)) return false;
     this.editor.set(this.text);
     this.showNow();
@@ -241,7 +253,7 @@ class Playground {
   // Shows what an address says, and the first example where it says nothing; `draft` is the one
   // that was shown there before, `lesson` the one that sends there.
   showAddress(shown, { draft, lesson } = {}) {
-    this.editor.look();
+    this.settle();
     const first = this.examples.find((example) => example.name === FIRST_EXAMPLE);
     const text = shown?.text ?? (first ?? this.examples[0]).text;
     const work = makeWork(text, shown?.schedule ?? new Schedule(WORKERS),
@@ -286,7 +298,7 @@ async function start() {
   const core = await openCore(bytes);
   const app = new Playground(core, new Far(bytes), JSON.parse(byId('examples').textContent));
   app.isEmbedded = isEmbedded();
-  await app.link.read();
+  await app.link.open();
   await app.firstShown;
   document.documentElement.setAttribute('data-ready', '');
   setTimeout(() => warm(core), 100);

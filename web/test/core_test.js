@@ -16,7 +16,7 @@ import { counterPlace } from '../src/places.js';
 import { statusOf } from '../src/processors.js';
 import { PROGRAM_SENTENCES, wordsOfProgramFault } from '../src/program_faults.js';
 import { ACT, actOf, readActs, writeActs } from '../src/acts.js';
-import { readAddress, writeAddress } from '../src/address.js';
+import { readAddress, readShown, writeAddress, writeShown } from '../src/address.js';
 import { MODELS } from '../src/costs.js';
 import { Schedule } from '../src/schedule.js';
 import { Source } from '../src/source.js';
@@ -341,13 +341,17 @@ function testActs() {
   }
 }
 
-async function testAddress() {
-  const text = 'pram 1 ; ünïcode & <b>=#%\n';
+const told = ({ schedule: { workers, acts, at }, ...rest }) =>
+  JSON.stringify([rest.text, rest.view, rest.step, workers, acts, at]);
+
+const makeShown = (text) => {
   const schedule = new Schedule(2, readActs(2, '0.1*9'), 7);
-  const shown = { text, view: 'workers', step: 3, schedule };
+  return { text, view: 'workers', step: 3, schedule };
+};
+
+async function testAddress() {
+  const shown = makeShown('pram 1 ; ünïcode & <b>=#%\n');
   const read = await readAddress(await writeAddress(shown, []), []);
-  const told = ({ schedule: { workers, acts, at }, ...rest }) =>
-    JSON.stringify([rest.text, rest.view, rest.step, workers, acts, at]);
   is('an address', told(read), told(shown));
   const bomb = { ...shown, text: ' '.repeat(20000000) };
   is('a text too long for a link', await writeAddress(bomb, []), undefined);
@@ -355,6 +359,22 @@ async function testAddress() {
     'workers=2&acts=x', 'workers=2&acts=0&at=5', 'step=99999999999']) {
     const said = await readAddress(address, []).then(() => 'taken', () => 'refused');
     is(`hostile address ${address}`, said, 'refused');
+  }
+}
+
+// What is shown, as the page keeps it for itself.
+async function testShown() {
+  const shown = makeShown('pram 1 ; ünïcode & <b>=#%\n');
+  is('what is shown', told(await readShown(writeShown(shown, []), [])), told(shown));
+  const long = { ...shown, text: '; long\n'.repeat(300000) };
+  is('a long one', told(await readShown(writeShown(long, []), [])) === told(long), true);
+  const kept = writeShown(shown, [{ name: 'mine', text: shown.text }]);
+  const later = await readShown(kept, [{ name: 'mine', text: 'later' }]);
+  is('an example is kept by its name', later.text, 'later');
+  for (const bad of [{}, kept, { address: 'view=workers' }, { address: 'step=-1', text: '' },
+    { address: 'view=workers', text: 5 }]) {
+    const said = await readShown(bad, []).then(() => 'taken', () => 'refused');
+    is(`hostile ${JSON.stringify(bad)}`, said, 'refused');
   }
 }
 
@@ -472,6 +492,7 @@ testLoopsInWords(core);
 testActs();
 testPlan(core);
 await testAddress();
+await testShown();
 testRefusals(core);
 testSizes(core);
 testFates(core);

@@ -123,6 +123,7 @@ export async function testSeeking() {
 
 export async function testFreshKeys() {
   await open();
+  await page.until('!document.getElementById("machine").hidden', 5);
   await page.press('ArrowRight');
   is('→ on a fresh page', await valueOf('#step'), '1');
   await page.press(' ', 'Space', ' ');

@@ -57,6 +57,9 @@ const changeElsewhere = (to) => page.evaluate(`(() => {
   localStorage.setItem(${KEY}, JSON.stringify(list));
 })()`);
 
+const isText = (text) =>
+  page.until(`document.getElementById("text").value === ${JSON.stringify(text)}`, 5);
+
 async function writeAtStart(words) {
   await page.evaluate('document.getElementById("text").focus()');
   await page.evaluate('document.getElementById("text").setSelectionRange(0, 0)');
@@ -87,6 +90,12 @@ export async function testDraftsOfTwoPages() {
   await page.choose('#example', 'sum');
   await chooseOwn('your own: still');
   is('it is there', await valueOf('#text'), `; still\n; more\n${OWN}`);
+  await changeElsewhere('; theirs, too\n');
+  await reload();
+  is('loaded anew it shows what it showed', await valueOf('#text'), `; still\n; more\n${OWN}`);
+  await writeAtStart('; last\n');
+  is('theirs stays once more', (await kept()).includes('; theirs, too\n'), true);
+  is('beside what goes on here', (await kept()).includes(`; last\n; still\n; more\n${OWN}`), true);
   await page.evaluate('localStorage.clear()');
 }
 
@@ -106,6 +115,24 @@ export async function testLongDrafts() {
   await open();
   await chooseOwn('your own: mine');
   is('a short one is there', await valueOf('#text'), OWN);
+}
+
+// The last hundred are kept. Of others it is said that they are not, and they last as long as the
+// page.
+export async function testManyDrafts() {
+  await open();
+  await page.evaluate(`localStorage.setItem(${KEY}, JSON.stringify(
+    Array.from({ length: 100 }, (_, k) => ({ number: 100 - k, text: '; old ' + (100 - k) }))))`);
+  await open();
+  is('a hundred are kept', await isShown('#unkept'), false);
+  await write(OWN);
+  is('one more is said not to be',
+    await page.until('document.getElementById("unkept").checkVisibility()', 5), true);
+  is('the last hundred are', (await kept()).split('===').length, 100);
+  is('with the new one', (await kept()).startsWith(`${OWN}===; old 100===`), true);
+  await chooseOwn('your own: old 1');
+  is('the oldest lasts as long as the page', await valueOf('#text'), '; old 1');
+  await page.evaluate('localStorage.clear()');
 }
 
 // Where the browser keeps nothing it is said, and they last as long as the page.
@@ -159,8 +186,94 @@ export async function testReloadAfterUndo() {
   await page.chord('z');
   await reload();
   is('also at once', await chosen(), 'your own: mine');
+  is('with its text', await valueOf('#text'), OWN);
   await writeAtStart('; last\n');
   is('and is still one program', (await kept()).split('===').length, 1);
+  await page.evaluate('localStorage.clear()');
+}
+
+// What was shown is shown again, though its address had no time to follow.
+export async function testReloadAtOnce() {
+  await open('#example=prefix&view=workers&workers=3');
+  await page.evaluate('localStorage.clear()');
+  await clicks('#all-10', 2);
+  await reload();
+  await has('the moment', '#moment-said', '60 of 60');
+  await page.click('#moment-back');
+  await reload();
+  await has('the one before', '#moment-said', '59 of 60');
+  await page.until('location.hash.includes("at=59")', 5);
+  is('its address follows', await page.evaluate('location.hash.includes("at=59")'), true);
+  const before = await valueOf('#text');
+  await write(OWN);
+  await reload();
+  is('what was written', await valueOf('#text'), OWN);
+  is('it is one’s own', await chosen(), 'your own: mine');
+  await page.choose('#example', 'prefix');
+  await reload();
+  is('what was chosen', await valueOf('#text'), before);
+  await writeAtStart('; on\n');
+  await page.chord('z');
+  await reload();
+  is('a program of the gallery that was undone to', await valueOf('#text'), before);
+  is('is that of the gallery', await valueOf('#example'), 'prefix');
+  await page.evaluate(`localStorage.setItem(${KEY},
+    JSON.stringify([3, 2, 1].map((number) => ({ number, text: '; alike' }))))`);
+  await open();
+  await page.choose('#example', 'own 2');
+  await reload();
+  is('of programs that are alike the same', await valueOf('#example'), 'own 2');
+  await page.evaluate('localStorage.clear()');
+}
+
+// A link shows what it says, also in a tab that showed a later version of it.
+export async function testLinkOfOlderVersion() {
+  await open();
+  await page.evaluate('localStorage.clear()');
+  await open();
+  await write(OWN);
+  await page.until('location.hash.includes("text=")');
+  const link = await page.evaluate('location.hash');
+  await writeAtStart('; on\n');
+  await open(link);
+  is('what the link says', await valueOf('#text'), OWN);
+  await writeAtStart('; other\n');
+  is('the later version stays', await kept(), `; other\n${OWN}===; on\n${OWN}`);
+  await page.evaluate(`location.hash = ${JSON.stringify(link)}`);
+  is('also where the page stays', await isText(OWN), true);
+  await reload();
+  is('and is loaded anew', await valueOf('#text'), OWN);
+  await writeAtStart('; third\n');
+  is('each is kept', (await kept()).split('===').length, 3);
+}
+
+// One that is too long for a link.
+const LONG = `Array.from({ length: 20000 }, (_, k) => '; ' + Math.sin(k)).join('\\n') + '\\n'`;
+const LENGTH = 'JSON.parse(localStorage.getItem("kaolinsilk drafts"))[0].text.length';
+
+export async function testReloadOfLongText() {
+  await open();
+  await page.evaluate('localStorage.clear()');
+  await open();
+  await page.choose('#example', 'new');
+  await page.evaluate(paste(LONG));
+  await has('it has no link', '#link-said', 'too long for a link');
+  const line = await text('#fault');
+  const length = await page.evaluate(LENGTH);
+  await reload();
+  await has('loaded anew', '#fault', line);
+  is('it is one’s own', (await chosen()).startsWith('your own: '), true);
+  await writeAtStart('; on\n');
+  is('that goes on', await page.evaluate(LENGTH), length + 5);
+  is('it is one program', (await kept()).split('===').length, 1);
+  await page.click('h1');
+  await page.choose('#example', 'sum');
+  await page.until('location.hash.includes("example=sum")');
+  await page.evaluate('history.back()');
+  await has('back', '#example option:checked', 'your own: 0');
+  await page.until('false', 0.5);
+  is('it stays', await chosen(), 'your own: 0');
+  is('with all of its text', await text('#fault'), line.replace('20,001', '20,002'));
   await page.evaluate('localStorage.clear()');
 }
 
@@ -185,6 +298,35 @@ export async function testUndoOfSchedule() {
   await page.click('#all-1');
   await page.click('#undo-acts');
   await has('what came after is there again', '#moment-said', '0 of 60');
+}
+
+// What was written just before a choice is what one goes back to; what is made of an older version
+// takes nothing from the later one. With clicks, as below.
+export async function testHistoryOfVersions() {
+  await open();
+  await page.evaluate('localStorage.clear()');
+  await open();
+  await write(OWN);
+  await page.choose('#example', 'sum');
+  await page.evaluate('history.back()');
+  is('back to what was written', await isText(OWN), true);
+  await page.until('location.hash.includes("text=")', 5);
+  is('its address follows', await page.evaluate('location.hash.includes("text=")'), true);
+  await reload();
+  is('loaded anew', await valueOf('#text'), OWN);
+  await page.click('h1');
+  await page.choose('#example', 'sum');
+  await page.click('h1');
+  await chooseOwn('your own: mine');
+  await writeAtStart('; later\n');
+  await page.evaluate('history.go(-2)');
+  is('back to the older version', await isText(OWN), true);
+  await page.chord('z');
+  await page.until('false', 0.5);
+  is('where nothing is to be undone the later one stays', await kept(), `; later\n${OWN}`);
+  await writeAtStart('; other\n');
+  is('both versions stay', await kept(), `; other\n${OWN}===; later\n${OWN}`);
+  await page.evaluate('localStorage.clear()');
 }
 
 // With a click on each: a browser forgets pages first on which nobody ever clicked.
