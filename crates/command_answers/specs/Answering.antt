@@ -11,17 +11,18 @@ use Rattle.command_line.specs.CommandLine.{IsAsked, MeanNoLine, pramx}
 use Rattle.command_line.specs.declared.line.Asked.{Asked}
 
 -- The words mean a line, on such a device, and it was served from the files that it names.
-pub record ServesWords (Holds : List ℕ → Option (List ℕ) → Type 0) (words : List Text)
-    (on_terminal : Bool) (writes : Writing) (status : ℕ) : Type 0 where
+pub record ServesWords (Holds : List ℕ → Option (List ℕ) → Type 0) (Fails : Type 0)
+    (words : List Text) (on_terminal : Bool) (writes : Writing) (status : ℕ) : Type 0 where
   pub asked : Asked
   pub met : IsAsked on_terminal (subcommand_of pramx words) asked
-  pub serves : ServesFiles Holds asked.line writes status
+  pub serves : ServesFiles Holds Fails asked.line writes status
 
 -- So it is, unless the words mean no line, or memory ran out.
 abbrev pub AnswersWords :
-    (List ℕ → Option (List ℕ) → Type 0) → List Text → Bool → Writing → ℕ → Type 0
-AnswersWords Holds words on_terminal writes status =
-    ServesWords Holds words on_terminal writes status ⊎ (MeanNoLine words ⊎ (status ≡ MEMORY))
+    (List ℕ → Option (List ℕ) → Type 0) → Type 0 → List Text → Bool → Writing → ℕ → Type 0
+AnswersWords Holds Fails words on_terminal writes status =
+    ServesWords Holds Fails words on_terminal writes status
+    ⊎ (MeanNoLine words ⊎ (status ≡ MEMORY))
 
 -- The words ask for help or for the version.
 abbrev pub AskForHelp : List Text → Type 0

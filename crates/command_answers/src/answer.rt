@@ -2,18 +2,17 @@
 ghost use Rattle.std.specs.Prelude.{◌≡◌, ◌≢◌, ◌⊎◌, ◌≤◌, false, map};
 ghost use Rattle.std.specs.Prelude.{IfErr, IfOk, OnErr};
 ghost use Rattle.clap.specs.Words.{kind_of};
-ghost use Rattle.command_data.specs.Line.{StartsNoThread};
 ghost use Rattle.pram_commands.specs.Did.{writing};
-ghost use Rattle.pram_commands.specs.Files.{ServesFiles};
+ghost use Rattle.pram_commands.specs.Files.{MayFail};
 ghost use Rattle.command_answers.specs.Answering.{AnswersWords, AskForThreads, EndsByWords};
 ghost use Rattle.command_answers.specs.Answering.{RefusesQuietly};
 
 use clap::error::ErrorKind;
 use command_line::read_line;
 use pram_commands::{
-    Console, DONE, FAILED, Folder, Line, MEMORY, Refusal, Sources, serve_alone, serve_files, tell,
+    Console, DONE, FAILED, Folder, Line, MEMORY, Refusal, serve_files, serve_files_alone, tell,
 };
-use pram_streams::{Empty, Sink, put};
+use pram_streams::{Sink, put};
 use std::alloc::Global;
 use std::rt::Clock;
 use std::sync::Wait;
@@ -34,8 +33,9 @@ pub fn answer_words<'a, R: Eprint + Threads + Wait + Clock + Sync, F: Folder, O:
     ensures words { EndsByWords (map (λ word. word.now) words.entry.now) result }
     ensures quiet { RefusesQuietly (map (λ word. word.now) words.entry.now)
         (writing O.Sink console.old.out console.new.out) }
-    ensures answers { AnswersWords (F.holds folder.now) (map (λ word. word.now) words.entry.now)
-        console.old.is_terminal (writing O.Sink console.old.out console.new.out) result }
+    ensures answers { AnswersWords (F.holds folder.now) (MayFail F.File.Source)
+        (map (λ word. word.now) words.entry.now) console.old.is_terminal
+        (writing O.Sink console.old.out console.new.out) result }
 {
     match answer_alone(alloc, folder, words, console) {
         Ok(status) => status,
@@ -57,7 +57,7 @@ pub fn answer_alone<'a, F: Folder, O: Sink, E: Sink>(
     ensures words { IfOk result (EndsByWords (map (λ word. word.now) words.entry.now)) }
     ensures quiet { RefusesQuietly (map (λ word. word.now) words.entry.now)
         (writing O.Sink console.old.out console.new.out) }
-    ensures answers { IfOk result (AnswersWords (F.holds folder.now)
+    ensures answers { IfOk result (AnswersWords (F.holds folder.now) (MayFail F.File.Source)
         (map (λ word. word.now) words.entry.now) console.old.is_terminal
         (writing O.Sink console.old.out console.new.out)) }
     ensures line { IfErr result (AskForThreads (map (λ word. word.now) words.entry.now)
@@ -74,29 +74,6 @@ pub fn answer_alone<'a, F: Folder, O: Sink, E: Sink>(
         return Err(asked.line);
     }
     Ok(serve_files_alone(alloc, folder, &asked.line, console))
-}
-
-/// Does what `serve_files` does for a line that starts no thread, and always returns.
-fn serve_files_alone<F: Folder, O: Sink, E: Sink>(
-    alloc: Global,
-    folder: &F,
-    line: &Line<'_>,
-    console: &mut Console<O, E>,
-) -> u8
-    requires alone { StartsNoThread line.now }
-    requires out { O.has_failed console.old.out ≡ false }
-    requires err { E.has_failed console.old.err ≡ false }
-    ensures { ServesFiles (F.holds folder.now) line.now
-        (writing O.Sink console.old.out console.new.out) result }
-{
-    let job = folder.open(line.file());
-    match line.plan() {
-        Some(name) => {
-            let plan = folder.open(name);
-            serve_alone(alloc, line, &mut Sources { job, plan }, console)
-        }
-        None => serve_alone(alloc, line, &mut Sources { job, plan: Empty }, console),
-    }
 }
 
 /// Prints what `read_line` answers in place of a line, and answers its status: help and the version

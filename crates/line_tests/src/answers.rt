@@ -2,8 +2,8 @@
 ghost use Rattle.std.specs.Prelude.{⊤};
 
 use command_answers::answer_words;
-use pram_commands::{Console, Folder};
-use pram_streams::{FromRead, IntoWrite};
+use pram_commands::{Bytes, Console, Folder};
+use pram_streams::IntoWrite;
 use std::alloc::Global;
 use std::rt::Clock;
 use std::sync::Wait;
@@ -19,13 +19,13 @@ const PLAN: &str = "worker,act,ticks\n0,stop,0\n";
 struct Shelf;
 
 impl Folder for Shelf {
-    type File = FromRead<&'static [u8]>;
+    type File = Bytes<'static>;
 
     ghost holds = { λ _ _ _. ⊤ };
 
-    fn open(&self, name: &str) -> FromRead<&'static [u8]> {
+    fn open(&self, name: &str) -> Bytes<'static> {
         let text = if name == "plan" { PLAN } else { JOB };
-        FromRead::new(text.as_bytes())
+        Bytes::new(text.as_bytes())
     }
 }
 

@@ -8,3 +8,4 @@ pub mod Outside
 pub mod Watching
 pub mod Digits
 pub mod Rows
+pub mod Failing

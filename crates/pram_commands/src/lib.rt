@@ -2,6 +2,7 @@
 //! status.
 #![tactic(auto)]
 
+mod bytes;
 mod cell_list;
 mod commands;
 mod files;
@@ -15,9 +16,10 @@ mod sources;
 mod threads;
 mod why;
 
+pub use bytes::Bytes;
 pub use command_data::{Block, CellList, Line, Manner, Telling, Workers};
 pub use commands::{Reads, Wanted, check, compile, cost, plain, replay, run, steps, watch};
-pub use files::{Folder, serve_files};
+pub use files::{Folder, serve_files, serve_files_alone};
 pub use inputs::{take_inputs, take_job, take_plan};
 pub use names::Naming;
 pub use progress::{Teller, tell_steps};

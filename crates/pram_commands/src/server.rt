@@ -17,10 +17,10 @@ use std::sync::Wait;
 use std::thread::Threads;
 
 /// Does what the line asks, and answers the exit status. The job and the plan come from the sources
-/// in place of the line's files; where the line names no plan, that source is `Empty`. Refusals are
-/// told on the console's `err`, and how far a run is on the runtime's standard error; where either
-/// fails, the status stays. It waits for threads at `run` and `watch` alone: `serve_alone` does the
-/// others.
+/// in place of the line's files; where the line names no plan, that source has no bytes. Refusals
+/// are told on the console's `err`, and how far a run is on the runtime's standard error; where
+/// either fails, the status stays. It waits for threads at `run` and `watch` alone: `serve_alone`
+/// does the others.
 pub fn serve<R: Threads + Wait + Clock + Eprint + Sync, J: Source, P: Source, O: Sink, E: Sink>(
     rt: &R,
     alloc: Global,

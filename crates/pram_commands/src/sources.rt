@@ -5,7 +5,7 @@ use crate::names::Naming;
 use pram_job::Job;
 use stop_plan::Plan;
 
-/// The sources of a job and of its plan. Where a line names no plan, that is `Empty`.
+/// The sources of a job and of its plan. Where a line names no plan, that has no bytes.
 #[derive(Drop)]
 pub struct Sources<J, P> {
     pub job: J,
