@@ -1,5 +1,5 @@
 -- A line that was served from sources was served from the files that they are.
-use Rattle.std.proofs.Common.{◌≡◌, ◌⊎◌, ℕ, Bool, true, false, List, Option, None, Some, IsTrue}
+use Rattle.std.proofs.Common.{◌≡◌, ◌⊎◌, ℕ, Bool, true, false, List, [], Option, None, Some, IsTrue}
 use Rattle.std.proofs.Common.{refl, inl, inr}
 use Rattle.std.specs.Option.{option_map_or}
 use Rattle.std.specs.Prelude.{◌||◌}
@@ -10,6 +10,7 @@ use Rattle.pram_commands.specs.Did.{Writing}
 use Rattle.pram_commands.specs.Files.{IsPlanOf, MayFail, ServesFiles}
 use Rattle.pram_commands.specs.Inputs.{reading}
 use Rattle.pram_commands.specs.Served.{Served}
+use Rattle.pram_commands.specs.declared.bytes.PlanFile.{PlanFile}
 use Rattle.pram_commands.specs.declared.sources.Sources.{Sources}
 
 either : (a b : Bool) → IsTrue (a || b) → IsTrue a ⊎ IsTrue b
@@ -17,27 +18,33 @@ either true b is = inl refl
 either false b is = inr is
 
 -- a file that there may be has failed, so there is one
-pub one_has : {S : Type 0} (failed : S → Bool) (file : Option S) →
+one_has : {S : Type 0} (failed : S → Bool) (file : Option S) →
     IsTrue (option_map_or failed file false) → (source : S) × IsTrue (failed source)
 one_has failed None is = absurd (let e : false ≡ true = is in cc e)
 one_has failed (Some file) is = (file, is)
 
-pub serves : {S P : Type 0} (Holds : List ℕ → Option (List ℕ) → Type 0)
-    (of_file : a_source.Ghosts S) (of_plan : a_source.Ghosts P) (line : Line) (writes : Writing)
-    (status : ℕ) (before after : Sources S P) →
-    Served line (reading of_file of_plan before after) writes status →
+-- what a source is that is a file which there may be
+abbrev maybe : {S : Type 0} → a_source.Ghosts S → a_source.Ghosts (PlanFile S)
+maybe of_file = record {
+  has_failed = λ x. option_map_or of_file.has_failed x.file false;
+  remaining = λ x. option_map_or of_file.remaining x.file (Some []);
+}
+
+pub serves : {S : Type 0} (Holds : List ℕ → Option (List ℕ) → Type 0)
+    (of_file : a_source.Ghosts S) (line : Line) (writes : Writing) (status : ℕ)
+    (before after : Sources S (PlanFile S)) →
+    Served line (reading of_file (maybe of_file) before after) writes status →
     Holds (file_of line) (of_file.remaining before.job) →
-    IsPlanOf Holds (plan_of line) (of_plan.remaining before.plan) →
-    ((plan : P) → IsTrue (of_plan.has_failed plan) → MayFail of_file) →
+    IsPlanOf Holds (plan_of line) (option_map_or of_file.remaining before.plan.file (Some [])) →
     ServesFiles Holds (MayFail of_file) line writes status
-serves Holds of_file of_plan line writes status before after served job plan fails = record {
-  reads = reading of_file of_plan before after;
+serves Holds of_file line writes status before after served job plan = record {
+  reads = reading of_file (maybe of_file) before after;
   of_job = job;
   of_plan = plan;
-  fails = λ failed. elim
-      (either (of_file.has_failed after.job) (of_plan.has_failed after.plan) failed) [
+  fails = λ failed. elim (either (of_file.has_failed after.job)
+      (option_map_or of_file.has_failed after.plan.file false) failed) [
         | inl of_job ↦ (after.job, of_job)
-        | inr has ↦ fails after.plan has
+        | inr has ↦ one_has of_file.has_failed after.plan.file has
       ];
   served = served;
 }
