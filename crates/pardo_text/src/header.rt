@@ -5,6 +5,7 @@ ghost use Rattle.pardo_text.specs.Header.{rule_named, length_at, private_start};
 ghost use Rattle.pardo_text.specs.Inner.Names.{names_in};
 ghost use Rattle.pardo_text.specs.Inner.Tokens.{Gives};
 
+use crate::column::values_for;
 use crate::cursor::Cursor;
 use crate::draft::{Draft, Stage};
 use crate::expression::Expr;
@@ -16,7 +17,7 @@ use crate::part::{Mark, ended, expect, indexed, new_name};
 use crate::program::Rule;
 use crate::symbol::Symbol;
 use crate::token::Token;
-use crate::value::{start_values, values_for};
+use crate::value::start_values;
 use std::alloc::Global;
 use text_lines::is_word;
 

@@ -14,9 +14,9 @@ use text_lines::{TextLines, is_lawful};
 
 /// The program that a text spells, or the first line that is wrong, and what is wrong with it.
 ///
-/// The time is linear in the text and in the number of start values, but for private variables,
-/// whose expression is worked out once for each processor; each name adds a search among those that
-/// are known.
+/// The time is linear in the text and in the number of start values, but for private variables: of
+/// their expressions each part takes time for each processor. Each name adds a search among those
+/// that are known.
 pub fn read_program(alloc: Global, text: &[u8]) -> Result<Program, PardoFault>
     ensures program { IfOk result (λ program. program_of text.now ≡ Ok program) }
     ensures refused { IfErr result (IsRefusal text.now) }
