@@ -8,7 +8,7 @@ use crate::cursor::Cursor;
 use crate::draft::{Draft, Stage};
 use crate::fault::{PardoFault, PardoKind};
 use crate::program::Program;
-use crate::token::{Token, take_tokens};
+use crate::token::{count_tokens, said};
 use std::alloc::Global;
 use text_lines::{TextLines, is_lawful};
 
@@ -22,10 +22,9 @@ pub fn read_program(alloc: Global, text: &[u8]) -> Result<Program, PardoFault>
     ensures refused { IfErr result (IsRefusal text.now) }
 {
     let mut draft = Draft::new(alloc);
-    let mut tokens = Vec::new(alloc);
     let mut lines = TextLines::new(text);
     while let Some(line) = lines.take_line() {
-        if let Err(kind) = take_line(&mut draft, &mut tokens, lines.number(), line) {
+        if let Err(kind) = take_line(&mut draft, lines.number(), line) {
             return Err(refusal(lines.number(), kind));
         }
     }
@@ -43,25 +42,21 @@ fn refusal(line: u64, kind: PardoKind) -> PardoFault
     PardoFault { line, kind }
 }
 
-// Reads one line more, by room for its tokens.
+// Reads one line more.
 #[tactic(auto, unfolding(crate::specs::Reading::with_text_line))]
-fn take_line<'t>(
-    draft: &mut Draft<'t>,
-    tokens: &mut Vec<Token<'t>>,
-    number: u64,
-    line: &'t [u8],
-) -> Result<(), PardoKind>
+fn take_line<'t>(draft: &mut Draft<'t>, number: u64, line: &'t [u8]) -> Result<(), PardoKind>
     ensures { Gives (λ _. draft_of draft.new) result
         (with_text_line number (draft_of draft.old) line.now) }
 {
     if !is_lawful(line) {
         return Err(PardoKind::NotAscii);
     }
-    take_tokens(line, tokens)?;
-    if tokens.is_empty() {
+    let line = said(line);
+    let count = count_tokens(line)?;
+    if count == 0 {
         return Ok(());
     }
-    let mut cursor = Cursor::new(tokens.as_slice());
+    let mut cursor = Cursor::new(line, count);
     match draft.stage {
         Stage::Version => draft.take_version(&mut cursor),
         Stage::Rule => draft.take_rule(&mut cursor),

@@ -18,7 +18,7 @@ pub(crate) fn start_values(
     alloc: Global,
     places: u32,
     names: &Names<'_>,
-    tokens: &mut Cursor<'_, '_>,
+    tokens: &mut Cursor<'_>,
 ) -> Result<Vec<u32>, PardoKind>
     ensures { Gives (λ values. values.items) result
         (start_at (names_in names.now) places tokens.old) }
@@ -36,7 +36,7 @@ pub(crate) fn start_values(
 // Reads the values to the end of the line, and says whether `...` ends them.
 fn take_values(
     names: &Names<'_>,
-    tokens: &mut Cursor<'_, '_>,
+    tokens: &mut Cursor<'_>,
     values: &mut Vec<u32>,
 ) -> Result<bool, PardoKind>
     ensures { Gives (λ fills. (values.new.items, fills)) result (after_values values.old.items
