@@ -30,3 +30,4 @@ pub mod Ends
 pub mod Placed
 pub mod Initial
 pub mod Starts
+pub mod Great

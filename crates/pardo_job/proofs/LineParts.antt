@@ -27,7 +27,7 @@ use Rattle.pardo_job.proofs.Emitting.{fault_front, puts_fails, puts_then, shallo
 
 -- ---- the code of a line
 
-fault_of_line : (code : List Instr) (kind : JobKind) → IsFaultOf code kind → IsLineFault code kind
+pub fault_of_line : (code : List Instr) (kind : JobKind) → IsFaultOf code kind → IsLineFault code kind
 fault_of_line code TooDeep e = e
 fault_of_line code TooLong e = absurd e
 fault_of_line code Endless e = e
@@ -111,7 +111,7 @@ under_shallow layout at depth body s =
     shallow_both (idle (at + 3) n) (Jmp (at + 4 + 2 * n) ∷ body)
     ∙ ap (λ b. b && is_shallow body) (idle_shallow (at + 3) n) ∙ s
 
-under_long : (layout : LayoutData) (at depth : ℕ) (body : List Instr) →
+pub under_long : (layout : LayoutData) (at depth : ℕ) (body : List Instr) →
     length body ≤ length (under layout at depth body)
 under_long layout at depth body =
     let n : ℕ = length body in
@@ -144,7 +144,7 @@ choice_shallow layout at depth body false s =
     shallow_both body (Jmp (at + 4 + 2 * n) ∷ idle (at + 3 + n) (n + 1))
     ∙ ap (λ b. b && is_shallow (idle (at + 3 + n) (n + 1))) s ∙ idle_shallow (at + 3 + n) (n + 1)
 
-choice_long : (layout : LayoutData) (at depth : ℕ) (body : List Instr) (b : Bool) →
+pub choice_long : (layout : LayoutData) (at depth : ℕ) (body : List Instr) (b : Bool) →
     length body ≤ length (if b then body else own_load 0 (mask_cells layout depth) ∷
     Jz 0 (at + 3 + length body)
     ∷ (body ++ Jmp (at + 4 + 2 * length body) ∷ idle (at + 3 + length body) (length body + 1)))
@@ -195,7 +195,7 @@ choosing_put old mid new r x layout at depth body row e p q =
 pub on_err : {A E : Type 0} (r : Result A E) (k : E) (P : E → Type 0) → r ≡ Err k → P k → IfErr r P
 on_err {A = A} {E = E} r k P e p = subst (λ (q : Result A E). IfErr q P) (sym e) p
 
-none_parts : (layout : LayoutData) (up : Bool) (first last : Tree) →
+pub none_parts : (layout : LayoutData) (up : Bool) (first last : Tree) →
     none_code layout up first last
     ≡ bounds_code layout first last ++
     native 0 (if up then op.Gt else op.Lt) (operand_of 0 first) (operand_of (takes first) last)

@@ -165,3 +165,25 @@ value_taken s t x at tree few h e f =
 pub is_there : (s : Stack) (at : ℕ) (tree : Tree) → Holds s [] at (tree ∷ []) →
     0 < length s.values.items
 is_there s at tree h = omega (arith, ap (λ (l : List Held). length l) h.values)
+
+-- ---- code that is dropped
+
+puts_after : {A : Type 0} (made now new : List Instr) (r : Result A JobKind) (code : List Instr) →
+    now ≡ [] → Puts now new r code → Puts made (made ++ new) r code
+puts_after made now new (Ok x) code e p = record {
+  all = ap (λ (l : List Instr). made ++ l) (p.all ∙ ap (λ (l : List Instr). l ++ code) e);
+  shallow = p.shallow;
+  fault = p.fault;
+}
+puts_after made now new (Err k) code e p =
+    record { all = tt; shallow = tt; fault = p.fault }
+
+-- what a node puts in the place of nothing, after all that was made before
+pub takes_after : {A : Type 0} (was : Stack) (made now new : List Instr) (stack : Stack)
+    (r : Result A JobKind) (layout : LayoutData) (node : Node) → now ≡ [] →
+    Takes was now new stack r layout node → Takes was made (made ++ new) stack r layout node
+takes_after was made now new stack r layout node e take = λ before base trees h ready.
+    let one = take before base trees h ready in record {
+      put = puts_after made now new r (node_code layout base trees node) e one.put;
+      held = one.held;
+    }

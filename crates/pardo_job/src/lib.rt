@@ -8,6 +8,7 @@ pub mod laws;
 mod layout;
 pub mod limits;
 mod lines;
+mod long;
 mod operations;
 mod pieces;
 mod places;

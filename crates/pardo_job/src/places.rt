@@ -1,9 +1,10 @@
 //! The places of lines in the code, and the whole code.
-ghost use Rattle.std.specs.Prelude.{◌≡◌, ◌≢◌, ◌<◌, [], IfOk, IfErr};
+ghost use Rattle.std.specs.Prelude.{◌≡◌, ◌≢◌, ◌<◌, ◌≤◌, [], length, IfOk, IfErr, slice_index, vec_len};
 ghost use Rattle.pram_job.specs.declared.limits.TheConstants.{MAX_CODE as MOST};
 ghost use Rattle.pardo_text.specs.Lawful.{IsLine, IsProgram, bounds_of};
 ghost use Rattle.pardo_job.specs.Inner.Listings.{AreAllPlaces, IsFaultAt, IsPlaceAfter};
-ghost use Rattle.pardo_job.specs.Lines.{code_of};
+ghost use Rattle.pardo_job.specs.Inner.Pieces.{PutsLine};
+ghost use Rattle.pardo_job.specs.Lines.{code_of, line_code};
 ghost use Rattle.pardo_job.specs.Refusals.{IsFault, line_numbers};
 
 use crate::fault::{JobFault, JobKind};
@@ -72,7 +73,7 @@ impl<'p> Listing<'p> {
         ensures refused { IfErr result (λ fault.
             IsFaultAt self.now.program.now line.now place fault.line fault.kind) }
     {
-        match self.put_line(code, alloc, line) {
+        match self.put_judged(code, alloc, line) {
             Ok(()) => (),
             Err(kind) => return Err(fault_of(line, kind)),
         }
@@ -80,6 +81,19 @@ impl<'p> Listing<'p> {
             return Err(fault_of(line, JobKind::TooLong));
         }
         Ok(place + code.len() as u32)
+    }
+
+    // The code of a line, unless it is too long whatever else the line says.
+    fn put_judged(&self, code: &mut Vec<Instr>, alloc: Global, line: &Line) -> Result<(), JobKind>
+        requires room { vec_len code.old ≤ MOST }
+        requires program { IsProgram self.now.program.now }
+        requires line { IsLine (bounds_of self.now.program.now) line.now }
+        ensures { PutsLine code.old.items code.new.items result
+            (line_code self.now.program.now (slice_index self.now.places.items)
+            (length code.old.items) line.now.depth line.now.statement) }
+    {
+        self.judge(alloc, line)?;
+        self.put_line(code, alloc, line)
     }
 
     /// The code of the program.

@@ -69,8 +69,8 @@ fn put_load(
     Ok(())
 }
 
-// One node more, whose operands are at hand.
-fn put_node(
+/// One node more, whose operands are at hand.
+pub(crate) fn put_node(
     code: &mut Vec<Instr>,
     stack: &mut Stack,
     layout: &Layout,

@@ -10,7 +10,7 @@ pub mod Depths
 pub mod Known
 pub mod Finished
 pub mod Judged
-pub mod Stacks
+pub mod Columns
 pub mod Starts
 pub mod Ifs
 pub mod LawConstants

@@ -1,14 +1,12 @@
 -- The turns in which a line is cut into tokens.
 use Rattle.std.proofs.Common.{◌≡◌, ℕ, zero, suc, ◌<◌, ◌≤◌, true, false, List, [], ◌∷◌, ◌++◌}
-use Rattle.std.proofs.Common.{length, Some, None, Result, Ok, Err, refl, sym, ap, ◌∙◌}
+use Rattle.std.proofs.Common.{length, Some, None, Result, Ok, Err, refl, sym, ap}
 use Rattle.std.proofs.Common.{arith, append_assoc}
-use Rattle.std.proofs.lemmas.List.{map-append}
 use Rattle.pardo_text.specs.declared.fault.PardoKind.{PardoKind}
 use Rattle.pardo_text.specs.declared.fault.PardoKind.TheVariants.{BadSymbol}
 use Rattle.text_lines.specs.Lines.{is_blank}
 use Rattle.pardo_text.specs.Tokens.{Token, token_at, tokens_in, onto}
-use Rattle.pardo_text.specs.Inner.Tokens.{plain, plain_all, preceded}
-use Rattle.pardo_text.specs.declared.token.Token.{Token as Held}
+use Rattle.pardo_text.specs.Inner.Tokens.{preceded}
 
 pub preceded-nil : (read : Result (List Token) PardoKind) → preceded [] read ≡ read
 preceded-nil (Ok tokens) = refl
@@ -18,11 +16,6 @@ pub preceded-onto : (front : List Token) (token : Token) (read : Result (List To
     preceded front (onto token read) ≡ preceded (front ++ token ∷ []) read
 preceded-onto front token (Ok tokens) = ap Ok (sym (append_assoc front (token ∷ []) tokens))
 preceded-onto front token (Err kind) = refl
-
--- one token more
-pub plain_all-push : (tokens new : List Held) (token : Held) → new ≡ tokens ++ token ∷ [] →
-    plain_all new ≡ plain_all tokens ++ plain token ∷ []
-plain_all-push tokens new token e = ap plain_all e ∙ map-append plain tokens (token ∷ [])
 
 pub tokens_in-blank : (turns first : ℕ) (rest : List ℕ) → length (first ∷ rest) ≤ turns →
     is_blank first ≡ true

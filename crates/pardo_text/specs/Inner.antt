@@ -4,6 +4,7 @@ pub mod Marks
 pub mod Names
 pub mod Nodes
 pub mod Values
+pub mod Columns
 pub mod Drafts
 pub mod Postfixes
 pub mod Exprs

@@ -30,7 +30,7 @@ impl<'t> Draft<'t> {
     pub(crate) fn take_code(
         &mut self,
         number: u64,
-        tokens: &mut Cursor<'_, 't>,
+        tokens: &mut Cursor<'t>,
     ) -> Result<(), PardoKind>
         ensures { Gives (λ _. draft_of self.new) result
             (statement_line number (draft_of self.old) tokens.old) }
@@ -48,7 +48,7 @@ impl<'t> Draft<'t> {
 
     // Reads what follows `if`.
     #[tactic(auto, unfolding(crate::specs::Code::if_line))]
-    fn take_if(&mut self, number: u64, tokens: &mut Cursor<'_, 't>) -> Result<(), PardoKind>
+    fn take_if(&mut self, number: u64, tokens: &mut Cursor<'t>) -> Result<(), PardoKind>
         ensures { Gives (λ _. draft_of self.new) result
             (if_line number (draft_of self.old) tokens.old) }
     {
@@ -60,7 +60,7 @@ impl<'t> Draft<'t> {
 
     // Reads what follows `while`.
     #[tactic(auto, unfolding(crate::specs::Code::while_line))]
-    fn take_while(&mut self, number: u64, tokens: &mut Cursor<'_, 't>) -> Result<(), PardoKind>
+    fn take_while(&mut self, number: u64, tokens: &mut Cursor<'t>) -> Result<(), PardoKind>
         ensures { Gives (λ _. draft_of self.new) result
             (while_line number (draft_of self.old) tokens.old) }
     {
@@ -73,7 +73,7 @@ impl<'t> Draft<'t> {
 
     // Reads what follows `for`.
     #[tactic(auto, unfolding(crate::specs::Code::for_line))]
-    fn take_for(&mut self, number: u64, tokens: &mut Cursor<'_, 't>) -> Result<(), PardoKind>
+    fn take_for(&mut self, number: u64, tokens: &mut Cursor<'t>) -> Result<(), PardoKind>
         ensures { Gives (λ _. draft_of self.new) result
             (for_line number (draft_of self.old) tokens.old) }
     {
@@ -106,7 +106,7 @@ impl<'t> Draft<'t> {
 
     // Reads what follows `else`.
     #[tactic(auto, unfolding(crate::specs::Code::statement_line))]
-    fn take_else(&mut self, number: u64, tokens: &Cursor<'_, 't>) -> Result<(), PardoKind>
+    fn take_else(&mut self, number: u64, tokens: &Cursor<'t>) -> Result<(), PardoKind>
         ensures { Gives (λ _. draft_of self.new) result
             (statement_line number (draft_of self.old) (symbol Else ∷ tokens.now)) }
     {
@@ -123,7 +123,7 @@ impl<'t> Draft<'t> {
 
     // Reads what follows `end`.
     #[tactic(auto, unfolding(crate::specs::Code::statement_line))]
-    fn take_end(&mut self, number: u64, tokens: &Cursor<'_, 't>) -> Result<(), PardoKind>
+    fn take_end(&mut self, number: u64, tokens: &Cursor<'t>) -> Result<(), PardoKind>
         ensures { Gives (λ _. draft_of self.new) result
             (statement_line number (draft_of self.old) (symbol End ∷ tokens.now)) }
     {
@@ -151,7 +151,7 @@ impl<'t> Draft<'t> {
         &mut self,
         number: u64,
         name: &[u8],
-        tokens: &mut Cursor<'_, 't>,
+        tokens: &mut Cursor<'t>,
     ) -> Result<(), PardoKind>
         ensures { Gives (λ _. draft_of self.new) result
             (statement_line number (draft_of self.old) (word name.now ∷ tokens.old)) }
@@ -168,7 +168,7 @@ fn whole(
     alloc: Global,
     names: &Names<'_>,
     scope: Scope,
-    tokens: &mut Cursor<'_, '_>,
+    tokens: &mut Cursor<'_>,
 ) -> Result<Expr, PardoKind>
     ensures { Gives (λ expr. expr) result (whole_at (names_in names.now) scope tokens.old) }
 {
@@ -178,7 +178,7 @@ fn whole(
 }
 
 // Reads whether a loop counts up.
-fn way(tokens: &mut Cursor<'_, '_>) -> Result<bool, PardoKind>
+fn way(tokens: &mut Cursor<'_>) -> Result<bool, PardoKind>
     ensures { Gives (λ up. (up, tokens.new)) result (way_at tokens.old) }
 {
     match tokens.next() {
@@ -194,7 +194,7 @@ fn assignment(
     alloc: Global,
     names: &Names<'_>,
     name: &[u8],
-    tokens: &mut Cursor<'_, '_>,
+    tokens: &mut Cursor<'_>,
 ) -> Result<Statement, PardoKind>
     ensures { Gives (λ said. said) result
         (assignment_at (names_in names.now) name.now tokens.old) }
@@ -210,7 +210,7 @@ fn target(
     alloc: Global,
     names: &Names<'_>,
     thing: Option<Named>,
-    tokens: &mut Cursor<'_, '_>,
+    tokens: &mut Cursor<'_>,
 ) -> Result<Target, PardoKind>
     ensures { Gives (λ place. (place, tokens.new)) result
         (target_of (names_in names.now) thing tokens.old) }
@@ -231,7 +231,7 @@ fn place(
     alloc: Global,
     names: &Names<'_>,
     array: usize,
-    tokens: &mut Cursor<'_, '_>,
+    tokens: &mut Cursor<'_>,
 ) -> Result<Target, PardoKind>
     ensures { Gives (λ place. (place, tokens.new)) result
         (place_of (names_in names.now) array (Some tokens.old)) }

@@ -1,43 +1,57 @@
-//! The tokens of a line, read from left to right.
+//! The tokens of a line, cut from left to right as they are read.
 ghost use Rattle.std.specs.Prelude.{◌≡◌, [], ◌∷◌, Some, None, length};
-ghost use Rattle.pardo_text.specs.Inner.Tokens.{plain, plain_all};
+ghost use Rattle.pardo_text.specs.Inner.Tokens.{plain, tokens_cut};
 
-use crate::token::Token;
+use crate::token::{Token, first_token};
 use std::marker::Model;
 
 /// The tokens of a line that were not read yet.
 #[derive(Drop)]
-pub(crate) struct Cursor<'a, 't> {
-    tokens: &'a [Token<'t>],
-    /// How many were read.
-    at: usize,
+pub(crate) struct Cursor<'t> {
+    /// The next one.
+    first: Option<Token<'t>>,
+    /// What stands after it in the line.
+    rest: &'t [u8],
+    /// How many there are.
+    len: usize,
 }
 
-impl<'a, 't> Model for Cursor<'a, 't> {
-    ghost use Rattle.std.specs.Prelude.{◌≤◌, List, drop, length};
+impl<'t> Model for Cursor<'t> {
+    ghost use Rattle.std.specs.Prelude.{◌≡◌, List, length};
     ghost use Rattle.pardo_text.specs.Tokens.{Token};
-    ghost use Rattle.pardo_text.specs.Inner.Tokens.{plain_all};
+    ghost use Rattle.pardo_text.specs.Inner.Tokens.{tokens_left};
 
     ghost Value = { List Token };
 
-    ghost view = { λ c. drop c.at (plain_all c.tokens.now) };
+    ghost view = { λ c. tokens_left c.first c.len c.rest.now };
 
-    ghost invariant = { λ c. c.at ≤ length c.tokens.now };
+    ghost invariant = { λ c. length (tokens_left c.first c.len c.rest.now) ≡ c.len };
 }
 
-impl<'a, 't> Cursor<'a, 't> {
-    /// None of the tokens was read.
-    pub(crate) fn new(tokens: &'a [Token<'t>]) -> Self
-        ensures { result ≡ plain_all tokens.now }
+impl<'t> Cursor<'t> {
+    /// So many tokens of a line, which has as many at least.
+    pub(crate) fn new(line: &'t [u8], len: usize) -> Self
+        requires { length (tokens_cut len line.now) ≡ len }
+        ensures { result ≡ tokens_cut len line.now }
     {
-        Cursor { tokens, at: 0 }
+        if len > 0
+            && let Some((token, rest)) = first_token(line)
+        {
+            let first = Some(token);
+            return Cursor { first, rest, len };
+        }
+        Cursor {
+            first: None,
+            rest: line,
+            len: 0,
+        }
     }
 
     /// How many tokens are left.
     pub(crate) fn len(&self) -> usize
         ensures { result ≡ length self.now }
     {
-        self.tokens.len() - self.at
+        self.len
     }
 
     /// The next token.
@@ -47,11 +61,7 @@ impl<'a, 't> Cursor<'a, 't> {
           | Some token ↦ (rest : _) × (self.now ≡ plain token ∷ rest)
         ] }
     {
-        if self.at < self.tokens.len() {
-            Some(self.tokens[self.at])
-        } else {
-            None
-        }
+        self.first
     }
 
     /// Reads the next token.
@@ -61,12 +71,8 @@ impl<'a, 't> Cursor<'a, 't> {
           | Some token ↦ self.old ≡ plain token ∷ self.new
         ] }
     {
-        if self.at < self.tokens.len() {
-            let token = self.tokens[self.at];
-            self.at += 1;
-            Some(token)
-        } else {
-            None
-        }
+        let first = self.first?;
+        *self = Cursor::new(self.rest, self.len - 1);
+        Some(first)
     }
 }

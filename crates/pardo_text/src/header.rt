@@ -5,6 +5,7 @@ ghost use Rattle.pardo_text.specs.Header.{rule_named, length_at, private_start};
 ghost use Rattle.pardo_text.specs.Inner.Names.{names_in};
 ghost use Rattle.pardo_text.specs.Inner.Tokens.{Gives};
 
+use crate::column::values_for;
 use crate::cursor::Cursor;
 use crate::draft::{Draft, Stage};
 use crate::expression::Expr;
@@ -16,7 +17,7 @@ use crate::part::{Mark, ended, expect, indexed, new_name};
 use crate::program::Rule;
 use crate::symbol::Symbol;
 use crate::token::Token;
-use crate::value::{start_values, values_for};
+use crate::value::start_values;
 use std::alloc::Global;
 use text_lines::is_word;
 
@@ -27,7 +28,7 @@ impl<'t> Draft<'t> {
 
     /// Reads `pardo 1`.
     #[tactic(auto, unfolding(crate::specs::Header::version_line))]
-    pub(crate) fn take_version(&mut self, tokens: &mut Cursor<'_, 't>) -> Result<(), PardoKind>
+    pub(crate) fn take_version(&mut self, tokens: &mut Cursor<'t>) -> Result<(), PardoKind>
         ensures { Gives (λ _. draft_of self.new) result
             (version_line (draft_of self.old) tokens.old) }
     {
@@ -42,7 +43,7 @@ impl<'t> Draft<'t> {
 
     /// Reads a header line after the first two.
     #[tactic(auto, unfolding(crate::specs::Header::header_line))]
-    pub(crate) fn take_header(&mut self, tokens: &mut Cursor<'_, 't>) -> Result<(), PardoKind>
+    pub(crate) fn take_header(&mut self, tokens: &mut Cursor<'t>) -> Result<(), PardoKind>
         ensures { Gives (λ _. draft_of self.new) result
             (header_line (draft_of self.old) tokens.old) }
     {
@@ -58,7 +59,7 @@ impl<'t> Draft<'t> {
 
     /// Reads `rule NAME`.
     #[tactic(auto, unfolding(crate::specs::Header::rule_line))]
-    pub(crate) fn take_rule(&mut self, tokens: &mut Cursor<'_, 't>) -> Result<(), PardoKind>
+    pub(crate) fn take_rule(&mut self, tokens: &mut Cursor<'t>) -> Result<(), PardoKind>
         ensures { Gives (λ _. draft_of self.new) result
             (rule_line (draft_of self.old) tokens.old) }
     {
@@ -74,7 +75,7 @@ impl<'t> Draft<'t> {
 
     // Reads what follows `const`.
     #[tactic(auto, unfolding(crate::specs::Header::const_line))]
-    fn take_const(&mut self, tokens: &mut Cursor<'_, 't>) -> Result<(), PardoKind>
+    fn take_const(&mut self, tokens: &mut Cursor<'t>) -> Result<(), PardoKind>
         ensures { Gives (λ _. draft_of self.new) result
             (const_line (draft_of self.old) tokens.old) }
     {
@@ -88,7 +89,7 @@ impl<'t> Draft<'t> {
 
     // Reads what follows `procs`, which stands once.
     #[tactic(auto, unfolding(crate::specs::Header::procs_line))]
-    fn take_procs(&mut self, tokens: &mut Cursor<'_, 't>) -> Result<(), PardoKind>
+    fn take_procs(&mut self, tokens: &mut Cursor<'t>) -> Result<(), PardoKind>
         ensures { Gives (λ _. draft_of self.new) result
             (procs_line (draft_of self.old) tokens.old) }
     {
@@ -106,7 +107,7 @@ impl<'t> Draft<'t> {
 
     // Reads what follows `shared`.
     #[tactic(auto, unfolding(crate::specs::Header::shared_line))]
-    fn take_shared(&mut self, tokens: &mut Cursor<'_, 't>) -> Result<(), PardoKind>
+    fn take_shared(&mut self, tokens: &mut Cursor<'t>) -> Result<(), PardoKind>
         ensures { Gives (λ _. draft_of self.new) result
             (shared_line (draft_of self.old) tokens.old) }
     {
@@ -118,7 +119,7 @@ impl<'t> Draft<'t> {
 
     // Reads what follows `private`, after the line `procs`.
     #[tactic(auto, unfolding(crate::specs::Header::private_line))]
-    fn take_private(&mut self, tokens: &mut Cursor<'_, 't>) -> Result<(), PardoKind>
+    fn take_private(&mut self, tokens: &mut Cursor<'t>) -> Result<(), PardoKind>
         ensures { Gives (λ _. draft_of self.new) result
             (private_line (draft_of self.old) tokens.old) }
     {
@@ -133,7 +134,7 @@ impl<'t> Draft<'t> {
 
     // Reads what follows `code`, after the line `procs`.
     #[tactic(auto, unfolding(crate::specs::Header::code_line))]
-    fn begin_code(&mut self, tokens: &mut Cursor<'_, 't>) -> Result<(), PardoKind>
+    fn begin_code(&mut self, tokens: &mut Cursor<'t>) -> Result<(), PardoKind>
         ensures { Gives (λ _. draft_of self.new) result
             (code_line (draft_of self.old) tokens.old) }
     {
@@ -160,7 +161,7 @@ fn rule_named(name: &[u8]) -> Result<Rule, PardoKind>
 fn places_of(
     alloc: Global,
     names: &Names<'_>,
-    tokens: &mut Cursor<'_, '_>,
+    tokens: &mut Cursor<'_>,
 ) -> Result<Option<u32>, PardoKind>
     ensures { Gives (λ places. (places, tokens.new)) result
         (length_at (names_in names.now) tokens.old (indexed tokens.old)) }
@@ -178,7 +179,7 @@ fn places_of(
 fn private_start(
     alloc: Global,
     names: &Names<'_>,
-    tokens: &mut Cursor<'_, '_>,
+    tokens: &mut Cursor<'_>,
 ) -> Result<Expr, PardoKind>
     ensures { Gives (λ expr. expr) result (private_start (names_in names.now) tokens.old) }
 {

@@ -4,6 +4,7 @@
 mod arrays;
 mod block;
 mod code;
+mod column;
 mod cursor;
 mod draft;
 mod expression;

@@ -45,7 +45,7 @@ pub(crate) fn expression(
     alloc: Global,
     names: &Names<'_>,
     scope: Scope,
-    tokens: &mut Cursor<'_, '_>,
+    tokens: &mut Cursor<'_>,
 ) -> Result<Expr, PardoKind>
     ensures { Gives (λ expr. (expr, tokens.new)) result
         (expression_at (names_in names.now) scope tokens.old) }
@@ -67,7 +67,7 @@ pub(crate) fn fixed(
     names: &Names<'_>,
     low: u32,
     high: u32,
-    tokens: &mut Cursor<'_, '_>,
+    tokens: &mut Cursor<'_>,
 ) -> Result<u32, PardoKind>
     ensures { Gives (λ value. (value, tokens.new)) result
         (fixed_at (names_in names.now) low high tokens.old) }
@@ -83,7 +83,7 @@ pub(crate) fn fixed(
 
 // Reads what stands within a bracket.
 #[cycle(operand)]
-fn within(around: &Around<'_, '_>, exprs: &mut Exprs, tokens: &mut Cursor<'_, '_>) -> Parsed
+fn within(around: &Around<'_, '_>, exprs: &mut Exprs, tokens: &mut Cursor<'_>) -> Parsed
     ensures { Adds exprs.old exprs.new tokens.new result (within_at
         (names_in around.now.names.now) around.now.brackets around.now.scope tokens.old) }
 {
@@ -103,12 +103,7 @@ fn within(around: &Around<'_, '_>, exprs: &mut Exprs, tokens: &mut Cursor<'_, '_
 
 // Reads an expression of this level: a chain of those of the level below, or an operand.
 #[cycle(operand)]
-fn leveled(
-    around: &Around<'_, '_>,
-    level: u8,
-    exprs: &mut Exprs,
-    tokens: &mut Cursor<'_, '_>,
-) -> Parsed
+fn leveled(around: &Around<'_, '_>, level: u8, exprs: &mut Exprs, tokens: &mut Cursor<'_>) -> Parsed
     ensures { Adds exprs.old exprs.new tokens.new result
         (level_at (operand_at (names_in around.now.names.now)
         (within_at (names_in around.now.names.now) around.now.brackets)) level
@@ -123,12 +118,7 @@ fn leveled(
 
 // Reads the operations of a level after the first operand.
 #[cycle(operand)]
-fn chain(
-    around: &Around<'_, '_>,
-    level: u8,
-    exprs: &mut Exprs,
-    tokens: &mut Cursor<'_, '_>,
-) -> Parsed
+fn chain(around: &Around<'_, '_>, level: u8, exprs: &mut Exprs, tokens: &mut Cursor<'_>) -> Parsed
     requires level { 0 < level }
     requires first { 0 < length exprs.old }
     ensures { Adds (drop 1 exprs.old) exprs.new tokens.new result
@@ -148,7 +138,7 @@ fn chain(
 }
 
 // How many operations of a level may follow.
-fn turns(level: u8, tokens: &Cursor<'_, '_>) -> usize
+fn turns(level: u8, tokens: &Cursor<'_>) -> usize
     ensures { result ≡ turns_at level tokens.now }
 {
     if level == COMPARISONS {
@@ -160,7 +150,7 @@ fn turns(level: u8, tokens: &Cursor<'_, '_>) -> usize
 
 // Reads the operation of this level that comes next, if one does.
 #[tactic(auto, unfolding(crate::specs::Expressions::operator_at))]
-fn operator(level: u8, tokens: &mut Cursor<'_, '_>) -> Option<Op>
+fn operator(level: u8, tokens: &mut Cursor<'_>) -> Option<Op>
     ensures { elim result [
       | None ↦ (operator_at level tokens.old ≡ None) × (tokens.new ≡ tokens.old)
       | Some op ↦ operator_at level tokens.old ≡ Some (op, tokens.new)
@@ -198,7 +188,7 @@ fn join(scope: Scope, op: Op, exprs: &mut Exprs) -> Parsed
 #[cycle(operand)]
 #[tactic(auto, unfolding(crate::specs::Expressions::operand_at))]
 #[inline(never)]
-fn operand(around: &Around<'_, '_>, exprs: &mut Exprs, tokens: &mut Cursor<'_, '_>) -> Parsed
+fn operand(around: &Around<'_, '_>, exprs: &mut Exprs, tokens: &mut Cursor<'_>) -> Parsed
     ensures { Adds exprs.old exprs.new tokens.new result
         (operand_at (names_in around.now.names.now)
         (within_at (names_in around.now.names.now) around.now.brackets)
@@ -230,7 +220,7 @@ fn literal(value: u64, exprs: &mut Exprs) -> Parsed
 
 // Reads what stands between `(` and `)`, after the `(`.
 #[cycle(operand)]
-fn bracketed(around: &Around<'_, '_>, exprs: &mut Exprs, tokens: &mut Cursor<'_, '_>) -> Parsed
+fn bracketed(around: &Around<'_, '_>, exprs: &mut Exprs, tokens: &mut Cursor<'_>) -> Parsed
     ensures { Adds exprs.old exprs.new tokens.new result
         (bracketed_at (within_at (names_in around.now.names.now) around.now.brackets)
         around.now.scope tokens.old) }
@@ -242,7 +232,7 @@ fn bracketed(around: &Around<'_, '_>, exprs: &mut Exprs, tokens: &mut Cursor<'_,
 
 // Reads what stands after `min` or `max`.
 #[cycle(operand)]
-fn pair(around: &Around<'_, '_>, op: Op, exprs: &mut Exprs, tokens: &mut Cursor<'_, '_>) -> Parsed
+fn pair(around: &Around<'_, '_>, op: Op, exprs: &mut Exprs, tokens: &mut Cursor<'_>) -> Parsed
     requires { level_of op ≡ 0 }
     ensures { Adds exprs.old exprs.new tokens.new result
         (pair_at (within_at (names_in around.now.names.now) around.now.brackets)
@@ -259,7 +249,7 @@ fn pair(around: &Around<'_, '_>, op: Op, exprs: &mut Exprs, tokens: &mut Cursor<
 
 // Reads what stands after `lg`.
 #[cycle(operand)]
-fn logarithm(around: &Around<'_, '_>, exprs: &mut Exprs, tokens: &mut Cursor<'_, '_>) -> Parsed
+fn logarithm(around: &Around<'_, '_>, exprs: &mut Exprs, tokens: &mut Cursor<'_>) -> Parsed
     ensures { Adds exprs.old exprs.new tokens.new result
         (log_at (within_at (names_in around.now.names.now) around.now.brackets) tokens.old) }
 {
@@ -287,12 +277,7 @@ fn log_of(value: u32) -> u32
 
 // Reads what follows a name, if it may stand here.
 #[cycle(operand)]
-fn named(
-    around: &Around<'_, '_>,
-    name: &[u8],
-    exprs: &mut Exprs,
-    tokens: &mut Cursor<'_, '_>,
-) -> Parsed
+fn named(around: &Around<'_, '_>, name: &[u8], exprs: &mut Exprs, tokens: &mut Cursor<'_>) -> Parsed
     ensures { Adds exprs.old exprs.new tokens.new result
         (named_at (within_at (names_in around.now.names.now) around.now.brackets)
         around.now.scope (names_in around.now.names.now name.now) tokens.old) }
@@ -306,12 +291,7 @@ fn named(
 
 // What a name says, with the index after it if it is an array.
 #[cycle(operand)]
-fn used(
-    around: &Around<'_, '_>,
-    thing: Named,
-    exprs: &mut Exprs,
-    tokens: &mut Cursor<'_, '_>,
-) -> Parsed
+fn used(around: &Around<'_, '_>, thing: Named, exprs: &mut Exprs, tokens: &mut Cursor<'_>) -> Parsed
     ensures { Adds exprs.old exprs.new tokens.new result
         (used_at (within_at (names_in around.now.names.now) around.now.brackets)
         around.now.scope thing tokens.old) }

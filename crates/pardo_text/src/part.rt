@@ -25,7 +25,7 @@ pub(crate) enum Mark {
 }
 
 /// Reads this mark.
-pub(crate) fn expect(mark: Mark, tokens: &mut Cursor<'_, '_>) -> Result<(), PardoKind>
+pub(crate) fn expect(mark: Mark, tokens: &mut Cursor<'_>) -> Result<(), PardoKind>
     ensures { Gives (λ _. tokens.new) result (rest_after mark tokens.old) }
 {
     match (mark, tokens.next()) {
@@ -41,7 +41,7 @@ pub(crate) fn expect(mark: Mark, tokens: &mut Cursor<'_, '_>) -> Result<(), Pard
 }
 
 /// Reads the `[` after a name, if one follows.
-pub(crate) fn indexed(tokens: &mut Cursor<'_, '_>) -> bool
+pub(crate) fn indexed(tokens: &mut Cursor<'_>) -> bool
     ensures found { result ≡ is_some (indexed tokens.old) }
     ensures rest { tokens.new ≡ unwrap_or (indexed tokens.old) tokens.old }
 {
@@ -50,7 +50,7 @@ pub(crate) fn indexed(tokens: &mut Cursor<'_, '_>) -> bool
 }
 
 /// Reads the `...` that ends values, if it follows.
-pub(crate) fn dots(tokens: &mut Cursor<'_, '_>) -> bool
+pub(crate) fn dots(tokens: &mut Cursor<'_>) -> bool
     ensures found { result ≡ is_some (after_dots tokens.old) }
     ensures rest { tokens.new ≡ unwrap_or (after_dots tokens.old) tokens.old }
 {
@@ -59,7 +59,7 @@ pub(crate) fn dots(tokens: &mut Cursor<'_, '_>) -> bool
 }
 
 // Reads the next token, if it is the one that was looked for.
-fn pass_if(found: bool, tokens: &mut Cursor<'_, '_>) -> bool
+fn pass_if(found: bool, tokens: &mut Cursor<'_>) -> bool
     ensures found { result ≡ found }
     ensures rest { tokens.new ≡ (if found then drop 1 tokens.old else tokens.old) }
 {
@@ -70,7 +70,7 @@ fn pass_if(found: bool, tokens: &mut Cursor<'_, '_>) -> bool
 }
 
 /// Nothing is left over.
-pub(crate) fn ended(tokens: &Cursor<'_, '_>) -> Result<(), PardoKind>
+pub(crate) fn ended(tokens: &Cursor<'_>) -> Result<(), PardoKind>
     ensures { result ≡ ended tt tokens.now }
 {
     match tokens.peek() {
@@ -82,7 +82,7 @@ pub(crate) fn ended(tokens: &Cursor<'_, '_>) -> Result<(), PardoKind>
 /// Reads a name that is not known yet.
 pub(crate) fn new_name<'t>(
     names: &Names<'t>,
-    tokens: &mut Cursor<'_, 't>,
+    tokens: &mut Cursor<'t>,
 ) -> Result<&'t [u8], PardoKind>
     ensures { Gives (λ name. (name.now, tokens.new)) result
         (new_name (names_in names.now) tokens.old) }

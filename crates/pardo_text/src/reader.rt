@@ -8,24 +8,23 @@ use crate::cursor::Cursor;
 use crate::draft::{Draft, Stage};
 use crate::fault::{PardoFault, PardoKind};
 use crate::program::Program;
-use crate::token::{Token, take_tokens};
+use crate::token::{count_tokens, said};
 use std::alloc::Global;
 use text_lines::{TextLines, is_lawful};
 
 /// The program that a text spells, or the first line that is wrong, and what is wrong with it.
 ///
-/// The time is linear in the text and in the number of start values, but for private variables,
-/// whose expression is worked out once for each processor; each name adds a search among those that
-/// are known.
+/// The time is linear in the text and in the number of start values, but for private variables: of
+/// their expressions each part takes time for each processor. Each name adds a search among those
+/// that are known.
 pub fn read_program(alloc: Global, text: &[u8]) -> Result<Program, PardoFault>
     ensures program { IfOk result (λ program. program_of text.now ≡ Ok program) }
     ensures refused { IfErr result (IsRefusal text.now) }
 {
     let mut draft = Draft::new(alloc);
-    let mut tokens = Vec::new(alloc);
     let mut lines = TextLines::new(text);
     while let Some(line) = lines.take_line() {
-        if let Err(kind) = take_line(&mut draft, &mut tokens, lines.number(), line) {
+        if let Err(kind) = take_line(&mut draft, lines.number(), line) {
             return Err(refusal(lines.number(), kind));
         }
     }
@@ -43,25 +42,21 @@ fn refusal(line: u64, kind: PardoKind) -> PardoFault
     PardoFault { line, kind }
 }
 
-// Reads one line more, by room for its tokens.
+// Reads one line more.
 #[tactic(auto, unfolding(crate::specs::Reading::with_text_line))]
-fn take_line<'t>(
-    draft: &mut Draft<'t>,
-    tokens: &mut Vec<Token<'t>>,
-    number: u64,
-    line: &'t [u8],
-) -> Result<(), PardoKind>
+fn take_line<'t>(draft: &mut Draft<'t>, number: u64, line: &'t [u8]) -> Result<(), PardoKind>
     ensures { Gives (λ _. draft_of draft.new) result
         (with_text_line number (draft_of draft.old) line.now) }
 {
     if !is_lawful(line) {
         return Err(PardoKind::NotAscii);
     }
-    take_tokens(line, tokens)?;
-    if tokens.is_empty() {
+    let line = said(line);
+    let count = count_tokens(line)?;
+    if count == 0 {
         return Ok(());
     }
-    let mut cursor = Cursor::new(tokens.as_slice());
+    let mut cursor = Cursor::new(line, count);
     match draft.stage {
         Stage::Version => draft.take_version(&mut cursor),
         Stage::Rule => draft.take_rule(&mut cursor),

@@ -1,5 +1,5 @@
 //! The tokens of a line.
-ghost use Rattle.std.specs.Prelude.{◌≡◌, ◌<◌, ◌||◌, ◌==◌, ◌++◌, not, length, IfSome};
+ghost use Rattle.std.specs.Prelude.{◌≡◌, ◌<◌, ◌||◌, ◌==◌, ◌++◌, not, length, IfOk, IfSome};
 ghost use Rattle.std.specs.Char.{is_ascii_digit, is_ascii_alphabetic, is_ascii_alphanumeric};
 ghost use Rattle.std.specs.List.{position};
 ghost use Rattle.std.specs.Option.{option_map};
@@ -9,7 +9,7 @@ ghost use Rattle.pardo_text.specs.Tokens.{symbol, word_by, mark_by, token_at, to
 ghost use Rattle.pardo_text.specs.Inner.Marks.{spelled_by, header_words, block_words};
 ghost use Rattle.pardo_text.specs.Inner.Marks.{operation_words, long_marks, short_marks, byte_by};
 ghost use Rattle.pardo_text.specs.Inner.Marks.{operation_bytes, other_bytes};
-ghost use Rattle.pardo_text.specs.Inner.Tokens.{plain, plain_all, Gives};
+ghost use Rattle.pardo_text.specs.Inner.Tokens.{plain, after_blanks, tokens_cut, Gives};
 
 use crate::fault::PardoKind;
 use crate::operation::Op;
@@ -235,28 +235,50 @@ fn next_token(line: &[u8]) -> Option<(Token<'_>, &[u8])>
     }
 }
 
-/// Writes the tokens of a line, before its comment, in the place of others.
-pub(crate) fn take_tokens<'t>(line: &'t [u8], tokens: &mut Vec<Token<'t>>) -> Result<(), PardoKind>
-    ensures { Gives (λ _. plain_all tokens.new.items) result (tokens_of (said_in line.now)) }
+/// How many tokens a line has that has no comment.
+pub(crate) fn count_tokens(line: &[u8]) -> Result<usize, PardoKind>
+    ensures tokens { Gives (λ count. tokens_cut count line.now) result (tokens_of line.now) }
+    ensures count { IfOk result (λ count. length (tokens_cut count line.now) ≡ count) }
 {
-    tokens.clear();
-    let mut rest = said(line);
+    let mut rest = line;
+    let mut count = 0;
     while let Some((first, after)) = rest.split_first() {
         if is_blank(*first) {
             rest = after;
         } else {
-            let Some((token, after)) = next_token(rest) else {
+            let Some((_, after)) = next_token(rest) else {
                 return Err(PardoKind::BadSymbol);
             };
-            tokens.push(token)?;
             rest = after;
+            count += 1;
         }
     }
-    Ok(())
+    Ok(count)
 }
 
-// What stands before the comment of a line.
-fn said(line: &[u8]) -> &[u8]
+/// The first token of a line, if it begins with one after blanks, and what is after it.
+pub(crate) fn first_token(line: &[u8]) -> Option<(Token<'_>, &[u8])>
+    ensures { option_map (λ x. (plain x.0, x.1.now)) result ≡ token_at (after_blanks line.now) }
+{
+    next_token(after_blanks(line))
+}
+
+// What stands after the blanks with which a line begins.
+fn after_blanks(line: &[u8]) -> &[u8]
+    ensures { result.now ≡ after_blanks line.now }
+{
+    let mut rest = line;
+    while let Some((first, after)) = rest.split_first() {
+        if !is_blank(*first) {
+            return rest;
+        }
+        rest = after;
+    }
+    rest
+}
+
+/// What stands before the comment of a line.
+pub(crate) fn said(line: &[u8]) -> &[u8]
     ensures { result.now ≡ said_in line.now }
 {
     line.split_at(comment_start(line).unwrap_or(line.len())).0

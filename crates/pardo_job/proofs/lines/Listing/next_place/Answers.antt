@@ -18,7 +18,7 @@ returns-then-place-len-ge-MAX_CODE-clause-refused c =
     let code : List Instr = line_code c.args.self.now.program.now
     (slice_index c.args.self.now.places.items) (length c.args.code.now.items)
     c.args.line.now.depth c.args.line.now.statement in
-    let e : c.put_line.new.code.items ≡ code = c.in-Ok.ensures.all ∙
+    let e : c.put_judged.new.code.items ≡ code = c.in-Ok.ensures.all ∙
     ap (λ (l : List Instr). l ++ code) c.requires.unknown.1 in
     long_at c.args.self.now.program.now c.args.line.now c.args.place
     (slice_index c.args.self.now.places.items) (length c.args.code.now.items)
@@ -28,7 +28,7 @@ returns-then-place-len-ge-MAX_CODE-clause-refused c =
     (omega (
       arith,
       ap (λ (l : List Instr). length l) e,
-      c.put_line.new.code.ok,
+      c.put_judged.new.code.ok,
       c.if-place-len-ge-MAX_CODE.true,
       c.len.ensures,
     ))
@@ -38,10 +38,10 @@ returns-clause-given c =
     let code : List Instr = line_code c.args.self.now.program.now
     (slice_index c.args.self.now.places.items) (length c.args.code.now.items)
     c.args.line.now.depth c.args.line.now.statement in
-    let e : c.put_line.new.code.items ≡ code = c.in-Ok.ensures.all ∙
+    let e : c.put_judged.new.code.items ≡ code = c.in-Ok.ensures.all ∙
     ap (λ (l : List Instr). l ++ code) c.requires.unknown.1 in
     place_after_is c.args.self.now.program.now c.args.line.now c.args.place
     (c.args.place + c.len-2.result) (slice_index c.args.self.now.places.items)
-    (length c.args.code.now.items) c.put_line.new.code.items e c.in-Ok.ensures.shallow
-    (omega (arith, c.put_line.new.code.ok, c.len-2.ensures))
+    (length c.args.code.now.items) c.put_judged.new.code.items e c.in-Ok.ensures.shallow
+    (omega (arith, c.put_judged.new.code.ok, c.len-2.ensures))
     (omega (arith, c.if-place-len-ge-MAX_CODE.false, c.len.ensures, c.len-2.ensures))
