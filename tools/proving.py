@@ -21,7 +21,7 @@ import time
 TOP = Path(__file__).resolve().parent.parent
 PROGRAM = TOP / "out/pramx"
 RECORD = TOP / "out/pramx.sums"
-# Where rt lib leaves the library for C.
+# Where tools/archive leaves the library for C.
 LIBRARY = "crates/kaolinsilk_c/out/libkaolinsilk_c.a"
 # Who speaks: tools/build does so for ./pramx.
 NAME = Path(sys.argv[0]).name.replace("build", "pramx")
@@ -224,9 +224,8 @@ def built(*words):
 def both_built(*words):
     """The program and the library for C, proved and built, and the copy that they were built in."""
     with proved(["--both"], *words) as (copy, program, room):
-        library = copy / LIBRARY
-        run(["lib"], library.parents[1], library, room)
-        yield program, library, copy
+        subprocess.run([TOP / "tools/archive", copy], check=True)
+        yield program, copy / LIBRARY, copy
 
 
 @contextlib.contextmanager
