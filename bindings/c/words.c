@@ -43,8 +43,8 @@ static const char help[] =
     "\n"
     "Examples:\n"
     "  pramx-processes examples/sort.pardo --workers 8 --kill-at 0:0,3:1,9:2 --events\n"
-    "  pramx-processes examples/sort.pram --workers 3 --pace 1000 --board /tmp/board --progress\n"
-    "  pramx-processes --board /tmp/board --join 0\n";
+    "  pramx-processes examples/sort.pram --workers 3 --pace 1000 --board run.board --progress\n"
+    "  pramx-processes --board run.board --join 0\n";
 
 static _Noreturn void refuse(const char *form, ...) {
   va_list values;
