@@ -17,28 +17,24 @@ pub record ServesWords (Holds : List ℕ → Option (List ℕ) → Type 0) (Fail
   pub met : IsAsked on_terminal (subcommand_of pramx words) asked
   pub serves : ServesFiles Holds Fails asked.line writes status
 
--- So it is, unless the words mean no line, or memory ran out.
+-- So it is, unless the words mean no line, or memory ran out before anything was written.
 abbrev pub AnswersWords :
     (List ℕ → Option (List ℕ) → Type 0) → Type 0 → List Text → Bool → Writing → ℕ → Type 0
 AnswersWords Holds Fails words on_terminal writes status =
     ServesWords Holds Fails words on_terminal writes status
-    ⊎ (MeanNoLine words ⊎ (status ≡ MEMORY))
+    ⊎ (MeanNoLine words ⊎ ((status ≡ MEMORY) × writes.Unwritten))
 
 -- The words ask for help or for the version.
 abbrev pub AskForHelp : List Text → Type 0
 AskForHelp words = IsAmong DisplayHelp (fault_of pramx words)
     ⊎ IsAmong DisplayVersion (fault_of pramx words)
 
--- Where the words mean no line, the status is that of a failure, or they ask for help or the
--- version, which was shown; or memory ran out.
-abbrev pub EndsByWords : List Text → ℕ → Type 0
-EndsByWords words status =
-    MeanNoLine words → (status ≡ MEMORY) ⊎ ((status ≡ FAILED)
-    ⊎ ((status ≡ DONE) × AskForHelp words))
-
--- Where they mean no line, and do not ask for that, nothing is written on the output.
-abbrev pub RefusesQuietly : List Text → Writing → Type 0
-RefusesQuietly words writes = MeanNoLine words → AskForHelp words ⊎ writes.Unwritten
+-- Where the words mean no line, they ask for help or for the version, which was shown; or they are
+-- refused, or memory ran out, and unless they ask for that nothing is written on the output.
+abbrev pub EndsByWords : List Text → Writing → ℕ → Type 0
+EndsByWords words writes status = MeanNoLine words →
+    ((status ≡ DONE) × AskForHelp words)
+    ⊎ (((status ≡ FAILED) ⊎ (status ≡ MEMORY)) × (AskForHelp words ⊎ writes.Unwritten))
 
 -- The words mean this line, on such a device, and it starts threads.
 pub record AskForThreads (words : List Text) (on_terminal : Bool) (line : Line) : Type 0 where

@@ -5,7 +5,6 @@ ghost use Rattle.clap.specs.Words.{kind_of};
 ghost use Rattle.pram_commands.specs.Did.{writing};
 ghost use Rattle.pram_commands.specs.Files.{MayFail};
 ghost use Rattle.command_answers.specs.Answering.{AnswersWords, AskForThreads, EndsByWords};
-ghost use Rattle.command_answers.specs.Answering.{RefusesQuietly};
 
 use clap::error::ErrorKind;
 use command_line::read_line;
@@ -30,9 +29,8 @@ pub fn answer_words<'a, R: Eprint + Threads + Wait + Clock + Sync, F: Folder, O:
     requires out { O.has_failed console.old.out ≡ false }
     requires err { E.has_failed console.old.err ≡ false }
     ensures status { result ≤ MEMORY }
-    ensures words { EndsByWords (map (λ word. word.now) words.entry.now) result }
-    ensures quiet { RefusesQuietly (map (λ word. word.now) words.entry.now)
-        (writing O.Sink console.old.out console.new.out) }
+    ensures words { EndsByWords (map (λ word. word.now) words.entry.now)
+        (writing O.Sink console.old.out console.new.out) result }
     ensures answers { AnswersWords (F.holds folder.now) (MayFail F.File.Source)
         (map (λ word. word.now) words.entry.now) console.old.is_terminal
         (writing O.Sink console.old.out console.new.out) result }
@@ -54,9 +52,8 @@ pub fn answer_alone<'a, F: Folder, O: Sink, E: Sink>(
     requires out { O.has_failed console.old.out ≡ false }
     requires err { E.has_failed console.old.err ≡ false }
     ensures status { IfOk result (λ status. status ≤ MEMORY) }
-    ensures words { IfOk result (EndsByWords (map (λ word. word.now) words.entry.now)) }
-    ensures quiet { RefusesQuietly (map (λ word. word.now) words.entry.now)
-        (writing O.Sink console.old.out console.new.out) }
+    ensures words { IfOk result (EndsByWords (map (λ word. word.now) words.entry.now)
+        (writing O.Sink console.old.out console.new.out)) }
     ensures answers { IfOk result (AnswersWords (F.holds folder.now) (MayFail F.File.Source)
         (map (λ word. word.now) words.entry.now) console.old.is_terminal
         (writing O.Sink console.old.out console.new.out)) }
@@ -86,11 +83,12 @@ fn refusal_status<O: Sink, E: Sink>(
     requires out { O.has_failed console.old.out ≡ false }
     requires err { E.has_failed console.old.err ≡ false }
     ensures status { result ≤ MEMORY }
-    ensures memory { kind_of error.now ≡ ErrorKind.OutOfMemory → result ≡ MEMORY }
+    ensures memory { kind_of error.now ≡ ErrorKind.OutOfMemory
+        → (result ≡ MEMORY) × (console.new.out ≡ console.old.out) }
     ensures wrong { kind_of error.now ≢ ErrorKind.DisplayHelp
         → kind_of error.now ≢ ErrorKind.DisplayVersion
         → ((result ≡ FAILED) ⊎ (result ≡ MEMORY)) × (console.new.out ≡ console.old.out) }
-    ensures shown { (result ≡ DONE) ⊎ (FAILED ≤ result) }
+    ensures shown { (result ≡ DONE) ⊎ ((result ≡ FAILED) ⊎ (result ≡ MEMORY)) }
 {
     if error.kind() == ErrorKind::OutOfMemory {
         return tell(alloc, Refusal::Memory, &mut console.err);

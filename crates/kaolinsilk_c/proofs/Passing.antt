@@ -1,11 +1,11 @@
 -- What a call did with the member of a handle.
-use Rattle.std.proofs.Common.{◌≡◌, ◌≢◌, ℕ, ◌<◌, ◌≤◌, List, Bool, true, false, sym, subst}
+use Rattle.std.proofs.Common.{◌≡◌, ◌≢◌, ◌⊎◌, ℕ, ◌<◌, ◌≤◌, List, Bool, true, false, sym, subst}
 use Rattle.std.specs.Prelude.{Option, Some, None}
 use Rattle.pram_board.specs.declared.work.Stay.{Stay}
 use Rattle.library_boards.specs.declared.member.Member.{Member}
 use Rattle.library_boards.specs.declared.shared.Shared.{Shared}
 use Rattle.library_boards.specs.declared.status.TheConstants.{DONE, CONFLICT, FAILED}
-use Rattle.library_boards.specs.declared.status.TheConstants.{UNFINISHED}
+use Rattle.library_boards.specs.declared.status.TheConstants.{MEMORY, UNFINISHED}
 use Rattle.library_boards.specs.declared.told.ProgressTold.{ProgressTold}
 use Rattle.library_boards.specs.declared.told.ReadingTold.{ReadingTold}
 use Rattle.library_boards.specs.declared.told.FaultTold.{FaultTold}
@@ -14,7 +14,7 @@ use Rattle.library_boards.specs.Calls.{IsFaultTold, IsHeld, IsNoWorkerFor, IsNoW
 use Rattle.library_boards.specs.Calls.{IsPut, TellsFault, TellsMemory, TellsProgress}
 use Rattle.library_boards.specs.Calls.{TellsReading, WasReadTold}
 use Rattle.library_boards.specs.Members.{GoesOn, IsBack, IsMember, IsOpenedFor, IsWork}
-use Rattle.library_boards.specs.Members.{NoneIsKnown, StepsAreLeft, job_at, shared_at}
+use Rattle.library_boards.specs.Members.{NoneIsKnown, StepsAreLeft, shared_at}
 
 pub opened : (text : List ℕ) (workers grain : ℕ) (handle : Option Member) (member : Member) →
     handle ≡ Some member → IsOpenedFor text workers grain member →
@@ -94,29 +94,32 @@ told_reading old new before later cell status was_told told was is read none is_
 
 pub told_memory : (old new : Option Member) (before later : Member) (cells filled : List ℕ)
     (status : ℕ) → old ≡ Some before → new ≡ Some later →
-    (status ≡ DONE → IsPut (job_at before) cells filled) →
-    (status ≡ UNFINISHED → StepsAreLeft before later) → (status ≢ DONE → filled ≡ cells) →
+    (status ≡ DONE → IsPut cells filled before later) →
+    (status ≡ UNFINISHED → StepsAreLeft before later) →
+    (status ≡ DONE) ⊎ ((status ≡ UNFINISHED) ⊎ (status ≡ MEMORY)) →
+    (status ≢ DONE → filled ≡ cells) →
     GoesOn before later → Between old new (TellsMemory cells filled status)
-told_memory old new before later cells filled status was is put left kept on = record {
+told_memory old new before later cells filled status was is put left ends kept on = record {
   before = before;
   was = was;
   now = later;
   is = is;
-  passed = record { put = put; left = left; kept = kept; goes_on = on };
+  passed = record { put = put; left = left; ends = ends; kept = kept; goes_on = on };
   is_member = on.is_member;
 }
 
 pub told_fault : (old new : Option Member) (before later : Member) (was_told told : FaultTold)
     (status : ℕ) → old ≡ Some before → new ≡ Some later →
-    (status ≡ CONFLICT → IsFaultTold (job_at before) told) →
+    (status ≡ CONFLICT → IsFaultTold told before later) →
     (status ≡ UNFINISHED → NoneIsKnown before later) →
+    (status ≡ CONFLICT) ⊎ ((status ≡ UNFINISHED) ⊎ (status ≡ MEMORY)) →
     (status ≢ CONFLICT → told ≡ was_told) →
     GoesOn before later → Between old new (TellsFault was_told told status)
-told_fault old new before later was_told told status was is fault none kept on = record {
+told_fault old new before later was_told told status was is fault none ends kept on = record {
   before = before;
   was = was;
   now = later;
   is = is;
-  passed = record { fault = fault; none = none; kept = kept; goes_on = on };
+  passed = record { fault = fault; none = none; ends = ends; kept = kept; goes_on = on };
   is_member = on.is_member;
 }

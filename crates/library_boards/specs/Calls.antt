@@ -1,5 +1,5 @@
 -- What calls of another language come to: a member before and after, and what is told.
-use Rattle.std.specs.Prelude.{◌≡◌, ◌≢◌, ℕ, ◌<◌, ◌≤◌, ◌++◌, List, length, take, drop, Bool}
+use Rattle.std.specs.Prelude.{◌≡◌, ◌≢◌, ◌⊎◌, ℕ, ◌<◌, ◌≤◌, ◌++◌, List, length, take, drop, Bool}
 use Rattle.std.specs.Prelude.{if◌then◌else◌, Option, Some, None, IsSome, unwrap_or}
 use Rattle.pram_job.specs.Job.{JobData}
 use Rattle.pram_text.specs.declared.fault.TextKind.{TextKind}
@@ -9,8 +9,6 @@ use Rattle.pardo_text.specs.declared.fault.PardoKind.TheVariants as pardo_kind
 use Rattle.pardo_job.specs.declared.fault.JobKind.{JobKind}
 use Rattle.pardo_job.specs.declared.fault.JobKind.TheVariants as job_kind
 use Rattle.pardo_job.specs.declared.fault.Refusal.TheVariants as refusal
-use Rattle.pram_step.specs.Runs.{IsAnswer, IsFault}
-use Rattle.pram_step.specs.declared.answer.RunAnswer.TheVariants.{Final}
 use Rattle.walkx.specs.declared.operation.Ended.TheVariants as ended
 use Rattle.walkx.specs.declared.operation.Reading.TheVariants.{At}
 use Rattle.pram_board.specs.declared.look.Progress.{Progress}
@@ -28,7 +26,8 @@ use Rattle.library_boards.specs.declared.told.FaultTold.{FaultTold}
 use Rattle.library_boards.specs.Grains.{IsGrainAsked}
 use Rattle.library_boards.specs.Jobs.{IsNoJob}
 use Rattle.library_boards.specs.declared.shared.Shared.{Shared}
-use Rattle.library_boards.specs.Members.{GoesOn, IsBack, IsMember, IsOpenedFor, IsWork}
+use Rattle.library_boards.specs.Members.{GoesOn, IsBack, IsKnownFault, IsLastMemory, IsMember}
+use Rattle.library_boards.specs.Members.{IsOpenedFor, IsWork}
 use Rattle.library_boards.specs.Members.{NoneIsKnown, StepsAreLeft, job_at, shared_at, task_at}
 
 -- ---- handles
@@ -138,13 +137,13 @@ pub record WasReadTold (cell : ℕ) (told : ReadingTold) (before later : Member)
 abbrev pub front_of : List ℕ → List ℕ → List ℕ
 front_of numbers buffer = take (length buffer) numbers ++ drop (length numbers) buffer
 
-pub record IsPut (job : JobData) (old new : List ℕ) : Type 0 where
+pub record IsPut (old new : List ℕ) (before later : Member) : Type 0 where
   pub cells : List ℕ
-  pub answers : IsAnswer job (Final cells)
+  pub last : IsLastMemory before later cells
   pub is : new ≡ front_of cells old
 
-pub record IsFaultTold (job : JobData) (told : FaultTold) : Type 0 where
-  pub is : IsFault job (record {
+pub record IsFaultTold (told : FaultTold) (before later : Member) : Type 0 where
+  pub is : IsKnownFault before later (record {
     step = told.step;
     cell = told.cell;
     first = told.first;
@@ -161,14 +160,16 @@ pub record TellsReading (cell : ℕ) (old new : ReadingTold) (status : ℕ) (bef
       (status ≡ FAILED) × (new ≡ old) × (later ≡ before)
 
 pub record TellsMemory (old new : List ℕ) (status : ℕ) (before later : Member) : Type 0 where
-  pub put : status ≡ DONE → IsPut (job_at before) old new
+  pub put : status ≡ DONE → IsPut old new before later
   pub left : status ≡ UNFINISHED → StepsAreLeft before later
+  pub ends : (status ≡ DONE) ⊎ ((status ≡ UNFINISHED) ⊎ (status ≡ MEMORY))
   pub kept : status ≢ DONE → new ≡ old
   pub goes_on : GoesOn before later
 
 pub record TellsFault (old new : FaultTold) (status : ℕ) (before later : Member) : Type 0 where
-  pub fault : status ≡ CONFLICT → IsFaultTold (job_at before) new
+  pub fault : status ≡ CONFLICT → IsFaultTold new before later
   pub none : status ≡ UNFINISHED → NoneIsKnown before later
+  pub ends : (status ≡ CONFLICT) ⊎ ((status ≡ UNFINISHED) ⊎ (status ≡ MEMORY))
   pub kept : status ≢ CONFLICT → new ≡ old
   pub goes_on : GoesOn before later
 

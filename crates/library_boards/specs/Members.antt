@@ -3,6 +3,9 @@ use Rattle.std.specs.Prelude.{◌≡◌, ◌≢◌, ◌==◌, ℕ, List, Bool, t
 use Rattle.std.specs.Prelude.{Option, Some, None, if◌then◌else◌}
 use Rattle.std.specs.Arc.{arc_value}
 use Rattle.pram_job.specs.Job.{JobData}
+use Rattle.pram_step.specs.Runs.{IsAnswer, IsFault}
+use Rattle.pram_step.specs.declared.answer.Fault.{Fault}
+use Rattle.pram_step.specs.declared.answer.RunAnswer.TheVariants.{Final}
 use Rattle.pram_words.specs.declared.layout.Form.TheVariants.{Wide}
 use Rattle.walkx.specs.Inner.Workers.{WorkerData}
 use Rattle.walkx.specs.Records.{empty}
@@ -11,7 +14,8 @@ use Rattle.walkx.specs.Walk.{come_back, started}
 use Rattle.pram_board.specs.declared.task.Task.{Task}
 use Rattle.pram_board.specs.declared.look.Progress.{Progress}
 use Rattle.pram_board.specs.declared.work.Stay.{Stay}
-use Rattle.pram_board.specs.Seats.{Desk, HasLoaded, IsLater, IsOpened, Progressed}
+use Rattle.pram_board.specs.Seats.{Desk, HasLoaded, HasSeen, IsLater, IsOpened, KnowsConflict}
+use Rattle.pram_board.specs.Seats.{Progressed}
 use Rattle.pram_board.specs.Worked.{Worked, Works}
 use Rattle.library_boards.specs.declared.member.Member.{Member}
 use Rattle.library_boards.specs.declared.shared.Shared.{Shared}
@@ -120,3 +124,13 @@ pub record NoneIsKnown (before later : Member) : Type 0 where
   pub progress : Progress
   pub progressed : Progressed (task_at before) before.seat later.seat progress
   pub none : progress.conflict ≡ None
+
+-- the last step was seen to be finished, and this is what the cells hold after it
+pub record IsLastMemory (before later : Member) (cells : List ℕ) : Type 0 where
+  pub seen : HasSeen (task_at before).layout later.seat.record_of (job_at before).steps
+  pub answers : IsAnswer (job_at before) (Final cells)
+
+-- word 0 was heard to name a step, and this is the first fault
+pub record IsKnownFault (before later : Member) (fault : Fault) : Type 0 where
+  pub heard : KnowsConflict (task_at before).layout later.seat.record_of
+  pub is : IsFault (job_at before) fault

@@ -1,12 +1,12 @@
 //! What calls of another language do with a member.
-ghost use Rattle.std.specs.Prelude.{◌≡◌, ◌≢◌, ◌<◌, ◌≤◌, IfErr, IfOk, IsTrue};
+ghost use Rattle.std.specs.Prelude.{◌≡◌, ◌≢◌, ◌⊎◌, ◌<◌, ◌≤◌, IfErr, IfOk, IsTrue};
 ghost use Rattle.library_boards.specs.Calls.{HasComeBack, HasWorked, IsFaultTold};
 ghost use Rattle.library_boards.specs.Calls.{IsNoWorkerStatus, IsOpenStatus, IsPut, TellsProgress};
 ghost use Rattle.library_boards.specs.Calls.{WasReadTold, front_of, status_of_fault};
 ghost use Rattle.library_boards.specs.Calls.{status_of_stay};
 ghost use Rattle.library_boards.specs.Grains.{IsGrainAsked};
 ghost use Rattle.library_boards.specs.Members.{GoesOn, IsMember, IsOpenedFor, IsReaderAt};
-ghost use Rattle.library_boards.specs.Members.{IsWorkerAt, NoneIsKnown, StepsAreLeft, job_at};
+ghost use Rattle.library_boards.specs.Members.{IsWorkerAt, NoneIsKnown, StepsAreLeft};
 ghost use Rattle.library_boards.specs.Members.{shared_at};
 ghost use Rattle.library_boards.specs.declared.status.TheConstants.{CONFLICT, DONE, FAILED};
 ghost use Rattle.library_boards.specs.declared.status.TheConstants.{MEMORY, UNFINISHED};
@@ -187,8 +187,9 @@ pub fn read(member: &mut Member, cell: u32, told: &mut ReadingTold) -> u32
 /// Puts the final memory to the front of the cells, as much as there is room for.
 pub fn memory(member: &mut Member, alloc: Global, cells: &mut [u32]) -> u32
     requires { IsMember member.old }
-    ensures put { result ≡ DONE → IsPut (job_at member.old) cells.old cells.new }
+    ensures put { result ≡ DONE → IsPut cells.old cells.new member.old member.new }
     ensures left { result ≡ UNFINISHED → StepsAreLeft member.old member.new }
+    ensures ends { (result ≡ DONE) ⊎ ((result ≡ UNFINISHED) ⊎ (result ≡ MEMORY)) }
     ensures kept { result ≢ DONE → cells.new ≡ cells.old }
     ensures goes_on { GoesOn member.old member.new }
 {
@@ -216,8 +217,9 @@ fn put_front(numbers: &[u32], buffer: &mut [u32])
 /// The first step that is against the rule, and who disputes what in it, if one is known.
 pub fn fault(member: &mut Member, alloc: Global, told: &mut FaultTold) -> u32
     requires { IsMember member.old }
-    ensures fault { result ≡ CONFLICT → IsFaultTold (job_at member.old) told.new }
+    ensures fault { result ≡ CONFLICT → IsFaultTold told.new member.old member.new }
     ensures none { result ≡ UNFINISHED → NoneIsKnown member.old member.new }
+    ensures ends { (result ≡ CONFLICT) ⊎ ((result ≡ UNFINISHED) ⊎ (result ≡ MEMORY)) }
     ensures kept { result ≢ CONFLICT → told.new ≡ told.old }
     ensures goes_on { GoesOn member.old member.new }
 {

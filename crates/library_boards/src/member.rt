@@ -21,14 +21,13 @@ pub struct Member {
 
 impl Member {
     ghost use Rattle.std.specs.Prelude.{◌<◌, ◌≤◌, IfErr, IfNone, IfOk, IfSome};
-    ghost use Rattle.pram_step.specs.Runs.{IsAnswer, IsFault};
-    ghost use Rattle.pram_step.specs.declared.answer.RunAnswer.TheVariants.{Final};
     ghost use Rattle.pram_board.specs.Seats.{HasSeen, KnowsConflict, Progressed, WasRead};
     ghost use Rattle.library_boards.specs.Grains.{IsGrainAsked};
     ghost use Rattle.library_boards.specs.Jobs.{IsNoJob};
-    ghost use Rattle.library_boards.specs.Members.{GoesOn, IsBack, IsMember, IsOpenedFor};
-    ghost use Rattle.library_boards.specs.Members.{IsReaderAt, IsWork, IsWorkerAt, NoneIsKnown};
-    ghost use Rattle.library_boards.specs.Members.{StepsAreLeft, job_at, shared_at, task_at};
+    ghost use Rattle.library_boards.specs.Members.{GoesOn, IsBack, IsKnownFault, IsLastMemory};
+    ghost use Rattle.library_boards.specs.Members.{IsMember, IsOpenedFor, IsReaderAt, IsWork};
+    ghost use Rattle.library_boards.specs.Members.{IsWorkerAt, NoneIsKnown, StepsAreLeft};
+    ghost use Rattle.library_boards.specs.Members.{shared_at, task_at};
 
     /// A reader at a new board for the job of a text, and so many workers. A leaf stands for so
     /// many processors; at 0 the board chooses.
@@ -138,7 +137,7 @@ impl Member {
     pub fn memory(&mut self, alloc: Global) -> Result<Option<Vec<u32>>, AllocError>
         requires { IsMember self.old }
         ensures cells { IfOk result (λ found. IfSome found
-            (λ cells. IsAnswer (job_at self.old) (Final cells.items))) }
+            (λ cells. IsLastMemory self.old self.new cells.items)) }
         ensures left { IfOk result (λ found. IfNone found (StepsAreLeft self.old self.new)) }
         ensures goes_on { GoesOn self.old self.new }
     {
@@ -151,7 +150,7 @@ impl Member {
     /// The first step that is against the rule, and who disputes what in it, if one is known.
     pub fn fault(&mut self, alloc: Global) -> Result<Option<Fault>, AllocError>
         requires { IsMember self.old }
-        ensures fault { IfOk result (λ found. IfSome found (IsFault (job_at self.old))) }
+        ensures fault { IfOk result (λ found. IfSome found (IsKnownFault self.old self.new)) }
         ensures none { IfOk result (λ found. IfNone found (NoneIsKnown self.old self.new)) }
         ensures goes_on { GoesOn self.old self.new }
     {

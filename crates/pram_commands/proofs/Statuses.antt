@@ -126,22 +126,25 @@ wrote-none command r w PlanDevice two wrote = wrote
 wrote-none command r w JobTooLarge two wrote = wrote
 wrote-none command r w PlanTooLarge two wrote = wrote
 
-wrote-some : (command : Command) (r : Reading) (w : Writing) (fault : CommandFault) →
-    Explains command r w fault → Wrote command r w fault →
-    w.Unwritten ⊎ ((IsTrue w.failed ⊎ command.InPieces) × Begins command r w)
-wrote-some command r w OutDevice explains wrote = inr (inl explains, wrote)
-wrote-some command r w Memory explains wrote =
-    elim wrote [ inl none ↦ inl none | inr some ↦ inr (inr some.0, some.1) ]
-wrote-some command r w (Text number kind) explains wrote = inl wrote
-wrote-some command r w (Program refusal) explains wrote = inl wrote
-wrote-some command r w (Plan row kind) explains wrote = inl wrote
-wrote-some command r w (OutsideCell cell) explains wrote = inl wrote
-wrote-some command r w (OutsidePlace at) explains wrote = inl wrote
-wrote-some command r w (OutsideStep step) explains wrote = inl wrote
-wrote-some command r w JobDevice explains wrote = inl wrote
-wrote-some command r w PlanDevice explains wrote = inl wrote
-wrote-some command r w JobTooLarge explains wrote = inl wrote
-wrote-some command r w PlanTooLarge explains wrote = inl wrote
+wrote-some : (command : Command) (r : Reading) (w : Writing) (status : ℕ) (fault : CommandFault) →
+    (status ≡ 5) ⊎ (status ≡ fault_status fault) → Explains command r w fault →
+    Wrote command r w fault → w.Unwritten
+    ⊎ ((IsTrue w.failed ⊎ ((status ≡ 5) × command.InPieces)) × Begins command r w)
+wrote-some command r w status OutDevice is explains wrote = inr (inl explains, wrote)
+wrote-some command r w status Memory is explains wrote = elim wrote [
+  | inl none ↦ inl none
+  | inr some ↦ inr (inr (elim is [ inl five ↦ five | inr same ↦ same ], some.0), some.1)
+]
+wrote-some command r w status (Text number kind) is explains wrote = inl wrote
+wrote-some command r w status (Program refusal) is explains wrote = inl wrote
+wrote-some command r w status (Plan row kind) is explains wrote = inl wrote
+wrote-some command r w status (OutsideCell cell) is explains wrote = inl wrote
+wrote-some command r w status (OutsidePlace at) is explains wrote = inl wrote
+wrote-some command r w status (OutsideStep step) is explains wrote = inl wrote
+wrote-some command r w status JobDevice is explains wrote = inl wrote
+wrote-some command r w status PlanDevice is explains wrote = inl wrote
+wrote-some command r w status JobTooLarge is explains wrote = inl wrote
+wrote-some command r w status PlanTooLarge is explains wrote = inl wrote
 
 module _ (taken : Taking) (w : Writing) where
   -- a line whose command follows no plan ends
@@ -214,7 +217,7 @@ module _ (taken : Taking) (w : Writing) where
           out = λ failed. told-failed fault status is
               (ap fault_status (err_same fault OutDevice (did.out_failed.0 failed)));
           begins = λ _.
-              wrote-some (command_of line) taken.reads w fault did.explains did.wrote;
+              wrote-some (command_of line) taken.reads w status fault is did.explains did.wrote;
           job_reads = did.job_reads;
           plan_reads = did.plan_reads;
         }

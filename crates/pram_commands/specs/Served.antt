@@ -17,8 +17,8 @@ HasFault command reads writes status =
 -- What the status of a line says. Below 2, or 3: it was done. 2: a text bears a fault, or the job
 -- lacks a cell that is to be watched, and nothing was written. 4: a device failed or a source is
 -- too large; 4 or more wherever one failed. With 4 or more nothing was written; or, where the
--- output failed or the command prints in pieces, a beginning of what the line prints. The sources
--- stand after the bytes read so far.
+-- output failed, or memory ran out and the command prints in pieces, a beginning of what the line
+-- prints. The sources stand after the bytes read so far.
 pub record Served (line : Line) (reads : Reading) (writes : Writing) (status : ℕ) : Type 0 where
   pub done : (status < REFUSED) ⊎ (status ≡ UNFINISHED)
       → Prints (command_of line) reads writes (tells_status status)
@@ -31,6 +31,7 @@ pub record Served (line : Line) (reads : Reading) (writes : Writing) (status : �
   pub plan : IsTrue reads.plan_failed → FAILED ≤ status
   pub out : IsTrue writes.failed → FAILED ≤ status
   pub begins : FAILED ≤ status → writes.Unwritten ⊎ ((IsTrue writes.failed
-      ⊎ (command_of line).InPieces) × Begins (command_of line) reads writes)
+      ⊎ ((status ≡ MEMORY) × (command_of line).InPieces))
+      × Begins (command_of line) reads writes)
   pub job_reads : GivesSome reads.job reads.job'
   pub plan_reads : GivesSome reads.plan reads.plan'

@@ -26,7 +26,8 @@ pub enum TakeFault {
 }
 
 /// All the bytes of a source, of which there are at most `MOST`. Time and memory are linear in the
-/// bytes read.
+/// bytes read. Its piece is on the stack, so it keeps a frame of its own.
+#[inline(never)]
 pub fn take<R: Source>(alloc: Global, source: &mut R) -> Result<Vec<u8>, TakeFault>
     requires { R.has_failed source.old ≡ false }
     ensures all { IfOk result (λ bytes. Gives (R.remaining source.old) (R.remaining source.new)

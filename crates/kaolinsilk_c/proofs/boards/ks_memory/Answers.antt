@@ -8,5 +8,4 @@ returns c =
     told_memory _ _ c.deref_mut.result.now c.memory-status.new.member _ _ c.memory-status.result
     (c.take-member.ensures.member ∙ ap (λ m. Some m) (sym c.deref_mut.ensures.value))
     c.of.ensures c.memory-status.ensures.put c.memory-status.ensures.left
-    c.memory-status.ensures.kept
-    c.memory-status.ensures.goes_on
+    c.memory-status.ensures.ends c.memory-status.ensures.kept c.memory-status.ensures.goes_on
