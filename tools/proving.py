@@ -70,16 +70,21 @@ def sum_of(file):
 
 
 def costs():
-    """The processor seconds of each crate's proof, by the first table of docs/COSTS.md."""
-    file = TOP / "docs/COSTS.md"
-    table = re.search(r"(?m)^\|(?:.*\n\|)*.*", file.read_text() if file.is_file() else "")
-    rows = re.findall(r"\| `(\w+)` \| ([\d.]+) ", table[0] if table else "")
+    """The processor seconds of each crate's proof, by the first table below the heading "What the
+    gate costs" of docs/TESTING.md. Where there is none nothing is known, and nothing fails."""
+    try:
+        page = (TOP / "docs/TESTING.md").read_text(encoding="utf-8", errors="replace")
+    except OSError:
+        page = ""
+    section = re.search(r"(?ms)^##+ +What the gate costs\b.*?(?=^##? |\Z)", page)
+    table = re.search(r"(?m)^\|(?:.*\n\|)*.*", section[0] if section else "")
+    rows = re.findall(r"(?m)^\| *`(\w+)` *\| *(\d+) *\|", table[0] if table else "")
     return {name: float(seconds) for name, seconds in rows}
 
 
 class Progress:
     """Tells each minute how many crates are proved, and how many minutes are left: by the table of
-    docs/COSTS.md, at the pace of the proved ones."""
+    docs/TESTING.md, at the pace of the proved ones."""
 
     def __init__(self, lines):
         known = costs()
