@@ -1,16 +1,24 @@
 -- A member's seat sees more, and knows the worker still.
-use Rattle.std.proofs.Common.{◌≡◌, ℕ, List, refl, ap, subst, rules}
+use Rattle.std.proofs.Common.{◌≡◌, ◌∙◌, ℕ, List, [], ◌∷◌, refl, ap, subst, rules}
 use Rattle.std.specs.Prelude.{Some, None}
 use Rattle.std.specs.Arc.{arc_value}
 use Rattle.pram_job.specs.Job.{JobData}
 use Rattle.pram_words.specs.declared.layout.Form.TheVariants.{Wide}
 use Rattle.walkx.specs.Inner.Workers.{WorkerData}
-use Rattle.pram_board.specs.Seats.{Desk, SeatData, IsLater, IsOpened}
+use Rattle.pram_step.specs.Runs.{IsAnswer, IsFault}
+use Rattle.pram_step.specs.declared.answer.Fault.{Fault}
+use Rattle.pram_step.specs.declared.answer.RunAnswer.TheVariants.{Final}
+use Rattle.pram_board.specs.declared.task.Task.{Task}
+use Rattle.pram_board.specs.Seats.{Desk, SeatData, HasLoaded, HasSeen, IsLater, IsOpened}
+use Rattle.pram_board.specs.Seats.{KnowsConflict, Remembers}
+use Rattle.pram_board.proofs.Memory.{still_known}
 use Rattle.pram_board.specs.Worked.{Works}
 use Rattle.library_boards.specs.declared.member.Member.{Member}
+use Rattle.library_boards.specs.declared.shared.Shared.{Shared}
 use Rattle.library_boards.specs.Grains.{grain_of}
 use Rattle.library_boards.specs.Jobs.{IsJobOf}
-use Rattle.library_boards.specs.Members.{GoesOn, IsMember, IsOpenedFor, board_at}
+use Rattle.library_boards.specs.Members.{GoesOn, IsKnownFault, IsLastMemory, IsMember}
+use Rattle.library_boards.specs.Members.{IsOpenedFor, board_at, task_at}
 
 later_works : (board : Desk) (p q : SeatData) (worker : WorkerData) →
     IsLater board p q → Works board p worker → Works board q worker
@@ -52,6 +60,43 @@ goes_further m n q on later =
       same = on.same;
       is_member = is_member_later n q on.is_member later;
     }
+
+-- the board is that of an earlier member, too
+module _ (m n : Member) (s : Shared) (q : SeatData) (same : s ≡ arc_value n.shared)
+    (goes : GoesOn m n) where
+  task_is : s.board.task ≡ task_at m
+  task_is = ap (λ (r : Shared). r.board.task) same
+      ∙ (λ i. (arc_value (goes.same i)).board.task)
+
+  pub last_memory : (loads : ℕ) (cells : List ℕ) →
+      HasSeen s.board.task.layout n.seat.record_of s.board.task.job.steps →
+      HasLoaded loads n.seat q → IsAnswer s.board.task.job (Final cells) →
+      IsLastMemory m (record { shared = n.shared; seat = q; worker = n.worker }) cells
+  last_memory loads cells seen load answers =
+      let still = still_known s.board.task loads n.seat q s.board.task.job.steps load seen.knows in
+      record {
+        seen = subst (λ (t : Task). HasSeen t.layout q.record_of t.job.steps) task_is
+            (record { knows = still });
+        answers = subst (λ (t : Task). IsAnswer t.job (Final cells)) task_is answers;
+      }
+
+  pub known_fault : (fault : Fault) → KnowsConflict s.board.task.layout n.seat.record_of →
+      Remembers n.seat.record_of q.record_of → IsFault s.board.task.job fault →
+      IsKnownFault m (record { shared = n.shared; seat = q; worker = n.worker }) fault
+  known_fault fault known keeps is =
+      let heard = known.heard in
+      record {
+        heard = subst (λ (t : Task). KnowsConflict t.layout q.record_of) task_is (record {
+          step = known.step;
+          some = known.some;
+          heard = record {
+            op = heard.op;
+            hears = heard.hears;
+            has = keeps ((heard.op, known.step) ∷ []) heard.has;
+          };
+        });
+        is = subst (λ (t : Task). IsFault t.job fault) task_is is;
+      }
 
 nobody : (worker : WorkerData) → None ≡ Some worker → ⊥
 nobody worker e = search rules
