@@ -23,7 +23,7 @@ returns-clause-cells c =
     let seen = c.progress.new.self in
     let shared = c.deref-2.result.now in
     let last : HasSeen shared.board.task.layout seen.seat.record_of shared.board.task.job.steps
-        = search rules in
+    = search rules in
     last_memory c.args.self.now seen shared c.memory.new.seat c.deref-2.ensures
     c.progress.ensures.goes_on _ c.in_ok-memory.field-0.items last c.in_ok-memory.ensures.loads
     c.in_ok-memory.ensures.cells
