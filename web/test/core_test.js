@@ -458,6 +458,22 @@ function testFates(core) {
   is('which is lost', [lost.processor, lost.step, lost.line].join(), '1,3,8');
 }
 
+// Numbers that the core's source has without a name are those that the page has names for.
+function testKinds(core) {
+  const text = LEAVING.replace('steps 3', 'steps 9');
+  const job = core.judge(text);
+  const statusesAt = (step) =>
+    core.moment(text, job, step, MOST).requests.list.map(({ status }) => status).join();
+  is('who runs', statusesAt(0), [STATUS.RUNS, STATUS.RUNS].join());
+  is('who has stopped', statusesAt(8), [STATUS.HALTED, STATUS.OUT_OF_RANGE].join());
+  const [lose, back] = [actOf(ACT.LOSE, 0), actOf(ACT.BACK, 0)];
+  const doingAfter = (acts) => core.scene(text, 2, eventsOf(2, acts),
+    { from: acts.length, places: job.places }).bodies[0].doing;
+  is('a worker begins', doingAfter([]), DOING.BEGIN);
+  is('is lost', doingAfter([lose]), DOING.LOST);
+  is('and comes back', doingAfter([lose, back]), DOING.BACK);
+}
+
 // Going to a far moment is quick.
 function testSpeed(core) {
   const text = readFileSync(join(folder, 'sort.pram'), 'utf8');
@@ -503,6 +519,7 @@ await testShown();
 testRefusals(core);
 testSizes(core);
 testFates(core);
+testKinds(core);
 testSpeed(core);
 await testExercises(core, is);
 const replayed = pramx ? ['prefix', 'broadcast', 'leader_priority'] : [];
