@@ -1,11 +1,11 @@
-// assemble.js CORE.wasm EXAMPLES TABLE SENTENCES OUT.html: puts the page into one file. The modules
-// of src/ are written one after the other, each as a function of its own after those that it
-// imports.
+// assemble.js CORE.wasm EXAMPLES OUT.html: puts the page into one file. The modules of src/ are
+// written one after the other, each as a function of its own after those that it imports.
 import { createHash } from 'node:crypto';
 import { readFileSync, readdirSync, writeFileSync } from 'node:fs';
 import { dirname, join } from 'node:path';
 import { fileURLToPath } from 'node:url';
 import { deflateRawSync } from 'node:zlib';
+import { declaredModule } from './declared_module.js';
 
 const source = join(dirname(fileURLToPath(import.meta.url)), '..', 'src');
 const read = (name) => readFileSync(join(source, name), 'utf8');
@@ -23,8 +23,7 @@ function modulesOf(name, found = new Set()) {
 
 // A module as a function of its own, which gives what it exports; without its comments, which stand
 // in lines of their own.
-function enclosed(name) {
-  const text = read(`${name}.js`);
+function enclosed(name, text) {
   const exported = [...text.matchAll(EXPORT)].map(([, word]) => word);
   const body = text
     .replace(COMMENT, '')
@@ -33,26 +32,12 @@ function enclosed(name) {
   return `const ${name}_module = (() => {\n${body}return { ${exported.join(', ')} };\n})();\n`;
 }
 
-// The rows of the table of instructions: their names and the shapes of their operands.
-function instructionsOf(file) {
-  const rows = readFileSync(file, 'utf8').matchAll(/=> \("(\w+)", Operands::(\w+)/g);
-  return [...rows].map(([, name, operands]) => [name, operands]);
+// What the core's sources declare stands in the place of the module that reads them.
+function bundleOf(name) {
+  const texts = new Map([...modulesOf(name)].map((module) => [module, read(`${module}.js`)]));
+  texts.set('declared', declaredModule(texts));
+  return `\n${[...texts].map(([module, text]) => enclosed(module, text)).join('\n')}`;
 }
-
-// The sentences on texts of these kinds, in the order of their faults. Out of memory is none.
-function sentencesOf(file, kinds) {
-  const rows = new RegExp(`(?:${kinds})::(\\w+) =>\\s*"([^"]*)"`, 'g');
-  return [...readFileSync(file, 'utf8').matchAll(rows)]
-    .filter(([, kind]) => kind !== 'Memory').map(([, , sentence]) => sentence);
-}
-
-const bundleOf = (name) => `\n${[...modulesOf(name)].map(enclosed).join('\n')}`;
-
-const bundle = (table, sentences) => bundleOf('main')
-  .replace('/*INSTRUCTIONS*/[]', JSON.stringify(instructionsOf(table)))
-  .replace('/*SENTENCES*/[]', JSON.stringify(sentencesOf(sentences, 'TextKind')))
-  .replace('/*PROGRAM_SENTENCES*/[]',
-    JSON.stringify(sentencesOf(sentences, 'PardoKind|JobKind')));
 
 // Programs of `pardo`, and then texts of the machine, which have their names without an end.
 function examplesOf(folder) {
@@ -73,9 +58,9 @@ const policyOf = (style, script) =>
   `script-src ${hash(script)} 'wasm-unsafe-eval'; worker-src blob:; base-uri 'none'; ` +
   "form-action 'none'";
 
-const [core, examples, table, sentences, out] = process.argv.slice(2);
+const [core, examples, out] = process.argv.slice(2);
 const style = `\n${read('style.css')}`;
-const script = bundle(table, sentences);
+const script = bundleOf('main');
 const parts = {
   POLICY: policyOf(style, script),
   STYLE: style,

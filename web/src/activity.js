@@ -1,6 +1,6 @@
 // Who is active in a line of a program, and why others are not. A processor that was in none of the
 // masks waits; one whose index was past its array is gone; at the end all are done.
-import { STATUS } from './core.js';
+import { STATUS } from './kinds.js';
 import { counterPlace } from './places.js';
 import { statusOf } from './processors.js';
 

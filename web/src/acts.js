@@ -1,6 +1,11 @@
 // Acts: what happens to which worker. The core gets them as its events; sleep and waking are the
 // page's own, since a sleeping worker is one that makes no step.
-export const ACT = { GO: 0, LOSE: 1, BACK: 2, TWIN: 3, SLEEP: 4, WAKE: 5 };
+import { EVENT } from './declared.js';
+import { TWIN } from './kinds.js';
+
+export const ACT = {
+  GO: EVENT.GO, LOSE: EVENT.STOP, BACK: EVENT.BACK, TWIN, SLEEP: TWIN + 1, WAKE: TWIN + 2,
+};
 
 export const MOST_WORKERS = 8;
 export const MOST_BODIES = 16;
@@ -12,7 +17,12 @@ export const kindOf = (act) => act >> 5;
 export const bodyOf = (act) => act & 31;
 export const isEvent = (act) => kindOf(act) <= ACT.TWIN;
 
-const LETTERS = ['', 'l', 'b', 't', 's', 'w'];
+const LETTERS = {
+  [ACT.GO]: '', [ACT.LOSE]: 'l', [ACT.BACK]: 'b', [ACT.TWIN]: 't', [ACT.SLEEP]: 's',
+  [ACT.WAKE]: 'w',
+};
+const KINDS = Object.fromEntries(
+  Object.entries(LETTERS).map(([kind, letter]) => [letter, Number(kind)]));
 
 function isRepeated(acts, start, period, at) {
   return at < acts.length && acts[at] === acts[start + ((at - start) % period)];
@@ -53,7 +63,7 @@ export function writeActs(acts, most = Infinity) {
 function readAct(word) {
   const [, letter, digits] = /^([lbtsw]?)(\d{1,2})$/.exec(word) ?? [];
   if (digits === undefined) throw new RangeError('an act of a schedule is unknown');
-  return actOf(LETTERS.indexOf(letter), Number(digits));
+  return actOf(KINDS[letter], Number(digits));
 }
 
 // Each act must be about a body that there is.

@@ -1,11 +1,12 @@
 // Program, workers and schedule in the address, after `#`, so that a link carries a
 // demonstration. What comes from an address is never trusted: it is read within limits or refused.
 import { MOST_WORKERS, readActs, writeActs } from './acts.js';
+import { LIMIT } from './declared.js';
 import { pack, unpack } from './packing.js';
 import { Schedule } from './schedule.js';
 
 const MOST_ADDRESS = 60000;
-const MOST_TEXT = 16777216;
+const MOST_TEXT = LIMIT.TEXT_MOST;
 
 const packText = (text) => pack(new TextEncoder().encode(text), MOST_TEXT);
 

@@ -1,7 +1,7 @@
 // Arrows between processors and cells: who reads and who writes which cell in the next step.
 import { STATE } from './activity.js';
-import { STATUS, TARGET } from './core.js';
 import { byId, fit, make, makeSvg, setAttribute, setText } from './dom.js';
+import { STATUS, TARGET } from './kinds.js';
 
 const MOST = 32;
 

@@ -1,8 +1,9 @@
 // The board at the moment of the schedule, as the core tells it, with one call a moment. Workers
 // go on by rounds, in which each that is going makes a step in turn.
 import { ACT, MOST_ACTS, actOf, bodyOf, isEvent, kindOf } from './acts.js';
-import { CODE } from './core.js';
+import { CODE } from './declared.js';
 import { WIDTH, findEffect, isStep } from './effects.js';
+import { countEvents, putEvent, roomForEvents } from './event_words.js';
 import { isGoing } from './worker_cards.js';
 
 // So many acts are told by one call; of new ones early in a schedule fewer, since what comes before
@@ -14,10 +15,11 @@ const NO_STEP = { count: 0, isFound: false };
 
 // The events, and after them a step of each of so many bodies, which take turns.
 function joined(events, bodies, count) {
-  const pairs = new Uint32Array(events.length + 2 * count);
-  pairs.set(events);
-  for (let k = 0; k < count; k += 1) pairs[events.length + 2 * k + 1] = bodies[k % bodies.length];
-  return pairs;
+  const first = countEvents(events);
+  const all = roomForEvents(first + count);
+  all.set(events);
+  for (let k = 0; k < count; k += 1) putEvent(all, first + k, ACT.GO, bodies[k % bodies.length]);
+  return all;
 }
 
 // Of the first turns those in which a step was made, as acts, with the effects of those alone.
@@ -101,7 +103,7 @@ export class Board {
     if (this.isShown()) return this.shown.scene;
     const filled = this.fill();
     if (filled && (this.schedule.isAtEnd || filled.code !== CODE.DONE)) return this.keep(filled);
-    return this.keep(this.ask(this.events, this.events.length / 2));
+    return this.keep(this.ask(this.events, countEvents(this.events)));
   }
 
   // What the board answers at the moment.
@@ -127,7 +129,7 @@ export class Board {
   // wanted one was.
   step(bodies, { most = bodies.length, mark, isWanted } = {}) {
     const { schedule, events } = this;
-    const scene = this.ask(joined(events, bodies, most), events.length / 2);
+    const scene = this.ask(joined(events, bodies, most), countEvents(events));
     if (scene.code !== CODE.DONE) return NO_STEP;
     const { effects } = scene;
     const found = isWanted ? findEffect(effects, 0, most, isWanted) : -1;

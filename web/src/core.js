@@ -1,104 +1,20 @@
 // The proved core, called from JavaScript. Nothing here knows the machine: it lays out bytes and
-// reads numbers back, as crates/page_core describes them.
+// reads numbers back, as the core's sources declare them.
+import { CODE, FORM } from './declared.js';
 import { WIDTH, packEffect } from './effects.js';
+import { countEvents, kindOfEvent } from './event_words.js';
+import { TWIN } from './kinds.js';
+import { offsetsOf, readElements, readStruct, sizeOf, wide, wordAt, wordsOf } from './structs.js';
 
-export const CODE = {
-  DONE: 0,
-  NO_JOB: 1,
-  MEMORY: 2,
-  TEXT_TOO_LONG: 3,
-  NO_ROOM: 4,
-  CONFLICT: 5,
-  UNFINISHED: 6,
-  NO_STEP: 7,
-  TOO_FAR: 8,
-  BAD_WORKERS: 9,
-  BAD_EVENT: 10,
-  OTHER_LANGUAGE: 11,
-};
-
-// Of a request: whether its processor runs, and where it writes to.
-export const STATUS = { RUNS: 0, HALTED: 1, OUT_OF_RANGE: 2 };
-export const TARGET = { NOTHING: 0, CELL: 1, REGISTER: 2 };
-
-// Structs: name and width of each field in bytes, in order.
-const JUDGEMENT = {
-  code: 4, fault: 4, line: 8, rule: 4, cells: 4, procs: 4, steps: 4, instructions: 4, places: 4,
-};
-const TOLD = {
-  code: 4, fault: 4, line: 8, step: 4, cell: 4, first: 4, second: 4, count: 8,
-};
-const REQUEST = {
-  counter: 4, status: 4, reads: 4, held: 4, target: 4, number: 4, value: 4, next: 4,
-};
-const BODY = { phase: 8, worker: 4, doing: 4, node: 4, heard: 4, step: 4, pass: 4 };
-const EFFECT = {
-  beforePayload: 4, beforeStamp: 4, afterPayload: 4, afterStamp: 4, kind: 4, word: 4, form: 4,
-  which: 4, part: 4, older: 4, event: 4, body: 4,
-};
-const WORD = { value: 8, form: 4, which: 4, part: 4, newer: 4, stamp: 4, payload: 4 };
-const SCENE = {
-  code: 4, fault: 4, line: 8, root: 8, at: 8, words: 4, bodies: 4, rows: 4, leaves: 4,
-  finished: 4, conflict: 4,
-};
-const READ = { step: 4, value: 4 };
-const VALUE = { value: 4 };
-const FATES = {
-  code: 4, fault: 4, line: 8, endLine: 8, end: 4, running: 4, first: 4, stopped: 4, lostLine: 8,
-  lostStep: 4, lost: 4,
-};
-const COST = {
-  code: 4, fault: 4, line: 8, executed: 8, steps: 4, procs: 4, most: 4, reading: 4, writing: 4,
-  needs: 4,
-};
-const MEETING = { step: 4, cell: 4, first: 4, second: 4 };
-const STEP = { running: 4, reading: 4, writing: 4, at: 4 };
-const LAST = { step: 4, index: 4 };
-const PROGRAM = { code: 4, fault: 4, line: 8, bytes: 8, rows: 8 };
-const NUMBER = { value: 8 };
-const LINE = { number: 8, depth: 8 };
-const CELLS = { base: 8, len: 8, name: 8, kind: 8 };
-
-const sizeOf = (struct) => Object.values(struct).reduce((sum, width) => sum + width, 0);
-
-// Everything is read as words of 32 bits, and so are sizes and offsets from here on.
-const wordsOf = (struct) => sizeOf(struct) / 4;
-const EVENT_SIZE = 8;
-const MODELS = 3;
-const WORD_WORDS = wordsOf(WORD);
-const REQUEST_WORDS = wordsOf(REQUEST);
-const ROW_WORDS = wordsOf(EFFECT) + wordsOf(BODY);
-const TWIN = 3;
-const STEP_AT = 3;
-
-// The names of a struct's fields with their offsets, and which take two words.
-function fieldsOf(struct) {
-  let offset = 0;
-  return Object.entries(struct).map(([name, width]) => {
-    const field = { name, offset, isWide: width === 8 };
-    offset += width / 4;
-    return field;
-  });
-}
-
-const STRUCTS = [JUDGEMENT, TOLD, REQUEST, BODY, EFFECT, WORD, SCENE, READ, VALUE, FATES,
-  COST, MEETING, STEP, LAST, PROGRAM, NUMBER, LINE, CELLS];
-const FIELDS = new Map(STRUCTS.map((struct) => [struct, fieldsOf(struct)]));
-
-const wide = (memory, at) => memory[at] + memory[at + 1] * 2 ** 32;
-
-function readStruct(memory, at, struct) {
-  const told = {};
-  for (const { name, offset, isWide } of FIELDS.get(struct)) {
-    told[name] = isWide ? wide(memory, at + offset) : memory[at + offset];
-  }
-  return told;
-}
-
-function readStructs(memory, at, struct, count) {
-  const size = wordsOf(struct);
-  return Array.from({ length: count }, (_, k) => readStruct(memory, at + k * size, struct));
-}
+const REQUEST_WORDS = wordsOf('RequestRow');
+const STEP_WORDS = wordsOf('StepRow');
+const ROW_WORDS = wordsOf('EventRow');
+const WORD_WORDS = wordsOf('WordRow');
+const READ_WORDS = wordsOf('ReadRow');
+const REQUEST = offsetsOf('RequestRow');
+const STEP = offsetsOf('StepRow');
+const WORD = offsetsOf('WordRow');
+const READ = offsetsOf('ReadRow');
 
 // Room in the core's memory for one call.
 class Desk {
@@ -130,8 +46,6 @@ class Desk {
   }
 }
 
-const wordAt = (address) => Number(address) / 4;
-
 function atDesk(exports, work) {
   const desk = new Desk(exports);
   try {
@@ -155,10 +69,9 @@ function readText(desk, at, length) {
   return decoder.decode(new Uint8Array(desk.exports.memory.buffer, Number(at), length));
 }
 
-// Events as a Uint32Array of pairs: kind, body.
 function putEvents(desk, events) {
   const at = desk.put(new Uint8Array(events.buffer, events.byteOffset, events.byteLength));
-  return [at, BigInt(events.byteLength / EVENT_SIZE)];
+  return [at, BigInt(countEvents(events))];
 }
 
 function tell(desk, struct, call) {
@@ -171,13 +84,13 @@ const isFilled = ({ code }) => code === CODE.DONE || code === CODE.CONFLICT;
 
 // Room for a list of so many elements at most, and for what is told of it.
 function roomForList(desk, element, most) {
-  const [rows, told] = [desk.room(most * sizeOf(element)), desk.room(sizeOf(TOLD))];
+  const [rows, told] = [desk.room(most * sizeOf(element)), desk.room(sizeOf('Told'))];
   return { rows, told, room: [rows, BigInt(most), told] };
 }
 
 // What is told of the list, which `read` takes from the memory.
 function readList(desk, { rows, told: at }, read) {
-  const told = readStruct(desk.memory(), wordAt(at), TOLD);
+  const told = readStruct(desk.memory(), wordAt(at), 'Told');
   return { ...told, list: read(desk.memory(), wordAt(rows), isFilled(told) ? told.count : 0) };
 }
 
@@ -193,25 +106,35 @@ const readNumbers = (memory, at, count) => memory.slice(at, at + count);
 const readRequests = (memory, rows, count) => Array.from({ length: count }, (_, k) => {
   const at = rows + k * REQUEST_WORDS;
   return {
-    counter: memory[at], status: memory[at + 1], reads: memory[at + 2], held: memory[at + 3],
-    target: memory[at + 4], number: memory[at + 5], value: memory[at + 6], next: memory[at + 7],
+    counter: memory[at + REQUEST.counter], status: memory[at + REQUEST.status],
+    reads: memory[at + REQUEST.reads], held: memory[at + REQUEST.held],
+    target: memory[at + REQUEST.target], number: memory[at + REQUEST.number],
+    value: memory[at + REQUEST.value], next: memory[at + REQUEST.next],
   };
 });
-const readSteps = (memory, at, count) => readStructs(memory, at, STEP, count);
-const readLast = (memory, at, count) => readStructs(memory, at, LAST, count);
+const readSteps = (memory, at, count) => readElements(memory, at, 'StepRow', count);
+const readLast = (memory, at, count) => readElements(memory, at, 'LastRow', count);
 
 // After how many steps the first processor that runs stands at one of these instructions, and at
 // which: one pair after the other.
 function readStarts(memory, rows, count, instructions) {
   const found = [];
   for (let k = 0; k < count; k += 1) {
-    const at = memory[rows + k * wordsOf(STEP) + STEP_AT];
+    const at = memory[rows + k * STEP_WORDS + STEP.at];
     if (instructions.has(at)) found.push(k, at);
   }
   return Uint32Array.from(found);
 }
 
-const readPairs = (memory, at, count) => memory.slice(at, at + 2 * count);
+// Of each cell the step and the value that a reader gets, one pair after the other.
+function readPairs(memory, rows, count) {
+  const pairs = new Uint32Array(2 * count);
+  for (let k = 0; k < count; k += 1) {
+    pairs[2 * k] = memory[rows + k * READ_WORDS + READ.step];
+    pairs[2 * k + 1] = memory[rows + k * READ_WORDS + READ.value];
+  }
+  return pairs;
+}
 
 // Room that most programs have enough of.
 const ROOM = { bytes: 65536, rows: 4096 };
@@ -221,13 +144,13 @@ function tellProgram(exports, text, element, call, { bytes: most, rows: count } 
   const told = atDesk(exports, (desk) => {
     const input = putText(desk, text);
     const [bytes, rows] = [desk.room(most), desk.room(count * sizeOf(element))];
-    const found = tell(desk, PROGRAM, (at) => call(input, [bytes, BigInt(most)],
+    const found = tell(desk, 'ProgramTold', (at) => call(input, [bytes, BigInt(most)],
       [rows, BigInt(count)], at));
     const isTold = found.code === CODE.DONE;
     return {
       ...found,
       text: isTold ? readText(desk, bytes, found.bytes) : '',
-      list: isTold ? readStructs(desk.memory(), wordAt(rows), element, found.rows) : [],
+      list: isTold ? readElements(desk.memory(), wordAt(rows), element, found.rows) : [],
     };
   });
   return told.code === CODE.NO_ROOM ? tellProgram(exports, text, element, call, told) : told;
@@ -235,7 +158,7 @@ function tellProgram(exports, text, element, call, { bytes: most, rows: count } 
 
 // Programs of `pardo`, of which the core tells the job as a text of the machine.
 function programCalls(exports) {
-  const linesOf = (text) => tellProgram(exports, text, LINE, (input, bytes, rows, told) =>
+  const linesOf = (text) => tellProgram(exports, text, 'LineRow', (input, bytes, rows, told) =>
     exports.pram_page_lines(...input, ...rows, told));
   return {
     // The lines of code of a program, with their depths; or why the text is none.
@@ -244,15 +167,15 @@ function programCalls(exports) {
     // The job of a program, as a text, and the line that each of its instructions came from; and
     // what its cells are for, with their names one after the other.
     compile: (text) => {
-      const made = tellProgram(exports, text, NUMBER, (input, bytes, rows, told) =>
+      const made = tellProgram(exports, text, 'u64', (input, bytes, rows, told) =>
         exports.pram_page_compile(...input, ...bytes, ...rows, told));
       if (made.code !== CODE.DONE) return made;
-      const names = tellProgram(exports, text, CELLS, (input, bytes, rows, told) =>
+      const names = tellProgram(exports, text, 'CellsRow', (input, bytes, rows, told) =>
         exports.pram_page_names(...input, ...bytes, ...rows, told));
       return {
         ...made,
         code: names.code,
-        lineOf: made.list.map(({ value }) => value),
+        lineOf: made.list,
         cells: names.list,
         names: names.text,
       };
@@ -263,12 +186,12 @@ function programCalls(exports) {
 // `sizes` is what the text was judged to be.
 function plainCalls(exports) {
   return {
-    judge: (text) => atDesk(exports, (desk) => tell(desk, JUDGEMENT, (told) =>
+    judge: (text) => atDesk(exports, (desk) => tell(desk, 'Judgement', (told) =>
       exports.pram_page_judge(...putText(desk, text), told))),
 
     answer: (text, sizes, most) => atDesk(exports, (desk) => {
       const input = putText(desk, text);
-      const told = tellList(desk, VALUE, sizes.cells, (...room) =>
+      const told = tellList(desk, 'u32', sizes.cells, (...room) =>
         exports.pram_page_answer(...input, most, ...room), readNumbers);
       return { ...told, cells: told.list };
     }),
@@ -276,8 +199,8 @@ function plainCalls(exports) {
     // The state after a step, and what the processors ask for in it.
     moment: (text, sizes, step, most) => atDesk(exports, (desk) => {
       const input = putText(desk, text);
-      const places = roomForList(desk, VALUE, sizes.places);
-      const rows = roomForList(desk, REQUEST, sizes.procs);
+      const places = roomForList(desk, 'u32', sizes.places);
+      const rows = roomForList(desk, 'RequestRow', sizes.procs);
       exports.pram_page_moment(...input, step, most, ...places.room, ...rows.room);
       const state = readList(desk, places, readNumbers);
       const requests = readList(desk, rows, readRequests);
@@ -286,28 +209,23 @@ function plainCalls(exports) {
   };
 }
 
-// The cost, and after it the meetings that rule out a weaker model, from the weakest one on.
-function tellCost(desk, call) {
-  const told = desk.room(sizeOf(COST) + MODELS * sizeOf(MEETING));
-  call(told);
-  const at = wordAt(told);
-  const meetings = readStructs(desk.memory(), at + wordsOf(COST), MEETING, MODELS);
-  return { ...readStruct(desk.memory(), at, COST), meetings };
-}
+// The cost, with the meetings that rule out a weaker model, from the weakest one on.
+const withMeetings = ({ sameRead, sameWrite, otherValue, ...cost }) =>
+  ({ ...cost, meetings: [sameRead, sameWrite, otherValue] });
 
 // Calls about a whole run. None goes on where a step changes nothing.
 function runCalls(exports) {
   return {
-    fates: (text) => atDesk(exports, (desk) => tell(desk, FATES, (told) =>
+    fates: (text) => atDesk(exports, (desk) => tell(desk, 'FatesTold', (told) =>
       exports.pram_page_fates(...putText(desk, text), told))),
 
-    cost: (text) => atDesk(exports, (desk) => tellCost(desk, (told) =>
-      exports.pram_page_cost(...putText(desk, text), told))),
+    cost: (text) => atDesk(exports, (desk) => withMeetings(tell(desk, 'CostTold', (told) =>
+      exports.pram_page_cost(...putText(desk, text), told)))),
 
     // What so many steps from one on do.
     steps: (text, from, count, most) => atDesk(exports, (desk) => {
       const input = putText(desk, text);
-      return tellList(desk, STEP, count, (...room) =>
+      return tellList(desk, 'StepRow', count, (...room) =>
         exports.pram_page_steps(...input, from, most, ...room), readSteps);
     }),
 
@@ -315,7 +233,7 @@ function runCalls(exports) {
     starts: (text, count, most, instructions) => atDesk(exports, (desk) => {
       const input = putText(desk, text);
       const wanted = new Set(instructions);
-      return tellList(desk, STEP, count, (...room) =>
+      return tellList(desk, 'StepRow', count, (...room) =>
         exports.pram_page_steps(...input, 0, most, ...room), (memory, at, told) =>
         readStarts(memory, at, told, wanted));
     }),
@@ -323,7 +241,7 @@ function runCalls(exports) {
     // What each processor executed last in the steps up to this one.
     last: (text, sizes, step, most) => atDesk(exports, (desk) => {
       const input = putText(desk, text);
-      return tellList(desk, LAST, sizes.procs, (...room) =>
+      return tellList(desk, 'LastRow', sizes.procs, (...room) =>
         exports.pram_page_last(...input, step, most, ...room), readLast);
     }),
   };
@@ -332,17 +250,13 @@ function runCalls(exports) {
 const putRun = (desk, text, workers, events) =>
   [...putText(desk, text), workers, ...putEvents(desk, events)];
 
-export const FORM = {
-  CONFLICT: 0, NODE: 1, REQUEST: 2, POSITION: 3, STORED: 4, CLAIM: 5, SPARE: 6, NONE: 7,
-};
-
 // Room for the words of any board with so many places, as boards are; the core tells if there are
 // more.
 const wordsFor = (places) => 4 * places + 128;
 
 function countTwins(events) {
   let count = 0;
-  for (let k = 0; k < events.length; k += 2) if (events[k] === TWIN) count += 1;
+  for (let k = 0; k < countEvents(events); k += 1) if (kindOfEvent(events, k) === TWIN) count += 1;
   return count;
 }
 
@@ -352,9 +266,9 @@ function indexOf(memory, words, { words: count, leaves }, places) {
   const index = { nodes: new Uint32Array(2 * leaves), stored: new Uint32Array(2 * places) };
   for (let k = 0; k < count; k += 1) {
     const at = words + k * WORD_WORDS;
-    const form = memory[at + 2];
-    if (form === FORM.NODE) index.nodes[memory[at + 3]] = k;
-    if (form === FORM.STORED) index.stored[2 * memory[at + 3] + memory[at + 4]] = k;
+    const [form, which] = [memory[at + WORD.form], memory[at + WORD.which]];
+    if (form === FORM.NODE) index.nodes[which] = k;
+    if (form === FORM.STORED) index.stored[2 * which + memory[at + WORD.part]] = k;
   }
   return index;
 }
@@ -370,7 +284,7 @@ function readEffects(memory, rows, count) {
 function readNodes(memory, words, numbers) {
   const phases = new Float64Array(numbers.length);
   for (let node = 1; node < numbers.length; node += 1) {
-    phases[node] = wide(memory, words + numbers[node] * WORD_WORDS);
+    phases[node] = wide(memory, words + numbers[node] * WORD_WORDS + WORD.value);
   }
   return phases;
 }
@@ -401,14 +315,14 @@ class Scenes {
 
   ask(desk, text, workers, events, wanted) {
     const { known, exports } = this;
-    const asked = events.length / 2 - wanted.from;
+    const asked = countEvents(events) - wanted.from;
     const count = workers + countTwins(events);
     const input = [...putRun(desk, text, workers, events), BigInt(wanted.from)];
-    const rows = desk.room(asked * ROW_WORDS * 4);
-    const words = desk.room(known.words * sizeOf(WORD));
-    const bodies = desk.room(count * sizeOf(BODY));
-    const cells = roomForList(desk, READ, wanted.cells ?? 0);
-    const told = tell(desk, SCENE, (at) => exports.pram_page_scene(...input, rows, BigInt(asked),
+    const rows = desk.room(asked * sizeOf('EventRow'));
+    const words = desk.room(known.words * sizeOf('WordRow'));
+    const bodies = desk.room(count * sizeOf('BodyRow'));
+    const cells = roomForList(desk, 'ReadRow', wanted.cells ?? 0);
+    const told = tell(desk, 'Scene', (at) => exports.pram_page_scene(...input, rows, BigInt(asked),
       words, BigInt(known.words), bodies, BigInt(count), at, ...cells.room));
     if (told.code !== CODE.DONE) return told;
     const rooms = { rows: wordAt(rows), words: wordAt(words), bodies: wordAt(bodies) };
@@ -419,11 +333,11 @@ class Scenes {
   read(memory, told, { rows, words, bodies }, { places, place }) {
     this.known.index ??= indexOf(memory, words, told, places);
     const { nodes, stored } = this.known.index;
-    const wordOf = (k) => readStruct(memory, words + k * WORD_WORDS, WORD);
+    const wordOf = (k) => readStruct(memory, words + k * WORD_WORDS, 'WordRow');
     return {
       ...told,
       nodes: readNodes(memory, words, nodes),
-      bodies: readStructs(memory, bodies, BODY, told.bodies),
+      bodies: readElements(memory, bodies, 'BodyRow', told.bodies),
       stored: place === undefined ? []
         : [wordOf(stored[2 * place]), wordOf(stored[2 * place + 1])],
       effects: readEffects(memory, rows, told.rows),
@@ -438,7 +352,7 @@ function boardCalls(exports) {
 
     outcome: (text, sizes, workers, events) => atDesk(exports, (desk) => {
       const input = putRun(desk, text, workers, events);
-      const told = tellList(desk, VALUE, sizes.cells, (...room) =>
+      const told = tellList(desk, 'u32', sizes.cells, (...room) =>
         exports.pram_page_outcome(...input, ...room), readNumbers);
       return { ...told, cells: told.list };
     }),

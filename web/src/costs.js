@@ -1,9 +1,10 @@
 // What the run costs, and the model that it needs.
+import { MODELS } from './declared.js';
 import { byId, fit, make, setHidden, setText } from './dom.js';
 import { grouped } from './numbers.js';
 import { nameOfPlace } from './places.js';
 
-export const MODELS = ['EREW', 'CREW', 'CRCW common', 'CRCW priority'];
+// By the model that it rules out, what two processors do with one place.
 export const MEETS = ['read', 'write', 'write different values to'];
 
 const OTHERS = 'With other values at the start the same program may cost more, and need a ' +

@@ -1,23 +1,30 @@
 // Effects of events in few numbers each: what an event did to which word, as the core told it.
+import { OP } from './declared.js';
+import { offsetsOf } from './structs.js';
+
 export const WIDTH = 8;
+const ROW = offsetsOf('EventRow');
 const IS_CHANGE = 1 << 12;
 const IS_EVENT = 1 << 13;
 const KIND = 7;
 const FORM_AT = 3;
 
 // The small numbers of an effect are one: kind, form, part, older, event, and whether a word
-// changed. `told` is a row of the core's, in words of 32 bits from `at` on.
+// changed. `told` is a row of the core's, in words of 32 bits from `at` on. A word of the board is
+// two: its payload, and then its stamp.
 export function packEffect(told, at, into, to) {
-  const isChange = told[at] !== told[at + 2] || told[at + 1] !== told[at + 3];
-  into[to] = IS_EVENT | told[at + 4] | (told[at + 6] << FORM_AT) | (told[at + 8] << 6) |
-    (told[at + 9] << 8) | (told[at + 10] << 9) | (isChange ? IS_CHANGE : 0);
-  into[to + 1] = told[at + 5];
-  into[to + 2] = told[at + 7];
-  into[to + 3] = told[at];
-  into[to + 4] = told[at + 1];
-  into[to + 5] = told[at + 2];
-  into[to + 6] = told[at + 3];
-  into[to + 7] = told[at + 11];
+  const [before, after] = [at + ROW.before, at + ROW.after];
+  const isChange = told[before] !== told[after] || told[before + 1] !== told[after + 1];
+  into[to] = IS_EVENT | told[at + ROW.kind] | (told[at + ROW.form] << FORM_AT) |
+    (told[at + ROW.part] << 6) | (told[at + ROW.older] << 8) | (told[at + ROW.event] << 9) |
+    (isChange ? IS_CHANGE : 0);
+  into[to + 1] = told[at + ROW.word];
+  into[to + 2] = told[at + ROW.which];
+  into[to + 3] = told[before];
+  into[to + 4] = told[before + 1];
+  into[to + 5] = told[after];
+  into[to + 6] = told[after + 1];
+  into[to + 7] = told[at + ROW.body];
 }
 
 const wide = (payload, stamp) => payload + stamp * 2 ** 32;
@@ -41,7 +48,7 @@ export function effectOf(effects, k) {
   };
 }
 
-export const isStep = (effects, k) => (effects[k * WIDTH] & KIND) > 0;
+export const isStep = (effects, k) => (effects[k * WIDTH] & KIND) !== OP.OVER;
 export const isChange = (effects, k) => (effects[k * WIDTH] & IS_CHANGE) !== 0;
 
 // Whether an event changed a word of this form with this number (of a node, a place, ..).

@@ -1,10 +1,11 @@
-// The core's events of a schedule, as pairs: kind, body. Those of the first acts are kept.
+// The core's events of a schedule. Those of the first acts are kept.
 import { ACT, bodyOf, isEvent, kindOf } from './acts.js';
+import { firstEvents, putEvent, roomForEvents } from './event_words.js';
 
 export class Events {
   constructor(schedule) {
     this.schedule = schedule;
-    this.pairs = new Uint32Array(0);
+    this.words = roomForEvents(0);
     this.counts = new Uint32Array(1);
     this.known = 0;
     this.others = [];
@@ -17,10 +18,10 @@ export class Events {
 
   grow(acts) {
     if (acts < this.counts.length) return;
-    const [pairs, counts] = [new Uint32Array(4 * acts), new Uint32Array(2 * acts + 1)];
-    pairs.set(this.pairs);
+    const [words, counts] = [roomForEvents(2 * acts), new Uint32Array(2 * acts + 1)];
+    words.set(this.words);
     counts.set(this.counts);
-    Object.assign(this, { pairs, counts });
+    Object.assign(this, { words, counts });
   }
 
   // How many of the first acts are events.
@@ -31,10 +32,7 @@ export class Events {
       const act = acts[this.known];
       if (kindOf(act) !== ACT.GO) this.others.push(this.known);
       const count = this.counts[this.known];
-      if (isEvent(act)) {
-        this.pairs[2 * count] = kindOf(act);
-        this.pairs[2 * count + 1] = bodyOf(act);
-      }
+      if (isEvent(act)) putEvent(this.words, count, kindOf(act), bodyOf(act));
       this.counts[this.known + 1] = count + (isEvent(act) ? 1 : 0);
     }
     return this.counts[moment];
@@ -50,6 +48,6 @@ export class Events {
   // Those of the first acts.
   upTo(moment) {
     const count = this.countOf(moment);
-    return this.pairs.subarray(0, 2 * count);
+    return firstEvents(this.words, count);
   }
 }

@@ -1,9 +1,10 @@
 // Exercises: each asks for lines of code that do a task for n processors on inputs that one does
 // not see, in steps that grow no faster than they must, under a model.
+import { MODEL } from './declared.js';
 import { GREATEST, POWERS, SIZES, indices, listsWith, valuesWith } from './exercise_inputs.js';
 import { CONSTANT, LOGARITHMIC } from './growth.js';
 
-const [EREW, CREW, COMMON] = [0, 1, 2];
+const { EREW, CREW, COMMON_CRCW: COMMON } = MODEL;
 
 const sumOf = (values) => values.reduce((sum, value) => (sum + value) % 2 ** 32, 0);
 

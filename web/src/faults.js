@@ -1,26 +1,6 @@
 // What is wrong with a line: the program's sentence, and words that help.
+import { INSTRUCTIONS, SENTENCES, TEXT_FAULT } from './declared.js';
 import { shortened } from './numbers.js';
-
-export const FAULT = {
-  NOT_ASCII: 1,
-  BAD_HEADER: 2,
-  BAD_NUMBER: 3,
-  OUT_OF_LIMITS: 4,
-  UNKNOWN_INSTRUCTION: 5,
-  WRONG_OPERANDS: 6,
-  BAD_REGISTER: 7,
-  DUPLICATE_LABEL: 8,
-  UNKNOWN_LABEL: 9,
-  NO_CODE: 10,
-  TOO_LONG: 11,
-};
-
-// The table of instructions, name and operands, which the page's maker reads from the core's
-// source.
-export const INSTRUCTIONS = /*INSTRUCTIONS*/[];
-
-// The program's sentences, of the faults from 1 on, which the page's maker reads from its source.
-export const SENTENCES = /*SENTENCES*/[];
 
 // The operands in words, an example, and one of an array, which pram 3 has.
 const OPERANDS = {
@@ -134,19 +114,19 @@ function unknownLabel(line) {
 }
 
 const HELP = {
-  [FAULT.NOT_ASCII]: foreignCharacter,
-  [FAULT.BAD_HEADER]: badHeader,
-  [FAULT.BAD_NUMBER]: badNumber,
-  [FAULT.OUT_OF_LIMITS]: (line) => LIMITS[wordsOf(line)[0]] ??
+  [TEXT_FAULT.NOT_ASCII]: foreignCharacter,
+  [TEXT_FAULT.BAD_HEADER]: badHeader,
+  [TEXT_FAULT.BAD_NUMBER]: badNumber,
+  [TEXT_FAULT.OUT_OF_LIMITS]: (line) => LIMITS[wordsOf(line)[0]] ??
     'A number is at most 4,294,967,295.',
-  [FAULT.UNKNOWN_INSTRUCTION]: unknownInstruction,
-  [FAULT.WRONG_OPERANDS]: wrongOperands,
-  [FAULT.BAD_REGISTER]: badRegister,
-  [FAULT.DUPLICATE_LABEL]: duplicateLabel,
-  [FAULT.UNKNOWN_LABEL]: unknownLabel,
+  [TEXT_FAULT.UNKNOWN_INSTRUCTION]: unknownInstruction,
+  [TEXT_FAULT.WRONG_OPERANDS]: wrongOperands,
+  [TEXT_FAULT.BAD_REGISTER]: badRegister,
+  [TEXT_FAULT.DUPLICATE_LABEL]: duplicateLabel,
+  [TEXT_FAULT.UNKNOWN_LABEL]: unknownLabel,
 };
 
 export function wordsOfFault(fault, line) {
   const help = HELP[fault]?.(line) ?? '';
-  return `${SENTENCES[fault - 1] ?? 'this line is refused'}.${help && ` ${help}`}`;
+  return `${SENTENCES[fault] ?? 'this line is refused'}.${help && ` ${help}`}`;
 }

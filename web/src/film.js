@@ -1,6 +1,6 @@
 // What the core told of each act of a schedule. It is kept so that lists, searches and drawings of
 // any moment need no further call.
-import { FORM } from './core.js';
+import { FORM } from './declared.js';
 import { WIDTH, effectOf, findEffect, isChangeOf } from './effects.js';
 import { isLastPass } from './phases.js';
 

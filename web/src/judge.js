@@ -1,15 +1,12 @@
 // Judges exercises: the core runs the learner's lines on hidden inputs, and says what they cost.
-import { CODE } from './core.js';
-import { MEETS, MODELS } from './costs.js';
+import { MEETS } from './costs.js';
+import { CODE, JOB_FAULT, MODEL, MODELS } from './declared.js';
 import { headerOf, keyOf, ruleOf } from './exercises.js';
 import { excessInWords, keepSteps } from './growth.js';
 import { grouped } from './numbers.js';
 import { wordsOfProgramFault } from './program_faults.js';
 import { Source } from './source.js';
 import { lineOf } from './text_lines.js';
-
-// The kind of a fault that hangs on the input.
-const ENDLESS = 18;
 
 // Of so many steps at most it is looked up which line wrote a place last.
 const MOST_LOOKED = 2000;
@@ -42,13 +39,13 @@ function faultInWords({ code, fault, line }, text) {
 function conflictOf(exercise, trial, source) {
   if (trial.answer.code !== CODE.CONFLICT) return '';
   const rule = ruleOf(exercise);
-  const what = rule === 'common' ? MEETS[2] : MEETS[1];
+  const what = MEETS[rule === 'common' ? MODEL.COMMON_CRCW : MODEL.CREW];
   return `${meetingInWords(trial, source, trial.answer, what)}, against the rule ${rule}.`;
 }
 
-function goneInWords({ fates: { lost, lostStep }, lines }) {
-  return lostStep === 0 ? '' : ` Processor ${lost} is gone since line ${
-    grouped(lines.get(lostStep))}, where its array has no such place.`;
+function goneInWords({ fates: { lost: { processor, step } }, lines }) {
+  return step === 0 ? '' : ` Processor ${processor} is gone since line ${
+    grouped(lines.get(step))}, where its array has no such place.`;
 }
 
 // The first place that is wrong, and which line wrote it last.
@@ -97,7 +94,8 @@ async function tryInput(ask, exercise, text, k, taken) {
   const { made } = trial;
   if (made.code !== CODE.DONE) {
     const said = faultInWords(made, given);
-    return made.fault === ENDLESS ? notYet(where + said, given) : notYet(`, ${said}`);
+    // This one hangs on the input.
+    return notYet(made.fault === JOB_FAULT.ENDLESS ? where + said : `, ${said}`, given);
   }
   const trouble = await troubleOf(ask, exercise, input, trial, taken);
   if (!trouble) keepSteps(taken, input.length, trial.answer.step);

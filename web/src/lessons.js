@@ -1,6 +1,6 @@
 // A tour, exercises and puzzles: a menu, and a panel over the page.
 import { readAddress } from './address.js';
-import { MODELS } from './costs.js';
+import { MODELS } from './declared.js';
 import { byId, make, onClick, setDisabled, setHidden, setText } from './dom.js';
 import { EXERCISES, isOf, sizesOf, startOf } from './exercises.js';
 import { Far } from './far.js';

@@ -2,8 +2,8 @@
 // program goes on by its lines, or by the steps of the machine where one wants them.
 import { openArrows } from './arrows.js';
 import { openCells } from './cells.js';
-import { CODE } from './core.js';
 import { openCosts } from './costs.js';
+import { CODE } from './declared.js';
 import { byId, onClick, setDisabled, setHidden, setText } from './dom.js';
 import { Errands } from './errands.js';
 import { momentInWords } from './lockstep_words.js';

@@ -1,13 +1,13 @@
 // A moment of the plain machine in words.
 import { STATE, activeOf } from './activity.js';
-import { CODE, STATUS } from './core.js';
+import { CODE, RULES } from './declared.js';
 import { endInWords } from './ends.js';
+import { STATUS } from './kinds.js';
 import { loopsAround } from './loop_names.js';
 import { named } from './memory_boxes.js';
 import { counted, grouped, shortened } from './numbers.js';
 import { nameOfPlace } from './places.js';
 import { instructionInWords } from './processors.js';
-import { RULES } from './program.js';
 import { lineOf } from './text_lines.js';
 
 const clashersOf = (requests, { first, second }) =>

@@ -1,9 +1,11 @@
 // The page: what it shows, and who is told when that changes.
-import { CODE, openCore } from './core.js';
+import { openCore } from './core.js';
+import { CODE } from './declared.js';
 import { byId, ignoreDisabled, onClick, setDisabled, setHidden, setText } from './dom.js';
 import { Drafts } from './drafts.js';
 import { Editor } from './editor.js';
 import { endInWords } from './ends.js';
+import { roomForEvents } from './event_words.js';
 import { Far } from './far.js';
 import { openGallery } from './gallery.js';
 import { listenToKeys } from './keys.js';
@@ -281,7 +283,7 @@ function warm(core) {
   core.lines('pardo 1\nrule crew\nprocs i < 1\nshared s\ncode\ns := i\n');
   const text = 'pram 1\ncells 1\nprocs 1\nsteps 1\ncode\nhalt\n';
   const job = core.judge(text);
-  const events = new Uint32Array(2);
+  const events = roomForEvents(1);
   core.moment(text, job, 0, 1);
   core.scene(text, 1, events, { from: 0, places: job.places, place: 0, cells: job.cells });
   core.outcome(text, job, 1, events);

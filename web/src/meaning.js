@@ -1,12 +1,10 @@
 // What an atomic step meant, and what a worker is about, in words. The rows are the core's.
 import { ACT, bodyOf, kindOf } from './acts.js';
-import { FORM } from './core.js';
+import { FORM, OP } from './declared.js';
+import { DOING, PART } from './kinds.js';
 import { grouped } from './numbers.js';
 import { passNames, passOfPhase, stepOfPhase } from './phases.js';
 import { nameOfPlace } from './places.js';
-
-export const OP = { NONE: 0, LOAD: 1, STORE: 2, MAX: 3, SWAP: 4 };
-export const DOING = { LOST: 0, COMES_BACK: 1, BEGINS: 2, TURN: 3, DONE: 4, CONFLICT: 5 };
 
 // The workers, of which there are so many, and their twins, which are told apart by their number.
 export function namesOfBodies(workers, count) {
@@ -14,7 +12,9 @@ export function namesOfBodies(workers, count) {
     body < count ? `worker ${worker}` : `twin ${body} (of worker ${worker})`);
 }
 
-const PARTS = ['data place', 'value', 'next counter'];
+const PARTS = {
+  [PART.PLACE]: 'data place', [PART.VALUE]: 'value', [PART.NEXT]: 'next counter',
+};
 
 function nameOfNode(job, node) {
   if (node === 1) return job.leaves === 1 ? 'the root and only leaf' : 'the root';
@@ -27,7 +27,7 @@ function nameOfWord(job, row) {
   switch (row.form) {
     case FORM.CONFLICT: return 'the conflict word';
     case FORM.NODE: return nameOfNode(job, row.which);
-    case FORM.REQUEST: return `the ${PARTS[row.part]} that processor ${row.which} asks for`;
+    case FORM.ASKED: return `the ${PARTS[row.part]} that processor ${row.which} asks for`;
     case FORM.POSITION: return `the position of worker ${row.which}`;
     case FORM.STORED:
       return `the ${row.older ? 'older' : 'newer'} word of ${nameOfPlace(job, row.which)}`;
@@ -44,7 +44,7 @@ function phaseInWords(job, phase) {
 
 function requestInWords(job, row, stamp, payload) {
   if (stamp === 0) return 'nothing yet';
-  if (row.part === 0) {
+  if (row.part === PART.PLACE) {
     return `${payload === 0 ? 'none' : nameOfPlace(job, payload - 1)} for step ${grouped(stamp)}`;
   }
   return `${payload} for step ${grouped(stamp)}`;
@@ -56,7 +56,7 @@ function valueInWords(job, row, value, stamp, payload) {
     case FORM.CONFLICT: return value === 0 ? 'none' : `step ${grouped(value)}`;
     case FORM.NODE: return phaseInWords(job, value);
     case FORM.POSITION: return nameOfNode(job, value);
-    case FORM.REQUEST: return requestInWords(job, row, stamp, payload);
+    case FORM.ASKED: return requestInWords(job, row, stamp, payload);
     case FORM.CLAIM:
       return stamp === 0 ? 'none' : `processor ${job.procs - payload} in step ${grouped(stamp)}`;
     default: return `${payload} of step ${grouped(stamp)}`;
@@ -119,8 +119,8 @@ const steps = (count) => `${count} ${count === 1 ? 'step' : 'steps'} of its scri
 export function bodyInWords(job, row) {
   switch (row.doing) {
     case DOING.LOST: return 'Lost.';
-    case DOING.COMES_BACK: return 'Comes back: is about to read where it stood.';
-    case DOING.BEGINS:
+    case DOING.BACK: return 'Comes back: is about to read where it stood.';
+    case DOING.BEGIN:
       return `Begins at ${nameOfNode(job, row.node)}: looks for the phase; ${steps(row.heard)}.`;
     case DOING.TURN: {
       const pass = passNames(job.rule)[row.pass];

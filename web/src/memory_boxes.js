@@ -1,7 +1,7 @@
 // What the boxes of the memory and the lines of the text show of a step of the plain machine, or of
 // the steps that a line of a program takes.
 import { labelOf } from './cells.js';
-import { STATUS, TARGET } from './core.js';
+import { STATUS, TARGET } from './kinds.js';
 import { ranges, shortened } from './numbers.js';
 
 function byNumber(requests, numberOf) {

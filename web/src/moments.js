@@ -1,7 +1,7 @@
 // The moments of the plain machine, as the core tells them: the state after a step, and what the
 // processors ask for in it. Those that were asked for last are kept, so that the one before is not
 // asked for again. Far ones are asked for in another thread.
-import { CODE } from './core.js';
+import { CODE } from './declared.js';
 import { isNear } from './reading.js';
 
 const MOST = 96;

@@ -1,5 +1,5 @@
 // What a board answers, beside the plain machine, in words.
-import { CODE } from './core.js';
+import { CODE } from './declared.js';
 import { endInWords } from './ends.js';
 import { grouped } from './numbers.js';
 import { nameOfPlace } from './places.js';

@@ -1,9 +1,11 @@
 // Phases are numbered through the steps, three for each: compute first.
-const PRIORITY = 1;
-const PASSES = 3;
+import { PASS, RULE } from './declared.js';
 
-export const passNames = (rule) =>
-  rule === PRIORITY ? ['', 'compute', 'claim', 'apply'] : ['', 'compute', 'apply', 'verify'];
+const PASSES = 3;
+const NAMES = { [PASS.COMPUTE]: 'compute', [PASS.APPLY]: 'apply', [PASS.VERIFY]: 'verify' };
+const CLAIMING = { ...NAMES, [PASS.APPLY]: 'claim', [PASS.VERIFY]: 'apply' };
+
+export const passNames = (rule) => (rule === RULE.PRIORITY ? CLAIMING : NAMES);
 
 export const passOfPhase = (phase) => (phase === 0 ? 0 : ((phase - 1) % PASSES) + 1);
 

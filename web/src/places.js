@@ -1,5 +1,7 @@
 // Places of the machine: the cells, four registers of each processor, the counters.
-const REGISTERS = 4;
+import { LIMIT } from './declared.js';
+
+const { REGISTERS } = LIMIT;
 
 // Of a program's job a cell has the name that it has there.
 export function nameOfPlace(sizes, place) {

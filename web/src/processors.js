@@ -1,6 +1,6 @@
 // The processors as a table: counter, registers, and what each asks for in the next step.
-import { STATUS, TARGET } from './core.js';
 import { byId, fit, make, setAttribute, setText } from './dom.js';
+import { STATUS, TARGET } from './kinds.js';
 import { grouped } from './numbers.js';
 import { counterPlace, nameOfPlace, registersOf } from './places.js';
 import { openWindow } from './window.js';

@@ -1,5 +1,5 @@
 // What the core says of the text: its sizes and its answer, or its fault.
-import { CODE } from './core.js';
+import { CODE, LIMIT, RULES } from './declared.js';
 import { byId, setText } from './dom.js';
 import { wordsOfFault } from './faults.js';
 import { counted, grouped, shortened } from './numbers.js';
@@ -11,7 +11,6 @@ import { instructionsOf, lineOf } from './text_lines.js';
 const MOST_STEPS = 20000000;
 const MOST_CHARACTERS = 600;
 const MOST_ARRAYS = 100;
-export const RULES = ['common', 'priority', 'crew'];
 
 // What was told of a text of the machine; of one that was made of a program, with its source.
 export function foundOf({ judged, most, answer }, text, source) {
@@ -78,7 +77,7 @@ function refusalInWords({ code, fault, line, isProgram }, text) {
       const words = isProgram ? wordsOfProgramFault : wordsOfFault;
       return `Line ${grouped(line)}: ${words(fault, lineOf(text, line))}`;
     }
-    case CODE.TEXT_TOO_LONG: return 'A text has at most 16,777,216 bytes.';
+    case CODE.TEXT_TOO_LONG: return `A text has at most ${grouped(LIMIT.TEXT_MOST)} bytes.`;
     default: return 'The page is out of memory.';
   }
 }

@@ -1,10 +1,7 @@
 // What is wrong with a line of a program: the program's sentence, and words that help.
+import { JOB_FAULT, PROGRAM_FAULT, PROGRAM_SENTENCES } from './declared.js';
 import { foreignCharacter } from './faults.js';
 import { shortened } from './numbers.js';
-
-// The program's sentences on programs, of the faults from 1 on, which the page's maker reads from
-// its source.
-export const PROGRAM_SENTENCES = /*PROGRAM_SENTENCES*/[];
 
 const HEADER =
   'The lines before “code” are: pardo 1, then rule common, rule priority or rule crew; and then, ' +
@@ -36,23 +33,25 @@ function duplicateName(line) {
 }
 
 const HELP = {
-  1: foreignCharacter,
-  2: badSymbol,
-  3: () => HEADER,
-  4: badLine,
-  6: duplicateName,
-  7: () => 'An array needs an index and a scalar has none; no value goes to a constant, to the ' +
-    'own number or to a loop’s variable; loops go by what is the same for all processors.',
-  8: () => 'Work it out in a const or a private line.',
-  9: () => 'Numbers go up to 4,294,967,295, processors to 1,024, places of an array to 65,536.',
-  11: () => 'A private variable, a depth of loops and a depth of ifs each take one for each ' +
-    'processor.',
-  14: () => 'Each if, while and for needs an end.',
-  18: () => 'Does what its loop goes by ever change? A processor that is not in an if changes ' +
-    'nothing there.',
+  [PROGRAM_FAULT.NOT_ASCII]: foreignCharacter,
+  [PROGRAM_FAULT.BAD_SYMBOL]: badSymbol,
+  [PROGRAM_FAULT.BAD_HEADER]: () => HEADER,
+  [PROGRAM_FAULT.BAD_LINE]: badLine,
+  [PROGRAM_FAULT.DUPLICATE_NAME]: duplicateName,
+  [PROGRAM_FAULT.WRONG_KIND]: () => 'An array needs an index and a scalar has none; no value ' +
+    'goes to a constant, to the own number or to a loop’s variable; loops go by what is the same ' +
+    'for all processors.',
+  [PROGRAM_FAULT.NOT_CONSTANT]: () => 'Work it out in a const or a private line.',
+  [PROGRAM_FAULT.OUT_OF_LIMITS]: () =>
+    'Numbers go up to 4,294,967,295, processors to 1,024, places of an array to 65,536.',
+  [PROGRAM_FAULT.TOO_MANY_CELLS]: () => 'A private variable, a depth of loops and a depth of ifs ' +
+    'each take one for each processor.',
+  [PROGRAM_FAULT.OPEN_BLOCK]: () => 'Each if, while and for needs an end.',
+  [JOB_FAULT.ENDLESS]: () => 'Does what its loop goes by ever change? A processor that is not in ' +
+    'an if changes nothing there.',
 };
 
 export function wordsOfProgramFault(fault, line) {
   const help = HELP[fault]?.(line) ?? '';
-  return `${PROGRAM_SENTENCES[fault - 1] ?? 'this line is refused'}.${help && ` ${help}`}`;
+  return `${PROGRAM_SENTENCES[fault] ?? 'this line is refused'}.${help && ` ${help}`}`;
 }

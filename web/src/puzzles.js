@@ -1,8 +1,7 @@
 // Puzzles: find a schedule that does something. What is asked for is looked up in what the core
 // told of each act.
 import { ACT, bodyOf, kindOf } from './acts.js';
-import { CODE, FORM } from './core.js';
-import { OP } from './meaning.js';
+import { CODE, FORM, OP } from './declared.js';
 import { isFinish } from './film.js';
 
 const isGo = (act) => kindOf(act) === ACT.GO;

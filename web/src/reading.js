@@ -1,5 +1,5 @@
 // What the core tells of a text: the lines of a program, or a job and its answer.
-import { CODE } from './core.js';
+import { CODE } from './declared.js';
 
 // The page makes so many steps of processors while one waits. A byte of a text takes as long as
 // four of them.

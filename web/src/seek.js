@@ -1,5 +1,5 @@
 // Searches for a step of the plain machine, on or back.
-import { STATUS, TARGET } from './core.js';
+import { STATUS, TARGET } from './kinds.js';
 
 // A search from one step to another; each `look` looks at one step more, and tells whether there is
 // more to do, of a far step with a promise. Then `isFound` says whether the step is one of which

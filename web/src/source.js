@@ -1,9 +1,10 @@
 // A program of `pardo`, as the core tells it: its lines of code, and the names of the cells of its
 // job.
+import { CELLS } from './declared.js';
 import { shortened } from './numbers.js';
 import { instructionsOf } from './text_lines.js';
 
-export const KIND = { SCALAR: 0, ARRAY: 1, PRIVATE: 2, LOOP: 3, MASK: 4 };
+const SHARED = [CELLS.SCALAR, CELLS.ARRAY];
 
 const MOST_LETTERS = 60;
 
@@ -38,10 +39,10 @@ export class Source {
     this.rows = namedRows(made);
     this.lineOf = made.lineOf;
     this.depths = new Map(lines.map(({ number, depth }) => [number, depth]));
-    this.masks = this.rows.filter(({ kind }) => kind === KIND.MASK);
-    this.loops = this.rows.filter(({ kind }) => kind === KIND.LOOP);
-    this.privates = this.rows.filter(({ kind }) => kind === KIND.PRIVATE);
-    this.arrays = this.rows.filter(({ kind }) => kind <= KIND.ARRAY);
+    this.masks = this.rows.filter(({ kind }) => kind === CELLS.MASK);
+    this.loops = this.rows.filter(({ kind }) => kind === CELLS.LOOP);
+    this.privates = this.rows.filter(({ kind }) => kind === CELLS.PRIVATE);
+    this.arrays = this.rows.filter(({ kind }) => SHARED.includes(kind));
   }
 
   // The instructions of the job, each by the line that it came from.
@@ -84,14 +85,14 @@ export class Source {
     const at = this.numberOfRow(cell);
     const row = this.rows[at];
     if (row?.base !== cell) return false;
-    return row.kind !== KIND.SCALAR || this.rows[at - 1]?.kind !== KIND.SCALAR;
+    return row.kind !== CELLS.SCALAR || this.rows[at - 1]?.kind !== CELLS.SCALAR;
   }
 
   // Loops and masks have no name in the text: they are counted by their depth.
   nameOf(row) {
     switch (row.kind) {
-      case KIND.LOOP: return `loop ${this.loops.indexOf(row) + 1}`;
-      case KIND.MASK: return `mask ${this.masks.indexOf(row) + 1}`;
+      case CELLS.LOOP: return `loop ${this.loops.indexOf(row) + 1}`;
+      case CELLS.MASK: return `mask ${this.masks.indexOf(row) + 1}`;
       default: return row.name;
     }
   }
@@ -101,8 +102,8 @@ export class Source {
     if (!row) return `cell ${cell}`;
     const index = cell - row.base;
     switch (row.kind) {
-      case KIND.SCALAR: return row.name;
-      case KIND.ARRAY: return `${row.name}[${index}]`;
+      case CELLS.SCALAR: return row.name;
+      case CELLS.ARRAY: return `${row.name}[${index}]`;
       default: return `${this.nameOf(row)} of P${index}`;
     }
   }

@@ -1,7 +1,8 @@
 // The progress tree: its nodes in the colour of the pass that is finished below them, and the
 // workers at the nodes where they stand.
 import { byId, makeSvg, setAttribute, setText } from './dom.js';
-import { DOING, nodeInWords } from './meaning.js';
+import { DOING } from './kinds.js';
+import { nodeInWords } from './meaning.js';
 import { counted, grouped } from './numbers.js';
 import { passNames, passOfPhase, stepOfPhase } from './phases.js';
 import { pictureOf, saveSvg, withStyles } from './styled_svg.js';

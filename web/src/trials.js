@@ -1,6 +1,7 @@
 // Trials: what the core tells of a program's whole run, for who judges it. They are calls of many
 // calls, and made in a thread.
-import { CODE, TARGET } from './core.js';
+import { CODE } from './declared.js';
+import { TARGET } from './kinds.js';
 
 // More steps than a program can take.
 const MOST = 2 ** 21;
@@ -21,7 +22,7 @@ export function trialCalls(core) {
       const bad = [job, answer, cost, fates].find(({ code }) => !isTold(code));
       if (bad) return { made: bad };
       const lineIn = (step) => made.lineOf[core.steps(made.text, step - 1, 1, MOST).list[0].at];
-      const steps = [answer.step, fates.lostStep, ...cost.meetings.map(({ step }) => step)];
+      const steps = [answer.step, fates.lost.step, ...cost.meetings.map(({ step }) => step)];
       const lines = new Map(steps.map((step) => [step, step > 0 ? lineIn(step) : 0]));
       return { made, job, answer, cost, fates, lines };
     },

@@ -1,7 +1,7 @@
 // What the core tells of a whole run: what became of the processors, what it costs, what its steps
 // do, when the lines of a program begin, and what each processor did last. It is kept; what takes
 // long is made in the other thread.
-import { CODE } from './core.js';
+import { CODE } from './declared.js';
 import { LinePace } from './paces.js';
 
 // A byte of a text takes as long as a step of a processor.

@@ -1,7 +1,8 @@
 // A card for each worker and each twin: where it stands, and what may be done to it.
-import { byId, fit, make, setAttribute, setDisabled, setText } from './dom.js';
-import { DOING, bodyInWords } from './meaning.js';
 import { ACT, MOST_BODIES } from './acts.js';
+import { byId, fit, make, setAttribute, setDisabled, setText } from './dom.js';
+import { DOING } from './kinds.js';
+import { bodyInWords } from './meaning.js';
 
 const ACTIONS = ['step', 'sleep', 'lose', 'twin', 'if'];
 

@@ -2,7 +2,7 @@
 import { ACT, MOST_WORKERS, actOf } from './acts.js';
 import { Board } from './board.js';
 import { labelOf, openCells } from './cells.js';
-import { CODE } from './core.js';
+import { CODE, PASS } from './declared.js';
 import { byId, onClick, setDisabled, setHidden, setText } from './dom.js';
 import { isChange } from './effects.js';
 import { Errands } from './errands.js';
@@ -273,7 +273,7 @@ export class WorkersView {
     this.steps.show(job, schedule, this.names);
     this.placeWords.show(scene.stored, this.names);
     const passes = passNames(job.rule);
-    for (const pass of [1, 2, 3]) setText(byId(`pass-name-${pass}`), passes[pass]);
+    for (const pass of Object.values(PASS)) setText(byId(`pass-name-${pass}`), passes[pass]);
   }
 
   showCells() {

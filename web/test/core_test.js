@@ -5,19 +5,22 @@ import { execFileSync } from 'node:child_process';
 import { readFileSync, readdirSync, writeFileSync } from 'node:fs';
 import { tmpdir } from 'node:os';
 import { join } from 'node:path';
-import { CODE, STATUS } from '../src/core.js';
 import { statesAt } from '../src/activity.js';
+import {
+  CODE, END, JOB_FAULT, LIMIT, MODELS, OP, PROGRAM_FAULT, TEXT_FAULT,
+} from '../src/declared.js';
 import { effectOf } from '../src/effects.js';
-import { FAULT, INSTRUCTIONS, SENTENCES, wordsOfFault } from '../src/faults.js';
+import { countEvents, firstEvents, putEvent, roomForEvents } from '../src/event_words.js';
+import { wordsOfFault } from '../src/faults.js';
+import { DOING, STATUS, TARGET } from '../src/kinds.js';
 import { lineInWords } from '../src/lockstep_words.js';
 import { LinePace } from '../src/paces.js';
 import { planOf } from '../src/plan.js';
-import { counterPlace } from '../src/places.js';
+import { counterPlace, registerPlace } from '../src/places.js';
 import { statusOf } from '../src/processors.js';
-import { PROGRAM_SENTENCES, wordsOfProgramFault } from '../src/program_faults.js';
+import { wordsOfProgramFault } from '../src/program_faults.js';
 import { ACT, actOf, readActs, writeActs } from '../src/acts.js';
 import { readAddress, readShown, writeAddress, writeShown } from '../src/address.js';
-import { MODELS } from '../src/costs.js';
 import { Schedule } from '../src/schedule.js';
 import { Source } from '../src/source.js';
 import { testExercises } from './exercise_rows.js';
@@ -29,17 +32,6 @@ const [pagePath, folder, pramx] = process.argv.slice(2);
 const { is, end } = report();
 
 const page = readFileSync(pagePath, 'utf8');
-
-// The table that the page's maker put into the page.
-function tableOfPage() {
-  const found = /const INSTRUCTIONS = (\[\[.*?\]\]);/.exec(page);
-  return JSON.parse(found[1]);
-}
-
-// The sentences that it put there.
-function sentencesOfPage(list) {
-  return JSON.parse(new RegExp(`const ${list} = (\\[".*?"\\]);`).exec(page)[1]);
-}
 
 function printed(answer) {
   if (answer.code === CODE.DONE) {
@@ -103,10 +95,10 @@ function stepsAgree(core, text, job, answer) {
     const { state: { places }, requests: { list } } = core.moment(text, job, step, MOST);
     const next = core.moment(text, job, step + 1, MOST).state.places;
     for (const [processor, request] of [...list.entries()].reverse()) {
-      if (request.target === 1) places[request.number] = request.value;
-      const register = job.cells + 4 * processor + request.number;
-      if (request.target === 2) places[register] = request.value;
-      places[job.cells + 4 * job.procs + processor] = request.next;
+      const { target, number, value } = request;
+      if (target === TARGET.CELL) places[number] = value;
+      if (target === TARGET.REGISTER) places[registerPlace(job, processor, number)] = value;
+      places[counterPlace(job, processor)] = request.next;
     }
     if (places.some((value, place) => value !== next[place])) return `step ${step + 1}`;
   }
@@ -131,12 +123,12 @@ function walkActs(workers, rounds) {
 
 const eventsOf = (workers, acts) => new Schedule(workers, acts).events.upTo(acts.length);
 
-const isOver = (body) => body.doing >= 4;
+const isOver = ({ doing }) => doing === DOING.DONE || doing === DOING.CONFLICT;
 
 function walk(core, text, { places }) {
   for (let rounds = 256; rounds < 2000000; rounds *= 2) {
     const events = eventsOf(3, walkActs(3, rounds));
-    const scene = core.scene(text, 3, events, { from: events.length / 2, places });
+    const scene = core.scene(text, 3, events, { from: countEvents(events), places });
     if (scene.code !== CODE.DONE) return { code: scene.code };
     if (scene.bodies.every(isOver)) return { code: CODE.DONE, events, scene };
   }
@@ -145,10 +137,11 @@ function walk(core, text, { places }) {
 
 // At some moments of the walk each cell is read as the machine had it.
 function readsAgree(core, text, job, events) {
-  const count = events.length / 2;
+  const count = countEvents(events);
   for (let k = 0; k <= 20; k += 1) {
-    const part = events.subarray(0, 2 * Math.floor((count * k) / 20));
-    const wanted = { from: part.length / 2, places: job.places, cells: job.cells };
+    const from = Math.floor((count * k) / 20);
+    const part = firstEvents(events, from);
+    const wanted = { from, places: job.places, cells: job.cells };
     const { pairs } = core.scene(text, 3, part, wanted);
     const states = new Map();
     for (let cell = 0; cell < job.cells; cell += 1) {
@@ -271,17 +264,26 @@ const PARDO_HEAD = 'pardo 1\nrule crew\nprocs i < 4\nshared s\nshared A[4]\n';
 
 // Texts that are no program: the kind, and the line.
 const PARDO_REFUSED = [
-  ['pardo 1\n\x01', 1, 2], ['pardo 1\n#', 2, 2], ['pardo 1', 3, 1],
-  [`${PARDO_HEAD}code\ns = 1`, 4, 7], [`${PARDO_HEAD}code\nt := 1`, 5, 7],
-  [`${PARDO_HEAD}shared s`, 6, 6], [`${PARDO_HEAD}code\nA := 1`, 7, 7],
-  [`${PARDO_HEAD}code\ns := s / 2`, 8, 7], ['pardo 1\nrule crew\nprocs i < 1025', 9, 3],
-  [`${PARDO_HEAD}shared B[2] = 1`, 10, 6], [`${PARDO_HEAD}shared B[65536]`, 11, 6],
-  [`${PARDO_HEAD}code\nend`, 12, 7],
-  [`${PARDO_HEAD}code\ns := ${'('.repeat(33)}1${')'.repeat(33)}`, 13, 7],
-  [`${PARDO_HEAD}code\nif i`, 14, 7], [`${PARDO_HEAD}code`, 15, 6],
-  [`${PARDO_HEAD}code\ns := (i + s) * ((i + s) * ((i + s) * ((i + s) * (i + s))))`, 16, 7],
-  [`${PARDO_HEAD}code\n${'s := i\n'.repeat(4096)}`, 17, undefined],
-  ['pardo 1\nrule crew\nprocs i < 1\nshared s\ncode\nwhile 1\ns := 1\nend', 18, undefined],
+  ['pardo 1\n\x01', PROGRAM_FAULT.NOT_ASCII, 2],
+  ['pardo 1\n#', PROGRAM_FAULT.BAD_SYMBOL, 2],
+  ['pardo 1', PROGRAM_FAULT.BAD_HEADER, 1],
+  [`${PARDO_HEAD}code\ns = 1`, PROGRAM_FAULT.BAD_LINE, 7],
+  [`${PARDO_HEAD}code\nt := 1`, PROGRAM_FAULT.UNKNOWN_NAME, 7],
+  [`${PARDO_HEAD}shared s`, PROGRAM_FAULT.DUPLICATE_NAME, 6],
+  [`${PARDO_HEAD}code\nA := 1`, PROGRAM_FAULT.WRONG_KIND, 7],
+  [`${PARDO_HEAD}code\ns := s / 2`, PROGRAM_FAULT.NOT_CONSTANT, 7],
+  ['pardo 1\nrule crew\nprocs i < 1025', PROGRAM_FAULT.OUT_OF_LIMITS, 3],
+  [`${PARDO_HEAD}shared B[2] = 1`, PROGRAM_FAULT.WRONG_LENGTH, 6],
+  [`${PARDO_HEAD}shared B[65536]`, PROGRAM_FAULT.TOO_MANY_CELLS, 6],
+  [`${PARDO_HEAD}code\nend`, PROGRAM_FAULT.BAD_BLOCK, 7],
+  [`${PARDO_HEAD}code\ns := ${'('.repeat(33)}1${')'.repeat(33)}`, PROGRAM_FAULT.TOO_DEEP, 7],
+  [`${PARDO_HEAD}code\nif i`, PROGRAM_FAULT.OPEN_BLOCK, 7],
+  [`${PARDO_HEAD}code`, PROGRAM_FAULT.NO_CODE, 6],
+  [`${PARDO_HEAD}code\ns := (i + s) * ((i + s) * ((i + s) * ((i + s) * (i + s))))`,
+    JOB_FAULT.TOO_DEEP, 7],
+  [`${PARDO_HEAD}code\n${'s := i\n'.repeat(4096)}`, JOB_FAULT.TOO_LONG, undefined],
+  ['pardo 1\nrule crew\nprocs i < 1\nshared s\ncode\nwhile 1\ns := 1\nend', JOB_FAULT.ENDLESS,
+    undefined],
 ];
 
 function testPardoRefusals(core) {
@@ -292,7 +294,7 @@ function testPardoRefusals(core) {
     if (line !== undefined) is(`${name}: line`, told.line, line);
     const said = wordsOfProgramFault(told.fault, text.split('\n')[told.line - 1] ?? '');
     is(`${name}: words`, !said.startsWith('this line is refused') || said, true);
-    const isOfText = fault < 16;
+    const isOfText = !Object.values(JOB_FAULT).includes(fault);
     is(`${name}: as a text`, core.lines(text).code, isOfText ? CODE.NO_JOB : CODE.DONE);
   }
 }
@@ -318,8 +320,9 @@ function testReplay(core, name, scratch) {
   const { rows: count, effects } =
     core.scene(text, 3, events, { from: 0, places: core.judge(text).places });
   const rows = Array.from({ length: count }, (_, k) => effectOf(effects, k));
-  const kinds = ['', 'load', 'store', 'max', 'swap'];
-  const made = rows.filter((row) => row.kind > 0).map((row, k) =>
+  const kinds = Object.fromEntries(
+    Object.entries(OP).map(([kind, number]) => [number, kind.toLowerCase()]));
+  const made = rows.filter((row) => row.kind !== OP.OVER).map((row, k) =>
     `${k + 1},${row.body},${kinds[row.kind]},${row.word},${row.before},${row.after}`);
   is(`${name}: a replay of the plan`, made.find((row, k) => row !== traced[k]) ?? 'alike', 'alike');
 }
@@ -379,29 +382,29 @@ async function testShown() {
 }
 
 const REFUSED = [
-  ['', FAULT.BAD_HEADER, 1, 'pram 1'],
-  ['pram 1\ncells x', FAULT.BAD_NUMBER, 2, '“x” must be a number'],
-  ['pram 1\ncells 0', FAULT.OUT_OF_LIMITS, 2, '1 to 65,536'],
-  ['é', FAULT.NOT_ASCII, 1, '“é” in column 1'],
-  ['code x', FAULT.BAD_HEADER, 1, 'does not stand here'],
-  ['pram 3\ncells 4\nprocs 1\nsteps 1\nrule crew\narray A 1 4', FAULT.OUT_OF_LIMITS, 6,
+  ['', TEXT_FAULT.BAD_HEADER, 1, 'pram 1'],
+  ['pram 1\ncells x', TEXT_FAULT.BAD_NUMBER, 2, '“x” must be a number'],
+  ['pram 1\ncells 0', TEXT_FAULT.OUT_OF_LIMITS, 2, '1 to 65,536'],
+  ['é', TEXT_FAULT.NOT_ASCII, 1, '“é” in column 1'],
+  ['code x', TEXT_FAULT.BAD_HEADER, 1, 'does not stand here'],
+  ['pram 3\ncells 4\nprocs 1\nsteps 1\nrule crew\narray A 1 4', TEXT_FAULT.OUT_OF_LIMITS, 6,
     'An array has a cell'],
-  ['pram 3\ncells 4\nprocs 1\nsteps 1\nrule crew\narray r0 0 4', FAULT.BAD_HEADER, 6,
+  ['pram 3\ncells 4\nprocs 1\nsteps 1\nrule crew\narray r0 0 4', TEXT_FAULT.BAD_HEADER, 6,
     '“r0” names an array already or can name none'],
 ];
 const CODE_REFUSED = [
-  ['ld r1', FAULT.WRONG_OPERANDS, 'or too many. “ld” needs two registers, as in “ld r1 r0”'],
-  ['again: ld r1', FAULT.WRONG_OPERANDS, '“ld” needs two registers, as in “ld r1 r0”'],
-  ['mov r1 r2', FAULT.UNKNOWN_INSTRUCTION, 'no instruction “mov”. There are set, pid, add'],
-  ['add r1 r2 r4', FAULT.BAD_REGISTER, '“r4” is no register'],
-  ['a: halt\na: halt', FAULT.DUPLICATE_LABEL, 'an earlier line defines this label. It is “a”.'],
-  ['jmp nowhere', FAULT.UNKNOWN_LABEL, 'A line defines “nowhere” by beginning with “nowhere:”.'],
-  ['', FAULT.NO_CODE, 'no instruction follows'],
-  ['halt\n'.repeat(4097), FAULT.TOO_LONG, 'at most 4,096'],
-  ['3: halt', FAULT.UNKNOWN_INSTRUCTION, 'A label is a letter'],
-  ['a:', FAULT.UNKNOWN_INSTRUCTION, 'must stand after the label'],
-  ['set r1 4294967296', FAULT.OUT_OF_LIMITS, 'at most 4,294,967,295'],
-  ['set r1 x', FAULT.BAD_NUMBER, '“x” must be a number'],
+  ['ld r1', TEXT_FAULT.WRONG_OPERANDS, 'or too many. “ld” needs two registers, as in “ld r1 r0”'],
+  ['again: ld r1', TEXT_FAULT.WRONG_OPERANDS, '“ld” needs two registers, as in “ld r1 r0”'],
+  ['mov r1 r2', TEXT_FAULT.UNKNOWN_INSTRUCTION, 'no instruction “mov”. There are set, pid, add'],
+  ['add r1 r2 r4', TEXT_FAULT.BAD_REGISTER, '“r4” is no register'],
+  ['a: halt\na: halt', TEXT_FAULT.DUPLICATE_LABEL, 'an earlier line defines this label. It is “a”.'],
+  ['jmp nowhere', TEXT_FAULT.UNKNOWN_LABEL, 'A line defines “nowhere” by beginning with “nowhere:”.'],
+  ['', TEXT_FAULT.NO_CODE, 'no instruction follows'],
+  ['halt\n'.repeat(4097), TEXT_FAULT.TOO_LONG, 'at most 4,096'],
+  ['3: halt', TEXT_FAULT.UNKNOWN_INSTRUCTION, 'A label is a letter'],
+  ['a:', TEXT_FAULT.UNKNOWN_INSTRUCTION, 'must stand after the label'],
+  ['set r1 4294967296', TEXT_FAULT.OUT_OF_LIMITS, 'at most 4,294,967,295'],
+  ['set r1 x', TEXT_FAULT.BAD_NUMBER, '“x” must be a number'],
 ];
 
 function testRefused(core, name, text, fault, words) {
@@ -423,15 +426,21 @@ function testRefusals(core) {
   }
 }
 
+function eventOf(kind, body) {
+  const events = roomForEvents(1);
+  putEvent(events, 0, kind, body);
+  return events;
+}
+
 function testSizes(core) {
   const text = 'pram 1\ncells 1\nprocs 1\nsteps 4294967295\ncode\n'
     + 'set r1 1\nagain: add r0 r0 r1\njmp again\n';
   is('an endless job', core.answer(text, core.judge(text), 1000).code, CODE.TOO_FAR);
   const all = { from: 0, places: 6 };
-  const bad = core.scene(text, 65, new Uint32Array(0), all);
+  const bad = core.scene(text, LIMIT.WORKERS_MOST + 1, roomForEvents(0), all);
   is('too many workers', bad.code, CODE.BAD_WORKERS);
-  is('an unknown body', core.scene(text, 2, Uint32Array.of(0, 2), all).code, CODE.BAD_EVENT);
-  is('an unknown event', core.scene(text, 2, Uint32Array.of(7, 0), all).code, CODE.BAD_EVENT);
+  is('an unknown body', core.scene(text, 2, eventOf(ACT.GO, 2), all).code, CODE.BAD_EVENT);
+  is('an unknown event', core.scene(text, 2, eventOf(7, 0), all).code, CODE.BAD_EVENT);
   const { state, requests } = core.moment('pram 1\ncells 1\nprocs 1\nsteps 1\ncode\nhalt\n',
     { places: 6, procs: 1 }, 2, 10);
   is('a step past the end', `${state.code} ${requests.code}`, `${CODE.NO_STEP} ${CODE.NO_STEP}`);
@@ -443,9 +452,26 @@ const LEAVING = 'pram 1\ncells 2\nprocs 2\nsteps 3\ncode\n'
 
 function testFates(core) {
   const told = core.fates(LEAVING);
-  is('how processors end', [told.code, told.end, told.running, told.first, told.endLine].join(),
-    [CODE.DONE, 1, 1, 0, 9].join());
-  is('which is lost', [told.lost, told.lostStep, told.lostLine].join(), '1,3,8');
+  const { end: { kind, count, first, line }, lost } = told;
+  is('how processors end', [told.code, kind, count, first, line].join(),
+    [CODE.DONE, END.RUNNING, 1, 0, 9].join());
+  is('which is lost', [lost.processor, lost.step, lost.line].join(), '1,3,8');
+}
+
+// Numbers that the core's source has without a name are those that the page has names for.
+function testKinds(core) {
+  const text = LEAVING.replace('steps 3', 'steps 9');
+  const job = core.judge(text);
+  const statusesAt = (step) =>
+    core.moment(text, job, step, MOST).requests.list.map(({ status }) => status).join();
+  is('who runs', statusesAt(0), [STATUS.RUNS, STATUS.RUNS].join());
+  is('who has stopped', statusesAt(8), [STATUS.HALTED, STATUS.OUT_OF_RANGE].join());
+  const [lose, back] = [actOf(ACT.LOSE, 0), actOf(ACT.BACK, 0)];
+  const doingAfter = (acts) => core.scene(text, 2, eventsOf(2, acts),
+    { from: acts.length, places: job.places }).bodies[0].doing;
+  is('a worker begins', doingAfter([]), DOING.BEGIN);
+  is('is lost', doingAfter([lose]), DOING.LOST);
+  is('and comes back', doingAfter([lose, back]), DOING.BACK);
 }
 
 // Going to a far moment is quick.
@@ -453,9 +479,9 @@ function testSpeed(core) {
   const text = readFileSync(join(folder, 'sort.pram'), 'utf8');
   const events = eventsOf(4, readActs(4, '0.1.2.3*99999'));
   const { places } = core.judge(text);
-  core.scene(text, 4, events, { from: events.length / 2, places });
+  core.scene(text, 4, events, { from: countEvents(events), places });
   const start = performance.now();
-  core.scene(text, 4, events, { from: events.length / 2 - 100, places });
+  core.scene(text, 4, events, { from: countEvents(events) - 100, places });
   const took = performance.now() - start;
   console.log(`399,996 events: ${took.toFixed(0)} ms`);
   is('399,996 events in a second', took < 1000 || took, true);
@@ -477,9 +503,6 @@ function testFile() {
   is('nor one of its style', /@import|url\(/.exec(page.split('<script', 1)[0])?.[0] ?? '', '');
 }
 
-INSTRUCTIONS.push(...tableOfPage());
-SENTENCES.push(...sentencesOfPage('SENTENCES'));
-PROGRAM_SENTENCES.push(...sentencesOfPage('PROGRAM_SENTENCES'));
 const core = await coreOf(pagePath);
 const names = readdirSync(folder).filter((name) => name.endsWith('.pram')).sort();
 for (const name of names) testProgram(core, name.replace(/\.pram$/, ''));
@@ -496,6 +519,7 @@ await testShown();
 testRefusals(core);
 testSizes(core);
 testFates(core);
+testKinds(core);
 testSpeed(core);
 await testExercises(core, is);
 const replayed = pramx ? ['prefix', 'broadcast', 'leader_priority'] : [];

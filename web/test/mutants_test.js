@@ -5,7 +5,7 @@
 // has a thread.
 import { availableParallelism } from 'node:os';
 import { Worker, isMainThread, parentPort, workerData } from 'node:worker_threads';
-import { CODE } from '../src/core.js';
+import { CODE } from '../src/declared.js';
 import { EXERCISES } from '../src/exercises.js';
 import { judgeExercise, withInput } from '../src/judge.js';
 import { Source } from '../src/source.js';

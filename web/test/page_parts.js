@@ -5,7 +5,9 @@ import { openCore } from '../src/core.js';
 
 const CORE = /<script type="text\/plain" id="core">([^<]*)</;
 
-export function coreOf(path) {
+export function coreBytesOf(path) {
   const [, packed] = CORE.exec(readFileSync(path, 'utf8'));
-  return openCore(inflateRawSync(Buffer.from(packed, 'base64')));
+  return inflateRawSync(Buffer.from(packed, 'base64'));
 }
+
+export const coreOf = (path) => openCore(coreBytesOf(path));
