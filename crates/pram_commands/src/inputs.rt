@@ -1,11 +1,12 @@
 //! A job and its plan from their sources.
-ghost use Rattle.std.specs.Prelude.{◌≡◌, ◌↔◌, false, IfOk, IfErr, IsErrOf, IsTrue};
+ghost use Rattle.std.specs.Prelude.{◌≡◌, ◌⊎◌, ◌↔◌, false, IfOk, IfErr, IsErrOf, IsTrue};
 ghost use Rattle.pram_streams.specs.Transfer.{GivesSome};
 ghost use Rattle.pram_commands.specs.Faults.{fault_of_job_source, fault_of_plan_source};
 ghost use Rattle.pram_commands.specs.Inputs.{ExplainsJob, ExplainsPlan, GivesJob, GivesPlan};
 ghost use Rattle.pram_commands.specs.Inputs.{GivesText, Took, taking};
 ghost use Rattle.pram_commands.specs.Names.{AreNames};
 ghost use Rattle.refusals.specs.declared.fault.CommandFault.TheVariants.{JobDevice};
+ghost use Rattle.stop_plan.specs.Records.{FirstFault, SpellsPlan, no_memory, records_of};
 
 use crate::names::{Naming, read_text};
 use crate::sources::{Inputs, Sources};
@@ -89,7 +90,7 @@ pub fn take_plan<P: Source>(
     ensures reads { GivesSome (P.remaining source.old) (P.remaining source.new) }
 {
     let text = take(alloc, source).map_err(plan_fault)?;
-    match read_plan(alloc, text.as_slice(), workers.count) {
+    match plan_in(alloc, text.as_slice(), workers) {
         Ok(plan) => Ok(plan),
         Err(
             PlanFault {
@@ -99,6 +100,17 @@ pub fn take_plan<P: Source>(
         ) => Err(CommandFault::Memory),
         Err(PlanFault { row, kind }) => Err(CommandFault::Plan { row, kind }),
     }
+}
+
+// The plan for so many workers that a text spells. The reader of its records is on the stack, so
+// this keeps a frame of its own.
+#[inline(never)]
+fn plan_in(alloc: Global, text: &[u8], workers: Workers) -> Result<Plan, PlanFault>
+    ensures plan { IfOk result (SpellsPlan workers.count (records_of text.now)) }
+    ensures fault { IfErr result (λ fault. (fault ≡ no_memory)
+        ⊎ FirstFault workers.count (records_of text.now) fault.row fault.kind) }
+{
+    read_plan(alloc, text, workers.count)
 }
 
 fn job_fault(fault: TakeFault) -> CommandFault

@@ -197,6 +197,8 @@ pub fn steps<J: Source, P: Source, O: Sink>(
     printed(put_steps(alloc, &spelled, window, alone, out))
 }
 
+// The writer of rows is on the stack, so this keeps a frame of its own.
+#[inline(never)]
 fn put_steps<O: Sink>(
     alloc: Global,
     spelled: &Spelled,
@@ -247,7 +249,9 @@ pub fn replay<J: Source, P: Source, O: Sink>(
     printed(put_replay(alloc, &inputs, alone, out))
 }
 
-// Prints the trace of a replay, then its answer, unless the trace is to stand alone.
+// Prints the trace of a replay, then its answer, unless the trace is to stand alone. It keeps a
+// frame of its own, as `put_steps` does.
+#[inline(never)]
 fn put_replay<O: Sink>(
     alloc: Global,
     inputs: &Inputs,
