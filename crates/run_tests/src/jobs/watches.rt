@@ -4,9 +4,7 @@ ghost use Rattle.std.specs.Prelude.{◌≡◌, ⊤, false};
 
 use crate::jobs::LATER;
 use pram_board::{Board, Seat};
-use pram_run::{
-    Assignment, Listener, Numbers, Observation, Reads, Sight, print_reads, run_heard,
-};
+use pram_run::{Assignment, Listener, Numbers, Observation, Reads, Sight, print_reads, run_heard};
 use pram_step::RunAnswer;
 use pram_streams::{Failed, IntoWrite, PrintFault, Sink};
 use pram_text::read_job;
