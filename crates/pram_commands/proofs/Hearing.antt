@@ -1,6 +1,7 @@
 -- What printing an answer as it is heard came to.
-use Rattle.std.proofs.Common.{◌≡◌, ◌∙◌, ℕ, Bool, List, Result, Ok, Err, IsTrue, sym, ap, subst, inl}
-use Rattle.std.specs.Prelude.{IfOk, IsErrOf}
+use Rattle.std.proofs.Common.{◌≡◌, ◌∙◌, ◌⊎◌, ℕ, Bool, List, Result, Ok, Err, IsTrue, sym, ap}
+use Rattle.std.proofs.Common.{subst, inl, inr}
+use Rattle.std.specs.Prelude.{IfOk, IsErrOf, OnOk}
 use Rattle.pram_job.specs.Job.{JobData}
 use Rattle.pram_step.specs.declared.answer.RunAnswer.{RunAnswer}
 use Rattle.pram_streams.specs.declared.print.PrintFault.{PrintFault}
@@ -11,8 +12,11 @@ use Rattle.pram_run.specs.Heard.{Ended, HasRunBeside}
 use Rattle.pram_commands.specs.Did.{Writing, tells}
 use Rattle.pram_commands.specs.Inner.Hearing.{HasToldEnd}
 use Rattle.pram_commands.specs.Inner.Puts.{Puts, outcome}
+use Rattle.pram_commands.specs.Inner.Watching.{HasHeardAlone, Hearing, IsWatchedBy, Reading}
 use Rattle.pram_commands.specs.Threads.{IsEnd, IsNewBoard}
 use Rattle.pram_commands.specs.Why.{Explaining}
+use Rattle.pram_commands.specs.declared.sources.Inputs.{Inputs}
+use Rattle.pram_run.proofs.Watches.{heard_unread, ran_unread}
 use Rattle.pram_commands.proofs.Told.{told_as}
 
 no_device : IsErrOf {T = RunAnswer} (Err Memory) Device → ⊥
@@ -37,9 +41,35 @@ module _ (why : Bool) (job_text : List ℕ) (job : JobData) (plan : PlanData) (w
       })
 
 -- what a run on a new board came to
-pub ends_heard : (job : JobData) (plan : PlanData) (made : Desk × SeatData) (later : SeatData)
+ends_heard : (job : JobData) (plan : PlanData) (made : Desk × SeatData) (later : SeatData)
     (ended : Ended) → IsNewBoard job plan made →
     IfOk ended (HasRunBeside made.0.task plan made.1 later) → IfOk ended (IsEnd job plan)
 ends_heard job plan made later (Ok answer) opened ran =
     (later, record { made = made; opened = opened; ran = ran })
 ends_heard job plan made later (Err refused) opened ran = tt
+
+-- what a run came to whose reader read nothing, and what was heard
+module _ {P H : Type 0} (Hears : Hearing P H) (first : P) (inputs : Inputs) (cells : List ℕ)
+    (rounds : ℕ) (ended : Ended × H) where
+  abbrev Nothing : Reading P
+  Nothing task listed count before after reader = (after ≡ before) × (reader ≡ first)
+
+  abbrev Ends : Type 0
+  Ends = IfOk ended.0 (IsEnd inputs.job inputs.plan) × Hears first ended.0 ended.1
+
+  pub ends_unread : HasHeardAlone Hears first ended
+      ⊎ IsWatchedBy Nothing Hears inputs cells rounds ended → Ends
+  ends_unread (inl alone) = (never ended.0 alone.0, alone.1)
+    where
+      never : (r : Ended) → OnOk r ⊥ → IfOk r (IsEnd inputs.job inputs.plan)
+      never (Ok answer) h = absurd h
+      never (Err refused) h = tt
+  ends_unread (inr by) =
+      let task = by.made.0.task in
+      let later = by.on.later in (
+        ends_heard inputs.job inputs.plan by.made later ended.0 by.opened
+            (ran_unread task inputs.plan by.made.1 later first Hears ended.1 ended.0
+            (inr by.on.watched)),
+        heard_unread task inputs.plan by.made.1 later first Hears ended.1 ended.0
+            (inr by.on.watched),
+      )

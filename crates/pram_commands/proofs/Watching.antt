@@ -11,7 +11,7 @@ use Rattle.pram_streams.specs.declared.print.PrintFault.TheVariants.{Device, Mem
 use Rattle.stop_plan.specs.Plan.{PlanData}
 use Rattle.pram_board.specs.declared.task.Task.{Task}
 use Rattle.pram_board.specs.Seats.{SeatData}
-use Rattle.pram_run.specs.Heard.{Ended}
+use Rattle.pram_run.specs.Heard.{Ended, HasRunWith}
 use Rattle.pram_run.specs.Printed.{sights_text}
 use Rattle.pram_run.specs.PutReads.{Printing, PutWatch}
 use Rattle.pram_run.specs.Watching.{HasWatchedWith, ReadsAndHears}
@@ -27,30 +27,44 @@ use Rattle.pram_commands.proofs.Doing.{begins_after, begins_front, ok_not_err, p
 use Rattle.pram_commands.proofs.Doing.{well}
 use Rattle.pram_commands.proofs.Ends.{has_sights, job_of}
 
+-- a run with something else beside its workers
+ran_with : {Was Is : ℕ → SeatData → Type 0} (task : Task) (plan : PlanData)
+    (given later : SeatData) (answer : RunAnswer) (h : HasRunWith Was task plan given later answer) →
+    Is h.started h.looker → HasRunWith Is task plan given later answer
+ran_with task plan given later answer h beside = record {
+  started = h.started;
+  most = h.most;
+  all = h.all;
+  seat = h.seat;
+  obeyed = h.obeyed;
+  looker = h.looker;
+  beside = beside;
+  answered = h.answered;
+}
+
 -- a watch by one reader is one by another who does more
 pub watched_as : {P Q H : Type 0} (task : Task) (plan : PlanData) (given later : SeatData)
-    (ended : Ended) (heard : H) (Reads : SeatData → P → Type 0) (Hears : Hearing P H)
-    (Reads' : SeatData → Q → Type 0) (Hears' : Hearing Q H) (of : P → Q) →
-    ((q : SeatData) (p : P) → Reads q p → Reads' q (of p)) →
+    (ended : Ended) (heard : H) (Reads : SeatData → SeatData → P → Type 0) (Hears : Hearing P H)
+    (Reads' : SeatData → SeatData → Q → Type 0) (Hears' : Hearing Q H) (of : P → Q) →
+    ((before after : SeatData) (p : P) → Reads before after p → Reads' before after (of p)) →
     ((p : P) → Hears p ended heard → Hears' (of p) ended heard) →
     HasWatchedWith task plan given later (ReadsAndHears Reads Hears ended heard) ended →
     HasWatchedWith task plan given later (ReadsAndHears Reads' Hears' ended heard) ended
 watched_as task plan given later ended heard Reads Hears Reads' Hears' of reads hears h =
-    let was = h.ran.reads in
+    let by = h.ran.beside in
     record {
-      ran = record {
-        seat = h.ran.seat;
-        obeyed = h.ran.obeyed;
-        reader = h.ran.reader;
+      ran = ran_with task plan given later h.answer h.ran (record {
+        before = by.before;
+        waited = by.waited;
+        at_once = by.at_once;
+        reader = by.reader;
         reads = record {
-          after = of was.after;
-          reads = reads h.ran.reader was.after was.reads;
-          hears = hears was.after was.hears;
+          after = of by.reads.after;
+          reads = reads by.before by.reader by.reads.after by.reads.reads;
+          hears = hears by.reads.after by.reads.hears;
         };
-        looker = h.ran.looker;
-        beside = h.ran.beside;
-        answered = h.ran.answered;
-      };
+        looks = by.looks;
+      });
       answer = h.answer;
       given_if = h.given_if;
     }
@@ -59,29 +73,31 @@ watched_as task plan given later ended heard Reads Hears Reads' Hears' of reads 
 pub told_by : {P H : Type 0} (Reads : Reading P) (Hears : Hearing P H) (inputs : Inputs)
     (cells : List ℕ) (rounds : ℕ) (ended : Ended × H) (a b : Option (List ℕ))
     (printed : Printing) (names : Option NamingData) (by : IsWatchedBy Reads Hears inputs cells rounds ended) →
-    (put : PutWatch (cell_words names) by.made.0.task cells rounds by.made.1 by.on.watched.ran.reader a b printed) →
+    (put : PutWatch (cell_words names) by.made.0.task cells rounds by.on.watched.ran.beside.before
+    by.on.watched.ran.beside.reader a b printed) →
     TellsSights names inputs.job inputs.plan cells rounds by.on.watched.answer
     (sights_text (cell_words names) put.sights)
 told_by Reads Hears inputs cells rounds ended a b printed names by put =
     let all = by.on.watched in
+    let beside = all.ran.beside in
     record {
       sights = put.sights;
-      saw = has_sights by.made.0.task inputs.job cells rounds by.made.1 put.sights all.ran.reader
+      saw = has_sights by.made.0.task inputs.job cells rounds beside.before put.sights beside.reader
           (job_of inputs.job inputs.plan by.made by.opened) put.watch;
       ends = record {
         later = by.on.later;
         at_it = record {
           made = by.made;
           opened = by.opened;
-          ran = record {
-            seat = all.ran.seat;
-            obeyed = all.ran.obeyed;
-            reader = all.ran.reader;
-            reads = put.watch;
-            looker = all.ran.looker;
-            beside = all.ran.beside;
-            answered = all.ran.answered;
-          };
+          ran = ran_with by.made.0.task inputs.plan by.made.1 by.on.later all.answer all.ran
+              (record {
+                before = beside.before;
+                waited = beside.waited;
+                at_once = beside.at_once;
+                reader = beside.reader;
+                reads = put.watch;
+                looks = beside.looks;
+              });
         };
       };
       text = refl;

@@ -73,7 +73,7 @@ pub record WatchEndsAt (job : JobData) (plan : PlanData) (cells : List ℕ) (rou
   pub made : Desk × SeatData
   pub opened : IsNewBoard job plan made
   pub ran : HasReadBeside made.0.task plan made.1 later answer
-      (IsWatch made.0.task cells rounds made.1 sights)
+      (λ before. IsWatch made.0.task cells rounds before sights)
 
 -- some run came to the sights and the answer
 pub record IsWatchEnd (job : JobData) (plan : PlanData) (cells : List ℕ) (rounds : ℕ)

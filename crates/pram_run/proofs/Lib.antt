@@ -12,4 +12,4 @@ pub mod Obeying
 pub mod Watches
 pub mod Reading
 pub mod Hearing
-pub mod Crews
+pub mod Sharing

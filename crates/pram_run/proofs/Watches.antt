@@ -1,7 +1,7 @@
 -- Reads one after the other.
 use Rattle.std.proofs.Common.{◌≡◌, ℕ, zero, suc, ◌<◌, ◌≤◌, List, [], ◌∷◌, ◌++◌}
 use Rattle.std.proofs.Common.{length, get_or, map, refl, sym, ap, subst, ◌∙◌}
-use Rattle.std.proofs.Common.{arith, append_assoc, add-one, take, ◌+◌, ◌*◌}
+use Rattle.std.proofs.Common.{arith, append_assoc, add-one, take, ◌+◌, ◌*◌, inl, inr}
 use Rattle.std.specs.List.{All, repeat}
 use Rattle.std.specs.Prelude.{Ok, Err, IfOk}
 use Rattle.std.specs.List.Sorted.{IsNonDecreasingBy}
@@ -21,14 +21,14 @@ use Rattle.pram_run.specs.declared.sight.Sight.{Sight}
 use Rattle.pram_run.specs.declared.watcher.Watched.{Watched}
 use Rattle.stop_plan.specs.Plan.{PlanData}
 use Rattle.pram_run.specs.Obeyed.{AllObeyed, HasLooked, IsAnswered}
-use Rattle.pram_run.specs.Heard.{Ended}
-use Rattle.pram_run.specs.Watching.{HasRead, IsTrueSight, IsWatch, HasWatched, HasReadBeside}
-use Rattle.pram_run.specs.Watching.{HasWatchedWith}
-use Rattle.pram_run.specs.Inner.Hearing.{IsJoined, TellsEnd}
+use Rattle.pram_run.specs.Heard.{Ended, HasRunBeside}
+use Rattle.pram_run.specs.Watching.{HasRead, IsTrueSight, IsWatch, HasWatched, HasWatchedWith}
+use Rattle.pram_run.specs.Watching.{ReadsAndHears, ReadsUnlessRefused}
+use Rattle.pram_run.specs.Inner.Hearing.{HasEnded}
 use Rattle.pram_run.specs.Inner.Obeying.{GoesOn, IsToWatch}
 use Rattle.pram_run.specs.Inner.Reading.{IsWatchJoined}
 use Rattle.pram_run.proofs.Records.{begins_all, knows_all}
-use Rattle.pram_run.proofs.Endings.{goes_self, goes_trans, goes_all}
+use Rattle.pram_run.proofs.Endings.{goes_self, goes_trans, goes_all, looked_more}
 
 abbrev Read : Task → SeatData → SeatData → Sight → Type 0
 Read t p q s = WasRead t p q s.cell (At s.step s.value)
@@ -165,37 +165,69 @@ watched_later t plan cells rounds first p q sights a h answered = record {
   answered = subst (λ (s : SeatData). IsAnswered t plan s q a) h.is answered;
 }
 
--- the seats of the workers and of the reader are joined
-pub read_with : (t : Task) (plan : PlanData) (given looker : SeatData) (n : ℕ)
-    (joined later reader : SeatData) (Reads : SeatData → Type 0)
-    (is : IsJoined t plan given looker n joined) → n ≡ plan.workers → HasLooked reader looker →
-    Reads reader → (a : RunAnswer) → IsAnswered t plan (unites is.seat looker) later a →
-    HasReadBeside t plan given later a Reads
-read_with t plan given looker n joined later reader Reads is count beside reads a answered =
-    record {
-      seat = is.seat;
-      obeyed = subst (λ (k : ℕ). AllObeyed t plan.rows given k is.seat) count is.obeyed;
-      reader = reader;
-      reads = reads;
-      looker = looker;
-      beside = beside;
-      answered = answered;
+-- a run came to its end beside a reader, who read before that
+pub watched_with : {P H : Type 0} (t : Task) (plan : PlanData) (given before reader later : SeatData)
+    (n : ℕ) (Reads : SeatData → SeatData → P → Type 0) (Hears : P → Ended → H → Type 0)
+    (ended : Ended) (heard : H) (after : P) → HasLooked given before →
+    (n ≡ plan.workers → before ≡ given) → Reads before reader after → Hears after ended heard →
+    HasEnded t plan given n reader later ended →
+    HasWatchedWith t plan given later (ReadsAndHears Reads Hears ended heard) ended
+watched_with t plan given before reader later n Reads Hears ended heard after
+    waited at_once reads hears h = record {
+      answer = h.answer;
+      ran = record {
+        started = h.ran.started;
+        most = h.ran.most;
+        all = h.ran.all;
+        seat = h.ran.seat;
+        obeyed = h.ran.obeyed;
+        looker = h.ran.looker;
+        beside = record {
+          before = before;
+          waited = waited;
+          at_once = λ whole. at_once (sym h.ran.beside.0 ∙ whole);
+          reader = reader;
+          reads = record { after = after; reads = reads; hears = hears };
+          looks = h.ran.beside.1;
+        };
+        answered = h.ran.answered;
+      };
+      given_if = h.given_if;
     }
 
--- such a watch, and its answer
-pub watched_with : (t : Task) (plan : PlanData) (given before later : SeatData)
-    (Reads : SeatData → Type 0) (ended : Ended) →
-    ((a : RunAnswer) → IsAnswered t plan before later a →
-    HasReadBeside t plan given later a Reads) →
-    (a : RunAnswer) × IsAnswered t plan before later a →
-    IfOk ended (IsAnswered t plan before later) → HasWatchedWith t plan given later Reads ended
-watched_with t plan given before later Reads (Ok answer) ran some answered =
-    record { answer = answer; ran = ran answer answered; given_if = refl }
-watched_with t plan given before later Reads (Err refused) ran some answered =
-    record { answer = some.0; ran = ran some.0 some.1; given_if = tt }
+-- ---- a run whose reader reads nothing
 
--- where the end of the job was told there is an answer
-pub some_answer : (P : RunAnswer → Type 0) (ended : Ended) → TellsEnd ended → IfOk ended P →
-    (a : RunAnswer) × P a
-some_answer P (Ok answer) ends told = (answer, told)
-some_answer P (Err refused) ends told = absurd ends
+module _ {P H : Type 0} (t : Task) (plan : PlanData) (given later : SeatData) (first : P)
+    (Hears : P → Ended → H → Type 0) (heard : H) where
+  abbrev Nothing : SeatData → SeatData → P → Type 0
+  Nothing before after reader = (after ≡ before) × (reader ≡ first)
+
+  -- what became of it
+  pub ran_unread : (ended : Ended) →
+      ReadsUnlessRefused t plan given first Nothing Hears later ended heard →
+      IfOk ended (HasRunBeside t plan given later)
+  ran_unread (Err refused) h = tt
+  ran_unread (Ok answer) (inl alone) = absurd alone.0
+  ran_unread (Ok answer) (inr h) =
+      let by = h.ran.beside in
+      let still : by.reader ≡ by.before = by.reads.reads.0 in
+      subst (λ (a : RunAnswer). HasRunBeside t plan given later a) (sym h.given_if) (record {
+        started = h.ran.started;
+        most = h.ran.most;
+        all = h.ran.all;
+        seat = h.ran.seat;
+        obeyed = h.ran.obeyed;
+        looker = h.ran.looker;
+        beside = looked_more given by.before h.ran.looker by.waited
+            (subst (λ (s : SeatData). HasLooked s h.ran.looker) still by.looks);
+        answered = h.ran.answered;
+      })
+
+  -- what was heard
+  pub heard_unread : (ended : Ended) →
+      ReadsUnlessRefused t plan given first Nothing Hears later ended heard →
+      Hears first ended heard
+  heard_unread ended (inl alone) = alone.1
+  heard_unread ended (inr h) =
+      let reads = h.ran.beside.reads in
+      subst (λ (p : P). Hears p ended heard) reads.reads.1 reads.hears

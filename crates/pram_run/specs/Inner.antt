@@ -1,7 +1,8 @@
 -- How far a replay has come, and what threads give back, for the contracts of their parts.
 pub mod Progress
 pub mod Obeying
-pub mod Posted
+pub mod Sharing
+pub mod Teams
 pub mod Printing
 pub mod Reading
 pub mod Hearing

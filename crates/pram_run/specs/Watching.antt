@@ -10,7 +10,7 @@ use Rattle.lawful_walk.specs.Seen.{KnowsStep}
 use Rattle.pram_board.specs.declared.task.Task.{Task}
 use Rattle.stop_plan.specs.Plan.{PlanData}
 use Rattle.pram_board.specs.Seats.{SeatData, WasRead, unites}
-use Rattle.pram_run.specs.Heard.{Ended}
+use Rattle.pram_run.specs.Heard.{Ended, HasRunWith}
 use Rattle.pram_run.specs.Obeyed.{AllObeyed, HasLooked, IsAnswered}
 use Rattle.pram_run.specs.declared.assignment.Observation.{Observation}
 use Rattle.pram_run.specs.declared.sight.Sight.{Sight}
@@ -55,38 +55,42 @@ pub record HasWatched (task : Task) (plan : PlanData) (cells : List ℕ) (rounds
   pub watch : IsWatch task cells rounds given sights reader
   pub answered : IsAnswered task plan (unites seat reader) later answer
 
--- The plan's workers obeyed it from the given seat. A reader did this beside them, and then looked
--- at the board; the seat that joins theirs, the reader's last, looked at it too, which told the
--- answer.
-pub record HasReadBeside (task : Task) (plan : PlanData) (given later : SeatData)
-    (answer : RunAnswer) (Reads : SeatData → Type 0) : Type 0 where
-  pub seat : SeatData
-  pub obeyed : AllObeyed task plan.rows given plan.workers seat
+-- Beside so many workers of the plan a reader did this, and then looked at the board: from the
+-- given seat if these were all, and else from one that had looked at it.
+pub record ReadsBeside (plan : PlanData) (given : SeatData) (Reads : SeatData → SeatData → Type 0)
+    (started : ℕ) (looker : SeatData) : Type 0 where
+  pub before : SeatData
+  pub waited : HasLooked given before
+  pub at_once : started ≡ plan.workers → before ≡ given
   pub reader : SeatData
-  pub reads : Reads reader
-  pub looker : SeatData
-  pub beside : HasLooked reader looker
-  pub answered : IsAnswered task plan (unites seat looker) later answer
+  pub reads : Reads before reader
+  pub looks : HasLooked reader looker
+
+-- A run with a reader that did this.
+abbrev pub HasReadBeside : Task → PlanData → SeatData → SeatData → RunAnswer →
+    (SeatData → SeatData → Type 0) → Type 0
+HasReadBeside task plan given later answer Reads =
+    HasRunWith (ReadsBeside plan given Reads) task plan given later answer
 
 -- So a reader did, and this answer was given if memory was.
 pub record HasWatchedWith (task : Task) (plan : PlanData) (given later : SeatData)
-    (Reads : SeatData → Type 0) (ended : Ended) : Type 0 where
+    (Reads : SeatData → SeatData → Type 0) (ended : Ended) : Type 0 where
   pub answer : RunAnswer
   pub ran : HasReadBeside task plan given later answer Reads
   pub given_if : IfOk ended (λ found. found ≡ answer)
 
--- A reader read so up to a seat, and what it was then heard how the run ended.
-pub record ReadsAndHears {P H : Type 0} (Reads : SeatData → P → Type 0)
-    (Hears : P → Ended → H → Type 0) (ended : Ended) (heard : H) (later : SeatData)
+-- A reader read so from a seat to a later one, and what it was then heard how the run ended.
+pub record ReadsAndHears {P H : Type 0} (Reads : SeatData → SeatData → P → Type 0)
+    (Hears : P → Ended → H → Type 0) (ended : Ended) (heard : H) (before later : SeatData)
     : Type 0 where
   pub after : P
-  pub reads : Reads later after
+  pub reads : Reads before later after
   pub hears : Hears after ended heard
 
--- The reader heard of a refusal, and did not read; or it read beside the plan's workers, from the
--- given seat to a later one, and then heard how the run ended.
+-- The reader heard that the run is out of memory, and did not read; or it read beside the plan's
+-- workers, and then heard how the run ended.
 abbrev pub ReadsUnlessRefused : {P H : Type 0} → Task → PlanData → SeatData → P →
-    (SeatData → P → Type 0) → (P → Ended → H → Type 0) → SeatData → Ended → H → Type 0
+    (SeatData → SeatData → P → Type 0) → (P → Ended → H → Type 0) → SeatData → Ended → H → Type 0
 ReadsUnlessRefused task plan given reader Reads Hears later ended heard =
     (OnOk ended ⊥ × Hears reader ended heard)
     ⊎ HasWatchedWith task plan given later (ReadsAndHears Reads Hears ended heard) ended

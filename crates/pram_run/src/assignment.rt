@@ -17,6 +17,22 @@ pub struct Assignment<'a, G> {
     pub ghost workers: { board.now.task.layout.workers ≡ plan.now.workers },
 }
 
+impl<'a, G> Assignment<'a, G> {
+    pub(crate) fn new(job: &'a Job, board: &'a Board, plan: &'a Plan, gate: &'a G) -> Self
+        requires opened { board.now.task.job ≡ job.now }
+        requires workers { board.now.task.layout.workers ≡ plan.now.workers }
+        ensures board { result.board.now ≡ board.now }
+        ensures plan { result.plan.now ≡ plan.now }
+    {
+        Assignment {
+            job,
+            board,
+            plan,
+            gate,
+        }
+    }
+}
+
 /// What the workers of a watch go over, and what its reader reads: so many rounds through cells of
 /// the job. What was read goes out after a round, once so many reads wait.
 #[derive(Drop)]

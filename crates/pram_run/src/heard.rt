@@ -1,45 +1,54 @@
-//! Runs whose answer is heard before their threads are joined.
-ghost use Rattle.std.specs.Prelude.{◌≡◌, ◌↔◌, ◌<◌, ℕ, IfOk, IsTrue, vec_len, slice_index_or};
+//! Runs with a reader beside the workers, which hears the answer before their threads are joined.
+ghost use Rattle.std.specs.Prelude.{◌≡◌, ◌⊎◌, ◌↔◌, ◌<◌, ◌≤◌, All, IfOk, IsTrue, vec_capacity};
+ghost use Rattle.std.specs.Prelude.{vec_len};
 ghost use Rattle.lawful_walk.specs.Seen.{BeginsWith};
-ghost use Rattle.pram_run.specs.Heard.{HasRunBeside, HasRunOf};
-ghost use Rattle.pram_run.specs.Inner.Hearing.{HasTold, IsJoined, TellsEnd};
-ghost use Rattle.pram_run.specs.Inner.Obeying.{GoesOn, IsToObey};
+ghost use Rattle.pram_run.specs.Inner.Hearing.{HasEnded, HasTold, IsJoined, TellsEnd, ToldEnd};
+ghost use Rattle.pram_run.specs.Inner.Obeying.{GoesOn};
+ghost use Rattle.pram_run.specs.Inner.Sharing.{board_of, plan_of, task_of};
+ghost use Rattle.pram_run.specs.Inner.Teams.{IsAtWork};
 ghost use Rattle.pram_run.specs.Obeyed.{HasLooked};
 ghost use Rattle.pram_run.specs.Running.{IsBoardFor, IsUnfinished, Tells};
+ghost use Rattle.pram_run.specs.Watching.{ReadsUnlessRefused, most_waiting};
+ghost use Rattle.pram_step.specs.declared.answer.RunAnswer.{RunAnswer};
 
-use crate::assignment::Assignment;
+use crate::assignment::{Assignment, Observation};
 use crate::bell::Bell;
-use crate::crew::Crew;
 use crate::ending::answer;
-use crate::listener::Listener;
-use crate::runner::{Obeyed, join_all, start_all};
-use pram_board::{Board, Seat};
-use pram_job::Job;
+use crate::listener::{Listener, Reads};
+use crate::runner::{Team, join_all, start_all};
+use crate::shared::Shared;
+use crate::sight::Sight;
+use pram_board::Seat;
 use pram_step::RunAnswer;
 use std::alloc::{AllocError, Global};
 use std::sync::Wait;
 use std::thread;
-use std::thread::{PromisedHandle, Scope, Threads};
-use stop_plan::{Gate, Plan};
+use std::thread::{Scope, Threads};
+use stop_plan::Gate;
 
-/// Does what `run` does, and the listener hears the answer as soon as a worker knows it: before the
-/// threads are joined, though some of them may be kept from going on. A thread that is refused is a
-/// worker that takes no part: without its help the answer is the same, and where the workers that
-/// were started do not come to the end, that is out of memory.
-pub fn run_heard<R: Threads + Wait, G: Gate + Sync, H, L: Listener<Heard = H>>(
+/// Does what `run` does, with a reader beside the workers, which reads on the calling thread and
+/// then hears the answer as soon as a worker knows it: before the threads are joined, though some
+/// of them may be kept from going on. A thread that is refused is a worker that takes no part: the
+/// reader then waits until the others come to the end. Where they do not, that is out of memory;
+/// the reader hears it, and does not read.
+pub fn run_heard<R: Threads + Wait, G: Gate + Sync, H, P: Reads<Heard = H>>(
     rt: &R,
     alloc: Global,
-    assignment: &Assignment<'_, G>,
+    observation: &Observation<'_, '_, G>,
     seat: Seat,
-    listener: L,
+    reader: P,
 ) -> (Seat, Result<RunAnswer, AllocError>, H)
-    requires seat { seat.desk ≡ assignment.now.board.now }
-    requires listener { L.can_hear listener }
-    ensures ran { IfOk result.1 (HasRunOf assignment.now seat result.0) }
-    ensures heard { L.hears listener result.1 result.2 }
+    requires reader { P.can_read reader }
+    requires listener { P.can_hear reader }
+    requires seat { seat.desk ≡ observation.now.assignment.board.now }
+    ensures ran { let seen = observation.now in let task = seen.assignment.board.now.task in
+        ReadsUnlessRefused task seen.assignment.plan.now seat reader
+        (P.reads reader task seen.cells.now seen.rounds) P.hears result.0 result.1 result.2 }
     ensures begins { BeginsWith seat.record_of result.0.record_of }
-    ensures desk { result.0.desk ≡ assignment.now.board.now }
+    ensures desk { result.0.desk ≡ observation.now.assignment.board.now }
 {
+    let (cells, rounds, piece) = (observation.cells, observation.rounds, observation.piece);
+    let assignment = &observation.assignment;
     let (job, board) = (assignment.job, assignment.board);
     let (plan, gate) = (assignment.plan, assignment.gate);
     let bell = &Bell::new();
@@ -47,85 +56,155 @@ pub fn run_heard<R: Threads + Wait, G: Gate + Sync, H, L: Listener<Heard = H>>(
         thread::scope_env(),
         rt,
         |scope| -> (Seat, Result<RunAnswer, AllocError>, H)
+            requires within { All (λ c. c < board.now.task.job.cells) cells.now }
             requires given { IsBoardFor job.now plan.now board.now seat }
-            requires listener { L.can_hear listener }
-            ensures ran { IfOk result.1
-                (HasRunBeside board.entry.now.task plan.entry.now seat result.0) }
-            ensures heard { L.hears listener result.1 result.2 }
+            requires reader { P.can_read reader }
+            requires listener { P.can_hear reader }
+            ensures ran { ReadsUnlessRefused board.entry.now.task plan.entry.now seat reader
+                (P.reads reader board.entry.now.task cells.entry.now rounds)
+                P.hears result.0 result.1 result.2 }
             ensures goes_on { GoesOn seat result.0 }
         {
-            let crew = Crew::new(board, plan, gate, bell);
-            let shift = Shift { alloc, job, crew };
-            work_heard(scope, rt, &shift, seat, listener)
+            let observation = Observation {
+                assignment: Assignment::new(job, board, plan, gate),
+                cells,
+                rounds,
+                piece,
+            };
+            let shared = Shared {
+                alloc,
+                observation,
+                bell,
+            };
+            work_beside(scope, rt, &shared, seat, reader)
         },
     )
 }
 
-/// A crew, the job that it works on, and where memory comes from.
-#[derive(Drop)]
-pub(crate) struct Shift<'c, 'a, G> {
-    pub alloc: Global,
-    pub job: &'a Job,
-    pub crew: Crew<'c, G>,
-    pub ghost opened: { crew.board.now.task.job ≡ job.now },
-}
-
-// Starts a thread of the scope for each worker, has the listener hear how the run ended, before
-// the threads are joined if the board tells the end by then, and joins them all.
-fn work_heard<'s, E, R: Threads + Wait, G: Gate + Sync, H, L: Listener<Heard = H>>(
+// Starts a thread of the scope for each worker, and reads beside them, once that is sure to have an
+// answer.
+fn work_beside<'s, E, R: Threads + Wait, G: Gate + Sync, H, P: Reads<Heard = H>>(
     scope: &Scope<'s, E>,
     rt: &R,
-    shift: &Shift<'s, 's, G>,
+    shared: &Shared<'s, 's, 's, G>,
     seat: Seat,
-    listener: L,
+    reader: P,
 ) -> (Seat, Result<RunAnswer, AllocError>, H)
-    requires seat { seat.desk ≡ shift.now.crew.board.now }
-    requires listener { L.can_hear listener }
-    ensures ran { IfOk result.1
-        (HasRunBeside shift.now.crew.board.now.task shift.now.crew.plan.now seat result.0) }
-    ensures heard { L.hears listener result.1 result.2 }
+    requires reader { P.can_read reader }
+    requires listener { P.can_hear reader }
+    requires seat { seat.desk ≡ board_of shared.now }
+    ensures ran { let seen = shared.now.observation in let task = task_of shared.now in
+        ReadsUnlessRefused task (plan_of shared.now) seat reader
+        (P.reads reader task seen.cells.now seen.rounds) P.hears result.0 result.1 result.2 }
     ensures goes_on { GoesOn seat result.0 }
 {
-    let crew = &shift.crew;
-    let Ok(mut threads) = Vec::with_capacity(shift.alloc, crew.plan.workers() as usize) else {
-        let refused = Err(AllocError);
-        let heard = listener.hear(&refused);
+    let refused = Err(AllocError);
+    let Ok(mut sights) = room_for_pieces(shared) else {
+        let heard = reader.hear(&refused);
         return (seat, refused, heard);
     };
-    let (seat, looker) = crew.board.split(seat);
-    let (seat, started) = start_all(scope, crew, seat, &mut threads);
-    let (looker, early) = await_end(rt, shift, looker, threads.len() as u64);
+    let observation = &shared.observation;
+    let (seat, theirs) = observation.assignment.board.split(seat);
+    let team = start_all(scope, shared, seat);
+    let (mut theirs, answers) = await_missing(rt, shared, &team, theirs);
+    if !answers {
+        let heard = reader.hear(&refused);
+        let seat = join_beside(rt, shared, team, theirs);
+        return (seat, refused, heard);
+    }
+    let reader = reader.read(observation, &mut theirs, &mut sights);
+    hear_end(rt, shared, team, theirs, reader)
+}
+
+// An empty list with room for the reads that wait, and for a round.
+fn room_for_pieces<G>(shared: &Shared<'_, '_, '_, G>) -> Result<Vec<Sight>, AllocError>
+    ensures empty { IfOk result (λ v. vec_len v ≡ 0) }
+    ensures room { IfOk result (λ v. most_waiting shared.now.observation ≤ vec_capacity v) }
+{
+    let observation = &shared.observation;
+    let waiting = observation.piece.checked_add(observation.cells.len());
+    Vec::with_capacity(shared.alloc, waiting.ok_or(AllocError)?)
+}
+
+// Where a worker is missing, looks at the board until the others have come to the end. Whether
+// there is sure to be an answer.
+fn await_missing<R: Wait, G>(
+    rt: &R,
+    shared: &Shared<'_, '_, '_, G>,
+    team: &Team<'_>,
+    seat: Seat,
+) -> (Seat, bool)
+    requires { seat.desk ≡ board_of shared.now }
+    ensures looked { HasLooked seat result.0 }
+    ensures whole { vec_len team.now.threads ≡ (plan_of shared.now).workers → result.0 ≡ seat }
+    ensures answers { IsTrue result.1 → (vec_len team.now.threads ≡ (plan_of shared.now).workers)
+        ⊎ ToldEnd (task_of shared.now) result.0.record_of }
+{
+    if team.is_whole(shared) {
+        return (seat, true);
+    }
+    let (seat, told) = await_end(rt, shared, team, seat);
+    let ends = tells_end(&told);
+    (seat, ends)
+}
+
+// Has the reader hear how the run ended, before the threads are joined if the board tells the end
+// by then, and joins them all.
+fn hear_end<'s, R: Threads + Wait, G: Gate + Sync, L: Listener>(
+    rt: &R,
+    shared: &Shared<'s, 's, 's, G>,
+    team: Team<'s>,
+    seat: Seat,
+    listener: L,
+) -> (Seat, Result<RunAnswer, AllocError>, L::Heard)
+    requires listener { L.can_hear listener }
+    requires team { IsAtWork (plan_of shared.now) team.seat team }
+    requires desk { team.seat.desk ≡ board_of shared.now }
+    requires seat { GoesOn team.seat seat }
+    requires answers { (vec_len team.threads ≡ (plan_of shared.now).workers)
+        ⊎ ToldEnd (task_of shared.now) seat.record_of }
+    ensures ended { HasEnded (task_of shared.now) (plan_of shared.now) team.entry.seat
+        (vec_len team.entry.threads) seat result.0 result.1 }
+    ensures heard { L.hears listener result.1 result.2 }
+    ensures goes_on { GoesOn team.entry.seat result.0 }
+{
+    let (looker, early) = await_end(rt, shared, &team, seat);
     if tells_end(&early) {
         let heard = listener.hear(&early);
-        let seat = join_beside(rt, crew, seat, looker, threads);
+        let seat = join_beside(rt, shared, team, looker);
         return (seat, early, heard);
     }
-    let seat = join_beside(rt, crew, seat, looker, threads);
-    let (seat, ended) = last_answer(shift, seat, started.is_ok());
+    let whole = team.is_whole(shared);
+    let seat = join_beside(rt, shared, team, looker);
+    let (seat, ended) = last_answer(shared, seat, whole);
     let heard = listener.hear(&ended);
     (seat, ended, heard)
 }
 
-/// Looks at the board whenever a worker has left, until it tells the end, memory is refused, or all
-/// of them have left.
-pub(crate) fn await_end<R: Wait, G>(
+// Looks at the board whenever a worker has left, until it tells the end, memory is refused, or all
+// that were started have left.
+fn await_end<R: Wait, G>(
     rt: &R,
-    shift: &Shift<'_, '_, G>,
+    shared: &Shared<'_, '_, '_, G>,
+    team: &Team<'_>,
     mut seat: Seat,
-    workers: u64,
 ) -> (Seat, Result<RunAnswer, AllocError>)
-    requires { seat.desk ≡ shift.now.crew.board.now }
-    ensures told { IfOk result.1 (Tells shift.now.crew.board.now.task result.0.record_of) }
+    requires { seat.desk ≡ board_of shared.now }
+    ensures told { IfOk result.1 (Tells (task_of shared.now) result.0.record_of) }
     ensures looked { HasLooked seat result.0 }
 {
-    let (board, bell) = (shift.crew.board, shift.crew.bell);
+    let workers = team.threads.len() as u64;
+    let (job, board) = (
+        shared.observation.assignment.job,
+        shared.observation.assignment.board,
+    );
     for _ in rt.forever() {
-        let all_left = bell.left() >= workers;
-        let told = answer(shift.alloc, shift.job, board, &mut seat);
+        let all_left = shared.bell.left() >= workers;
+        let told = answer(shared.alloc, job, board, &mut seat);
         if all_left || !may_end_yet(&told) {
             return (seat, told);
         }
-        bell.wait(rt);
+        shared.bell.wait(rt);
     }
     unreachable!()
 }
@@ -136,7 +215,7 @@ fn may_end_yet(told: &Result<RunAnswer, AllocError>) -> bool {
 }
 
 /// Whether this is the job's one answer, and not how far it was seen.
-pub(crate) fn tells_end(ended: &Result<RunAnswer, AllocError>) -> bool
+fn tells_end(ended: &Result<RunAnswer, AllocError>) -> bool
     ensures { IsTrue result ↔ TellsEnd ended.now }
 {
     match ended {
@@ -145,23 +224,21 @@ pub(crate) fn tells_end(ended: &Result<RunAnswer, AllocError>) -> bool
     }
 }
 
-/// Joins the threads, and then the seat that looked at the board beside them.
-pub(crate) fn join_beside<'s, R: Threads, G: Gate + Sync>(
+// Joins the threads, and then the seat that looked at the board beside them.
+fn join_beside<'s, R: Threads, G: Gate + Sync>(
     rt: &R,
-    crew: &Crew<'s, G>,
-    seat: Seat,
+    shared: &Shared<'s, 's, 's, G>,
+    team: Team<'s>,
     looker: Seat,
-    threads: Vec<PromisedHandle<Seat, Obeyed<'s>>>,
 ) -> Seat
-    requires seat { seat.desk ≡ crew.now.board.now }
-    requires looker { GoesOn seat looker }
-    requires promised { (k : ℕ) (d : _) → k < vec_len threads →
-        IsToObey crew.now.plan.now.rows k seat (slice_index_or threads.items k d).promise }
-    ensures { IsJoined crew.now.board.now.task crew.now.plan.now seat looker
-        (vec_len threads.entry) result }
+    requires team { IsAtWork (plan_of shared.now) team.seat team }
+    requires desk { team.seat.desk ≡ board_of shared.now }
+    requires looker { GoesOn team.seat looker }
+    ensures { IsJoined (task_of shared.now) (plan_of shared.now) team.entry.seat looker
+        (vec_len team.entry.threads) result }
 {
-    let seat = join_all(rt, crew.board, seat, crew.plan, threads);
-    let seat = crew.board.join(seat, looker);
+    let seat = join_all(rt, shared, team);
+    let seat = shared.observation.assignment.board.join(seat, looker);
     seat.facts();
     seat
 }
@@ -169,16 +246,18 @@ pub(crate) fn join_beside<'s, R: Threads, G: Gate + Sync>(
 // What the board tells after the last join. Where a worker is missing, an end that was not reached
 // is out of memory.
 fn last_answer<G>(
-    shift: &Shift<'_, '_, G>,
+    shared: &Shared<'_, '_, '_, G>,
     mut seat: Seat,
     all_started: bool,
 ) -> (Seat, Result<RunAnswer, AllocError>)
-    requires { seat.desk ≡ shift.now.crew.board.now }
-    ensures told { IfOk result.1 (HasTold shift.now.crew.board.now.task seat result.0) }
+    requires { seat.desk ≡ board_of shared.now }
+    ensures told { IfOk result.1 (HasTold (task_of shared.now) seat result.0) }
     ensures looked { HasLooked seat result.0 }
     ensures all { IfOk result.1 (λ answer. IsUnfinished answer → IsTrue all_started) }
+    ensures some { (answer : RunAnswer) × HasTold (task_of shared.now) seat result.0 answer }
 {
-    let told = answer(shift.alloc, shift.job, shift.crew.board, &mut seat);
+    let assignment = &shared.observation.assignment;
+    let told = answer(shared.alloc, assignment.job, assignment.board, &mut seat);
     if all_started {
         return (seat, told);
     }

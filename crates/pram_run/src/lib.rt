@@ -4,7 +4,6 @@
 mod assignment;
 mod bell;
 mod cell_names;
-mod crew;
 mod ending;
 mod heard;
 mod listener;
@@ -12,16 +11,16 @@ mod observation;
 mod print;
 mod runner;
 mod schedule;
+mod shared;
 mod sight;
-mod tower;
 mod trace;
 mod watcher;
 
 pub use assignment::{Assignment, Observation};
 pub use cell_names::{CellNames, Numbers};
 pub use heard::run_heard;
-pub use listener::Listener;
-pub use observation::{Reads, print_reads, watch_heard};
+pub use listener::{Listener, Reads, ReadsNothing};
+pub use observation::print_reads;
 pub use print::{OutFault, print_sights, print_trace, write_trace};
 pub use runner::run;
 pub use schedule::{replay, replay_to};

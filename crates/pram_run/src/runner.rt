@@ -1,17 +1,18 @@
 //! A plan obeyed on threads, one for each worker, over a board.
-ghost use Rattle.std.specs.Prelude.{◌≡◌, ℕ, ◌<◌, ◌≤◌, IfOk, OnOk, vec_len};
-ghost use Rattle.std.specs.Prelude.{vec_capacity, slice_index_or};
+ghost use Rattle.std.specs.Prelude.{◌≡◌, ℕ, ◌<◌, ◌↔◌, IfOk, IsTrue, OnOk, vec_len};
 ghost use Rattle.pram_board.specs.Worked.{Works};
 ghost use Rattle.walkx.specs.Walk.{started};
 ghost use Rattle.lawful_walk.specs.Seen.{BeginsWith};
 ghost use Rattle.pram_run.specs.Inner.Obeying.{AllWorked, EndsOrStops, GoesOn, HasObeyed};
-ghost use Rattle.pram_run.specs.Inner.Obeying.{IsToObey};
+ghost use Rattle.pram_run.specs.Inner.Sharing.{board_of, plan_of, task_of};
+ghost use Rattle.pram_run.specs.Inner.Teams.{IsAtWork};
 ghost use Rattle.pram_run.specs.Obeyed.{AllObeyed, DoesRow, HasRun, Obeys};
 ghost use Rattle.pram_run.specs.Running.{IsBoardFor};
 
+use crate::assignment::{Assignment, Observation};
 use crate::bell::Bell;
-use crate::crew::{Crew, Pacing};
 use crate::ending::answer;
+use crate::shared::{Pacing, Shared};
 use pram_board::{Board, Seat};
 use pram_job::Job;
 use pram_step::RunAnswer;
@@ -47,14 +48,23 @@ pub fn run<R: Threads + Wait, G: Gate + Sync>(
         thread::scope_env(),
         rt,
         |scope| -> (Seat, Result<(), AllocError>)
-            requires workers { board.now.task.layout.workers ≡ plan.now.workers }
-            requires seat { seat.desk ≡ board.now }
+            requires given { IsBoardFor job.now plan.now board.now seat }
             ensures worked { OnOk result.1
                 (AllWorked board.entry.now.task plan.entry.now seat result.0) }
             ensures goes_on { GoesOn seat result.0 }
         {
-            let crew = Crew::new(board, plan, gate, bell);
-            work_in(scope, rt, alloc, &crew, seat)
+            let observation = Observation {
+                assignment: Assignment::new(job, board, plan, gate),
+                cells: &[],
+                rounds: 0,
+                piece: 0,
+            };
+            let shared = Shared {
+                alloc,
+                observation,
+                bell,
+            };
+            work_in(scope, rt, &shared, seat)
         },
     );
     if let Err(refused) = worked {
@@ -68,20 +78,22 @@ pub fn run<R: Threads + Wait, G: Gate + Sync>(
 pub(crate) fn work_in<'s, E, R: Threads, G: Gate + Sync>(
     scope: &Scope<'s, E>,
     rt: &R,
-    alloc: Global,
-    crew: &Crew<'s, G>,
+    shared: &Shared<'s, 's, 's, G>,
     seat: Seat,
 ) -> (Seat, Result<(), AllocError>)
-    requires seat { seat.desk ≡ crew.now.board.now }
+    requires { seat.desk ≡ board_of shared.now }
     ensures worked { OnOk result.1
-        (AllWorked crew.now.board.now.task crew.now.plan.now seat result.0) }
+        (AllWorked (task_of shared.now) (plan_of shared.now) seat result.0) }
     ensures goes_on { GoesOn seat result.0 }
 {
-    let Ok(mut threads) = Vec::with_capacity(alloc, crew.plan.workers() as usize) else {
-        return (seat, Err(AllocError));
-    };
-    let (seat, started) = start_all(scope, crew, seat, &mut threads);
-    (join_all(rt, crew.board, seat, crew.plan, threads), started)
+    let team = start_all(scope, shared, seat);
+    let whole = team.is_whole(shared);
+    let seat = join_all(rt, shared, team);
+    if whole {
+        (seat, Ok(()))
+    } else {
+        (seat, Err(AllocError))
+    }
 }
 
 /// What a worker's thread gives back: the seat that comes of obeying its rows from the one that the
@@ -97,24 +109,39 @@ impl<'a> Promise<Seat> for Obeyed<'a> {
     ghost kept_by = { λ p seat. HasObeyed p.rows.now p.worker p.before.value seat };
 }
 
+/// Threads of the first workers of a plan, and the seat that theirs were split from.
+#[derive(Drop)]
+pub(crate) struct Team<'s> {
+    pub seat: Seat,
+    pub threads: Vec<PromisedHandle<Seat, Obeyed<'s>>>,
+}
+
+impl Team<'_> {
+    /// Whether no worker is missing.
+    pub fn is_whole<G>(&self, shared: &Shared<'_, '_, '_, G>) -> bool
+        ensures { IsTrue result ↔ (vec_len self.now.threads ≡ (plan_of shared.now).workers) }
+    {
+        self.threads.len() == shared.observation.assignment.plan.workers() as usize
+    }
+}
+
 /// Starts a thread for each worker, until one is refused. Each rings the bell as it leaves.
 pub(crate) fn start_all<'s, E, G: Gate + Sync>(
     scope: &Scope<'s, E>,
-    crew: &Crew<'s, G>,
+    shared: &Shared<'s, 's, 's, G>,
     mut seat: Seat,
-    threads: &mut Vec<PromisedHandle<Seat, Obeyed<'s>>>,
-) -> (Seat, Result<(), AllocError>)
-    requires seat { seat.desk ≡ crew.now.board.now }
-    requires empty { vec_len threads.old ≡ 0 }
-    requires room { crew.now.plan.now.workers ≤ vec_capacity threads.old }
-    ensures seat { result.0 ≡ seat }
-    ensures promised { (k : ℕ) (d : _) → k < vec_len threads.new →
-        IsToObey crew.now.plan.now.rows k seat (slice_index_or threads.new.items k d).promise }
-    ensures most { vec_len threads.new ≤ crew.now.plan.now.workers }
-    ensures all { OnOk result.1 (vec_len threads.new ≡ crew.now.plan.now.workers) }
+) -> Team<'s>
+    requires { seat.desk ≡ board_of shared.now }
+    ensures { IsAtWork (plan_of shared.now) seat result }
 {
-    let (board, plan) = (crew.board, crew.plan);
-    let (gate, bell) = (crew.gate, crew.bell);
+    let assignment = &shared.observation.assignment;
+    let (board, plan) = (assignment.board, assignment.plan);
+    let (gate, bell) = (assignment.gate, shared.bell);
+    let count = plan.workers() as usize;
+    let Ok(mut threads) = Vec::with_capacity(shared.alloc, count) else {
+        let threads = Vec::new(shared.alloc);
+        return Team { seat, threads };
+    };
     for worker in 0..plan.workers() {
         let (mine, theirs) = board.split(seat);
         seat = mine;
@@ -138,27 +165,28 @@ pub(crate) fn start_all<'s, E, G: Gate + Sync>(
         };
         match scope.spawn_with(promise, work) {
             Ok(thread) => threads.push_reserved(thread),
-            Err(_) => return (seat, Err(AllocError)),
+            Err(_) => break,
         }
     }
-    (seat, Ok(()))
+    Team { seat, threads }
 }
 
-/// Joins the threads, and their seats to this one.
-pub(crate) fn join_all<'s, R: Threads>(
+/// Joins the threads, and their seats to the one that they were split from.
+pub(crate) fn join_all<'s, R: Threads, G>(
     rt: &R,
-    board: &Board,
-    mut seat: Seat,
-    plan: &'s Plan,
-    threads: Vec<PromisedHandle<Seat, Obeyed<'s>>>,
+    shared: &Shared<'s, 's, 's, G>,
+    team: Team<'s>,
 ) -> Seat
-    requires seat { seat.desk ≡ board.now }
-    requires promised { (k : ℕ) (d : _) → k < vec_len threads →
-        IsToObey plan.now.rows k seat (slice_index_or threads.items k d).promise }
-    ensures ends { (k : ℕ) → k < vec_len threads.entry → EndsOrStops plan.now.rows k result }
-    ensures obeyed { AllObeyed board.now.task plan.now.rows seat (vec_len threads.entry) result }
-    ensures goes_on { GoesOn seat result }
+    requires seat { team.seat.desk ≡ board_of shared.now }
+    requires team { IsAtWork (plan_of shared.now) team.seat team }
+    ensures ends { (k : ℕ) → k < vec_len team.entry.threads →
+        EndsOrStops (plan_of shared.now).rows k result }
+    ensures obeyed { AllObeyed (task_of shared.now) (plan_of shared.now).rows team.entry.seat
+        (vec_len team.entry.threads) result }
+    ensures goes_on { GoesOn team.entry.seat result }
 {
+    let board = shared.observation.assignment.board;
+    let Team { mut seat, threads } = team;
     for thread in threads {
         seat = board.join(seat, thread.join(rt));
     }

@@ -5,13 +5,15 @@ ghost use Rattle.walkx.specs.declared.operation.Reading.TheVariants.{At};
 ghost use Rattle.lawful_walk.specs.Seen.{BeginsWith};
 ghost use Rattle.pram_run.specs.Inner.Obeying.{AllEndOrStop, GoesOn, IsToWatch};
 ghost use Rattle.pram_run.specs.Inner.Reading.{IsWatchJoined, ReadsRound};
+ghost use Rattle.pram_run.specs.Inner.Sharing.{board_of, plan_of, task_of};
 ghost use Rattle.pram_run.specs.Running.{IsBoardFor};
 ghost use Rattle.pram_run.specs.Watching.{HasWatched, IsWatch};
 
+use crate::assignment::{Assignment, Observation};
 use crate::bell::Bell;
-use crate::crew::Crew;
 use crate::ending::answer;
 use crate::runner::work_in;
+use crate::shared::Shared;
 use crate::sight::Sight;
 use pram_board::{Board, Seat};
 use pram_job::Job;
@@ -51,21 +53,25 @@ pub fn watch<R: Threads + Wait, G: Gate + Sync>(
         thread::scope_env(),
         rt,
         |scope| -> (Seat, Result<Vec<Sight>, AllocError>)
-            requires workers { board.now.task.layout.workers ≡ plan.now.workers }
-            requires seat { seat.desk ≡ board.now }
+            requires given { IsBoardFor job.now plan.now board.now seat }
             requires within { All (λ c. c < board.now.task.job.cells) cells.now }
             ensures ends { IfOk result.1 (λ sights. AllEndOrStop plan.entry.now result.0) }
             ensures sights { IfOk result.1 (λ sights. IsWatchJoined board.entry.now.task
                 plan.entry.now cells.entry.now rounds seat sights.items result.0) }
             ensures goes_on { GoesOn seat result.0 }
         {
-            let crew = Crew::new(board, plan, gate, bell);
-            let lookout = Lookout {
-                crew,
+            let observation = Observation {
+                assignment: Assignment::new(job, board, plan, gate),
                 cells,
                 rounds,
+                piece: 0,
             };
-            watch_in(scope, rt, alloc, &lookout, seat)
+            let shared = Shared {
+                alloc,
+                observation,
+                bell,
+            };
+            watch_in(scope, rt, &shared, seat)
         },
     );
     let sights = match watched {
@@ -76,15 +82,6 @@ pub fn watch<R: Threads + Wait, G: Gate + Sync>(
         Ok(answer) => (seat, Ok((answer, sights))),
         Err(refused) => (seat, Err(refused)),
     }
-}
-
-// A crew, and what a reader beside it reads: so many rounds through cells of the job.
-#[derive(Drop)]
-struct Lookout<'c, 'a, G> {
-    crew: Crew<'c, G>,
-    cells: &'a [u32],
-    rounds: u32,
-    ghost within: { All (λ c. c < crew.board.now.task.job.cells) cells.now },
 }
 
 /// What the reader's thread gives back: the seat after its reads, and what they told.
@@ -104,25 +101,24 @@ impl<'a> Promise<(Seat, Vec<Sight>)> for Watched<'a> {
 fn watch_in<'s, E, R: Threads, G: Gate + Sync>(
     scope: &Scope<'s, E>,
     rt: &R,
-    alloc: Global,
-    lookout: &Lookout<'s, 's, G>,
+    shared: &Shared<'s, 's, 's, G>,
     seat: Seat,
 ) -> (Seat, Result<Vec<Sight>, AllocError>)
-    requires seat { seat.desk ≡ lookout.now.crew.board.now }
-    ensures ends { IfOk result.1 (λ sights. AllEndOrStop lookout.now.crew.plan.now result.0) }
-    ensures sights { IfOk result.1 (λ sights. IsWatchJoined lookout.now.crew.board.now.task
-        lookout.now.crew.plan.now lookout.now.cells.now lookout.now.rounds seat sights.items
-        result.0) }
+    requires { seat.desk ≡ board_of shared.now }
+    ensures ends { IfOk result.1 (λ sights. AllEndOrStop (plan_of shared.now) result.0) }
+    ensures sights { IfOk result.1 (λ sights. let seen = shared.now in
+        IsWatchJoined (task_of seen) (plan_of seen) seen.observation.cells.now
+        seen.observation.rounds seat sights.items result.0) }
     ensures goes_on { GoesOn seat result.0 }
 {
-    let crew = &lookout.crew;
-    let (seat, theirs) = crew.board.split(seat);
-    let Ok(reader) = start_reader(scope, alloc, lookout, theirs) else {
+    let board = shared.observation.assignment.board;
+    let (seat, theirs) = board.split(seat);
+    let Ok(reader) = start_reader(scope, shared, theirs) else {
         return (seat, Err(AllocError));
     };
-    let (seat, worked) = work_in(scope, rt, alloc, crew, seat);
+    let (seat, worked) = work_in(scope, rt, shared, seat);
     let (theirs, sights) = reader.join(rt);
-    let seat = crew.board.join(seat, theirs);
+    let seat = board.join(seat, theirs);
     match worked {
         Ok(()) => (seat, Ok(sights)),
         Err(refused) => (seat, Err(refused)),
@@ -132,18 +128,19 @@ fn watch_in<'s, E, R: Threads, G: Gate + Sync>(
 // Starts a thread of the scope that reads from this seat.
 fn start_reader<'s, E, G: Gate + Sync>(
     scope: &Scope<'s, E>,
-    alloc: Global,
-    lookout: &Lookout<'s, 's, G>,
+    shared: &Shared<'s, 's, 's, G>,
     seat: Seat,
 ) -> Result<PromisedHandle<(Seat, Vec<Sight>), Watched<'s>>, AllocError>
-    requires { seat.desk ≡ lookout.now.crew.board.now }
-    ensures { IfOk result (λ reader. IsToWatch lookout.now.cells.now lookout.now.rounds seat
-        reader.promise) }
+    requires { seat.desk ≡ board_of shared.now }
+    ensures { IfOk result (λ reader. IsToWatch shared.now.observation.cells.now
+        shared.now.observation.rounds seat reader.promise) }
 {
-    let (cells, rounds) = (lookout.cells, lookout.rounds);
-    let (board, gate) = (lookout.crew.board, lookout.crew.gate);
-    let number = lookout.crew.plan.workers();
-    let sights = room_for(alloc, cells, rounds)?;
+    let observation = &shared.observation;
+    let (cells, rounds) = (observation.cells, observation.rounds);
+    let assignment = &observation.assignment;
+    let (board, gate) = (assignment.board, assignment.gate);
+    let number = assignment.plan.workers();
+    let sights = room_for(shared.alloc, cells, rounds)?;
     let promise = Watched {
         before: Snapshot::of(&seat),
         cells,

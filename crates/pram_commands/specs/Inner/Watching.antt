@@ -30,7 +30,7 @@ pub record HasWatchedOn {P H : Type 0} (Reads : Reading P) (Hears : Hearing P H)
     : Type 0 where
   pub later : SeatData
   pub watched : HasWatchedWith desk.task plan given later
-      (ReadsAndHears (Reads desk.task cells rounds given) Hears ended.0 ended.1) ended.0
+      (ReadsAndHears (Reads desk.task cells rounds) Hears ended.0 ended.1) ended.0
 
 -- So on a new board of the job.
 pub record IsWatchedBy {P H : Type 0} (Reads : Reading P) (Hears : Hearing P H) (inputs : Inputs)

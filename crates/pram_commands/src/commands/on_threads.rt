@@ -13,9 +13,10 @@ use crate::inputs::take_inputs;
 use crate::names::Words;
 use crate::printing::{Printing, PrintingReads, outcome, take_back};
 use crate::sources::{Inputs, Sources};
-use crate::threads::{Watched, run_job, watch_job};
+use crate::threads::{Watched, run_job};
 use crate::why::Question;
 use command_data::{CellList, Manner};
+use pram_run::ReadsNothing;
 use pram_step::RunAnswer;
 use pram_streams::{PrintFault, Sink, Source};
 use refusals::CommandFault;
@@ -73,12 +74,18 @@ fn put_run<R: Threads + Wait + Clock + Eprint + Sync, O: Sink>(
         job: &inputs.job,
         names: &inputs.names,
     };
-    let printing = Printing {
+    let listener = Printing {
         alloc,
         question,
         out,
     };
-    let (ended, (out, put)) = run_job(rt, alloc, inputs, wanted.manner, printing);
+    let watched = Watched {
+        inputs,
+        cells: &[],
+        rounds: 0,
+    };
+    let reader = ReadsNothing { listener };
+    let (ended, (out, put)) = run_job(rt, alloc, &watched, wanted.manner, reader);
     take_back(out);
     outcome(put, ended)
 }
@@ -94,8 +101,8 @@ pub struct Reads<'a> {
 /// Does what `run` does, with a reader beside the workers; what each read told is printed before
 /// the answer, in order, while the reader goes on: each round as it is read where there is a pace,
 /// and else 2,048 reads at once. The cells are judged after the job and its plan, and the reader
-/// keeps the workers' pace. Where a thread is refused, that is out of memory, and nothing is
-/// printed.
+/// keeps the workers' pace. Where a thread is refused, it reads once the other workers have come to
+/// the end; where they do not, that is out of memory, and nothing is printed.
 pub fn watch<R: Threads + Wait + Clock + Eprint + Sync, J: Source, P: Source, O: Sink>(
     rt: &R,
     alloc: Global,
@@ -150,7 +157,7 @@ fn put_watch<R: Threads + Wait + Clock + Eprint + Sync, O: Sink>(
         out,
         printed: Ok(()),
     };
-    let (ended, (out, put)) = watch_job(rt, alloc, watched, manner, reader);
+    let (ended, (out, put)) = run_job(rt, alloc, watched, manner, reader);
     take_back(out);
     outcome(put, ended)
 }

@@ -3,7 +3,7 @@ ghost use Rattle.std.specs.Prelude.{◌≡◌, ◌≤◌, ⊤};
 
 use crate::jobs::{BELOW_ZERO, LATER, SWAP, TWO_CELLS, holds_at, plan_of};
 use pram_board::Board;
-use pram_run::{Assignment, Listener, run_heard};
+use pram_run::{Assignment, Listener, Observation, ReadsNothing, run_heard};
 use pram_step::RunAnswer;
 use pram_text::read_job;
 use std::alloc::AllocError;
@@ -106,13 +106,21 @@ fn heard_at<G: Gate + Sync>(
     let job = read_job(alloc, text.as_bytes())?;
     let plan = plan_of(rt, workers, rows)?;
     let (board, seat) = Board::open_wide(alloc, &job, workers)?;
-    let assignment = Assignment {
-        job: &job,
-        board: &board,
-        plan: &plan,
-        gate,
+    let observation = Observation {
+        assignment: Assignment {
+            job: &job,
+            board: &board,
+            plan: &plan,
+            gate,
+        },
+        cells: &[],
+        rounds: 0,
+        piece: 0,
     };
-    let (_seat, ended, sound) = run_heard(rt, alloc, &assignment, seat, Hears { ear });
+    let reader = ReadsNothing {
+        listener: Hears { ear },
+    };
+    let (_seat, ended, sound) = run_heard(rt, alloc, &observation, seat, reader);
     assert!(rt; ended.is_ok());
     Ok(sound)
 }

@@ -4,9 +4,7 @@ ghost use Rattle.std.specs.Prelude.{◌≡◌, ⊤, false};
 
 use crate::jobs::LATER;
 use pram_board::{Board, Seat};
-use pram_run::{
-    Assignment, Listener, Numbers, Observation, Reads, Sight, print_reads, watch_heard,
-};
+use pram_run::{Assignment, Listener, Numbers, Observation, Reads, Sight, print_reads, run_heard};
 use pram_step::RunAnswer;
 use pram_streams::{Failed, IntoWrite, PrintFault, Sink};
 use pram_text::read_job;
@@ -146,7 +144,7 @@ fn watched<W: Sink, G: Gate + Sync>(
         sink,
         printed,
     };
-    let (_seat, ended, heard) = watch_heard(rt, alloc, &observation, seat, reader);
+    let (_seat, ended, heard) = run_heard(rt, alloc, &observation, seat, reader);
     assert!(rt; ended.is_ok());
     Ok(heard)
 }

@@ -2,6 +2,7 @@ use Rattle.std.proofs.Common.{◌≡◌, ℕ, ◌+◌, ◌<◌, List, length, sy
 use Rattle.pram_board.specs.Seats.{SeatData}
 use Rattle.pram_run.specs.declared.runner.Obeyed.{Obeyed}
 use Rattle.pram_run.specs.Inner.Obeying.{HasObeyed, IsToObey}
+use Rattle.pram_run.specs.Inner.Sharing.{plan_of}
 use Rattle.pram_run.proofs.Joining.{Thread, numbered_more}
 use Rattle.pram_run.proofs.runner.start_all.Goals as goal
 
@@ -13,9 +14,9 @@ spawn_with-requires-clause-keeps g c κs within r h =
 pub loop-worker-preserved : goal.loop-worker-preserved
 loop-worker-preserved g c =
     let was = c.loop-worker.invariant in
-    let ok = c.in-Ok.ensures.ok in
-    let promised : IsToObey c.args.crew.now.plan.now.rows c.loop-worker.worker c.args.seat
-    c.in-Ok.thread.promise = record {
+    let ok = c.in-Ok-spawn_with.ensures.ok in
+    let promised : IsToObey (plan_of c.args.shared.now).rows c.loop-worker.worker c.args.seat
+    c.in-Ok-spawn_with.thread.promise = record {
       rows = ap (λ (p : Obeyed). p.rows.now) ok ∙ c.rows-rows.ensures;
       worker = ap (λ (p : Obeyed). p.worker) ok;
       seat = ap (λ (p : Obeyed). p.before.value) ok
@@ -24,7 +25,7 @@ loop-worker-preserved g c =
     let count : length c.loop-worker.threads.items ≡ c.loop-worker.worker =
     omega (arith, was.len, c.loop-worker.threads.ok) in
     let P : ℕ → Thread → Type 0 =
-    λ k t. IsToObey c.args.crew.now.plan.now.rows k c.args.seat t.promise in
+    λ k t. IsToObey (plan_of c.args.shared.now).rows k c.args.seat t.promise in
     let Q : List Thread → Type 0 =
     λ l. (k : ℕ) (d : Thread) → k < c.loop-worker.worker + 1 → P k (get_or l k d) in record {
       seat = c.split-mine.ensures.first ∙ was.seat;
@@ -32,5 +33,5 @@ loop-worker-preserved g c =
       capacity = c.push_reserved.ensures.capacity ∙ was.capacity;
       promised = subst Q (sym c.push_reserved.ensures.items)
           (numbered_more P c.loop-worker.threads.items
-          c.in-Ok.thread c.loop-worker.worker count was.promised promised);
+          c.in-Ok-spawn_with.thread c.loop-worker.worker count was.promised promised);
     }

@@ -1,33 +1,37 @@
-use Rattle.std.proofs.Common.{◌≡◌, ℕ, subst, sym, arith, get_or, vec_len}
+use Rattle.std.proofs.Common.{◌≡◌, ℕ, subst, sym, arith, vec_len}
 use Rattle.pram_board.specs.Seats.{SeatData}
-use Rattle.pram_run.specs.Inner.Obeying.{GoesOn, IsToObey}
+use Rattle.pram_run.specs.Inner.Obeying.{GoesOn}
+use Rattle.pram_run.specs.Inner.Sharing.{board_of, plan_of, task_of}
+use Rattle.pram_run.specs.Inner.Teams.{IsAtWork}
 use Rattle.pram_run.specs.Obeyed.{AllObeyed}
-use Rattle.pram_run.proofs.Endings.{goes_self}
-use Rattle.pram_run.proofs.Joining.{on_ok}
 use Rattle.pram_run.proofs.runner.work_in.Goals as goal
 
-pub returns-in_default-clause-goes_on : goal.returns-in_default-clause-goes_on
-returns-in_default-clause-goes_on g c = goes_self c.args.seat
+pub join_all-seat-requires-clause-seat : goal.join_all-seat-requires-clause-seat
+join_all-seat-requires-clause-seat g c =
+    subst (λ (p : SeatData). p.desk ≡ board_of c.args.shared.now)
+    (sym c.start_all-team.ensures.seat) c.requires
 
-pub join_all-requires-clause-promised : goal.join_all-requires-clause-promised
-join_all-requires-clause-promised g c k d lt =
-    subst (λ (p : SeatData). IsToObey c.args.crew.now.plan.now.rows k p
-    (get_or c.start_all-seat.new.threads.items k d).promise)
-    (sym c.start_all-seat.ensures.seat) (c.start_all-seat.ensures.promised k d lt)
+pub join_all-seat-requires-clause-team : goal.join_all-seat-requires-clause-team
+join_all-seat-requires-clause-team g c =
+    subst (λ (p : SeatData). IsAtWork (plan_of c.args.shared.now) p c.start_all-team.result)
+    (sym c.start_all-team.ensures.seat) c.start_all-team.ensures
 
-pub returns-clause-worked : goal.returns-clause-worked
-returns-clause-worked g c =
-    let task = c.args.crew.now.board.now.task in
-    let rows = c.args.crew.now.plan.now.rows in
-    on_ok c.start_all-seat.result.1
-    (λ (count : vec_len c.start_all-seat.new.threads ≡ c.args.crew.now.plan.now.workers). record {
-      ends = λ worker lt. c.join_all.ensures.ends worker (omega (arith, count));
-      obeyed = subst (λ (n : ℕ). AllObeyed task rows c.args.seat n c.join_all.result) count
-          (subst (λ (p : SeatData). AllObeyed task rows p (vec_len c.start_all-seat.new.threads)
-          c.join_all.result) c.start_all-seat.ensures.seat c.join_all.ensures.obeyed);
-    })
-    c.start_all-seat.ensures.all
+pub returns-then-whole-clause-worked : goal.returns-then-whole-clause-worked
+returns-then-whole-clause-worked g c =
+    let rows = (plan_of c.args.shared.now).rows in
+    let count = c.is_whole-whole.ensures.0 c.if-whole.true in record {
+      ends = λ worker lt. c.join_all-seat.ensures.ends worker (omega (arith, count));
+      obeyed = subst (λ (n : ℕ).
+          AllObeyed (task_of c.args.shared.now) rows c.args.seat n c.join_all-seat.result) count
+          (subst (λ (p : SeatData). AllObeyed (task_of c.args.shared.now) rows p
+          (vec_len c.start_all-team.result.threads) c.join_all-seat.result)
+          c.start_all-team.ensures.seat c.join_all-seat.ensures.obeyed);
+    }
 
-pub returns-clause-goes_on : goal.returns-clause-goes_on
-returns-clause-goes_on g c = subst (λ (p : SeatData). GoesOn p c.join_all.result)
-    c.start_all-seat.ensures.seat c.join_all.ensures.goes_on
+pub returns-then-whole-clause-goes_on : goal.returns-then-whole-clause-goes_on
+returns-then-whole-clause-goes_on g c = subst (λ (p : SeatData). GoesOn p c.join_all-seat.result)
+    c.start_all-team.ensures.seat c.join_all-seat.ensures.goes_on
+
+pub returns-else-whole-clause-goes_on : goal.returns-else-whole-clause-goes_on
+returns-else-whole-clause-goes_on g c = subst (λ (p : SeatData). GoesOn p c.join_all-seat.result)
+    c.start_all-team.ensures.seat c.join_all-seat.ensures.goes_on

@@ -1,6 +1,7 @@
 use Rattle.std.proofs.Common.{◌≡◌, ap, subst}
 use Rattle.pram_board.specs.Seats.{Desk, SeatData}
 use Rattle.pram_run.specs.Inner.Obeying.{AllWorked, IsToWatch}
+use Rattle.pram_run.specs.Inner.Sharing.{plan_of, task_of}
 use Rattle.pram_run.proofs.Endings.{same_goes, all_front}
 use Rattle.pram_run.proofs.Watches.{watch_of, watched_of}
 use Rattle.pram_run.proofs.watcher.watch_in.Goals as goal
@@ -11,8 +12,8 @@ returns-in_default-clause-goes_on g c =
 
 pub returns-in-Ok-worked-clause-ends : goal.returns-in-Ok-worked-clause-ends
 returns-in-Ok-worked-clause-ends g c =
-    let plan = c.args.lookout.now.crew.plan.now in
-    let all : AllWorked c.args.lookout.now.crew.board.now.task plan c.split-seat.result.0
+    let plan = (plan_of c.args.shared.now) in
+    let all : AllWorked (task_of c.args.shared.now) plan c.split-seat.result.0
     c.work_in-seat.result.0 = rw c.in-Ok-worked.is at c.work_in-seat.ensures.worked in
     all_front plan
     c.work_in-seat.result.0 c.join-theirs.result.0 c.join-seat.result c.join-seat.ensures.unites
@@ -20,10 +21,10 @@ returns-in-Ok-worked-clause-ends g c =
 
 pub returns-in-Ok-worked-clause-sights : goal.returns-in-Ok-worked-clause-sights
 returns-in-Ok-worked-clause-sights g c =
-    let task = c.args.lookout.now.crew.board.now.task in
-    let plan = c.args.lookout.now.crew.plan.now in
-    let cells = c.args.lookout.now.cells.now in
-    let rounds = c.args.lookout.now.rounds in
+    let task = (task_of c.args.shared.now) in
+    let plan = (plan_of c.args.shared.now) in
+    let cells = c.args.shared.now.observation.cells.now in
+    let rounds = c.args.shared.now.observation.rounds in
     let given : c.split-seat.result.1 ≡ c.args.seat = c.split-seat.ensures.second in
     let promised : IsToWatch cells rounds c.args.seat c.in-Ok.reader.promise =
     subst (λ (p : SeatData). IsToWatch cells rounds p c.in-Ok.reader.promise) given
@@ -34,5 +35,5 @@ returns-in-Ok-worked-clause-sights g c =
     watched_of task plan cells rounds c.args.seat c.work_in-seat.result.0 c.join-theirs.result.0
     c.join-seat.result c.join-theirs.result.1.items all.obeyed
     (watch_of task cells rounds c.args.seat c.in-Ok.reader.promise c.join-theirs.result.1.items
-    c.join-theirs.result.0 promised (ap (λ (d : Desk). d.task) c.requires.seat)
+    c.join-theirs.result.0 promised (ap (λ (d : Desk). d.task) c.requires)
     c.join-theirs.ensures) c.join-seat.ensures.unites

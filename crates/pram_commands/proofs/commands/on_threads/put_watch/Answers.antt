@@ -9,15 +9,15 @@ returns g c =
     let inputs = c.args.watched.now.inputs.now in
     let cells = c.args.watched.now.cells.now in
     let rounds = c.args.watched.now.rounds in
-    let ended = c.watch_job-ended.result in
-    elim c.watch_job-ended.ensures [
+    let ended = c.run_job-ended.result in
+    elim c.run_job-ended.ensures [
       | inl alone ↦ rw (c.out-1.given.1 (sym alone.1.0) ∙ c.take_back.ensures)
           (puts_alone g.O.Sink inputs cells rounds c.args.out.now c.args.out.now ended.1.0.now
           inputs.names inputs.names c.requires.names
           c.steps.result ended.0 ended.1.1 c.outcome.result alone.0 alone.1.1 c.requires.output
           c.outcome.ensures)
       | inr by ↦
-          let read = by.on.watched.ran.reads in
+          let read = by.on.watched.ran.beside.reads in
           rw (c.out-1.given.1 (sym (read.hears.0 ∙ read.reads.0)) ∙ c.take_back.ensures)
           (puts_read g.O.Sink inputs cells rounds c.args.out.now read.after.out.now
           ended.1.0.now inputs.names read.after.words.names.now

@@ -1,34 +1,17 @@
 //! What the threads of a run share.
-ghost use Rattle.std.specs.Prelude.{◌≡◌};
-
+use crate::assignment::Observation;
 use crate::bell::Bell;
-use pram_board::{Board, Stay};
-use stop_plan::{Gate, Plan};
+use pram_board::Stay;
+use std::alloc::Global;
+use stop_plan::Gate;
 
-/// A board, a plan for all of its workers, the gate that each passes before an atomic step, and the
-/// bell that each rings as it leaves.
+/// What the workers go over and a reader beside them reads, the bell that each worker rings as it
+/// leaves, and where memory comes from.
 #[derive(Drop)]
-pub(crate) struct Crew<'a, G> {
-    pub board: &'a Board,
-    pub plan: &'a Plan,
-    pub gate: &'a G,
+pub(crate) struct Shared<'c, 'b, 'a, G> {
+    pub alloc: Global,
+    pub observation: Observation<'c, 'b, G>,
     pub bell: &'a Bell,
-    pub ghost workers: { board.now.task.layout.workers ≡ plan.now.workers },
-}
-
-impl<'a, G> Crew<'a, G> {
-    pub fn new(board: &'a Board, plan: &'a Plan, gate: &'a G, bell: &'a Bell) -> Crew<'a, G>
-        requires { board.now.task.layout.workers ≡ plan.now.workers }
-        ensures board { result.board.now ≡ board.now }
-        ensures plan { result.plan.now ≡ plan.now }
-    {
-        Crew {
-            board,
-            plan,
-            gate,
-            bell,
-        }
-    }
 }
 
 /// What a worker passes before its atomic steps, and what wakes it from a sleep.
