@@ -1,10 +1,14 @@
 //! The sentence that explains a refusal.
-use crate::served::{CHECK, of_text};
-use pram_commands::{CommandFault, Console, Explanation, Line, Reasons, Workers, serve};
-use pram_streams::{IntoWrite, Reason};
+use pram_commands::{
+    Bytes, CommandFault, Console, Explanation, Line, Reasons, Sources, Workers, serve,
+};
+use pram_streams::{Empty, IntoWrite, Reason};
 use pram_text::TextKind;
 use std::alloc::{AllocError, Global};
+use std::rt::Clock;
+use std::sync::Wait;
 use std::test::Fail;
+use std::thread::Threads;
 use stop_plan::PlanKind;
 
 const REPLAY: Line<'static> = Line::Replay {
@@ -71,7 +75,7 @@ const LINE: &str = "text line=1 kind=BadHeader\n";
 
 const EXPLAINED: &str = "\
 text line=1 kind=BadHeader
-job.txt, line 1: a line of the header is wrong, missing or repeated
+job, line 1: a line of the header is wrong, missing or repeated
 ";
 
 const MEMORY: &str = "\
@@ -79,44 +83,40 @@ memory
 out of memory, or the system refused a thread
 ";
 
-#[test]
-fn a_sentence_follows_the_line_where_it_is_asked_for(rt: HostRuntime) {
-    let alloc = rt.alloc();
-    for (explains, told) in [(false, LINE), (true, EXPLAINED)] {
-        let mut console = Console {
-            out: IntoWrite::new(Vec::new(alloc)),
-            err: IntoWrite::new(Vec::new(alloc)),
-            is_terminal: false,
-            explains,
-        };
-        let status = serve(&rt, alloc, &CHECK, &mut of_text(b"no job\n"), &mut console);
-        let Console { out, err, .. } = console;
-        assert!(rt; status == 2);
-        assert!(rt; out.into_inner().is_empty());
-        assert!(rt; err.into_inner().as_slice() == told.as_bytes());
-    }
+// The status of a check that is explained, and how much room is left where it is told.
+fn checked<R: AllocGlobal + Threads + Wait + Clock + Eprint + Sync>(
+    rt: &R,
+    room: &mut [u8],
+) -> (u8, usize) {
+    let mut console = Console {
+        out: IntoWrite::new(Vec::new(rt.alloc())),
+        err: IntoWrite::new(room),
+        is_terminal: false,
+        explains: true,
+    };
+    let mut sources = Sources {
+        job: Bytes::new(b"no job\n"),
+        plan: Empty,
+    };
+    let check = Line::Check { file: "job" };
+    let status = serve(rt, rt.alloc(), &check, &mut sources, &mut console);
+    let Console { out, err, .. } = console;
+    let left = err.into_inner().len();
+    (
+        if out.into_inner().is_empty() {
+            status
+        } else {
+            0
+        },
+        left,
+    )
 }
 
 // Where no growth is refused this says little: `tools/growths` refuses each in turn.
 #[test]
 fn refused_growths_are_explained_as_they_are_told(rt: HostRuntime) -> Result<(), Fail> {
     let mut room = [0u8; 256];
-    let mut console = Console {
-        out: IntoWrite::new(Vec::new(rt.alloc())),
-        err: IntoWrite::new(&mut room[..]),
-        is_terminal: false,
-        explains: true,
-    };
-    let status = serve(
-        &rt,
-        rt.alloc(),
-        &CHECK,
-        &mut of_text(b"no job\n"),
-        &mut console,
-    );
-    let Console { out, err, .. } = console;
-    assert!(rt; out.into_inner().is_empty());
-    let left = err.into_inner().len();
+    let (status, left) = checked(&rt, &mut room);
     let told = &room[..room.len().saturating_sub(left)];
     let is_promised = match status {
         2 => told == EXPLAINED.as_bytes() || told == LINE.as_bytes(),

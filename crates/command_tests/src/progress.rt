@@ -3,6 +3,7 @@ ghost use Rattle.std.specs.Prelude.{◌≡◌};
 
 use pram_board::{Board, Seat};
 use pram_commands::{Teller, Telling, tell_steps};
+use pram_job::Job;
 use pram_run::run;
 use pram_text::read_job;
 use std::alloc::Global;
@@ -10,7 +11,9 @@ use std::cell::RefCell;
 use std::fmt::{Display, Write};
 use std::io;
 use std::rt::Clock;
+use std::sync::Wait;
 use std::test::Fail;
+use std::thread::Threads;
 use std::time::Duration;
 use stop_plan::{Open, Plan};
 
@@ -63,19 +66,33 @@ fn told(alloc: Global, telling: Telling, board: &Board, seat: Seat, steps: u32) 
     rt.told.into_inner()
 }
 
-#[test]
-fn the_finished_step_is_told(rt: HostRuntime) -> Result<(), Fail> {
-    let alloc = rt.alloc();
-    let job = read_job(alloc, JOB)?;
-    let (board, seat) = Board::open_wide(alloc, &job, 1)?;
+// What is told of a board before and after a run on it.
+fn told_around<R: Threads + Wait>(
+    rt: &R,
+    alloc: Global,
+    job: &Job,
+    board: &Board,
+    seat: Seat,
+) -> (String, String)
+    requires seat { seat.desk ≡ board.now }
+    requires job { board.now.task.job ≡ job.now }
+    requires workers { board.now.task.layout.workers ≡ 1 }
+{
     let (seat, early) = board.split(seat);
     let (seat, late) = board.split(seat);
-    let before = told(alloc, Telling::Lines, &board, early, job.steps());
-    assert!(rt; before.as_str() == "step 0 of 2\n");
+    let before = told(alloc, Telling::Lines, board, early, job.steps());
     let plan = Plan::empty(alloc, 1);
-    let (_seat, answer) = run(&rt, alloc, &job, &board, seat, &plan, &Open);
-    assert!(rt; answer.is_ok());
-    let after = told(alloc, Telling::OneLine, &board, late, job.steps());
+    let (_seat, _answer) = run(rt, alloc, job, board, seat, &plan, &Open);
+    let after = told(alloc, Telling::OneLine, board, late, job.steps());
+    (before, after)
+}
+
+#[test]
+fn the_finished_step_is_told(rt: HostRuntime) -> Result<(), Fail> {
+    let job = read_job(rt.alloc(), JOB)?;
+    let (board, seat) = Board::open_wide(rt.alloc(), &job, 1)?;
+    let (before, after) = told_around(&rt, rt.alloc(), &job, &board, seat);
+    assert!(rt; before.as_str() == "step 0 of 2\n");
     assert!(rt; after.as_str() == "\rstep 2 of 2\r\x1b[K");
     Ok(())
 }
