@@ -2,7 +2,7 @@
 //! the answer is heard while another is, and where the sink fails the watch goes on.
 ghost use Rattle.std.specs.Prelude.{◌≡◌, ⊤, false};
 
-use crate::jobs::LATER;
+use crate::gates::LATER;
 use pram_board::{Board, Seat};
 use pram_run::{
     Assignment, Listener, Numbers, Observation, Reads, Sight, print_reads, watch_heard,
