@@ -1,6 +1,25 @@
-//! Tests of the commands and of the lines that ask for them, by what `pram_commands` makes public.
-//! They stand apart from it, since a crate with tests is proved twice.
+//! Tests of what the program answers to words, by what `command_answers` and the crates below it
+//! make public: rows of tables over files in memory, and devices that fail. They stand apart, since
+//! a crate with tests is proved twice.
 #![tactic(auto)]
 
 #[cfg(test)]
-mod served;
+mod answers;
+#[cfg(test)]
+mod devices;
+#[cfg(test)]
+mod explanations;
+#[cfg(test)]
+mod gallery;
+#[cfg(test)]
+mod lines;
+#[cfg(test)]
+mod named;
+#[cfg(test)]
+mod programs;
+#[cfg(test)]
+mod progress;
+#[cfg(test)]
+mod table;
+#[cfg(test)]
+mod threads;

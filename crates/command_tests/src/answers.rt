@@ -1,0 +1,208 @@
+//! Lines that start no thread, and words that make no line.
+use crate::table::expect;
+use std::test::Fail;
+
+// What the lines print that start no thread, and their statuses.
+const ANSWERS: &str = "\
+$ pramx check job
+pram 1~cells 5~procs 4~steps 5~init 1 1~init 3 1~code~pid r0~ld r1 r0~jz r1 end~set r2 4~\
+    st r2 r1~end: halt~ | 0 ok cells=5 procs=4 steps=5 code=6~
+pram 2~cells 1~procs 1~steps 0~rule common~code~halt~ | 0 ok cells=1 procs=1 steps=0 code=1~
+pram 2~cells 1~procs 1~steps 0~rule priority~code~halt~ \
+    | 0 ok cells=1 procs=1 steps=0 code=1 rule=priority~
+pram 2~cells 1~procs 1~steps 0~rule crew~code~halt~ \
+    | 0 ok cells=1 procs=1 steps=0 code=1 rule=crew~
+pram 1~cells 5~procs 4~steps 5~init 1 1~init 3 1~code~pid r0~ld r1 r0~jz r1 end~set r2 4~\
+    st r2 r1~end: halt~ | 0 ok cells=5 procs=4 steps=5 code=6~
+; é~ | 2 text line=1 kind=NotAscii~
+ | 2 text line=1 kind=BadHeader~
+pram 1~cells x~ | 2 text line=2 kind=BadNumber~
+pram 1~cells 65537~ | 2 text line=2 kind=OutOfLimits~
+pram 1~cells 1~procs 1~steps 1~code~jmp x~foo~ | 2 text line=7 kind=UnknownInstruction~
+pram 1~cells 1~procs 1~steps 1~code~jmp y~set r0~ | 2 text line=7 kind=WrongOperands~
+pram 1~cells 1~procs 1~steps 1~code~jz r4 x~ | 2 text line=6 kind=BadRegister~
+pram 1~cells 1~procs 1~steps 1~code~a: halt~a: halt~ | 2 text line=7 kind=DuplicateLabel~
+pram 1~cells 1~procs 1~steps 1~code~jmp x~ | 2 text line=6 kind=UnknownLabel~
+-- a sentence follows the line where it is asked for
+no job~ | 2 text line=1 kind=BadHeader~
+$ pramx check job --explain
+no job~ \
+    | 2 text line=1 kind=BadHeader~\
+    job, line 1: a line of the header is wrong, missing or repeated~
+-- a file is named by its word
+$ pramx check plan --explain
+ | 2 text line=1 kind=BadHeader~\
+    plan, line 1: a line of the header is wrong, missing or repeated~
+$ pramx compile job
+pardo 1~rule crew~procs i < 2~shared A[2]~code~A[i] := i + 7~ \
+    | 0 pram 3~cells 2~procs 2~steps 4~rule crew~array .a0_2 0 2~code~pid r3~add r0 r3 7~\
+    st .a0_2 r3 r0~halt~
+pardo 1~rule common~procs i < 4~shared A[4] = 3, 1, 4, 1~shared sum = 10~code~sum := sum + A[i]~ \
+    | 0 pram 3~cells 5~procs 4~steps 5~rule common~array .a4_1 4 1~array .a0_4 0 4~\
+    init 0 3 1 4 1 10~code~pid r3~ld r0 .a4_1 0~ld r1 .a0_4 r3~add r0 r0 r1~st .a4_1 0 r0~halt~
+pram 1~cells 4~procs 1~steps 5~init 3 7~init 1 2~code~l: set r1 1~jz r0 l~ \
+    | 0 pram 3~cells 4~procs 1~steps 5~rule common~init 1 2~init 3 7~code~L0: set r1 1~jz r0 L0~
+pardo 1~rule crew~procs i < 2~shared A[2]~code~A[i] = 7~ | 2 text line=6 kind=BadLine~
+pram 1~cells 1~procs 1~steps 1~code~jmp x~ | 2 text line=6 kind=UnknownLabel~
+$ pramx plain job
+-- first texts are answered
+pram 1~cells 1~procs 1~steps 0~init 0 5~code~halt~ | 0 done steps=0~0: 5~
+pram 1~cells 3~procs 2~steps 3~init 2 8~code~pid r0~set r1 6~st r0 r1~ \
+    | 0 done steps=3~0: 6~1: 6~2: 8~
+pram 1~cells 1~procs 3~steps 2~code~pid r0~st r1 r0~ | 1 conflict step=2 cell=0 processors=0,1~
+pram 1~cells 1~procs 2~steps 2~code~pid r0~st r0 r0~ | 0 done steps=2~0: 0~
+-- a register that no cell sees
+pram 1~cells 1~procs 1~steps 1~code~set r0 7~ | 0 done steps=1~0: 0~
+-- arithmetic goes round
+pram 1~cells 1~procs 1~steps 3~code~set r1 1~sub r2 r0 r1~st r0 r2~ \
+    | 0 done steps=3~0: 4294967295~
+pram 1~cells 1~procs 1~steps 4~code~set r1 4294967295~mul r2 r1 r1~lt r3 r2 r1~st r0 r3~ \
+    | 0 done steps=4~0: 1~
+-- three processors
+pram 1~cells 3~procs 3~steps 4~code~pid r0~set r1 10~add r1 r0 r1~st r0 r1~ \
+    | 0 done steps=4~0: 10~1: 11~2: 12~
+-- a loop
+pram 1~cells 1~procs 1~steps 6~code~set r1 1~l: add r2 r2 r1~st r0 r2~jmp l~ \
+    | 0 done steps=6~0: 2~
+-- two cells change places
+pram 1~cells 2~procs 2~steps 5~init 0 7~init 1 9~code~pid r0~set r1 1~sub r1 r1 r0~ld r2 r1~\
+    st r0 r2~ | 0 done steps=5~0: 9~1: 7~
+-- load out of range stops its processor
+pram 1~cells 2~procs 2~steps 5~init 0 5~init 1 9~code~pid r0~set r1 1~add r2 r0 r1~ld r3 r2~\
+    st r0 r3~ | 0 done steps=5~0: 9~1: 9~
+-- two writers of equal values
+pram 1~cells 5~procs 4~steps 5~init 1 1~init 3 1~code~pid r0~ld r1 r0~jz r1 end~set r2 4~\
+    st r2 r1~end: halt~ | 0 done steps=5~0: 0~1: 1~2: 0~3: 1~4: 1~
+pram 2~cells 5~procs 4~steps 5~rule common~init 1 1~init 3 1~code~pid r0~ld r1 r0~jz r1 end~\
+    set r2 4~st r2 r1~end: halt~ | 0 done steps=5~0: 0~1: 1~2: 0~3: 1~4: 1~
+pram 2~cells 5~procs 4~steps 5~rule crew~init 1 1~init 3 1~code~pid r0~ld r1 r0~jz r1 end~\
+    set r2 4~st r2 r1~end: halt~ | 1 conflict step=5 cell=4 processors=1,3~
+-- two writers of two values
+pram 1~cells 5~procs 4~steps 5~init 1 1~init 3 1~code~pid r0~ld r1 r0~jz r1 end~set r2 4~\
+    st r2 r0~end: halt~ | 1 conflict step=5 cell=4 processors=1,3~
+pram 2~cells 5~procs 4~steps 5~rule priority~init 1 1~init 3 1~code~pid r0~ld r1 r0~jz r1 end~\
+    set r2 4~st r2 r0~end: halt~ | 0 done steps=5~0: 0~1: 1~2: 0~3: 1~4: 1~
+-- two disputed cells
+pram 1~cells 2~procs 4~steps 4~code~pid r0~set r1 1~and r2 r0 r1~st r2 r0~ \
+    | 1 conflict step=4 cell=0 processors=0,2~
+pram 2~cells 2~procs 4~steps 4~rule priority~code~pid r0~set r1 1~and r2 r0 r1~st r2 r0~ \
+    | 0 done steps=4~0: 0~1: 1~
+-- what is printed of the jobs of two programs
+pram 3~cells 2~procs 2~steps 4~rule crew~array .a0_2 0 2~code~pid r3~add r0 r3 7~st .a0_2 r3 r0~\
+    halt~ | 0 done steps=4~0: 7~1: 8~
+pram 3~cells 5~procs 4~steps 5~rule common~array .a4_1 4 1~array .a0_4 0 4~init 0 3 1 4 1 10~\
+    code~pid r3~ld r0 .a4_1 0~ld r1 .a0_4 r3~add r0 r0 r1~st .a4_1 0 r0~halt~ \
+    | 1 conflict step=5 cell=4 processors=0,1~
+pram 1~cells 1~procs 1~steps 1~code~ | 2 text line=6 kind=NoCode~
+-- who left is named
+pardo 1~rule common~procs i < 4~shared A[4]~shared s~private x~code~A[i] := i~~x := A[i + 2]~\
+    s := 7~ | 0 done steps={}A = 0 1 2 3~s = 7~gone processor=2 line=10~gone processor=3 line=10~
+$ pramx plain job --why & pramx run job --workers 2 --why
+pram 1~cells 1~procs 4~steps 9~code~pid r0~set r1 1~and r2 r0 r1~~; the even ones leave~\
+    jz r2 end~round: jmp round~end: halt~ | 0 done steps=9~0: 0~running count=2 first=1 line=12~
+pram 1~cells 2~procs 4~steps 9~init 0 5~code~pid r0~ld r1 r0~st r0 r1~ \
+    | 0 done steps=9~0: 5~1: 0~stopped step=3~lost processor=2 step=2 line=8~
+pram 1~cells 2~procs 4~steps 9~code~pid r0~ld r1 r0~set r2 0~st r2 r0~ \
+    | 1 conflict step=4 cell=0 processors=0,1~lost processor=2 step=2 line=7~
+pram 1~cells 1~procs 3~steps 2~code~pid r0~st r1 r0~ | 1 conflict step=2 cell=0 processors=0,1~
+$ pramx cost job
+pram 1~cells 1~procs 1~steps 0~init 0 5~code~halt~ \
+    | 0 cost of this input~steps 0~processors 1~product 0~work 0~most 0~reading 0~writing 0~\
+    needs EREW~same read none~same write none~other value none~done steps=0~
+pram 1~cells 1~procs 3~steps 2~code~pid r0~st r1 r0~ \
+    | 1 cost of this input~steps 2~processors 3~product 6~work 6~most 3~reading 0~writing 1~\
+    needs CRCW priority~same read none~same write step=2 cell=0 processors=0,1~\
+    other value step=2 cell=0 processors=0,1~conflict step=2 cell=0 processors=0,1~
+pram 1~cells 1~procs 1~steps 1~code~ | 2 text line=6 kind=NoCode~
+-- the rows of two steps
+$ pramx steps job --from 2 --to 3
+pram 1~cells 1~procs 3~steps 2~code~pid r0~st r1 r0~ \
+    | 1 step,processor,place,instruction,writes,value,next~2,0,1,st r1 r0,cell 0,0,2~\
+    2,1,1,st r1 r0,cell 0,1,2~2,2,1,st r1 r0,cell 0,2,2~conflict step=2 cell=0 processors=0,1~
+pram 1~cells 1~procs 1~steps 4~code~set r0 7~halt~ \
+    | 0 step,processor,place,instruction,writes,value,next~2,0,1,halt,,,2~3,0,2,halted,,,2~\
+    done steps=4~0: 0~
+-- of a program each row has its line, where the processor has not stopped
+pardo 1~rule crew~procs i < 2~shared A[1]~code~A[i] := 7~ \
+    | 0 step,processor,place,instruction,writes,value,next,line~2,0,1,st 0..0 r3 7,cell 0,7,2,6~\
+    2,1,1,st 0..0 r3 7,,,4,6~3,0,2,halt,,,3,6~3,1,4,out_of_range,,,4,~done steps=3~A = 7~\
+    gone processor=1 line=6~
+pram 1~cells 1~procs 1~steps 1~code~halt~ | 2 steps step=2~
+pram 1~cells 1~procs 1~steps 1~code~ | 2 text line=6 kind=NoCode~
+-- rows without the answer: the status tells how the job ended
+$ pramx steps job --from 2 --to 3 --csv
+pram 1~cells 1~procs 2~steps 2~code~pid r0~st r1 r0~ \
+    | 1 step,processor,place,instruction,writes,value,next~2,0,1,st r1 r0,cell 0,0,2~\
+    2,1,1,st r1 r0,cell 0,1,2~
+pram 1~cells 1~procs 1~steps 2~code~halt~ \
+    | 0 step,processor,place,instruction,writes,value,next~2,0,1,halted,,,1~
+pardo 1~rule common~procs i < 2~shared s~code~;~s := i~ \
+    | 1 step,processor,place,instruction,writes,value,next,line~2,0,1,st 0..0 0 r3,cell 0,0,2,7~\
+    2,1,1,st 0..0 0 r3,cell 0,1,2,7~
+$ pramx replay job --workers 1 --csv
+pram 1~cells 1~procs 1~steps 0~code~halt~ \
+    | 0 tick,worker,op,word,before,after~1,0,load,1,0,0~2,0,load,0,0,0~
+$ pramx replay job --workers 1
+pram 1~cells 1~procs 1~steps 0~init 0 5~code~halt~ \
+    | 0 tick,worker,op,word,before,after~1,0,load,1,0,0~2,0,load,0,0,0~done steps=0~0: 5~
+";
+
+// Replays: answers, traces, and plans that are refused.
+const REPLAYS: &str = "\
+$ pramx replay job --workers * --plan plan
+-- by so many workers: rows above the answer, one for each atomic step and one for the header
+1 : pram 1~cells 2~procs 2~steps 5~init 0 7~init 1 9~code~pid r0~set r1 1~sub r1 r1 r0~ld r2 r1~\
+    st r0 r2~ | 0 {538}done steps=5~0: 9~1: 7~
+2 : same | 0 {631}done steps=5~0: 9~1: 7~
+4 : same | 0 {1261}done steps=5~0: 9~1: 7~
+1 : pram 1~cells 5~procs 4~steps 5~init 1 1~init 3 1~code~pid r0~ld r1 r0~jz r1 end~set r2 4~\
+    st r2 r1~end: halt~ | 0 {1213}done steps=5~0: 0~1: 1~2: 0~3: 1~4: 1~
+2 : same | 0 {1594}done steps=5~0: 0~1: 1~2: 0~3: 1~4: 1~
+4 : same | 0 {1777}done steps=5~0: 0~1: 1~2: 0~3: 1~4: 1~
+1 : pram 1~cells 5~procs 4~steps 5~init 1 1~init 3 1~code~pid r0~ld r1 r0~jz r1 end~set r2 4~\
+    st r2 r0~end: halt~ | 1 {1214}conflict step=5 cell=4 processors=1,3~
+2 : same | 1 {1595}conflict step=5 cell=4 processors=1,3~
+4 : same | 1 {1774}conflict step=5 cell=4 processors=1,3~
+1 : pram 1~cells 2~procs 4~steps 4~code~pid r0~set r1 1~and r2 r0 r1~st r2 r0~ \
+    | 1 {1015}conflict step=4 cell=0 processors=0,2~
+2 : same | 1 {1325}conflict step=4 cell=0 processors=0,2~
+4 : same | 1 {1467}conflict step=4 cell=0 processors=0,2~
+1 : pram 1~cells 1~procs 1~steps 3~code~set r1 1~sub r2 r0 r1~st r0 r2~ \
+    | 0 {104}done steps=3~0: 4294967295~
+2 : same | 0 {207}done steps=3~0: 4294967295~
+4 : same | 0 {413}done steps=3~0: 4294967295~
+1 : pram 1~cells 2~procs 2~steps 5~init 0 5~init 1 9~code~pid r0~set r1 1~add r2 r0 r1~ld r3 r2~\
+    st r0 r3~ | 0 {520}done steps=5~0: 9~1: 9~
+2 : same | 0 {631}done steps=5~0: 9~1: 9~
+4 : same | 0 {1241}done steps=5~0: 9~1: 9~
+1 : pram 1~cells 3~procs 3~steps 4~code~pid r0~set r1 10~add r1 r0 r1~st r0 r1~ \
+    | 0 {935}done steps=4~0: 10~1: 11~2: 12~
+2 : same | 0 {1318}done steps=4~0: 10~1: 11~2: 12~
+4 : same | 0 {1450}done steps=4~0: 10~1: 11~2: 12~
+-- plans are obeyed
+2 : pram 1~cells 1~procs 1~steps 1~code~set r0 7~ under 0,go,17~1,go,23~0,go,1~ \
+    | 0 {48}done steps=1~0: 0~
+1 : pram 1~cells 2~procs 2~steps 1~code~pid r0~ under 0,go,15~0,back,0~ \
+    | 0 {105}done steps=1~0: 0~1: 0~
+1 : pram 1~cells 1~procs 1~steps 1~code~set r0 7~ under 0,go,8~0,stop,0~ | 3 {9}unfinished step=0~
+-- each row of the trace
+2 : pram 1~cells 1~procs 1~steps 0~init 0 5~code~halt~ under 1,go,2~ \
+    | 0 tick,worker,op,word,before,after~1,1,load,1,0,0~2,1,load,0,0,0~3,0,load,1,0,0~\
+    4,0,load,0,0,0~done steps=0~0: 5~
+1 : same under 1,go,2~ | 2 plan row=2 kind=BadWorker~
+-- plans are refused
+4 : pram 1~cells 5~procs 4~steps 5~init 1 1~init 3 1~code~pid r0~ld r1 r0~jz r1 end~set r2 4~\
+    st r2 r1~end: halt~ under 4,go,1~ | 2 plan row=2 kind=BadWorker~
+4 : same under 0,back,1~ | 2 plan row=2 kind=BadNumber~
+4 : same under 0,run,1~ | 2 plan row=2 kind=BadAct~
+4 : same under 0,go~ | 2 plan row=2 kind=BadRow~
+4 : same under 0,stop,0~0,go,1~ | 2 plan row=3 kind=AfterStop~
+-- the job is judged before its plan
+4 : pram 1~cells 0~ under 4,go,1~ | 2 text line=2 kind=OutOfLimits~
+";
+
+#[test]
+fn lines_are_answered(rt: HostRuntime) -> Result<(), Fail> {
+    expect(&rt, rt.alloc(), ANSWERS)?;
+    expect(&rt, rt.alloc(), REPLAYS)
+}

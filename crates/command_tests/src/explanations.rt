@@ -1,0 +1,129 @@
+//! The sentence that explains a refusal.
+use pram_commands::{
+    Bytes, CommandFault, Console, Explanation, Line, Reasons, Sources, Workers, serve,
+};
+use pram_streams::{Empty, IntoWrite, Reason};
+use pram_text::TextKind;
+use std::alloc::{AllocError, Global};
+use std::rt::Clock;
+use std::sync::Wait;
+use std::test::Fail;
+use std::thread::Threads;
+use stop_plan::PlanKind;
+
+const REPLAY: Line<'static> = Line::Replay {
+    file: "sum.pram",
+    workers: Workers { count: 2 },
+    plan: Some("-"),
+    alone: false,
+};
+
+const FAULTS: [CommandFault; 9] = [
+    CommandFault::Text {
+        line: 7,
+        kind: TextKind::UnknownInstruction,
+    },
+    CommandFault::Plan {
+        row: 2,
+        kind: PlanKind::AfterStop,
+    },
+    CommandFault::OutsideCell { cell: 9 },
+    CommandFault::OutsideStep { step: 5 },
+    CommandFault::JobDevice,
+    CommandFault::PlanDevice,
+    CommandFault::JobTooLarge,
+    CommandFault::OutDevice,
+    CommandFault::Memory,
+];
+
+const SENTENCES: &str = "\
+sum.pram, line 7: no instruction stands here
+standard input, row 2: an earlier row stops this worker
+sum.pram: the job has no cell 9
+sum.pram: the job has no step 5
+sum.pram: there is no such file
+standard input: it is a folder
+sum.pram: it has more than 16,777,216 bytes
+standard output takes no more
+out of memory, or the system refused a thread
+";
+
+// Tells the sentence of a fault, below those of the faults before it.
+fn tell(alloc: Global, fault: CommandFault, told: &mut String) -> Result<(), AllocError> {
+    let explanation = Explanation {
+        line: REPLAY,
+        fault,
+        reasons: Reasons {
+            job: Reason::Missing,
+            plan: Reason::Folder,
+        },
+    };
+    told.push_str(format!(in alloc; "{explanation}")?.as_str())
+}
+
+#[test]
+fn each_fault_has_a_sentence(rt: HostRuntime) -> Result<(), Fail> {
+    let mut told = String::new(rt.alloc());
+    for fault in FAULTS {
+        tell(rt.alloc(), fault, &mut told)?;
+    }
+    assert!(rt; told.as_str() == SENTENCES, "{told}");
+    Ok(())
+}
+
+const LINE: &str = "text line=1 kind=BadHeader\n";
+
+const EXPLAINED: &str = "\
+text line=1 kind=BadHeader
+job, line 1: a line of the header is wrong, missing or repeated
+";
+
+const MEMORY: &str = "\
+memory
+out of memory, or the system refused a thread
+";
+
+// The status of a check that is explained, and how much room is left where it is told.
+fn checked<R: AllocGlobal + Threads + Wait + Clock + Eprint + Sync>(
+    rt: &R,
+    room: &mut [u8],
+) -> (u8, usize) {
+    let mut console = Console {
+        out: IntoWrite::new(Vec::new(rt.alloc())),
+        err: IntoWrite::new(room),
+        is_terminal: false,
+        explains: true,
+    };
+    let mut sources = Sources {
+        job: Bytes::new(b"no job\n"),
+        plan: Empty,
+    };
+    let check = Line::Check { file: "job" };
+    let status = serve(rt, rt.alloc(), &check, &mut sources, &mut console);
+    let Console { out, err, .. } = console;
+    let left = err.into_inner().len();
+    (
+        if out.into_inner().is_empty() {
+            status
+        } else {
+            0
+        },
+        left,
+    )
+}
+
+// Where no growth is refused this says little: `tools/growths` refuses each in turn.
+#[test]
+fn refused_growths_are_explained_as_they_are_told(rt: HostRuntime) -> Result<(), Fail> {
+    let mut room = [0u8; 256];
+    let (status, left) = checked(&rt, &mut room);
+    let told = &room[..room.len().saturating_sub(left)];
+    let is_promised = match status {
+        2 => told == EXPLAINED.as_bytes() || told == LINE.as_bytes(),
+        _ => status == 5 && told == MEMORY.as_bytes(),
+    };
+    assert!(rt; is_promised, "status {status}");
+    let refused = u8::from(told != EXPLAINED.as_bytes());
+    println!(rt; "refused={refused}")?;
+    Ok(())
+}
