@@ -150,13 +150,19 @@ fn at(step: u32, conflict: Option<u32>, seen: u32, value: u32) -> (Progress, Rea
     )
 }
 
-// A board and its seat of a text's job, for two workers.
-fn opened_for(alloc: Global, text: &[u8]) -> Result<(Board, Seat), Fail>
+// A board for two workers, for the job of a text that has so many cells.
+fn opened_for(
+    rt: &(impl AllocGlobal + Abort),
+    text: &[u8],
+    cells: u32,
+) -> Result<(Board, Seat), Fail>
     ensures seat { IfOk result (λ made. made.1.desk ≡ made.0) }
     ensures workers { IfOk result (λ made. made.0.task.layout.workers ≡ 2) }
+    ensures cells { IfOk result (λ made. made.0.task.job.cells ≡ cells) }
 {
-    let job = read_job(alloc, text)?;
-    Ok(opened(alloc, &job, Lay::Compact)?)
+    let job = read_job(rt.alloc(), text)?;
+    assert!(rt; job.cells() == cells);
+    Ok(opened(rt.alloc(), &job, Lay::Compact)?)
 }
 
 const BELOW_ZERO: &[u8] =
@@ -164,7 +170,7 @@ const BELOW_ZERO: &[u8] =
 
 #[test]
 fn looks_before_and_after_the_work(rt: HostRuntime) -> Result<(), Fail> {
-    let (board, mut seat) = opened_for(rt.alloc(), BELOW_ZERO)?;
+    let (board, mut seat) = opened_for(&rt, BELOW_ZERO, 1)?;
     board.facts();
     seat.facts();
     assert!(rt; seen(&board, &mut seat, 0) == at(0, None, 0, 0));
@@ -183,7 +189,6 @@ fn a_job_without_steps(rt: HostRuntime) -> Result<(), Fail> {
     let text = b"pram 1\ncells 1\nprocs 1\nsteps 0\ninit 0 5\ncode\nhalt\n";
     let job = read_job(rt.alloc(), text)?;
     let (board, mut seat) = Board::open_wide(rt.alloc(), &job, 64)?;
-    board.facts();
     assert!(rt; seen(&board, &mut seat, 0) == at(0, None, 0, 5));
     let answer = finished(rt.alloc(), &board, &mut seat, &mut Worker::start(63))?;
     assert!(rt; answer.as_str() == "[5]");
@@ -225,10 +230,10 @@ const DISPUTED: &[u8] = b"pram 1\ncells 5\nprocs 4\nsteps 5\ninit 1 1\ninit 3 1\
 // It passes it before each atomic step: the last one ends the worker.
 #[test]
 fn a_gate_is_passed_before_each_step(rt: HostRuntime) -> Result<(), Fail> {
-    let (board, mut seat) = opened_for(rt.alloc(), DISPUTED)?;
+    let (board, mut seat) = opened_for(&rt, DISPUTED, 5)?;
     let (stay, passes) = passes(&board, &mut seat, None);
     assert!(rt; stay == Stay::Ended(Ended::Conflict(5)));
-    let (board, mut seat) = opened_for(rt.alloc(), DISPUTED)?;
+    let (board, mut seat) = opened_for(&rt, DISPUTED, 5)?;
     let mut worker = Worker::start(0);
     let stay = board.work(&mut seat, &mut worker, &Open, passes.checked_sub(1));
     assert!(rt; stay == Stay::Stopped);
@@ -258,9 +263,7 @@ const CREW: &[u8] = b"pram 2\ncells 5\nprocs 4\nsteps 5\nrule crew\ninit 1 1\nin
 
 // Step 5 is against the rule: the memory after step 4 stays readable.
 fn look_after_conflict<R: AllocGlobal + Abort>(rt: &R, text: &[u8]) -> Result<(), Fail> {
-    let job = read_job(rt.alloc(), text)?;
-    assert!(rt; job.cells() == 5);
-    let (board, seat) = opened(rt.alloc(), &job, Lay::Compact)?;
+    let (board, seat) = opened_for(rt, text, 5)?;
     let (mut seat, mut other) = board.split(seat);
     let answer = finished(rt.alloc(), &board, &mut seat, &mut Worker::start(0))?;
     assert!(rt; answer.as_str() == "conflict 5 4 1 3");
@@ -318,8 +321,7 @@ fn read_beside(
 
 #[test]
 fn reads_between_the_steps_of_a_worker(rt: HostRuntime) -> Result<(), Fail> {
-    let (board, seat) = opened_for(rt.alloc(), EIGHT_STEPS)?;
-    board.facts();
+    let (board, seat) = opened_for(&rt, EIGHT_STEPS, 1)?;
     let (mut seat, mut reader) = board.split(seat);
     let last = read_beside(&rt, &board, &mut reader, &mut seat, &mut Worker::start(0));
     assert!(rt; last == 8);
@@ -330,8 +332,7 @@ fn reads_between_the_steps_of_a_worker(rt: HostRuntime) -> Result<(), Fail> {
 #[test]
 fn a_read_beside_a_write_sees_the_older_value(rt: HostRuntime) -> Result<(), Fail> {
     let text = b"pram 1\ncells 1\nprocs 1\nsteps 2\ninit 0 4\ncode\nset r1 7\nst r0 r1\n";
-    let (board, seat) = opened_for(rt.alloc(), text)?;
-    board.facts();
+    let (board, seat) = opened_for(&rt, text, 1)?;
     let (mut seat, mut reader) = board.split(seat);
     let stay = board.work(&mut seat, &mut Worker::start(0), &Open, Some(53));
     assert!(rt; stay == Stay::Stopped);

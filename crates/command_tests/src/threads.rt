@@ -111,7 +111,7 @@ fn an_unfinished_step_is_told(rt: HostRuntime) -> Result<(), Fail> {
     expect(&rt, rt.alloc(), LEFT)
 }
 
-// So many ticks finish a step where all processors stand at one leaf, and else they do not.
+// These ticks finish a step where all processors stand at one leaf, and else they do not.
 const BLOCKS: &str = "\
 $ pramx run job --workers 1 --plan plan --block *
 1 : pram 1~cells 1~procs 8~steps 3~code~set r1 1~set r2 2~set r3 3~ under 0,go,200~0,stop,0~ \

@@ -76,7 +76,7 @@ fn stepped(alloc: Global, job: &Job, state: &mut State) -> Result<String, AllocE
     }
 }
 
-// The same of the first two steps.
+// Makes the first two steps.
 fn two_steps(alloc: Global, job: &Job) -> Result<String, AllocError> {
     let mut state = State::start(alloc, job)?;
     let first = stepped(alloc, job, &mut state)?;

@@ -96,6 +96,19 @@ fn layout_of_three_cells(rt: HostRuntime) -> Result<(), Fail> {
     Ok(())
 }
 
+// Words of a wide layout of three cells.
+fn expect_words<R: Abort>(rt: &R, layout: &Layout)
+    requires { length_of layout.now ≡ 118 }
+{
+    is_word(rt, layout, 1, Word::Spare(1));
+    is_word(rt, layout, 47, Word::Spare(47));
+    is_word(rt, layout, 61, Word::Stored(6, 1));
+    is_word(rt, layout, 62, Word::Spare(62));
+    is_word(rt, layout, 96, Word::Node(7));
+    is_word(rt, layout, 97, Word::Spare(97));
+    is_word(rt, layout, 117, Word::Stored(2, 1));
+}
+
 #[test]
 fn wide_layout_of_three_cells(rt: HostRuntime) -> Result<(), Fail> {
     let job = job(&rt, Rule::Common, 3, 3)?;
@@ -136,13 +149,7 @@ fn wide_layout_of_three_cells(rt: HostRuntime) -> Result<(), Fail> {
         &[layout.place_word(15), layout.place_word(17)],
         &[52, 84],
     );
-    is_word(&rt, &layout, 1, Word::Spare(1));
-    is_word(&rt, &layout, 47, Word::Spare(47));
-    is_word(&rt, &layout, 61, Word::Stored(6, 1));
-    is_word(&rt, &layout, 62, Word::Spare(62));
-    is_word(&rt, &layout, 96, Word::Node(7));
-    is_word(&rt, &layout, 97, Word::Spare(97));
-    is_word(&rt, &layout, 117, Word::Stored(2, 1));
+    expect_words(&rt, &layout);
     Ok(())
 }
 
@@ -268,12 +275,8 @@ fn workers_of_a_wide_board_start_far_apart(rt: HostRuntime) -> Result<(), Fail> 
         &[11, 15],
     );
     assert!(rt; layout.leaves() == 8);
-    let turns = [
-        layout.goes_right(1, 1),
-        layout.goes_right(1, 3),
-        layout.goes_right(1, 6),
-    ];
-    are(&rt, &turns.map(u32::from), &[1, 0, 0]);
+    let turns = (layout.goes_right(1, 1), layout.goes_right(1, 3));
+    assert!(rt; turns == (true, false) && !layout.goes_right(1, 6));
     let alone = Layout::with_blocks(&job, 1, 1);
     let compact = Layout::new(&job, 4);
     are(&rt, &[alone.first_leaf(0), compact.first_leaf(3)], &[8, 11]);
@@ -298,18 +301,11 @@ fn layout_of_a_job(rt: HostRuntime) -> Result<(), Fail> {
     starts_with(&rt, &job, &layout, 19, 7);
     starts_with(&rt, &job, &layout, 20, 7);
     starts_with(&rt, &job, &layout, 54, 0);
-    let phases = [layout.admits(&job, 1, 12), layout.admits(&job, 1, 13)];
-    let requests = [
-        layout.admits(&job, 8, stamped(4, 15)),
-        layout.admits(&job, 8, stamped(4, 16)),
-    ];
-    let places = [
-        layout.admits(&job, 49, stamped(4, 2)),
-        layout.admits(&job, 49, stamped(4, 3)),
-    ];
-    are(&rt, &phases.map(u32::from), &[1, 0]);
-    are(&rt, &requests.map(u32::from), &[1, 0]);
-    are(&rt, &places.map(u32::from), &[1, 0]);
+    assert!(rt; layout.admits(&job, 1, 12) && !layout.admits(&job, 1, 13));
+    let request = stamped(4, 15);
+    assert!(rt; layout.admits(&job, 8, request) && !layout.admits(&job, 8, stamped(4, 16)));
+    let place = stamped(4, 2);
+    assert!(rt; layout.admits(&job, 49, place) && !layout.admits(&job, 49, stamped(4, 3)));
     assert!(rt; !layout.admits(&job, 55, 0));
     Ok(())
 }

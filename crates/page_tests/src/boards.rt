@@ -92,29 +92,45 @@ fn scene(
 // How much a scene tells: its code, how many words, bodies and rows, and how far the board is: the
 // leaves, the root, the finished steps and the conflict.
 fn sizes(told: &Scene) -> [u64; 8] {
-    let [code, words, bodies] = [told.status.code, told.words, told.bodies].map(u64::from);
-    let [rows, leaves, finished] = [told.rows, told.leaves, told.finished].map(u64::from);
-    let conflict = u64::from(told.conflict);
     [
-        code, words, bodies, rows, leaves, told.root, finished, conflict,
+        u64::from(told.status.code),
+        u64::from(told.words),
+        u64::from(told.bodies),
+        u64::from(told.rows),
+        u64::from(told.leaves),
+        told.root,
+        u64::from(told.finished),
+        u64::from(told.conflict),
     ]
 }
 
 // What a body is doing: whose it is, what, where, and in which phase.
 fn doing(row: BodyRow) -> [u64; 7] {
-    let [worker, doing, node] = [row.worker, row.doing, row.node].map(u64::from);
-    let [heard, step, pass] = [row.heard, row.step, row.pass].map(u64::from);
-    [worker, doing, node, heard, row.phase, step, pass]
+    [
+        u64::from(row.worker),
+        u64::from(row.doing),
+        u64::from(row.node),
+        u64::from(row.heard),
+        row.phase,
+        u64::from(row.step),
+        u64::from(row.pass),
+    ]
 }
 
 // The atomic step of an event: its kind, its word before and after it; what that word is, which
 // event it was, and of which body.
 fn step(row: &EventRow) -> [u64; 10] {
-    let [kind, word, form] = [row.kind, row.word, row.form].map(u64::from);
-    let [which, part, older] = [row.which, row.part, row.older].map(u64::from);
-    let [event, body] = [row.event, row.body].map(u64::from);
     [
-        kind, word, row.before, row.after, form, which, part, older, event, body,
+        u64::from(row.kind),
+        u64::from(row.word),
+        row.before,
+        row.after,
+        u64::from(row.form),
+        u64::from(row.which),
+        u64::from(row.part),
+        u64::from(row.older),
+        u64::from(row.event),
+        u64::from(row.body),
     ]
 }
 

@@ -93,7 +93,7 @@ fn names_of_cells_are_told(rt: HostRuntime) {
         [9, 3, 0, MASK],
     ];
     for (row, wanted) in named.rows.iter().zip(wanted) {
-        are(&rt, &[row.base, row.len, row.name, row.kind], &wanted);
+        is(&rt, &[row.base, row.len, row.name, row.kind], &wanted);
     }
 }
 

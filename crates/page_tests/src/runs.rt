@@ -12,11 +12,16 @@ use std::process::Abort;
 const LEAVING: &[u8] = b"pram 1\ncells 2\nprocs 2\nsteps 3\ncode\n\
     pid r0\nadd r1 r0 r0\nst r1 r0\nhalt\n";
 
-// How the processors end: the kind, how many run, the first of them, the last step, and its line.
+// How the processors end: the kind, how many run, the first of them, its line, and the last step.
 fn end(told: &FatesTold) -> [u64; 5] {
     let end = told.end;
-    let [kind, count, first, step] = [end.kind, end.count, end.first, end.step].map(u64::from);
-    [kind, count, first, end.line, step]
+    [
+        u64::from(end.kind),
+        u64::from(end.count),
+        u64::from(end.first),
+        end.line,
+        u64::from(end.step),
+    ]
 }
 
 // Which processor was lost: the step, the processor and the line.

@@ -3,7 +3,4 @@ use denote.Text.{Utf8}
 use Rattle.command_tests.proofs.table.expect.Given as goal
 
 abbrev pub invariant-loop-line : goal.invariant-loop-line
-invariant-loop-line g l = record {
-  words : shadow (Utf8 l.words);
-  text : shadow (Utf8 l.text);
-}
+invariant-loop-line g l = shadow (Utf8 l.words) × shadow (Utf8 l.text)

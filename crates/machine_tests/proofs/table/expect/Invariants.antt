@@ -3,7 +3,4 @@ use denote.Text.{Utf8}
 use Rattle.machine_tests.proofs.table.expect.Given as goal
 
 abbrev pub invariant-loop-line : goal.invariant-loop-line
-invariant-loop-line g l = record {
-  group : shadow (Utf8 l.group);
-  text : shadow (Utf8 l.text);
-}
+invariant-loop-line g l = shadow (Utf8 l.group) × shadow (Utf8 l.text)
