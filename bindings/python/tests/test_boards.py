@@ -14,7 +14,10 @@ from kaolinsilk.plans import Row, rows_of
 
 # A job that is never at its end.
 INTERRUPTED = """
+import signal
 import kaolinsilk
+# Where the tests run in the background, interrupts are ignored.
+signal.signal(signal.SIGINT, signal.default_int_handler)
 text = "pram 1\\ncells 1\\nprocs 64\\nsteps 4000000000\\ncode\\na: jmp a\\n"
 print("ready", flush=True)
 """
