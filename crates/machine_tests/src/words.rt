@@ -1,6 +1,5 @@
 //! Words of boards, worked out by hand.
-ghost use Rattle.std.specs.Prelude.{◌≡◌, ◌<◌, ◌≤◌, ◌+◌, ◌*◌, IfOk};
-ghost use Rattle.pram_words.specs.Words.{length_of, places_of};
+ghost use Rattle.std.specs.Prelude.{◌≡◌, IfOk};
 
 use pram_job::{Job, Rule};
 use pram_text::read_job;
@@ -30,16 +29,16 @@ fn job<R: AllocGlobal + Abort>(rt: &R, rule: Rule, cells: u32, procs: u32) -> Re
     Ok(job)
 }
 
-// Checks numbers. The comparison stands once, since each one costs its proof.
-fn are<R: Abort>(rt: &R, found: &[u32], wanted: &[u32]) {
-    assert!(rt; found == wanted, "{found:?}, and not {wanted:?}");
+// Checks what was found at a node, a place, a worker or a word of this number.
+fn at<R: Abort>(rt: &R, number: u32, found: u64, wanted: u64)
+    ensures { found ≡ wanted }
+{
+    assert_eq!(rt; found, wanted, "at {number}");
 }
 
 // Checks which word has this number.
-fn is_word<R: Abort>(rt: &R, layout: &Layout, number: u32, wanted: Word)
-    requires { number < length_of layout.now }
-{
-    assert!(rt; layout.word(number) == wanted, "word {number}");
+fn is_word<R: Abort>(rt: &R, number: u32, found: Word, wanted: Word) {
+    assert_eq!(rt; found, wanted, "word {number}");
 }
 
 #[test]
@@ -69,116 +68,56 @@ fn tree_of_leaves(rt: HostRuntime) {
 fn layout_of_three_cells(rt: HostRuntime) -> Result<(), Fail> {
     let job = job(&rt, Rule::Common, 3, 3)?;
     let layout = Layout::new(&job, 2);
-    assert!(rt; layout.leaves() == 4 && layout.length() == 55);
-    are(&rt, &[layout.workers()], &[2]);
-    are(&rt, &[layout.conflict_word(), layout.node_word(7)], &[0, 7]);
-    are(
-        &rt,
-        &[layout.request_word(0, 0), layout.request_word(2, 2)],
-        &[8, 16],
-    );
-    are(
-        &rt,
-        &[layout.position_word(0), layout.position_word(1)],
-        &[17, 18],
-    );
-    let cells = [
-        layout.place_word(0),
-        layout.place_word(1),
-        layout.place_word(2),
-    ];
-    are(&rt, &cells, &[19, 21, 23]);
-    let registers = [layout.place_word(3), layout.place_word(14)];
-    are(&rt, &registers, &[25, 47]);
-    let counters = [layout.place_word(15), layout.place_word(17)];
-    are(&rt, &counters, &[49, 53]);
-    is_word(&rt, &layout, 54, Word::Stored(17, 1));
+    assert!(rt; (layout.leaves(), layout.workers()) == (4, 2));
+    assert!(rt; (layout.conflict_word(), layout.node_word(7)) == (0, 7));
+    let requests = (layout.request_word(0, 0), layout.request_word(2, 2));
+    let positions = (layout.position_word(0), layout.position_word(1));
+    assert!(rt; (requests, positions) == ((8, 16), (17, 18)));
+    let words = [19, 21, 23, 25, 47, 49, 53];
+    for (place, word) in [0, 1, 2, 3, 14, 15, 17].into_iter().zip(words) {
+        at(&rt, place, u64::from(layout.place_word(place)), word);
+    }
+    assert!(rt; layout.length() == 55);
+    assert!(rt; layout.word(54) == Word::Stored(17, 1));
     Ok(())
-}
-
-// Words of a wide layout of three cells.
-fn expect_words<R: Abort>(rt: &R, layout: &Layout)
-    requires { length_of layout.now ≡ 118 }
-{
-    is_word(rt, layout, 1, Word::Spare(1));
-    is_word(rt, layout, 47, Word::Spare(47));
-    is_word(rt, layout, 61, Word::Stored(6, 1));
-    is_word(rt, layout, 62, Word::Spare(62));
-    is_word(rt, layout, 96, Word::Node(7));
-    is_word(rt, layout, 97, Word::Spare(97));
-    is_word(rt, layout, 117, Word::Stored(2, 1));
 }
 
 #[test]
 fn wide_layout_of_three_cells(rt: HostRuntime) -> Result<(), Fail> {
     let job = job(&rt, Rule::Common, 3, 3)?;
     let layout = Layout::with_blocks(&job, 2, 1);
-    assert!(rt; layout.form() == Form::Wide(1));
-    assert!(rt; layout.leaves() == 4 && layout.length() == 118);
-    are(&rt, &[layout.conflict_word()], &[0]);
-    are(&rt, &[layout.node_word(1), layout.node_word(3)], &[8, 24]);
-    let leaves = [
-        layout.node_word(4),
-        layout.node_word(5),
-        layout.node_word(7),
-    ];
-    are(&rt, &leaves, &[48, 64, 96]);
-    are(
-        &rt,
-        &[layout.request_word(0, 0), layout.request_word(2, 2)],
-        &[49, 83],
-    );
-    are(
-        &rt,
-        &[layout.position_word(0), layout.position_word(1)],
-        &[32, 40],
-    );
-    are(
-        &rt,
-        &[layout.place_word(0), layout.place_word(2)],
-        &[112, 116],
-    );
-    let registers = [
-        layout.place_word(3),
-        layout.place_word(6),
-        layout.place_word(14),
-    ];
-    are(&rt, &registers, &[54, 60, 92]);
-    are(
-        &rt,
-        &[layout.place_word(15), layout.place_word(17)],
-        &[52, 84],
-    );
-    expect_words(&rt, &layout);
+    assert!(rt; (layout.form(), layout.leaves()) == (Form::Wide(1), 4));
+    assert!(rt; layout.conflict_word() == 0);
+    for (node, word) in [(1, 8), (3, 24), (4, 48), (5, 64), (7, 96)] {
+        at(&rt, node, u64::from(layout.node_word(node)), word);
+    }
+    let requests = (layout.request_word(0, 0), layout.request_word(2, 2));
+    let positions = (layout.position_word(0), layout.position_word(1));
+    assert!(rt; (requests, positions) == ((49, 83), (32, 40)));
+    for (place, word) in [
+        (0, 112),
+        (2, 116),
+        (3, 54),
+        (6, 60),
+        (14, 92),
+        (15, 52),
+        (17, 84),
+    ] {
+        at(&rt, place, u64::from(layout.place_word(place)), word);
+    }
+    assert!(rt; layout.length() == 118);
+    for (number, word) in [
+        (1, Word::Spare(1)),
+        (47, Word::Spare(47)),
+        (61, Word::Stored(6, 1)),
+        (62, Word::Spare(62)),
+        (96, Word::Node(7)),
+        (97, Word::Spare(97)),
+        (117, Word::Stored(2, 1)),
+    ] {
+        is_word(&rt, number, layout.word(number), word);
+    }
     Ok(())
-}
-
-// A node has this word in a wide layout.
-fn is_node<R: Abort>(rt: &R, layout: &Layout, node: u32, word: u32)
-    requires some { 1 ≤ node }
-    requires node { node < 2 * layout.now.leaves }
-    requires word { word < length_of layout.now }
-{
-    are(rt, &[layout.node_word(node)], &[word]);
-    is_word(rt, layout, word, Word::Node(node));
-}
-
-// A processor's first request has this word.
-fn is_request<R: Abort>(rt: &R, layout: &Layout, processor: u32, word: u32)
-    requires processor { processor < layout.now.procs }
-    requires word { word < length_of layout.now }
-{
-    are(rt, &[layout.request_word(processor, 0)], &[word]);
-    is_word(rt, layout, word, Word::Asked(processor, 0));
-}
-
-// A place has this word and the next one.
-fn is_place<R: Abort>(rt: &R, layout: &Layout, place: u32, word: u32)
-    requires place { place < places_of layout.now }
-    requires word { word + 1 < length_of layout.now }
-{
-    are(rt, &[layout.place_word(place)], &[word]);
-    is_word(rt, layout, word + 1, Word::Stored(place, 1));
 }
 
 // Ten processors in blocks of four: the third block has two, and a fourth leaf has none.
@@ -186,29 +125,35 @@ fn is_place<R: Abort>(rt: &R, layout: &Layout, place: u32, word: u32)
 fn blocks_of_four(rt: HostRuntime) -> Result<(), Fail> {
     let job = job(&rt, Rule::Common, 3, 10)?;
     let layout = Layout::with_blocks(&job, 2, 4);
-    assert!(rt; layout.leaves() == 4 && layout.length() == 310);
-    are(&rt, &[layout.grain()], &[4]);
-    is_node(&rt, &layout, 1, 8);
-    is_node(&rt, &layout, 3, 24);
-    is_node(&rt, &layout, 4, 48);
-    is_node(&rt, &layout, 5, 112);
-    is_node(&rt, &layout, 6, 176);
-    is_node(&rt, &layout, 7, 240);
-    is_request(&rt, &layout, 0, 49);
-    is_request(&rt, &layout, 3, 97);
-    is_request(&rt, &layout, 4, 113);
-    is_request(&rt, &layout, 9, 193);
-    is_word(&rt, &layout, 64, Word::Spare(64));
-    is_word(&rt, &layout, 96, Word::Spare(96));
-    is_word(&rt, &layout, 128, Word::Spare(128));
-    is_word(&rt, &layout, 209, Word::Spare(209));
-    is_word(&rt, &layout, 241, Word::Spare(241));
-    is_word(&rt, &layout, 303, Word::Spare(303));
-    is_place(&rt, &layout, 0, 304);
-    is_place(&rt, &layout, 3, 54);
-    is_place(&rt, &layout, 42, 204);
-    is_place(&rt, &layout, 43, 52);
-    is_place(&rt, &layout, 52, 196);
+    assert!(rt; (layout.grain(), layout.leaves()) == (4, 4));
+    for (node, word) in [(1, 8), (3, 24), (4, 48), (5, 112), (6, 176), (7, 240)] {
+        at(
+            &rt,
+            node,
+            u64::from(layout.node_word(node)),
+            u64::from(word),
+        );
+        is_word(&rt, word, layout.word(word), Word::Node(node));
+    }
+    for (processor, word) in [(0, 49), (3, 97), (4, 113), (9, 193)] {
+        let request = layout.request_word(processor, 0);
+        at(&rt, processor, u64::from(request), u64::from(word));
+        is_word(&rt, word, layout.word(word), Word::Asked(processor, 0));
+    }
+    for number in [64, 96, 128, 209, 241, 303] {
+        assert!(rt; number < layout.length());
+        is_word(&rt, number, layout.word(number), Word::Spare(number));
+    }
+    for (place, word) in [(0, 304), (3, 54), (42, 204), (43, 52), (52, 196)] {
+        at(
+            &rt,
+            place,
+            u64::from(layout.place_word(place)),
+            u64::from(word),
+        );
+        is_word(&rt, word, layout.word(word + 1), Word::Stored(place, 1));
+    }
+    assert!(rt; layout.length() == 310);
     Ok(())
 }
 
@@ -216,15 +161,11 @@ fn blocks_of_four(rt: HostRuntime) -> Result<(), Fail> {
 fn blocks_of_64_or_of_all(rt: HostRuntime) -> Result<(), Fail> {
     let few = job(&rt, Rule::Common, 1, 31)?;
     let few = Layout::wide(&few, 4);
-    assert!(rt; few.form() == Form::Wide(32));
+    assert!(rt; (few.form(), few.leaves()) == (Form::Wide(32), 1));
     let many = job(&rt, Rule::Common, 1, 1024)?;
     let wide = Layout::wide(&many, 64);
     let fours = Layout::with_blocks(&many, 8, 4);
-    are(
-        &rt,
-        &[few.leaves(), wide.leaves(), fours.leaves()],
-        &[1, 16, 256],
-    );
+    assert!(rt; (wide.leaves(), fours.leaves()) == (16, 256));
     Ok(())
 }
 
@@ -232,35 +173,24 @@ fn blocks_of_64_or_of_all(rt: HostRuntime) -> Result<(), Fail> {
 fn layouts_with_claims(rt: HostRuntime) -> Result<(), Fail> {
     let job = job(&rt, Rule::Crew, 3, 3)?;
     let compact = Layout::new(&job, 2);
-    are(
-        &rt,
-        &[
-            compact.claim_word(0),
-            compact.claim_word(2),
-            compact.length(),
-        ],
-        &[55, 57, 58],
-    );
+    assert!(rt; (compact.claim_word(0), compact.claim_word(2)) == (55, 57));
+    assert!(rt; compact.length() == 58);
     let wide = Layout::with_blocks(&job, 2, 1);
-    are(
-        &rt,
-        &[wide.claim_word(0), wide.claim_word(2), wide.length()],
-        &[118, 120, 121],
-    );
+    assert!(rt; (wide.claim_word(0), wide.claim_word(2)) == (118, 120));
+    assert!(rt; wide.length() == 121);
     Ok(())
-}
-
-// How many words the largest boards under a rule have.
-fn most_words<R: AllocGlobal + Abort>(rt: &R, rule: Rule) -> Result<[u32; 2], Fail> {
-    let job = job(rt, rule, 65536, 1024)?;
-    let compact = Layout::new(&job, 64).length();
-    Ok([compact, Layout::with_blocks(&job, 64, 1).length()])
 }
 
 #[test]
 fn largest_layouts(rt: HostRuntime) -> Result<(), Fail> {
-    are(&rt, &most_words(&rt, Rule::Common)?, &[146496, 156160]);
-    are(&rt, &most_words(&rt, Rule::Priority)?, &[212032, 221696]);
+    for (rule, compact, wide) in [
+        (Rule::Common, 146496, 156160),
+        (Rule::Priority, 212032, 221696),
+    ] {
+        let job = job(&rt, rule, 65536, 1024)?;
+        assert!(rt; Layout::new(&job, 64).length() == compact);
+        assert!(rt; Layout::with_blocks(&job, 64, 1).length() == wide);
+    }
     Ok(())
 }
 
@@ -268,26 +198,22 @@ fn largest_layouts(rt: HostRuntime) -> Result<(), Fail> {
 fn workers_of_a_wide_board_start_far_apart(rt: HostRuntime) -> Result<(), Fail> {
     let job = job(&rt, Rule::Common, 1, 8)?;
     let layout = Layout::with_blocks(&job, 4, 1);
-    are(&rt, &[layout.first_leaf(0), layout.first_leaf(1)], &[8, 12]);
-    are(
-        &rt,
-        &[layout.first_leaf(2), layout.first_leaf(3)],
-        &[11, 15],
-    );
+    for (worker, leaf) in [(0, 8), (1, 12), (2, 11), (3, 15)] {
+        at(&rt, worker, u64::from(layout.first_leaf(worker)), leaf);
+    }
     assert!(rt; layout.leaves() == 8);
-    let turns = (layout.goes_right(1, 1), layout.goes_right(1, 3));
-    assert!(rt; turns == (true, false) && !layout.goes_right(1, 6));
+    for (node, right) in [(1, true), (3, false), (6, false)] {
+        at(
+            &rt,
+            node,
+            u64::from(layout.goes_right(1, node)),
+            u64::from(right),
+        );
+    }
     let alone = Layout::with_blocks(&job, 1, 1);
     let compact = Layout::new(&job, 4);
-    are(&rt, &[alone.first_leaf(0), compact.first_leaf(3)], &[8, 11]);
+    assert!(rt; (alone.first_leaf(0), compact.first_leaf(3)) == (8, 11));
     Ok(())
-}
-
-// A word of the start holds this value.
-fn starts_with<R: Abort>(rt: &R, job: &Job, layout: &Layout, word: u32, value: u64)
-    requires { word < length_of layout.now }
-{
-    assert!(rt; layout.start_word(job, word) == value, "word {word}");
 }
 
 #[test]
@@ -295,17 +221,21 @@ fn layout_of_a_job(rt: HostRuntime) -> Result<(), Fail> {
     let job = job(&rt, Rule::Common, 3, 3)?;
     let layout = Layout::new(&job, 2);
     assert!(rt; layout.length() == 55);
-    starts_with(&rt, &job, &layout, 0, 0);
-    starts_with(&rt, &job, &layout, 17, 4);
-    starts_with(&rt, &job, &layout, 18, 5);
-    starts_with(&rt, &job, &layout, 19, 7);
-    starts_with(&rt, &job, &layout, 20, 7);
-    starts_with(&rt, &job, &layout, 54, 0);
-    assert!(rt; layout.admits(&job, 1, 12) && !layout.admits(&job, 1, 13));
-    let request = stamped(4, 15);
-    assert!(rt; layout.admits(&job, 8, request) && !layout.admits(&job, 8, stamped(4, 16)));
-    let place = stamped(4, 2);
-    assert!(rt; layout.admits(&job, 49, place) && !layout.admits(&job, 49, stamped(4, 3)));
-    assert!(rt; !layout.admits(&job, 55, 0));
+    for (word, value) in [(0, 0), (17, 4), (18, 5), (19, 7), (20, 7), (54, 0)] {
+        assert!(rt; word < layout.length());
+        at(&rt, word, layout.start_word(&job, word), value);
+    }
+    for (word, value, admitted) in [
+        (1, 12, true),
+        (1, 13, false),
+        (8, stamped(4, 15), true),
+        (8, stamped(4, 16), false),
+        (49, stamped(4, 2), true),
+        (49, stamped(4, 3), false),
+        (55, 0, false),
+    ] {
+        let found = layout.admits(&job, word, value);
+        at(&rt, word, u64::from(found), u64::from(admitted));
+    }
     Ok(())
 }
