@@ -1,8 +1,7 @@
 //! Answers that are heard while a worker is held, and after all have left.
 ghost use Rattle.std.specs.Prelude.{◌≡◌, ◌≤◌, ⊤};
 
-use crate::gates::{BELOW_ZERO, LATER, SWAP, TWO_CELLS};
-use crate::jobs::plan_of;
+use crate::jobs::{BELOW_ZERO, LATER, SWAP, TWO_CELLS, holds_at, plan_of};
 use pram_board::Board;
 use pram_run::{Assignment, Listener, Observation, ReadsNothing, run_heard};
 use pram_step::RunAnswer;
@@ -126,51 +125,54 @@ fn heard_at<G: Gate + Sync>(
     Ok(sound)
 }
 
-// Of three workers the first one is held until this is heard. No hold meets its limit.
-fn expect_heard<C: Clock + Sync + Drop>(
+// The same of three workers, the first one held. No hold meets its limit.
+fn heard<C: Clock + Sync + Drop>(
     rt: &(impl AllocGlobal + Abort + Threads + Wait),
     clock: C,
     text: &str,
-    plan: &str,
-    wanted: Sound,
-) -> Result<(), Fail> {
+    rows: &str,
+) -> Result<Sound, Fail> {
     let ear = Ear::new();
     let gate = Held { clock, ear: &ear };
-    let sound = heard_at(rt, text, 3, plan, &gate, &ear)?;
-    assert!(rt; sound == wanted);
+    let sound = heard_at(rt, text, 3, rows, &gate, &ear)?;
     assert!(rt; !ear.let_go.load(Ordering::SeqCst));
-    Ok(())
+    Ok(sound)
 }
 
 // The answer is heard while worker 0 stands before its first step; where every worker is stopped,
 // that is heard once they have left.
 #[test]
 fn an_answer_is_heard_while_a_worker_is_held(rt: HostRuntime) -> Result<(), Fail> {
-    expect_heard(&rt, rt.clone()?, SWAP, "", Sound::Done)?;
-    expect_heard(&rt, rt.clone()?, SWAP, "1,go,30~1,stop,0~", Sound::Done)?;
-    expect_heard(&rt, rt.clone()?, SWAP, "0,sleep,4294967295~", Sound::Done)?;
-    expect_heard(&rt, rt.clone()?, TWO_CELLS, "2,stop,0~", Sound::Conflict(4))?;
-    let all_stop = "0,stop,0~1,stop,0~2,go,9~2,stop,0~";
-    expect_heard(&rt, rt.clone()?, SWAP, all_stop, Sound::Unfinished(0))
-}
-
-// One worker leaves this step unfinished.
-fn expect_unfinished(
-    rt: &(impl AllocGlobal + Abort + Threads + Wait),
-    text: &str,
-    plan: &str,
-    step: u32,
-) -> Result<(), Fail> {
-    let sound = heard_at(rt, text, 1, plan, &Open, &Ear::new())?;
-    assert!(rt; sound == Sound::Unfinished(step));
+    let rows = [
+        (SWAP, "", Sound::Done),
+        (SWAP, "1,go,30\n1,stop,0\n", Sound::Done),
+        (SWAP, "0,sleep,4294967295\n", Sound::Done),
+        (TWO_CELLS, "2,stop,0\n", Sound::Conflict(4)),
+        (
+            SWAP,
+            "0,stop,0\n1,stop,0\n2,go,9\n2,stop,0\n",
+            Sound::Unfinished(0),
+        ),
+    ];
+    for (text, plan, wanted) in rows {
+        let sound = heard(&rt, rt.clone()?, text, plan)?;
+        holds_at(&rt, sound == wanted, plan);
+    }
     Ok(())
 }
 
 // One worker finishes step 1 with its thirtieth tick: what it leaves is told, and nothing less.
 #[test]
 fn an_unfinished_step_is_the_last_finished_one(rt: HostRuntime) -> Result<(), Fail> {
-    expect_unfinished(&rt, BELOW_ZERO, "0,stop,0~", 0)?;
-    expect_unfinished(&rt, BELOW_ZERO, "0,go,28~0,stop,0~", 0)?;
-    expect_unfinished(&rt, BELOW_ZERO, "0,go,30~0,stop,0~", 1)?;
-    expect_unfinished(&rt, LATER, "0,go,30~0,stop,0~", 1)
+    let rows = [
+        (BELOW_ZERO, "0,stop,0\n", 0),
+        (BELOW_ZERO, "0,go,28\n0,stop,0\n", 0),
+        (BELOW_ZERO, "0,go,30\n0,stop,0\n", 1),
+        (LATER, "0,go,30\n0,stop,0\n", 1),
+    ];
+    for (text, plan, step) in rows {
+        let sound = heard_at(&rt, text, 1, plan, &Open, &Ear::new())?;
+        holds_at(&rt, sound == Sound::Unfinished(step), plan);
+    }
+    Ok(())
 }

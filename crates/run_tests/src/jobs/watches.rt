@@ -2,7 +2,7 @@
 //! the answer is heard while another is, and where the sink fails the watch goes on.
 ghost use Rattle.std.specs.Prelude.{◌≡◌, ⊤, false};
 
-use crate::gates::LATER;
+use crate::jobs::LATER;
 use pram_board::{Board, Seat};
 use pram_run::{Assignment, Listener, Numbers, Observation, Reads, Sight, print_reads, run_heard};
 use pram_step::RunAnswer;

@@ -1,6 +1,6 @@
 use Rattle.walkx.specs.Reads.{LooksFit}
 use Rattle.walkx.specs.Serving.{Follows}
-use Rattle.board_tests.proofs.worker.look.Given as goal
+use Rattle.walk_tests.proofs.worker.look.Given as goal
 
 abbrev pub invariant-loop-number : goal.invariant-loop-number
 invariant-loop-number g l = record {

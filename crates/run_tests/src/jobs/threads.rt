@@ -1,8 +1,7 @@
-//! Runs on threads, and gates that hold workers and readers at chosen ticks.
+//! Runs on threads: worked rows, and gates that hold workers and readers at chosen ticks.
 ghost use Rattle.std.specs.Prelude.{◌≤◌};
 
-use crate::jobs::{answer_text, plan_of};
-use crate::replays::workers_of;
+use crate::jobs::{BELOW_ZERO, LATER, SWAP, TWO_CELLS, lines_of, plan_of, row_of, said};
 use pram_board::Board;
 use pram_run::{Sight, run, watch};
 use pram_step::RunAnswer;
@@ -22,7 +21,7 @@ fn ran<G: Gate + Sync>(
     rt: &(impl AllocGlobal + Abort + Threads + Wait),
     text: &str,
     workers: u32,
-    plan: &str,
+    rows: &str,
     gate: &G,
 ) -> Result<RunAnswer, Fail>
     requires some { 1 ≤ workers }
@@ -30,21 +29,45 @@ fn ran<G: Gate + Sync>(
 {
     let alloc = rt.alloc();
     let job = read_job(alloc, text.as_bytes())?;
-    let plan = plan_of(rt, workers, plan)?;
+    let plan = plan_of(rt, workers, rows)?;
     let (board, seat) = Board::open(alloc, &job, workers)?;
     let (_seat, answer) = run(rt, alloc, &job, &board, seat, &plan, gate);
     Ok(answer?)
 }
 
-/// What a run answers.
-pub fn run_said(
-    rt: &(impl AllocGlobal + Abort + Threads + Wait),
-    given: &str,
-    text: &str,
-) -> Result<String, Fail> {
-    let (workers, plan) = workers_of(rt, given);
-    let answer = ran(rt, text, workers, plan, &Open)?;
-    Ok(answer_text(rt.alloc(), &answer)?)
+// A row is answered as it says.
+fn expect_answer(rt: &(impl AllocGlobal + Abort + Threads + Wait), line: &str) -> Result<(), Fail> {
+    let row = row_of(line).expect(rt, line);
+    let text = lines_of(rt.alloc(), row.text)?;
+    let plan = lines_of(rt.alloc(), row.plan)?;
+    let workers = row.workers.parse()?;
+    assert!(rt; 1 <= workers && workers <= 64);
+    let answer = ran(rt, text.as_str(), workers, plan.as_str(), &Open)?;
+    assert!(rt; said(rt.alloc(), &answer)?.as_str() == row.wanted, "{line}");
+    Ok(())
+}
+
+const ROWS: &str = "\
+set by 1 | [0]
+set by 1 under 0,go,8/0,stop,0/ | unfinished 0
+swap by 2 under 0,go,50/0,sleep,9/1,back,0/ | [9, 7]
+two cells by 3 under 1,go,40/1,stop,0/2,stop,0/ | conflict 4 0 0 2
+below zero by 64 | [4294967295]
+beyond by 2 under 1,go,9/1,back,0/ | [9, 9]
+sums by 5 | [10, 11, 12]
+later by 1 under 0,go,30/0,stop,0/ | unfinished 1
+equal, common by 2 | [0, 1, 0, 1, 1]
+numbers, common by 4 | conflict 5 4 1 3
+numbers, priority by 4 | [0, 1, 0, 1, 1]
+equal, crew by 2 | conflict 5 4 1 3
+";
+
+#[test]
+fn worked_rows(rt: HostRuntime) -> Result<(), Fail> {
+    for line in ROWS.lines() {
+        expect_answer(&rt, line)?;
+    }
+    Ok(())
 }
 
 // A worker, or the reader, is held at a tick until another one has passed with a tick.
@@ -124,101 +147,62 @@ fn holding(worker: u32, tick: u64, other: u32, until: u64) -> Hold {
     }
 }
 
-// A run of two workers at a gate answers so.
-fn expect_answer<C: Clock + Sync>(
+// A run of two workers at a gate whose holds are kept answers so.
+fn expect_held<C: Clock + Sync>(
     rt: &(impl AllocGlobal + Abort + Threads + Wait),
     text: &str,
-    plan: &str,
     gate: &Holds<C>,
     wanted: &str,
 ) -> Result<(), Fail> {
-    let answer = ran(rt, text, 2, plan, gate)?;
-    let said = answer_text(rt.alloc(), &answer)?;
-    assert!(rt; said.as_str() == wanted);
-    Ok(())
-}
-
-pub const SWAP: &str = "pram 1\ncells 2\nprocs 2\nsteps 5\ninit 0 7\ninit 1 9\ncode\n\
-    pid r0\nset r1 1\nsub r1 r1 r0\nld r2 r1\nst r0 r2\n";
-
-const SET: &str = "pram 1\ncells 1\nprocs 1\nsteps 1\ncode\nset r0 7\n";
-
-pub const LATER: &str = "pram 1\ncells 1\nprocs 1\nsteps 2\ninit 0 4\ncode\n\
-    set r1 7\nst r0 r1\n";
-
-pub const BELOW_ZERO: &str = "pram 1\ncells 1\nprocs 1\nsteps 3\ncode\n\
-    set r1 1\nsub r2 r0 r1\nst r0 r2\n";
-
-// Two cells, each of which two processors write to.
-pub const TWO_CELLS: &str = "pram 1\ncells 2\nprocs 4\nsteps 4\ncode\n\
-    pid r0\nset r1 1\nand r2 r0 r1\nst r2 r0\n";
-
-// A run of two workers at a gate whose holds are kept answers so.
-fn expect_held<C: Clock + Sync + Drop>(
-    rt: &(impl AllocGlobal + Abort + Threads + Wait),
-    clock: C,
-    text: &str,
-    holds: [Hold; 2],
-    wanted: &str,
-) -> Result<(), Fail> {
-    let gate = Holds::new(clock, holds);
-    expect_answer(rt, text, "", &gate, wanted)?;
+    let answer = ran(rt, text, 2, "", gate)?;
+    assert!(rt; said(rt.alloc(), &answer)?.as_str() == wanted);
     assert!(rt; gate.were_kept());
     Ok(())
 }
+
+const SET: &str = "pram 1\ncells 1\nprocs 1\nsteps 1\ncode\nset r0 7\n";
 
 // Two workers each stand before their first step until the other one does; and worker 0 stands
 // before its swap of register 0, and worker 1 makes it.
 #[test]
 fn two_at_once(rt: HostRuntime) -> Result<(), Fail> {
     let first = [holding(0, 0, 1, 0), holding(1, 0, 0, 0)];
-    expect_held(&rt, rt.clone()?, SWAP, first, "[9, 7]")?;
+    expect_held(&rt, SWAP, &Holds::new(rt.clone()?, first), "[9, 7]")?;
     let late = [holding(0, 17, 1, 22), holding(1, 0, 0, 17)];
-    expect_held(&rt, rt.clone()?, SET, late, "[0]")
+    expect_held(&rt, SET, &Holds::new(rt.clone()?, late), "[0]")
 }
 
 // Worker 0 of two sleeps for as many ticks as a plan can name, and worker 1 is held until it has
-// slept a thousand.
-fn expect_sleep<C: Clock + Sync + Drop>(
-    rt: &(impl AllocGlobal + Abort + Threads + Wait),
-    clock: C,
-    text: &str,
-    wanted: &str,
-) -> Result<(), Fail> {
-    let plan = "0,sleep,4294967295~0,back,0~0,sleep,4294967295~0,stop,0~";
-    let gate = Holds::new(clock, [holding(1, 0, 0, 999), holding(1, 0, 0, 999)]);
-    expect_answer(rt, text, plan, &gate, wanted)?;
-    assert!(rt; gate.were_kept() && !gate.has_passed(0, 4_294_967_294));
-    Ok(())
-}
-
-// The sleep ends once the job is over, and with it the plan of worker 0.
+// slept a thousand. The sleep ends once the job is over, and with it the plan of worker 0.
 #[test]
 fn a_sleep_ends_with_the_job(rt: HostRuntime) -> Result<(), Fail> {
-    expect_sleep(&rt, rt.clone()?, SWAP, "[9, 7]")?;
-    expect_sleep(&rt, rt.clone()?, TWO_CELLS, "conflict 4 0 0 2")
-}
-
-// A worker that sleeps two thousand ticks is left by the other one.
-fn expect_waking<C: Clock + Sync + Drop>(
-    rt: &(impl AllocGlobal + Abort + Threads + Wait),
-    clock: C,
-    plan: &str,
-    wanted: &str,
-) -> Result<(), Fail> {
-    let gate = Holds::new(clock, [holding(2, 0, 0, 0), holding(2, 0, 0, 0)]);
-    expect_answer(rt, SWAP, plan, &gate, wanted)?;
-    assert!(rt; gate.has_passed(0, 1999));
+    let rows = "0,sleep,4294967295\n0,back,0\n0,sleep,4294967295\n0,stop,0\n";
+    for (text, wanted) in [(SWAP, "[9, 7]"), (TWO_CELLS, "conflict 4 0 0 2")] {
+        let both = [holding(1, 0, 0, 999), holding(1, 0, 0, 999)];
+        let gate = Holds::new(rt.clone()?, both);
+        let answer = ran(&rt, text, 2, rows, &gate)?;
+        assert!(rt; said(rt.alloc(), &answer)?.as_str() == wanted);
+        assert!(rt; gate.were_kept());
+        assert!(rt; !gate.has_passed(0, 4_294_967_294));
+    }
     Ok(())
 }
 
 // Where the other worker has stopped, a sleep is no end: the sleeper wakes and finishes the job.
 #[test]
 fn a_sleeper_that_is_left_goes_on(rt: HostRuntime) -> Result<(), Fail> {
-    let goes_on = "0,sleep,2000~1,go,30~1,stop,0~";
-    expect_waking(&rt, rt.clone()?, goes_on, "[9, 7]")?;
-    let stops = "0,sleep,2000~0,stop,0~1,go,9~1,stop,0~";
-    expect_waking(&rt, rt.clone()?, stops, "unfinished 0")
+    let rows = [
+        ("0,sleep,2000\n1,go,30\n1,stop,0\n", "[9, 7]"),
+        ("0,sleep,2000\n0,stop,0\n1,go,9\n1,stop,0\n", "unfinished 0"),
+    ];
+    for (rows, wanted) in rows {
+        let none = [holding(2, 0, 0, 0), holding(2, 0, 0, 0)];
+        let gate = Holds::new(rt.clone()?, none);
+        let answer = ran(&rt, SWAP, 2, rows, &gate)?;
+        assert!(rt; said(rt.alloc(), &answer)?.as_str() == wanted);
+        assert!(rt; gate.has_passed(0, 1999));
+    }
+    Ok(())
 }
 
 // What a watch of cell 0 lists, beside one worker, at a gate whose holds are kept.
@@ -251,7 +235,7 @@ fn expect_sights<C: Clock + Sync>(
 ) -> Result<(), Fail> {
     let sights = watched(rt, text, rounds, gate)?;
     assert!(rt; sights.len() == rounds as usize);
-    assert!(rt; sights.as_slice().starts_with(first));
+    assert!(rt; sights.as_slice().starts_with(first), "{text}");
     Ok(())
 }
 
